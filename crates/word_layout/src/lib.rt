@@ -1,0 +1,233 @@
+//! The numbers of the words in an engine's one table of atomic words.
+#![tactic(auto)]
+
+ghost use Rattle.std.specs.Prelude.{◌≡◌, ◌<◌, ◌↔◌, IsOk, IsErr, IfOk};
+ghost use Rattle.word_layout.specs.Name.{published_write, published_read, min_write, min_read, head, lock, floor, status, wts, rts, next, cell, first_of_records, first_of_places, word_of, LiesWithin, AreApart};
+ghost use Rattle.word_layout.specs.Size.{size_of, IsSize, places, words};
+
+use std::error::Error;
+use std::fmt;
+use std::marker::Model;
+
+/// The greatest number of seats, which are the threads that may step at a time.
+pub const MAX_SEATS: u32 = 64;
+
+/// The greatest number of records.
+pub const MAX_RECORDS: u32 = 200_000;
+
+/// The greatest number of pool places.
+pub const MAX_SPARE: u32 = 262_144;
+
+/// How many words the value of a record has.
+pub const CELLS: u32 = 32;
+
+/// The error of [`Layout::new`]: a number is out of its range.
+#[derive(Clone, Copy, Debug, PartialEq, Eq, Hash)]
+pub struct Limit;
+
+impl fmt::Display for Limit {
+    fn fmt<W: fmt::Write>(&self, f: &mut fmt::Formatter<W>) -> fmt::Result {
+        f.write_str("limit")
+    }
+}
+
+impl Error for Limit {}
+
+/// Where each word of a table with so many seats, records and places stands in it.
+///
+/// Seats, records and places are numbered from 0. Place r, below `records`, is the inline place of
+/// record r; the other places are the pool's.
+#[derive(Clone, Copy, Debug, PartialEq, Eq, Hash)]
+pub struct Layout {
+    seats: u32,
+    records: u32,
+    spare: u32,
+}
+
+impl Model for Layout {
+    ghost use Rattle.word_layout.specs.Size.{Size, size_of, IsSize};
+
+    ghost Value = { Size };
+
+    ghost view = { λ l. size_of l.seats l.records l.spare };
+
+    ghost invariant = { λ l. IsSize (size_of l.seats l.records l.spare) };
+
+    ghost inverse = { λ z. record { seats = z.seats; records = z.records; spare = z.spare } };
+}
+
+impl Layout {
+    /// The layout of a table for so many seats and records, with `spare` pool places.
+    pub fn new(seats: u32, records: u32, spare: u32) -> Result<Layout, Limit>
+        ensures exact { IfOk result (λ layout. layout ≡ size_of seats records spare) }
+        ensures in_range { IsOk result ↔ IsSize (size_of seats records spare) }
+        ensures limit { IsErr result ↔ (¬ IsSize (size_of seats records spare)) }
+    {
+        let in_range = (1..=MAX_SEATS).contains(&seats)
+            && (1..=MAX_RECORDS).contains(&records)
+            && (1..=MAX_SPARE).contains(&spare);
+        if in_range {
+            Ok(Layout {
+                seats,
+                records,
+                spare,
+            })
+        } else {
+            Err(Limit)
+        }
+    }
+
+    /// How many seats there are.
+    pub fn seats(&self) -> u32
+        ensures count { result ≡ self.now.seats }
+        ensures in_range { IsSize self.now }
+    {
+        self.seats
+    }
+
+    /// How many records there are.
+    pub fn records(&self) -> u32
+        ensures count { result ≡ self.now.records }
+        ensures in_range { IsSize self.now }
+    {
+        self.records
+    }
+
+    /// How many pool places there are.
+    pub fn spare(&self) -> u32
+        ensures count { result ≡ self.now.spare }
+        ensures in_range { IsSize self.now }
+    {
+        self.spare
+    }
+
+    /// How many places there are, inline places and pool places together.
+    pub fn places(&self) -> u32
+        ensures count { result ≡ places self.now }
+        ensures in_range { IsSize self.now }
+    {
+        self.records + self.spare
+    }
+
+    /// How many words the table has.
+    pub fn words(&self) -> u32
+        ensures count { result ≡ words self.now }
+        ensures in_range { IsSize self.now }
+        ensures within { LiesWithin self.now }
+        ensures apart { AreApart self.now }
+    {
+        self.first_of_places() + 36 * self.places()
+    }
+
+    /// The word that bounds the write stamps of seat `s` from below.
+    pub fn published_write(&self, s: u32) -> u32
+        requires { s < self.now.seats }
+        ensures { result ≡ word_of self.now (published_write s) }
+    {
+        s
+    }
+
+    /// The word of the read bound of seat `s`.
+    pub fn published_read(&self, s: u32) -> u32
+        requires { s < self.now.seats }
+        ensures { result ≡ word_of self.now (published_read s) }
+    {
+        self.seats + s
+    }
+
+    /// The word of `min_wts`, which is at most every published write word.
+    pub fn min_write(&self) -> u32
+        ensures { result ≡ word_of self.now min_write }
+    {
+        2 * self.seats
+    }
+
+    /// The word of `min_rts`, which is at most every published read word.
+    pub fn min_read(&self) -> u32
+        ensures { result ≡ word_of self.now min_read }
+    {
+        2 * self.seats + 1
+    }
+
+    /// The word of the first version of record `r`.
+    pub fn head(&self, r: u32) -> u32
+        requires { r < self.now.records }
+        ensures { result ≡ word_of self.now (head r) }
+    {
+        self.first_of_records() + r
+    }
+
+    /// The word of the collectors' lock of record `r`.
+    pub fn lock(&self, r: u32) -> u32
+        requires { r < self.now.records }
+        ensures { result ≡ word_of self.now (lock r) }
+    {
+        self.first_of_records() + self.records + r
+    }
+
+    /// The word of the stamp below which versions of record `r` may be gone.
+    pub fn floor(&self, r: u32) -> u32
+        requires { r < self.now.records }
+        ensures { result ≡ word_of self.now (floor r) }
+    {
+        self.first_of_records() + 2 * self.records + r
+    }
+
+    /// The word of the status of place `p`.
+    pub fn status(&self, p: u32) -> u32
+        requires { p < places self.now }
+        ensures { result ≡ word_of self.now (status p) }
+    {
+        self.first_of_places() + p
+    }
+
+    /// The word of the write stamp of place `p`.
+    pub fn wts(&self, p: u32) -> u32
+        requires { p < places self.now }
+        ensures { result ≡ word_of self.now (wts p) }
+    {
+        self.first_of_places() + self.places() + p
+    }
+
+    /// The word of the read stamp of place `p`.
+    pub fn rts(&self, p: u32) -> u32
+        requires { p < places self.now }
+        ensures { result ≡ word_of self.now (rts p) }
+    {
+        self.first_of_places() + 2 * self.places() + p
+    }
+
+    /// The word of the link from place `p` to the next older version.
+    pub fn next(&self, p: u32) -> u32
+        requires { p < places self.now }
+        ensures { result ≡ word_of self.now (next p) }
+    {
+        self.first_of_places() + 3 * self.places() + p
+    }
+
+    /// The word of cell `i` of the value in place `p`.
+    pub fn cell(&self, p: u32, i: u32) -> u32
+        requires place { p < places self.now }
+        requires cell { i < CELLS }
+        ensures { result ≡ word_of self.now (cell p i) }
+    {
+        self.first_of_places() + 4 * self.places() + CELLS * p + i
+    }
+
+    fn first_of_records(&self) -> u32
+        ensures first { result ≡ first_of_records self.now }
+        ensures in_range { IsSize self.now }
+    {
+        2 * self.seats + 2
+    }
+
+    fn first_of_places(&self) -> u32
+        ensures first { result ≡ first_of_places self.now }
+        ensures in_range { IsSize self.now }
+    {
+        self.first_of_records() + 3 * self.records
+    }
+}
+
+#[cfg(test)]
+mod tests;

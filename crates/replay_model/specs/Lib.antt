@@ -1,7 +1,10 @@
 pub mod TableMap
 pub mod Effect
 pub mod Running
+pub mod Undo
+pub mod Step
 pub mod Input
+pub mod Lane
 pub mod Order
 pub mod Replay
 pub mod Report

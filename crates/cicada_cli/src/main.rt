@@ -1,0 +1,52 @@
+//! The program `cicada`: the top call over the standard streams.
+#![tactic(auto)]
+
+use std::alloc::Global;
+use std::env::{self, Args};
+use std::io::{self, Eprint};
+use std::process::ExitCode;
+use std::sync::Wait;
+use std::thread::Threads;
+
+use cicada_top::{Status, run};
+use outside_io::{CountClock, OpenGate, StdSink, StdSource};
+
+fn main(rt: HostRuntime) -> ExitCode {
+    let mut source = StdSource::new(rt.stdin());
+    let mut sink = StdSink::new(rt.stdout());
+    let status = match env::args(&rt) {
+        Ok(args) => run_with(&rt, rt.alloc(), args, &mut source, &mut sink),
+        Err(error) => refuse_words(&rt, &error),
+    };
+    ExitCode::from(status.number())
+}
+
+/// Hands the words behind the program's name to the top call, and tells the user why they are refused.
+fn run_with<R: Threads + Wait + Sync + Eprint>(
+    rt: &R,
+    alloc: Global,
+    args: Args,
+    source: &mut StdSource,
+    sink: &mut StdSink,
+) -> Status {
+    let Ok(words) = args.skip(1).collect::<Vec<String>>(alloc) else {
+        return Status::NoMemory;
+    };
+    let Ok(clocks) = vec![in alloc; CountClock; 64] else {
+        return Status::NoMemory;
+    };
+    let finish = run(rt, alloc, &words, source, sink, clocks, &OpenGate);
+    if let Some(usage) = &finish.usage {
+        let _ = eprint!(rt; "{usage}");
+    }
+    finish.status
+}
+
+/// What comes of words that can't be had: one that is not UTF-8 is refused.
+fn refuse_words<R: Eprint>(rt: &R, error: &io::Error) -> Status {
+    if error.kind() == io::ErrorKind::OutOfMemory {
+        return Status::NoMemory;
+    }
+    let _ = eprintln!(rt; "cicada: the words cannot be read: {error}");
+    Status::Usage
+}

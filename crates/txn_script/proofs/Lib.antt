@@ -1,0 +1,14 @@
+pub mod WordLaws
+pub mod RowLaws
+pub mod PartLaws
+pub mod LineLaws
+pub mod SectionLaws
+pub mod PlaceLaws
+pub mod InputKept
+pub mod KnownLaws
+pub mod ProgressLaws
+pub mod StepLaws
+pub mod InputLaws
+pub mod Reached
+pub mod KeptLaws
+pub mod ParseLaws

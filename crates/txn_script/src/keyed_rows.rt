@@ -1,0 +1,70 @@
+//! Rows, with a set of their places.
+
+ghost use Rattle.std.specs.Prelude.{◌≡◌, [], length};
+
+use crate::fault::ParseFault;
+use replay_model::Rows;
+use std::alloc::Global;
+use std::collections::BTreeSet;
+use std::marker::Model;
+
+/// Rows of different places, a table and a key each. Adding one does not walk the rows before it.
+#[derive(Drop)]
+pub struct KeyedRows {
+    rows: Rows,
+    places: BTreeSet<(u32, u64)>,
+}
+
+impl Model for KeyedRows {
+    ghost use Rattle.std.specs.Prelude.{ℕ, List};
+    ghost use Rattle.txn_script.specs.RowPlaces.{AreTheirPlaces};
+
+    ghost Value = { List (ℕ × ℕ × ℕ) };
+
+    ghost view = { λ a. a.rows };
+
+    ghost invariant = { λ a. AreTheirPlaces a.places a.rows };
+}
+
+impl KeyedRows {
+    ghost use Rattle.txn_script.specs.Reading.{Gives, row_added};
+
+    /// No rows; takes no memory yet.
+    pub fn new(alloc: Global) -> Self
+        ensures { result ≡ [] }
+    {
+        KeyedRows {
+            rows: Rows::new(alloc),
+            places: BTreeSet::new(alloc),
+        }
+    }
+
+    /// The rows with one more, which is refused where there is one at its place.
+    pub fn with(self, table: u32, key: u64, value: u64) -> Result<Self, ParseFault>
+        ensures { Gives (λ rows. rows) result (row_added self table key value) }
+    {
+        let KeyedRows {
+            mut rows,
+            mut places,
+        } = self;
+        if !places.insert((table, key))? {
+            return Err(ParseFault::Form);
+        }
+        rows.push((table, key, value))?;
+        Ok(KeyedRows { rows, places })
+    }
+
+    pub fn len(&self) -> usize
+        ensures { result ≡ length self.now }
+    {
+        self.rows.len()
+    }
+
+    /// The rows, in the order in which they were added.
+    pub fn into_rows(self) -> Rows
+        ensures { result ≡ self }
+    {
+        let KeyedRows { rows, places: _ } = self;
+        rows
+    }
+}

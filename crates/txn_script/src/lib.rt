@@ -1,0 +1,22 @@
+//! Input texts: reading them, and printing what a run answers.
+//!
+//! The grammar of an input stands in `specs/Grammar.antt`, by lines and what they gather; [`parse`] reads the bytes once,
+//! from the first line to the last.
+#![tactic(auto)]
+
+mod bytes;
+mod fault;
+mod keyed_rows;
+mod line;
+mod parsing;
+mod place;
+mod printing;
+mod reader;
+mod words;
+
+pub use fault::{InputFault, ParseFault};
+pub use parsing::{one_input, parse};
+pub use printing::{print_block, print_table};
+
+#[cfg(test)]
+mod tests;

@@ -1,6 +1,6 @@
 -- The order of a lane of writers is an order of the input that has this lane alone.
-use Rattle.std.proofs.Common.{◌≡◌, ℕ, ◌+◌, ◌-◌, ◌*◌, ◌==◌, ◌<◌, ◌≤◌, Bool, true, false, List, [], ◌∷◌, ◌++◌, length, map, All, AllPairs, Option, Some, inl, inr, slice_get, get_or, refl, sym, ap, subst, ◌∙◌, arith, append-nil, add-zero, zero-add, MatchBool, zero, suc}
-use Rattle.std.specs.List.{enumerate_from, flat_map}
+use Rattle.std.proofs.Common.{◌≡◌, ℕ, ◌+◌, ◌-◌, ◌==◌, ◌<◌, ◌≤◌, Bool, false, List, [], ◌∷◌, length, map, All, AllPairs, Option, Some, inl, inr, slice_get, get_or, refl, sym, ap, subst, ◌∙◌, arith, append-nil, zero-add, MatchBool, suc}
+use Rattle.std.specs.List.{enumerate_from}
 use Rattle.std.specs.List.Sorted.{IsPermutation}
 use Rattle.std.proofs.lemmas.List.{get_or-map, length-map}
 use Rattle.std.proofs.lemmas.List.FromFn.{get_or-enumerate_from, length-enumerate_from}
@@ -11,7 +11,7 @@ use Rattle.replay_model.specs.declared.command.Command.{Command}
 use Rattle.replay_model.specs.declared.input.Block.{Block}
 use Rattle.replay_model.specs.declared.input.Input.{Input}
 use Rattle.replay_model.specs.declared.outcome.Placed.{Placed}
-use Rattle.replay_model.specs.Input.{IsWellFormed, IsNumbered, StandsAt, HasFewCommands}
+use Rattle.replay_model.specs.Input.{IsWellFormed, StandsAt, HasFewCommands}
 use Rattle.replay_model.specs.Order.{IsOrder, MayPrecede, WriterBeforeWriter, SnapBeforeSnap, place_of, places_of}
 use Rattle.replay_model.specs.Replay.{block_at, commands_of, commands_at}
 use Rattle.txn_script.specs.Grammar.{IsPlain}

@@ -54,10 +54,14 @@ AnswersAs NoMemory bytes order before after = DeliversNothing order before after
 
 -- what each status says of a run: what was received, and what was written for it
 abbrev pub EndsAs : Status → Option (List ℕ) → Option (List ℕ) → List Placed → Option (List ℕ) → Option (List ℕ) → Type 0
-EndsAs Done left left' order before after = (bytes : List ℕ) × Receives left left' bytes × IsAtEnd left' × DeliversReport bytes order before after
+EndsAs Done left left' order before after =
+    (bytes : List ℕ) × Receives left left' bytes × IsAtEnd left' × DeliversReport bytes order before after
 EndsAs Usage left left' order before after = ⊥
-EndsAs Input left left' order before after = (bytes : List ℕ) × Receives left left' bytes × IsEnough left' bytes × DeliversRefusal bytes order before after
+EndsAs Input left left' order before after =
+    (bytes : List ℕ) × Receives left left' bytes × IsEnough left' bytes × DeliversRefusal bytes order before after
 EndsAs ReadFault left left' order before after = DeliversNothing order before after
-EndsAs WriteFault left left' order before after = (bytes : List ℕ) × Receives left left' bytes × IsEnough left' bytes × StopsShort bytes order before after
+EndsAs WriteFault left left' order before after =
+    (bytes : List ℕ) × Receives left left' bytes × IsEnough left' bytes × StopsShort bytes order before after
 EndsAs NoMemory left left' order before after =
-    DeliversNothing order before after ⊎ ((bytes : List ℕ) × Receives left left' bytes × IsEnough left' bytes × DeliversPrefix bytes order before after)
+    DeliversNothing order before after
+    ⊎ ((bytes : List ℕ) × Receives left left' bytes × IsEnough left' bytes × DeliversPrefix bytes order before after)

@@ -22,9 +22,12 @@ const REFUSAL: &[u8] = b"refused 0 form\n";
 
 /// Reads what the source has, and writes the text due for it.
 pub(crate) fn run_text<S: Source, K: Sink>(alloc: Global, source: &mut S, sink: &mut K) -> Finish
-    ensures ends { EndsAs result.status (S.left source.old) (S.left source.new) result.order.items (K.taken sink.old) (K.taken sink.new) }
-    ensures read_cause { result.status ≡ Status.ReadFault → HasRisen (S.faults source.old) (S.faults source.new) }
-    ensures write_cause { result.status ≡ Status.WriteFault → HasRisen (K.faults sink.old) (K.faults sink.new) }
+    ensures ends { EndsAs result.status (S.left source.old) (S.left source.new)
+        result.order.items (K.taken sink.old) (K.taken sink.new) }
+    ensures read_cause { result.status ≡ Status.ReadFault
+        → HasRisen (S.faults source.old) (S.faults source.new) }
+    ensures write_cause { result.status ≡ Status.WriteFault
+        → HasRisen (K.faults sink.old) (K.faults sink.new) }
     ensures reads { (bytes : List ℕ) × Receives (S.left source.old) (S.left source.new) bytes }
     ensures fault { result.fault ≡ None }
     ensures usage { result.usage ≡ None }
@@ -38,8 +41,10 @@ pub(crate) fn run_text<S: Source, K: Sink>(alloc: Global, source: &mut S, sink: 
 
 /// Writes the text due for the bytes.
 fn answer<K: Sink>(alloc: Global, bytes: &[u8], sink: &mut K) -> Finish
-    ensures ends { AnswersAs result.status bytes.now result.order.items (K.taken sink.old) (K.taken sink.new) }
-    ensures cause { result.status ≡ Status.WriteFault → HasRisen (K.faults sink.old) (K.faults sink.new) }
+    ensures ends { AnswersAs result.status bytes.now
+        result.order.items (K.taken sink.old) (K.taken sink.new) }
+    ensures cause { result.status ≡ Status.WriteFault
+        → HasRisen (K.faults sink.old) (K.faults sink.new) }
     ensures fault { result.fault ≡ None }
     ensures usage { result.usage ≡ None }
 {
@@ -55,8 +60,11 @@ fn answer<K: Sink>(alloc: Global, bytes: &[u8], sink: &mut K) -> Finish
 
 /// Writes a report.
 fn write_report<K: Sink>(alloc: Global, reported: Reported, sink: &mut K) -> Finish
-    ensures ends { (bytes : List ℕ) → IsReport bytes reported.order.items reported.text.items → AnswersAs result.status bytes result.order.items (K.taken sink.old) (K.taken sink.new) }
-    ensures cause { result.status ≡ Status.WriteFault → HasRisen (K.faults sink.old) (K.faults sink.new) }
+    ensures ends { (bytes : List ℕ)
+        → IsReport bytes reported.order.items reported.text.items
+        → AnswersAs result.status bytes result.order.items (K.taken sink.old) (K.taken sink.new) }
+    ensures cause { result.status ≡ Status.WriteFault
+        → HasRisen (K.faults sink.old) (K.faults sink.new) }
     ensures fault { result.fault ≡ None }
     ensures usage { result.usage ≡ None }
 {
@@ -72,8 +80,11 @@ fn write_report<K: Sink>(alloc: Global, reported: Reported, sink: &mut K) -> Fin
 
 /// Writes the refusal.
 fn write_refusal<K: Sink>(alloc: Global, sink: &mut K) -> Finish
-    ensures ends { (bytes : List ℕ) → IsRefusal bytes [] refusal → AnswersAs result.status bytes result.order.items (K.taken sink.old) (K.taken sink.new) }
-    ensures cause { result.status ≡ Status.WriteFault → HasRisen (K.faults sink.old) (K.faults sink.new) }
+    ensures ends { (bytes : List ℕ)
+        → IsRefusal bytes [] refusal
+        → AnswersAs result.status bytes result.order.items (K.taken sink.old) (K.taken sink.new) }
+    ensures cause { result.status ≡ Status.WriteFault
+        → HasRisen (K.faults sink.old) (K.faults sink.new) }
     ensures fault { result.fault ≡ None }
     ensures usage { result.usage ≡ None }
 {

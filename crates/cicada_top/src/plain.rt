@@ -68,7 +68,8 @@ fn report_blocks(
     requires each_placed { length order.now ≡ length blocks.now }
     requires few_commands { All (λ block. HasFewCommands block.commands) blocks.now }
     ensures tables { OnOk result (tables.new ≡ tables_of (commands_along blocks.now) tables.old) }
-    ensures text { OnOk result (text.new.items ≡ text.old.items ++ blocks_text order.now (outcomes_of (commands_along blocks.now) tables.old)) }
+    ensures text { OnOk result (text.new.items ≡ text.old.items
+        ++ blocks_text order.now (outcomes_of (commands_along blocks.now) tables.old)) }
 {
     for (i, block) in blocks.iter().enumerate() {
         let outcome = run_one(alloc, block, tables)?;

@@ -1,5 +1,4 @@
-use Rattle.std.proofs.Common.{◌≡◌, ℕ, List, ◌++◌, length, Some, slice_get, map, ap, sym, subst, ◌∙◌}
-use Rattle.replay_model.specs.declared.command.Command.{Command}
+use Rattle.std.proofs.Common.{◌≡◌, ℕ, List, length, Some, map, ap, sym, subst, ◌∙◌}
 use Rattle.replay_model.specs.declared.input.Block.{Block}
 use Rattle.replay_model.specs.declared.outcome.Placed.{Placed}
 use Rattle.replay_model.specs.Order.{IsOrder}

@@ -1,0 +1,69 @@
+-- What a hand's numbers say of its view after a step that changes its places alone.
+use Rattle.std.proofs.Common.{◌≡◌, ℕ, ◌<◌, [], sym, ap, ◌∙◌, subst, Option}
+use Rattle.atomic_table.specs.Seated.{TableId}
+use Rattle.word_layout.specs.Size.{Size, places}
+use Rattle.core_rule.specs.View.{View, Places, Splitting, single, sharing, offers_write, offers_both, shared, Seen}
+use Rattle.core_rule.specs.Views.{AllOf, Has}
+use Rattle.core_rule.specs.Kinds.{made_of, rested, without, MayOffer, IsSettled}
+use Rattle.core_rule.specs.Hands.{Shared, Seated, HandOk}
+use Rattle.core_rule.proofs.EachView.{AllOf-Has}
+use Rattle.core_rule.proofs.Without.{AllOf-still}
+
+IsSettled-rested : (s : Splitting) → IsSettled (rested s)
+IsSettled-rested single = tt
+IsSettled-rested (sharing made) = tt
+IsSettled-rested (offers_write made) = tt
+IsSettled-rested (offers_both made) = tt
+IsSettled-rested shared = tt
+
+made-rested : (made : ℕ) (s : Splitting) → (MayOffer s → made ≡ made_of s) → MayOffer (rested s) → made ≡ made_of (rested s)
+made-rested made single is h = is tt
+made-rested made (sharing k) is h = absurd h
+made-rested made (offers_write k) is h = absurd h
+made-rested made (offers_both k) is h = absurd h
+made-rested made shared is h = absurd h
+
+module _ (number clock published bound made : ℕ) (last_pool : Option ℕ) (v : View) (ok : HandOk number clock published bound made last_pool v) where
+  -- a place that the hand holds is a place of the table
+  pub held_in_range : (p : ℕ) → Has p v.places.held → p < places v.size
+  held_in_range p has = AllOf-Has (λ q. q < places v.size) p v.places.held ok.places_in_range has
+
+  -- the same, as a call has it
+  module _ (hand : Seated) (seen : Shared) (layout : Size) (table : TableId) (seat_table : TableId) (id : ℕ)
+      (hand_is : record { table = seat_table; id = id; view = v } ≡ hand) (seen_is : record { table = table; size = layout } ≡ seen) (same_size : hand.view.size ≡ seen.size) where
+    pub held_in_table : (p : ℕ) → Has p hand.view.places.held → p < places seen.size
+    held_in_table p has =
+        let here = ap (λ (h : Seated). h.view) hand_is in
+        let lt = held_in_range p (subst (λ (x : View). Has p x.places.held) (sym here) has) in
+        subst (λ (x : Size). p < places x) (ap (λ (x : View). x.size) here ∙ same_size) lt
+
+    pub held_in_layout : (p : ℕ) → Has p hand.view.places.held → p < places layout
+    held_in_layout p has = subst (λ (x : Size). p < places x) (sym (ap (λ (x : Shared). x.size) seen_is)) (held_in_table p has)
+
+  with_places : (q : Places) (t : Seen) (w : View) → w ≡ record v { splitting = rested v.splitting; places = q; seen = t } → q.last_pool ≡ v.places.last_pool → AllOf (λ p. p < places v.size) q.held
+      → (v.places.held ≡ [] → q.held ≡ []) → HandOk number clock published bound made last_pool w
+  with_places q t w e last in_range none = subst (HandOk number clock published bound made last_pool) (sym e) record {
+    number_is = ok.number_is;
+    clock_is = ok.clock_is;
+    clock_in_range = ok.clock_in_range;
+    published_is = ok.published_is;
+    bound_is = ok.bound_is;
+    made_is = made-rested made v.splitting ok.made_is;
+    is_size = ok.is_size;
+    in_range = ok.in_range;
+    is_open = ok.is_open;
+    settled = IsSettled-rested v.splitting;
+    last_pool_is = ok.last_pool_is ∙ sym last;
+    last_pool_usable = ok.last_pool_usable;
+    places_in_range = in_range;
+    retired_holds_none = λ h. none (ok.retired_holds_none h);
+  }
+
+  -- the fills alone have changed
+  pub after_fill : (q : Places) (t : Seen) (w : View) → w ≡ record v { splitting = rested v.splitting; places = q; seen = t } → q.held ≡ v.places.held → q.last_pool ≡ v.places.last_pool
+      → HandOk number clock published bound made last_pool w
+  after_fill q t w e same last = with_places q t w e last (rw same ok.places_in_range) (λ h. same ∙ h)
+
+  pub after_give : (p : ℕ) (q : Places) (t : Seen) (w : View) → w ≡ record v { splitting = rested v.splitting; places = q; seen = t } → q.held ≡ without p v.places.held
+      → q.last_pool ≡ v.places.last_pool → HandOk number clock published bound made last_pool w
+  after_give p q t w e same last = with_places q t w e last (rw same (AllOf-still (λ x. x < places v.size) p v.places.held ok.places_in_range)) (λ h. same ∙ ap (without p) h)

@@ -1,0 +1,9 @@
+pub mod EachView
+pub mod FirstWords
+pub mod HandKept
+pub mod Making
+pub mod Parts
+pub mod RuleKept
+pub mod Step
+pub mod Tables
+pub mod Without

@@ -1,0 +1,11 @@
+pub mod BoundsKept
+pub mod ClocksKept
+pub mod ClosedKept
+pub mod FilledKept
+pub mod LearntKept
+pub mod MinimaKept
+pub mod PlacesKept
+pub mod PublishedKept
+pub mod ScansKept
+pub mod SeatsKept
+pub mod SplittingKept

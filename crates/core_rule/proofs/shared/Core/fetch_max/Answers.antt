@@ -1,0 +1,9 @@
+use Rattle.core_rule.specs.Kinds.{raises_to}
+use Rattle.core_rule.proofs.Tables.{asks}
+use Rattle.core_rule.proofs.shared.Core.fetch_max.Goals as goal
+
+pub fetch_max-requires : goal.fetch_max-requires
+fetch_max-requires g c =
+    let t = c.self.inside.table.shared in let s = c.args.seat.now in
+    asks g.J.Keeps.kept t.table_id c.self.inside.layout t.key c.args.self.now s.table_id s.id s.me g.M.Deed.kind (raises_to c.args.bound) c.args.word
+    c.self.view_is c.self.invariant c.requires.table c.requires.allowed c.requires.named c.requires.bare c.requires.word c.requires.way

@@ -1,0 +1,129 @@
+-- What callers see of the shared table and of a seat's hand.
+use Rattle.std.specs.Prelude.{◌≡◌, ℕ, ◌+◌, ◌<◌, ◌≤◌, Bool, false, ◌↔◌, IsTrue, max, [], ◌∷◌, ◌++◌, Option, None, IfSome}
+use Rattle.atomic_table.specs.Seated.{TableId}
+use Rattle.word_layout.specs.Size.{Size, IsSize, IsUsable, places}
+use Rattle.core_rule.specs.Views.{AllOf}
+use Rattle.stamp_base.specs.declared.TheConstants.{END, GREATEST_CLOCK}
+use Rattle.core_rule.specs.View.{View, Clock, sharing, shared, resting, no_raises, no_places, nothing_seen}
+use Rattle.core_rule.specs.Kinds.{Kind, take, after, Learnt, made_of, rested, MayOffer, IsSettled}
+
+-- a table: which one it is, and its size
+pub record Shared : Type 0 where
+  pub table : TableId
+  pub size : Size
+
+-- a seat at a table: its place among the views, and its view
+pub record Seated : Type 0 where
+  pub table : TableId
+  pub id : ℕ
+  pub view : View
+
+-- the hand is of this table
+pub record IsHandOf (shared_table : Shared) (hand : Seated) : Type 0 where
+  pub same_table : hand.table ≡ shared_table.table
+  pub same_size : hand.view.size ≡ shared_table.size
+  pub in_range : hand.view.number < shared_table.size.seats
+
+-- both published words are open
+pub record IsOpen (v : View) : Type 0 where
+  pub write : v.published.write < END
+  pub read : v.published.read < END
+
+pub record IsRetired (v : View) : Type 0 where
+  pub write : v.published.write ≡ END
+  pub read : v.published.read ≡ END
+
+-- the hand may make its calls: it is of this table, and is not retired
+pub record IsReady (shared_table : Shared) (hand : Seated) : Type 0 where
+  pub hand_of : IsHandOf shared_table hand
+  pub open_words : IsOpen hand.view
+
+-- a hand is the same seat after a call
+pub record IsSameSeat (before after' : Seated) : Type 0 where
+  pub same_table : after'.table ≡ before.table
+  pub same_id : after'.id ≡ before.id
+
+-- a hand is the same seat after a call, and may make its next one
+pub record StaysReady (shared_table : Shared) (before after' : Seated) : Type 0 where
+  pub seat : IsSameSeat before after'
+  pub ready : IsReady shared_table after'
+
+-- the view after steps that leave all but what was seen: once it has shared, a seat makes no more seats
+abbrev pub stepped : View → View
+stepped v = record v { splitting = rested v.splitting }
+
+-- one step of this kind was made, which found this number, or stored it
+pub record Steps (k : Kind) (before : Seated) (n : ℕ) (after' : Seated) : Type 0 where
+  pub seat : IsSameSeat before after'
+  pub view : after'.view ≡ after k before.view n
+  pub learnt : Learnt k before.view n
+
+-- the view that splits, after another seat was made
+abbrev pub split_left : View → View
+split_left v = record v { splitting = sharing (made_of v.splitting + 1); flight = resting }
+
+-- the view of the seat that was made
+abbrev pub split_right : View → View
+split_right v = record v {
+  number = made_of v.splitting;
+  splitting = shared;
+  clock = record v.clock { drawn = 0; taken_in = [] };
+  flight = resting;
+  raises = no_raises;
+  loaded_bound = None;
+  places = no_places;
+  log = [];
+  seen = nothing_seen;
+}
+
+-- two views made one
+abbrev pub joined_clock : Clock → Clock → ℕ → Clock
+joined_clock c d number = record c {
+  clock = max c.clock d.clock;
+  known = c.known ++ d.known;
+  met = max c.met d.met;
+  taken_in = c.taken_in ++ number ∷ d.taken_in;
+}
+
+abbrev pub joined_view : View → View → View
+joined_view v w = record v {
+  splitting = shared;
+  clock = joined_clock v.clock w.clock w.number;
+  flight = resting;
+  log = v.log ++ w.log;
+}
+
+-- what a hand's own numbers say of its view
+pub record HandOk (number clock published bound made : ℕ) (last_pool : Option ℕ) (v : View) : Type 0 where
+  pub number_is : number ≡ v.number
+  pub clock_is : clock ≡ v.clock.clock
+  pub clock_in_range : clock ≤ GREATEST_CLOCK
+  pub published_is : published ≡ v.published.write
+  pub bound_is : bound ≡ v.published.read
+  pub made_is : MayOffer v.splitting → made ≡ made_of v.splitting
+  pub is_size : IsSize v.size
+  pub in_range : v.number < v.size.seats
+  pub is_open : v.spent ≡ false
+  pub settled : IsSettled v.splitting
+  pub last_pool_is : last_pool ≡ v.places.last_pool
+  pub last_pool_usable : IfSome last_pool (IsUsable v.size)
+  pub places_in_range : AllOf (λ p. p < places v.size) v.places.held
+  pub retired_holds_none : v.published.write ≡ END → v.places.held ≡ []
+
+-- the hand `before` made the seat of `made`
+pub record IsSplit (before after' made : Seated) : Type 0 where
+  pub seat : IsSameSeat before after'
+  pub same_table : made.table ≡ before.table
+  pub left : after'.view ≡ split_left before.view
+  pub right : made.view ≡ split_right before.view
+
+-- the hand `before` took in `other`
+pub record IsJoined (before other after' : Seated) : Type 0 where
+  pub seat : IsSameSeat before after'
+  pub view : after'.view ≡ joined_view before.view other.view
+
+-- one exchange on the status of a place was made, which won where this number, the status found, is that of a free place
+pub record Takes (place : ℕ) (before : Seated) (won : Bool) (after' : Seated) : Type 0 where
+  pub found : ℕ
+  pub won_is : IsTrue won ↔ (found ≡ 0)
+  pub step : Steps (take place) before found after'

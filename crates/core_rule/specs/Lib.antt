@@ -1,0 +1,9 @@
+pub mod Hands
+pub mod Kinds
+pub mod Memory
+pub mod Parts
+pub mod Rule
+pub mod Stamps
+pub mod View
+pub mod Views
+pub mod World

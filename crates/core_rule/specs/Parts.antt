@@ -1,0 +1,10 @@
+pub mod Bounds
+pub mod Clocks
+pub mod Closed
+pub mod Filled
+pub mod Minima
+pub mod Places
+pub mod Published
+pub mod Scans
+pub mod Seats
+pub mod Splitting

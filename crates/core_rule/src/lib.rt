@@ -1,0 +1,23 @@
+//! The rule that all steps on an engine's table of atomic words keep, and the table and hands that make such steps.
+//!
+//! A kind of step is data (`specs/Kinds.antt`), and the rule is a record of parts over the words by their names and the
+//! views of all seats (`specs/Rule.antt`, one file of `specs/Parts/` each). docs/RULE.md says what the parts are.
+#![tactic(auto)]
+
+mod begin;
+mod hand;
+mod keeps;
+mod looks;
+mod places;
+mod publish;
+mod rule;
+mod seats;
+mod shared;
+mod steps;
+#[cfg(test)]
+mod tests;
+mod view;
+
+pub use hand::Hand;
+pub use keeps::{AnyState, Keeps};
+pub use shared::Core;

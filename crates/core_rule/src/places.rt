@@ -1,0 +1,85 @@
+//! Steps on the places for versions.
+ghost use Rattle.std.specs.Prelude.{◌≡◌, ◌<◌, ◌↔◌, IsTrue};
+ghost use Rattle.word_layout.specs.Size.{places};
+ghost use Rattle.core_rule.specs.Views.{Has};
+ghost use Rattle.core_rule.specs.Hands.{IsReady, Takes, Steps};
+ghost use Rattle.core_rule.specs.Kinds.{take, fill_stamp, fill_reset, fill_cell, give, filled_place, filled_cells, IsFilling};
+
+use crate::hand::Hand;
+use crate::keeps::Keeps;
+use crate::shared::Core;
+use stamp_base::Stamp;
+use std::marker::Brand;
+use word_layout::CELLS;
+
+/// The status of a free place, and of a held one.
+const FREE: u64 = 0;
+
+const HELD: u64 = 1;
+
+impl<J: Keeps> Core<J> {
+    /// Takes a place if it is free.
+    pub fn take(&self, hand: &mut Hand<J>, place: u32) -> bool
+        requires ready { IsReady self.now hand.old }
+        requires place { place < places self.now.size }
+        ensures { Takes place hand.old result hand.new }
+    {
+        let word = self.layout.status(place);
+        let found = self.compare_exchange::<Brand>(&mut hand.seat, word, FREE, HELD, place.into());
+        let taken = found == FREE;
+        if taken && place >= self.layout.records() && place + 1 < self.layout.places() {
+            hand.last_pool = Some(place);
+        }
+        taken
+    }
+
+    /// Stores the write stamp of a version in a held place. What was filled there before counts no more.
+    pub fn fill_stamp(&self, hand: &mut Hand<J>, place: u32, stamp: Stamp)
+        requires ready { IsReady self.now hand.old }
+        requires holds { Has place hand.old.view.places.held }
+        ensures { Steps (fill_stamp place stamp) hand.old stamp hand.new }
+    {
+        let seat = &mut hand.seat;
+        let word = self.layout.wts(place);
+        self.store::<Brand>(seat, word, stamp.number(), place.into());
+    }
+
+    /// Stores 0 as read stamp, in the place that is being filled.
+    pub fn fill_reset(&self, hand: &mut Hand<J>, place: u32)
+        requires ready { IsReady self.now hand.old }
+        requires in_work { IsFilling hand.old.view.places.fills }
+        requires place { place ≡ filled_place hand.old.view.places.fills }
+        requires holds { Has place hand.old.view.places.held }
+        ensures { Steps fill_reset hand.old 0 hand.new }
+    {
+        let seat = &mut hand.seat;
+        let word = self.layout.rts(place);
+        self.store::<Brand>(seat, word, 0, 0);
+    }
+
+    /// Stores the next cell of the value, in the place that is being filled.
+    pub fn fill_cell(&self, hand: &mut Hand<J>, place: u32, cell: u32, value: u64)
+        requires ready { IsReady self.now hand.old }
+        requires in_work { IsFilling hand.old.view.places.fills }
+        requires place { place ≡ filled_place hand.old.view.places.fills }
+        requires holds { Has place hand.old.view.places.held }
+        requires cell { cell ≡ filled_cells hand.old.view.places.fills }
+        requires room { cell < CELLS }
+        ensures { Steps (fill_cell value) hand.old value hand.new }
+    {
+        let seat = &mut hand.seat;
+        let word = self.layout.cell(place, cell);
+        self.store::<Brand>(seat, word, value, 0);
+    }
+
+    /// Gives a held place back.
+    pub fn give(&self, hand: &mut Hand<J>, place: u32)
+        requires ready { IsReady self.now hand.old }
+        requires holds { Has place hand.old.view.places.held }
+        ensures { Steps (give place) hand.old 0 hand.new }
+    {
+        let seat = &mut hand.seat;
+        let word = self.layout.status(place);
+        self.store::<Brand>(seat, word, FREE, place.into());
+    }
+}

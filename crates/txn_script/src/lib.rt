@@ -15,7 +15,7 @@ mod reader;
 mod words;
 
 pub use fault::{InputFault, ParseFault};
-pub use parsing::{one_input, parse};
+pub use parsing::parse;
 pub use printing::{print_block, print_table};
 
 #[cfg(test)]

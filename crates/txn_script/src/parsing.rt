@@ -21,6 +21,8 @@ const MOST_BYTES: usize = 4_194_304;
 pub fn parse(alloc: Global, bytes: &[u8]) -> Result<Input, ParseFault>
     // At `Ok` the bytes are this input, which is accepted.
     ensures accepted { IfOk result (IsAccepted bytes.now) }
+    // Bytes spell one input at most.
+    ensures alone { IfOk result (λ input. (other : Input) → IsInput bytes.now other → input ≡ other) }
     // At `Form` no input is accepted for these bytes.
     ensures refused { IsErrOf result ParseFault.Form → IsRefused bytes.now }
 
@@ -38,11 +40,6 @@ pub fn parse(alloc: Global, bytes: &[u8]) -> Result<Input, ParseFault>
     }
     Ok(input)
 }
-
-/// Bytes spell one input at most: a law of the grammar, which does nothing.
-pub fn one_input()
-    ensures { (bytes : List ℕ) (a b : Input) → IsInput bytes a → IsInput bytes b → a ≡ b }
-{}
 
 /// The input that the bytes spell, of any number of tables and lanes.
 fn read(alloc: Global, bytes: &[u8]) -> Result<Input, ParseFault>

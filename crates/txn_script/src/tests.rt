@@ -1,6 +1,6 @@
 //! Worked texts, with a slash for each line feed.
 
-use crate::{ParseFault, one_input, parse, print_block, print_table};
+use crate::{ParseFault, parse, print_block, print_table};
 use replay_model::{Answer, Answers, Cause, Command, NoMemory, Outcome, Pairs, Placed};
 use std::alloc::{AllocError, Global};
 use std::test::Fail;
@@ -210,6 +210,5 @@ fn tables_are_printed_behind_what_is_there(rt: HostRuntime) -> Result<(), Fail> 
     let mut out = Vec::from_slice(rt.alloc(), b"> ")?;
     print_table(rt.alloc(), b"a", &[(1, 70), (2, 5)], &mut out)?;
     assert!(rt; out.as_slice() == b"> table a\n1 70\n2 5\n".as_slice());
-    one_input();
     Ok(())
 }

@@ -1,6 +1,7 @@
 use Rattle.std.proofs.Common.{ap, arith, length}
 use Rattle.std.proofs.lemmas.Result.{err_from_is_err_and}
 use Rattle.replay_model.specs.declared.input.Input.{Input}
+use Rattle.txn_script.proofs.InputLaws.{one_input}
 use Rattle.txn_script.proofs.KeptLaws.{well_formed, plain}
 use Rattle.txn_script.proofs.ParseLaws.{kept, refused, accepted_is}
 use Rattle.txn_script.proofs.parsing.parse.Goals as goal
@@ -29,6 +30,10 @@ returns-clause-accepted c = record {
   one_table = omega (arith, c.if-len-ne1.false, c.len.ensures);
   one_lane = omega (arith, c.if-len-ne1-2.false, c.len-else-len-ne1.ensures);
 }
+
+pub returns-clause-alone : goal.returns-clause-alone
+returns-clause-alone c other is =
+    one_input c.args.bytes.now c.in_ok-input.input other (kept c.args.bytes.now c.in_ok-input.input c.in_ok-input.ensures).0 is
 
 pub returns-clause-well_formed : goal.returns-clause-well_formed
 returns-clause-well_formed c = well_formed c.args.bytes.now c.in_ok-input.input (kept c.args.bytes.now c.in_ok-input.input c.in_ok-input.ensures)

@@ -1,15 +1,14 @@
 //! The program `cicada`: the top call over the standard streams.
 #![tactic(auto)]
 
+use cicada_top::{Status, run};
+use outside_io::{CountClock, OpenGate, StdSink, StdSource};
 use std::alloc::Global;
 use std::env::{self, Args};
 use std::io::{self, Eprint};
 use std::process::ExitCode;
 use std::sync::Wait;
 use std::thread::Threads;
-
-use cicada_top::{Status, run};
-use outside_io::{CountClock, OpenGate, StdSink, StdSource};
 
 fn main(rt: HostRuntime) -> ExitCode {
     let mut source = StdSource::new(rt.stdin());

@@ -1,0 +1,15 @@
+pub mod Words
+pub mod Pairs
+pub mod Rows
+pub mod Walked
+pub mod States
+pub mod Passed
+pub mod Chains
+pub mod Distinct
+pub mod Moved
+pub mod Frames
+pub mod Joined
+pub mod Edits
+pub mod Removed
+pub mod Linked
+pub mod Stored

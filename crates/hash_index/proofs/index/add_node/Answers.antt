@@ -1,0 +1,43 @@
+use Rattle.std.proofs.Common.{Some, ap, ◌∙◌}
+use Rattle.record_store.specs.Meaning.{after_write, after_fresh}
+use Rattle.record_store.specs.Calls.Calls.{none, fresh}
+use Rattle.record_store.specs.Calls.CallFault.{by_fresh}
+use Rattle.record_store.proofs.Refusals.{store_fault, fault_moved, IfStore-map, OnOk-map}
+use Rattle.record_store.proofs.Paths.{Calls-trans, CallFault-behind}
+use Rattle.hash_index.specs.Node.{words_of}
+use Rattle.hash_index.proofs.Words.{words_alike}
+use Rattle.hash_index.proofs.index.add_node.Goals as goal
+
+pub returns-in_err-fresh-clause-fault : goal.returns-in_err-fresh-clause-fault
+returns-in_err-fresh-clause-fault g c =
+    store_fault c.from_residual.result c.in_err-fresh.field-0.0 _ c.from_residual.ensures.1 (by_fresh c.args.store.now (none c.args.store.now) c.in_err-fresh.ensures.gives tt)
+
+pub returns-in_err-fresh-clause-calls : goal.returns-in_err-fresh-clause-calls
+returns-in_err-fresh-clause-calls g c = fresh _ _ _ 0 _ (none _) c.fresh.ensures.gives
+
+pub returns-in_err-write_node-clause-fault : goal.returns-in_err-write_node-clause-fault
+returns-in_err-write_node-clause-fault g c =
+    fault_moved c.from_residual-in_err-write_node.result c.write_node.result c.in_err-write_node.field-0.0 _ c.in_err-write_node.was c.from_residual-in_err-write_node.ensures.1
+    (IfStore-map c.write_node.result (λ fault. CallFault-behind _ _ _ _ 1 fault (fresh _ _ _ 0 _ (none _) c.fresh.ensures.gives)) c.write_node.ensures.fault)
+
+pub returns-in_err-write_node-clause-calls : goal.returns-in_err-write_node-clause-calls
+returns-in_err-write_node-clause-calls g c = Calls-trans _ _ _ 1 0 (fresh _ _ _ 0 _ (none _) c.fresh.ensures.gives) c.write_node.ensures.calls
+
+pub returns-clause-ok : goal.returns-clause-ok
+returns-clause-ok g c = OnOk-map c.write_node-2.result (λ wrote. record {
+  fresh = c.in_ok-fresh.fresh;
+  is_fresh = c.in_ok-fresh.ensures.fresh;
+  written =
+      wrote
+      ∙ ap (λ m. after_write m c.args.last.at (Some (words_of c.args.last.node.pairs.items (Some c.in_ok-fresh.fresh) c.args.last.node.position)))
+      (c.in_ok-write_node.ensures.ok
+      ∙ ap (λ m. after_write m c.in_ok-fresh.fresh (Some (words_of c.with_pair-node.result.pairs.items c.with_pair-node.result.next c.with_pair-node.result.position))) c.in_ok-fresh.ensures.ok
+      ∙ ap (λ ws. after_write (after_fresh (g.S.RecordRead.meaning c.args.store.now) c.in_ok-fresh.fresh) c.in_ok-fresh.fresh (Some ws)) (words_alike _ _ _ _ _ _ c.with_pair-node.ensures.pairs c.with_pair-node.ensures.next c.with_pair-node.ensures.position));
+}) c.write_node-2.ensures.ok
+
+pub returns-clause-fault : goal.returns-clause-fault
+returns-clause-fault g c =
+    IfStore-map c.write_node-2.result (λ fault. CallFault-behind _ _ _ _ 1 fault (Calls-trans _ _ _ 1 0 (fresh _ _ _ 0 _ (none _) c.fresh.ensures.gives) c.write_node.ensures.calls)) c.write_node-2.ensures.fault
+
+pub returns-clause-calls : goal.returns-clause-calls
+returns-clause-calls g c = Calls-trans _ _ _ 1 0 (Calls-trans _ _ _ 1 0 (fresh _ _ _ 0 _ (none _) c.fresh.ensures.gives) c.write_node.ensures.calls) c.write_node-2.ensures.calls

@@ -1,0 +1,9 @@
+use Rattle.std.proofs.Common.{◌≡◌, ◌-◌, ◌*◌, [], ◌∷◌, ◌++◌, length, take}
+use lib.ListN.{replicate}
+use Rattle.hash_index.specs.Node.{pair_words, link_word}
+use Rattle.hash_index.proofs.node.Node.cells.Given as goal
+
+-- the words with the pairs written so far, and zeros in place of the others
+abbrev pub invariant-loop-i : goal.invariant-loop-i
+invariant-loop-i l =
+    l.words ≡ length l.self.pairs.items ∷ link_word l.self.next ∷ (pair_words (take l.i l.self.pairs.items) ++ (replicate (28 - 2 * l.i) 0 ++ l.self.position ∷ 0 ∷ []))

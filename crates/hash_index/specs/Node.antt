@@ -1,0 +1,45 @@
+-- A node of a chain: a record that holds up to 14 pairs of a key and a record number.
+use Rattle.std.specs.Prelude.{◌≡◌, ℕ, ◌+◌, ◌-◌, ◌*◌, ◌<◌, ◌≤◌, ◌==◌, if◌then◌else◌, List, [], ◌∷◌, ◌++◌, length, take, drop, slice_index, All, Option, None, Some, IfSome}
+use Rattle.std.specs.List.{flat_map}
+use lib.ListN.{replicate}
+
+-- words two by two
+abbrev pub paired : List ℕ → List (ℕ × ℕ)
+paired [] = []
+paired (key ∷ []) = []
+paired (key ∷ rid ∷ words) = (key, rid) ∷ paired words
+
+-- word 0 counts the pairs, which stand from word 2 on
+abbrev pub pairs_of : List ℕ → List (ℕ × ℕ)
+pairs_of words = take (slice_index words 0) (paired (drop 2 words))
+
+-- word 1 names the next node by its record number plus 1; 0 names none
+abbrev pub named_by : ℕ → Option ℕ
+named_by word = if word == 0 then None else Some (word - 1)
+
+abbrev pub next_of : List ℕ → Option ℕ
+next_of words = named_by (slice_index words 1)
+
+-- word 30 is the position in the chain
+abbrev pub position_of : List ℕ → ℕ
+position_of words = slice_index words 30
+
+-- the words are a node at this position, in a store of this size
+pub record IsNode (size position : ℕ) (words : List ℕ) : Type 0 where
+  pub few : slice_index words 0 ≤ 14
+  pub placed : position_of words ≡ position
+  pub in_store : position < size
+  pub next : IfSome (next_of words) (λ rid. rid < size)
+  pub records : All (λ pair. pair.1 < size) (pairs_of words)
+
+abbrev pub link_word : Option ℕ → ℕ
+link_word None = 0
+link_word (Some rid) = rid + 1
+
+abbrev pub pair_words : List (ℕ × ℕ) → List ℕ
+pair_words pairs = flat_map (λ pair. pair.0 ∷ pair.1 ∷ []) pairs
+
+-- the words of a node, zero where nothing is said
+abbrev pub words_of : List (ℕ × ℕ) → Option ℕ → ℕ → List ℕ
+words_of pairs next position =
+    length pairs ∷ link_word next ∷ (pair_words pairs ++ replicate (28 - 2 * length pairs) 0 ++ position ∷ 0 ∷ [])

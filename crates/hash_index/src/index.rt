@@ -1,0 +1,129 @@
+//! The calls of the index.
+
+ghost use Rattle.std.specs.Prelude.{◌≡◌, ℕ, ◌+◌, ◌<◌, ◌≤◌, IfOk, OnOk, OnErr, true, Some, ⊤};
+ghost use Rattle.record_store.specs.Calls.{Reads, ReadFault, Calls, CallFault};
+ghost use Rattle.record_store.specs.Walks.{IfTorn, IfStore, IfNoMemory, OnlyReads, ReadsGrow};
+ghost use Rattle.record_store.specs.Meaning.{after_write};
+ghost use Rattle.hash_index.specs.Node.{words_of};
+ghost use Rattle.hash_index.specs.Chain.{EachChain, record_of};
+ghost use Rattle.hash_index.specs.Changes.{NeedsNode};
+ghost use Rattle.hash_index.specs.Search.{AddsNode};
+ghost use Rattle.hash_index.specs.Answers.{IsTorn, PutsPair, RemovesPair};
+
+use crate::node::Node;
+use crate::search::{Link, Place, search};
+use record_store::{RecordRead, RecordStore, Walk};
+
+/// The record number beside a key in the chain of `base`.
+pub fn get<S: RecordRead>(store: &mut S, base: u32, key: u64) -> Result<Option<u32>, Walk<S::Fault>>
+    requires { base + 511 ≤ (S.meaning store.old).size }
+    ensures ok { IfOk result (λ answer. EachChain base (S.meaning store.old) (S.meaning store.new) (λ _ rows. answer ≡ record_of rows key)) }
+    ensures torn { IfTorn result (IsTorn base key (S.meaning store.old) (S.meaning store.new)) }
+    ensures fault { IfStore result (ReadFault S.read_gives store.old store.new) }
+    ensures memory { IfNoMemory result ⊥ }
+    ensures calls { Reads S.read_gives store.old store.new }
+    ensures after { OnlyReads (S.meaning store.old) (S.meaning store.new) }
+{
+    let size = store.size();
+    match search(store, size, base, key)? {
+        Place::Found(link, index) => Ok(Some(link.node.pairs[index].1)),
+        Place::Room(_) | Place::Full(_) | Place::Empty(_) => Ok(None),
+    }
+}
+
+/// Sets the record number beside a key in the chain of `base`, whether it is there or not.
+///
+/// After a refusal what was read and written may have grown.
+pub fn put<S: RecordStore>(
+    store: &mut S,
+    base: u32,
+    key: u64,
+    rid: u32,
+) -> Result<(), Walk<S::Fault>>
+    requires buckets { base + 511 ≤ (S.meaning store.old).fixed }
+    requires rid { rid < (S.meaning store.old).size }
+    ensures ok { OnOk result (PutsPair base key rid (S.meaning store.old) (S.meaning store.new)) }
+    ensures torn { IfTorn result (IsTorn base key (S.meaning store.old) (S.meaning store.new)) }
+
+    // `fresh` is asked once at most, and only where a node is needed
+    ensures fault { IfStore result (CallFault S.read_gives S.write_gives S.fresh_gives (EachChain base (S.meaning store.old) (S.meaning store.new) (λ _ rows. NeedsNode key rows)) store.old store.new) }
+    ensures memory { IfNoMemory result ⊥ }
+    ensures calls { (asked : ℕ) × Calls S.read_gives S.write_gives S.fresh_gives store.old asked store.new × (asked ≤ 1) × (0 < asked → EachChain base (S.meaning store.old) (S.meaning store.new) (λ _ rows. NeedsNode key rows)) }
+    ensures after { ReadsGrow (S.meaning store.old) (S.meaning store.new) }
+{
+    let size = store.size();
+    match search(store, size, base, key)? {
+        Place::Found(mut link, index) => {
+            link.node.pairs[index].1 = rid;
+            write_node(store, link.at, &link.node)
+        }
+        Place::Room(mut link) => {
+            link.node.pairs.push((key, rid));
+            write_node(store, link.at, &link.node)
+        }
+        Place::Full(link) => add_node(store, link, key, rid),
+        Place::Empty(bucket) => write_node(store, bucket, &Node::with_pair(key, rid, 0)),
+    }
+}
+
+/// Puts a pair into a new node behind the last one.
+fn add_node<S: RecordStore>(
+    store: &mut S,
+    mut last: Link,
+    key: u64,
+    rid: u32,
+) -> Result<(), Walk<S::Fault>>
+    requires last { last.at < (S.meaning store.old).size }
+    requires position { last.node.position < 200000 }
+    ensures ok { OnOk result (AddsNode key rid last (S.meaning store.old) (S.meaning store.new)) }
+    ensures torn { IfTorn result (λ _. ⊥) }
+    ensures fault { IfStore result (CallFault S.read_gives S.write_gives S.fresh_gives ⊤ store.old store.new) }
+    ensures memory { IfNoMemory result ⊥ }
+    ensures calls { Calls S.read_gives S.write_gives S.fresh_gives store.old 1 store.new }
+    ensures after { ReadsGrow (S.meaning store.old) (S.meaning store.new) }
+{
+    let fresh = store.fresh()?;
+    let node = Node::with_pair(key, rid, last.node.position + 1);
+    write_node(store, fresh, &node)?;
+    last.node.next = Some(fresh);
+    write_node(store, last.at, &last.node)
+}
+
+/// Writes a node to its record.
+fn write_node<S: RecordStore>(store: &mut S, rid: u32, node: &Node) -> Result<(), Walk<S::Fault>>
+    requires { rid < (S.meaning store.old).size }
+    ensures ok { OnOk result (S.meaning store.new ≡ after_write (S.meaning store.old) rid (Some (words_of node.now.pairs.items node.now.next node.now.position))) }
+    ensures err { OnErr result (S.meaning store.new ≡ S.meaning store.old) }
+    ensures torn { IfTorn result (λ _. ⊥) }
+    ensures fault { IfStore result (CallFault S.read_gives S.write_gives S.fresh_gives ⊥ store.old store.new) }
+    ensures memory { IfNoMemory result ⊥ }
+    ensures calls { Calls S.read_gives S.write_gives S.fresh_gives store.old 0 store.new }
+{
+    store.write(rid, Some(node.cells()))?;
+    Ok(())
+}
+
+/// Removes a key from the chain of `base`, and answers whether it was there.
+///
+/// After a refusal what was read and written may have grown.
+pub fn remove<S: RecordStore>(store: &mut S, base: u32, key: u64) -> Result<bool, Walk<S::Fault>>
+    requires { base + 511 ≤ (S.meaning store.old).fixed }
+    ensures ok { IfOk result (λ was_there. RemovesPair base key was_there (S.meaning store.old) (S.meaning store.new)) }
+    ensures torn { IfTorn result (IsTorn base key (S.meaning store.old) (S.meaning store.new)) }
+    ensures fault { IfStore result (CallFault S.read_gives S.write_gives S.fresh_gives ⊥ store.old store.new) }
+    ensures memory { IfNoMemory result ⊥ }
+
+    // `fresh` is never asked
+    ensures calls { Calls S.read_gives S.write_gives S.fresh_gives store.old 0 store.new }
+    ensures after { ReadsGrow (S.meaning store.old) (S.meaning store.new) }
+{
+    let size = store.size();
+    match search(store, size, base, key)? {
+        Place::Found(mut link, index) => {
+            link.node.pairs.swap_remove(index);
+            write_node(store, link.at, &link.node)?;
+            Ok(true)
+        }
+        Place::Room(_) | Place::Full(_) | Place::Empty(_) => Ok(false),
+    }
+}

@@ -1,0 +1,121 @@
+//! The walk over the nodes of a bucket.
+
+ghost use Rattle.std.specs.Prelude.{◌≡◌, ℕ, ◌+◌, ◌<◌, ◌≤◌, IfOk, IfSome};
+ghost use Rattle.record_store.specs.Calls.{Reads, ReadFault};
+ghost use Rattle.record_store.specs.Walks.{IfTorn, IfStore, IfNoMemory, OnlyReads};
+ghost use Rattle.hash_index.specs.Chain.{Tears, bucket_of};
+ghost use Rattle.hash_index.specs.Search.{EachState, IsLink, ReadAs, IsUnfit, IsPlace, IsWithin, first_room, end_place};
+
+use crate::node::Node;
+use record_store::{RecordRead, Walk};
+use std::mem;
+
+/// The buckets of a base.
+const BUCKETS: u64 = 511;
+
+/// A node that was read, with its record.
+#[derive(Drop)]
+pub struct Link {
+    pub at: u32,
+    pub node: Node,
+}
+
+/// Where a search for a key ends.
+#[derive(Drop)]
+pub enum Place {
+    /// At the pair of this number in this node.
+    Found(Link, usize),
+    /// The key is not there, and this is the first node with room.
+    Room(Link),
+    /// The key is not there, and no node has room; this is the last one.
+    Full(Link),
+    /// This is the record of the bucket, which is absent.
+    Empty(u32),
+}
+
+/// Looks for the key in the row of its bucket, in a store of this size.
+pub fn search<S: RecordRead>(
+    store: &mut S,
+    size: u32,
+    base: u32,
+    key: u64,
+) -> Result<Place, Walk<S::Fault>>
+    requires size { size ≡ (S.meaning store.old).size }
+    requires at_most { size ≤ 200000 }
+    requires buckets { base + 511 ≤ size }
+    ensures place { IfOk result (λ place. EachState (S.meaning store.old) (S.meaning store.new) (λ state. IsPlace size (base + bucket_of key) key state place)) }
+    ensures within { IfOk result (λ place. IsWithin size (base + bucket_of key) key place) }
+    ensures torn { IfTorn result (λ rid. EachState (S.meaning store.old) (S.meaning store.new) (λ state. Tears size (base + bucket_of key) state rid)) }
+    ensures fault { IfStore result (ReadFault S.read_gives store.old store.new) }
+    ensures memory { IfNoMemory result ⊥ }
+    ensures calls { Reads S.read_gives store.old store.new }
+    ensures after { OnlyReads (S.meaning store.old) (S.meaning store.new) }
+{
+    let bucket = base + (key % BUCKETS) as u32;
+    let Some(mut here) = read_link(store, size, bucket, 0)? else {
+        return Ok(Place::Empty(bucket));
+    };
+    let mut room = None;
+    loop {
+        if let Some(index) = here.node.find(key) {
+            return Ok(Place::Found(here, index));
+        }
+        let Some(next) = here.node.next else {
+            return Ok(end_of_row(room, here));
+        };
+        let Some(link) = read_link(store, size, next, here.node.position + 1)? else {
+            return Err(Walk::Torn(next));
+        };
+        let passed = mem::replace(&mut here, link);
+        room = first_with_room(room, passed);
+    }
+}
+
+/// The node of a record at a position, or `None` where the record is absent.
+fn read_link<S: RecordRead>(
+    store: &mut S,
+    size: u32,
+    rid: u32,
+    position: u32,
+) -> Result<Option<Link>, Walk<S::Fault>>
+    requires size { size ≡ (S.meaning store.old).size }
+    requires at_most { size ≤ 200000 }
+    requires rid { rid < size }
+    ensures link { IfOk result (λ link. IfSome link (IsLink size rid position)) }
+    ensures read { IfOk result (λ link. EachState (S.meaning store.old) (S.meaning store.new) (λ state. ReadAs size rid position state link)) }
+    ensures torn { IfTorn result (λ torn. (torn ≡ rid) × EachState (S.meaning store.old) (S.meaning store.new) (λ state. IsUnfit size position state rid)) }
+    ensures fault { IfStore result (ReadFault S.read_gives store.old store.new) }
+    ensures memory { IfNoMemory result ⊥ }
+    ensures calls { Reads S.read_gives store.old store.new }
+    ensures after { OnlyReads (S.meaning store.old) (S.meaning store.new) }
+{
+    let Some(cells) = store.read(rid)? else {
+        return Ok(None);
+    };
+    match Node::read(&cells, position, size) {
+        Some(node) => Ok(Some(Link { at: rid, node })),
+        None => Err(Walk::Torn(rid)),
+    }
+}
+
+/// The first node with room, once one more was passed.
+fn first_with_room(room: Option<Link>, passed: Link) -> Option<Link>
+    ensures { result ≡ first_room room passed }
+{
+    if room.is_none() && !passed.node.pairs.is_full() {
+        Some(passed)
+    } else {
+        room
+    }
+}
+
+/// The place of a key that no node has, from the first node with room before the last one, and the last one.
+fn end_of_row(room: Option<Link>, last: Link) -> Place
+    ensures { result ≡ end_place room last }
+{
+    match room {
+        Some(link) => Place::Room(link),
+        None if last.node.pairs.is_full() => Place::Full(last),
+        None => Place::Room(last),
+    }
+}

@@ -124,3 +124,17 @@ fn threads_draw_different_stamps_above_the_minima(rt: HostRuntime) -> Result<(),
     }
     Ok(())
 }
+
+#[test]
+fn the_word_of_a_retired_seat_is_not_adopted(rt: HostRuntime) -> Result<(), Fail> {
+    let layout = Layout::new(2, 6, 4)?;
+    let (core, mut first) = Core::<AnyState>::new(rt.alloc(), &layout)?;
+    let mut second = core.split(&mut first);
+    hear(&core, &mut first, Stamp::make(7, 0));
+    retire(&core, &mut first);
+    sync(&core, &mut second, 0);
+    assert_eq!(rt; second.clock(), 0);
+    core.join(&mut second, first);
+    assert_eq!(rt; second.clock(), 7);
+    Ok(())
+}

@@ -64,6 +64,7 @@ pub data Kind : Type 0 where
   scan_reads : (seat : ℕ) → Kind
   -- load a minimum word
   load_min_write : Kind
+  load_min_read : Kind
   -- raise a minimum
   raise_min_write : Kind
   raise_min_read : Kind
@@ -143,6 +144,7 @@ name (hear stamp) v = published_write v.number
 name (scan_writes seat) v = published_write seat
 name (scan_reads seat) v = published_read seat
 name load_min_write v = min_write
+name load_min_read v = min_read
 name raise_min_write v = min_write
 name raise_min_read v = min_read
 name (take place) v = status place
@@ -319,6 +321,7 @@ Learnt (hear stamp) v n = n ≡ v.published.write
 Learnt (scan_writes seat) v n = seat ≡ v.number → n ≡ v.published.write
 Learnt (scan_reads seat) v n = seat ≡ v.number → n ≡ v.published.read
 Learnt load_min_write v n = (v.clock.met ≤ n) × (v.published.read < n)
+Learnt load_min_read v n = n ≤ v.published.read
 Learnt raise_min_write v n = (v.clock.met ≤ n) × (n ≤ v.published.write) × (v.raises.writes.least ≤ v.published.write)
 Learnt raise_min_read v n = (n ≤ v.published.read) × (v.raises.reads.least ≤ v.published.read)
 Learnt (take place) v n = n ≡ 0 → AllOf (λ p. p ≢ place) v.places.held

@@ -1,8 +1,8 @@
 //! Steps that look at published words and at the minima, and that raise a minimum.
 ghost use Rattle.std.specs.Prelude.{◌≡◌, ◌<◌};
 ghost use Rattle.core_rule.specs.Stamps.{adopted};
-ghost use Rattle.core_rule.specs.Hands.{IsReady, Steps};
-ghost use Rattle.core_rule.specs.Kinds.{adopt_clock, hear, scan_writes, scan_reads, load_min_write, raise_min_write, raise_min_read, scan_from};
+ghost use Rattle.core_rule.specs.Hands.{IsHandOf, IsReady, Steps};
+ghost use Rattle.core_rule.specs.Kinds.{adopt_clock, hear, scan_writes, scan_reads, load_min_write, load_min_read, raise_min_write, raise_min_read, scan_from};
 
 use crate::hand::Hand;
 use crate::keeps::Keeps;
@@ -74,6 +74,15 @@ impl<J: Keeps> Core<J> {
     {
         let word = self.layout.min_write();
         self.load::<Brand>(&mut hand.seat, word, 0)
+    }
+
+    /// Loads `min_rts`, which is at most the own published read word. A retired seat may load it too.
+    pub fn load_min_read(&self, hand: &mut Hand<J>) -> u64
+        requires { IsHandOf self.now hand.old }
+        ensures { Steps load_min_read hand.old result hand.new }
+    {
+        let min_read = self.layout.min_read();
+        self.load::<Brand>(&mut hand.seat, min_read, 0)
     }
 
     /// Raises `min_wts` to the least of the words that were loaded for it, and gives what it was before.

@@ -44,6 +44,7 @@ fn one_seat_makes_each_step(rt: HostRuntime) -> Result<(), Fail> {
     assert_eq!(rt; core.publish_bound(&mut hand, loaded), 5183);
     let least = core.scan_reads(&mut hand, 0);
     assert_eq!(rt; core.raise_min_read(&mut hand, least), 0);
+    assert_eq!(rt; core.load_min_read(&mut hand), 5183);
     assert_eq!(rt; hand.clock(), 20);
     Ok(())
 }

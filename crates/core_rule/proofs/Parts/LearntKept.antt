@@ -5,7 +5,7 @@ use Rattle.word_layout.specs.Size.{Size}
 use Rattle.core_rule.specs.Memory.{Memory}
 use Rattle.core_rule.specs.World.{World}
 use Rattle.core_rule.specs.View.{View}
-use Rattle.core_rule.specs.Kinds.{Kind, publish_stamp, hear, scan_writes, scan_reads, load_min_write, raise_min_write, raise_min_read, name, way, told, Learnt, take}
+use Rattle.core_rule.specs.Kinds.{Kind, publish_stamp, hear, scan_writes, scan_reads, load_min_write, load_min_read, raise_min_write, raise_min_read, name, way, told, Learnt, take}
 use Rattle.stamp_base.specs.Stamp.{stamp_of, clock_of}
 use Rattle.core_rule.proofs.EachView.{AllOf-map}
 use Rattle.core_rule.proofs.Parts.PlacesKept.{free_place}
@@ -20,6 +20,7 @@ module _ (kept : State → Type 0) (z : Size) (g : World) (m : Memory) (vs : Lis
   learnt (scan_writes seat) s = λ e. rw e (s.rule.published id v s.at s.allowed.is_open).write
   learnt (scan_reads seat) s = λ e. rw e (s.rule.published id v s.at s.allowed.is_open).read
   learnt load_min_write s = let p = s.rule.minima.each id v s.at s.allowed.is_open in (p.met, p.settled s.allowed.can)
+  learnt load_min_read s = (s.rule.minima.each id v s.at s.allowed.is_open).reads
   learnt raise_min_write s =
       let p = s.rule.minima.each id v s.at s.allowed.is_open in
       (p.met, p.writes, (s.rule.scans id id v v s.at s.at s.allowed.is_open s.allowed.is_open).writes (rw s.allowed.can (rw (s.rule.seats.each id v s.at s.allowed.is_open).size (s.rule.seats.each id v s.at s.allowed.is_open).within)))

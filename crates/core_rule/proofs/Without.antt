@@ -59,12 +59,12 @@ module _ (p : ℕ) where
   Others-without [] = tt
   Others-without (f ∷ fs) = gone_case f (without_fill p fs) (eqb f.place p) refl (Others-without fs)
 
-  module _ (stamps resets : ℕ → ℕ) (cells : ℕ → ℕ → ℕ) (places : List ℕ) where
-    fills_case : (f : Fill) (rest : List Fill) (b : Bool) → FillOk stamps resets cells places f → Others f.place rest → FillsOk stamps resets cells places rest
-        → FillsOk stamps resets cells places (cond b rest (f ∷ rest))
+  module _ (stamps resets links : ℕ → ℕ) (cells : ℕ → ℕ → ℕ) (places : List ℕ) where
+    fills_case : (f : Fill) (rest : List Fill) (b : Bool) → FillOk stamps resets links cells places f → Others f.place rest → FillsOk stamps resets links cells places rest
+        → FillsOk stamps resets links cells places (cond b rest (f ∷ rest))
     fills_case f rest true h o r = r
     fills_case f rest false h o r = (h, o, r)
 
-    pub FillsOk-without : (fs : List Fill) → FillsOk stamps resets cells places fs → FillsOk stamps resets cells places (without_fill p fs)
+    pub FillsOk-without : (fs : List Fill) → FillsOk stamps resets links cells places fs → FillsOk stamps resets links cells places (without_fill p fs)
     FillsOk-without [] h = tt
     FillsOk-without (f ∷ fs) h = fills_case f (without_fill p fs) (eqb f.place p) h.0 (Others-still f.place fs h.1) (FillsOk-without fs h.2)

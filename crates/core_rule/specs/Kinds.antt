@@ -1,7 +1,7 @@
 -- The kinds of step. A kind is data: its word, what it does there, when it is allowed, and the view and the world after it.
 use Rattle.std.specs.Prelude.{◌≡◌, ◌≢◌, ℕ, suc, ◌-◌, ◌<◌, ◌≤◌, min, max, Bool, true, false, ◌==◌, ◌&&◌, nat_lt, nat_le, if◌then◌else◌, List, [], ◌∷◌, ◌++◌, length, Option, Some, None, IsSome}
 use prog.Atomic.{either}
-use Rattle.word_layout.specs.Name.{Name, published_write, published_read, min_write, min_read, status, wts, rts, cell}
+use Rattle.word_layout.specs.Name.{Name, published_write, published_read, min_write, min_read, status, wts, rts, next as next_word, cell}
 use Rattle.word_layout.specs.Size.{Size, places, kept_place}
 use Rattle.word_layout.specs.declared.TheConstants.{CELLS}
 use Rattle.stamp_base.specs.declared.TheConstants.{END, GREATEST_CLOCK}
@@ -70,9 +70,11 @@ pub data Kind : Type 0 where
   raise_min_read : Kind
   -- take a free place, or meet it taken
   take : (place : ℕ) → Kind
-  -- fill a held place: its write stamp; its read stamp with 0, and its next cell, where the fill in work is
+  -- fill a held place: its write stamp; its read stamp with 0, the link to the next older version, and its next cell, where
+  -- the fill in work is
   fill_stamp : (place stamp : ℕ) → Kind
   fill_reset : Kind
+  fill_next : (link : ℕ) → Kind
   fill_cell : (word : ℕ) → Kind
   -- give a held place back
   give : (place : ℕ) → Kind
@@ -114,6 +116,10 @@ abbrev pub reset_fill : List Fill → List Fill
 reset_fill [] = []
 reset_fill (f ∷ fs) = record f { reset = true } ∷ fs
 
+abbrev pub link_fill : ℕ → List Fill → List Fill
+link_fill link [] = []
+link_fill link (f ∷ fs) = record f { link = Some link } ∷ fs
+
 abbrev pub more_cells : ℕ → List Fill → List Fill
 more_cells word [] = []
 more_cells word (f ∷ fs) = record f { cells = f.cells ++ word ∷ [] } ∷ fs
@@ -150,6 +156,7 @@ name raise_min_read v = min_read
 name (take place) v = status place
 name (fill_stamp place stamp) v = wts place
 name fill_reset v = rts (filled_place v.places.fills)
+name (fill_next link) v = next_word (filled_place v.places.fills)
 name (fill_cell word) v = cell (filled_place v.places.fills) (filled_cells v.places.fills)
 name (give place) v = status place
 
@@ -166,6 +173,7 @@ way raise_min_read v = raises_to v.raises.reads.least
 way (take place) v = exchanges 0 1
 way (fill_stamp place stamp) v = stores stamp
 way fill_reset v = stores 0
+way (fill_next link) v = stores link
 way (fill_cell word) v = stores word
 way (give place) v = stores 0
 way _ v = loads
@@ -224,10 +232,11 @@ next (take place) v n = record v {
 }
 next (fill_stamp place stamp) v n = record v {
   places = record v.places {
-    fills = record { place = place; stamp = stamp; reset = false; cells = [] } ∷ without_fill place v.places.fills;
+    fills = record { place = place; stamp = stamp; reset = false; link = None; cells = [] } ∷ without_fill place v.places.fills;
   };
 }
 next fill_reset v n = record v { places = record v.places { fills = reset_fill v.places.fills } }
+next (fill_next link) v n = record v { places = record v.places { fills = link_fill link v.places.fills } }
 next (fill_cell word) v n = record v { places = record v.places { fills = more_cells word v.places.fills } }
 next (give place) v n = record v {
   places = record v.places { held = without place v.places.held; fills = without_fill place v.places.fills };
@@ -304,6 +313,7 @@ Can raise_min_read v = (v.raises.reads.next ≡ v.size.seats) × (v.published.re
 Can (take place) v = place < places v.size
 Can (fill_stamp place stamp) v = Has place v.places.held
 Can fill_reset v = IsFilling v.places.fills
+Can (fill_next link) v = IsFilling v.places.fills
 Can (fill_cell word) v = IsFilling v.places.fills × (filled_cells v.places.fills < CELLS)
 Can (give place) v = Has place v.places.held
 Can _ v = Unit {0}

@@ -1,5 +1,5 @@
 -- The words of a table by their names.
-use Rattle.std.specs.Prelude.{ℕ, zero, suc, nat_lt, List, slice_index, if◌then◌else◌}
+use Rattle.std.specs.Prelude.{ℕ, zero, suc, nat_lt, List, slice_index, Option, Some, None, if◌then◌else◌}
 use Rattle.word_layout.specs.Name.{Name, published_write, published_read, min_write, head, status, name_eq, is_named, word_of}
 use Rattle.word_layout.specs.Size.{Size}
 use Rattle.stamp_base.specs.declared.TheConstants.{END}
@@ -19,6 +19,11 @@ put_below family value (suc k) m = put (put_below family value k m) (family k) (
 -- the words of a table of this size, and 0 for a name that no word of it has
 abbrev pub memory : Size → List ℕ → Memory
 memory z ws n = if is_named z n then slice_index ws (word_of z n) else 0
+
+-- what a word holds that links to a place, or to none
+abbrev pub link_of : Option ℕ → ℕ
+link_of None = 0
+link_of (Some place) = suc place
 
 -- what a word holds at the start: seat 0 alone is open, and each record has a deleted version of stamp 0 in its inline place
 abbrev pub starts_with : Size → Name → ℕ

@@ -1,9 +1,10 @@
 //! Steps on the places for versions.
 ghost use Rattle.std.specs.Prelude.{◌≡◌, ◌<◌, ◌↔◌, IsTrue};
 ghost use Rattle.word_layout.specs.Size.{places};
+ghost use Rattle.core_rule.specs.Memory.{link_of};
 ghost use Rattle.core_rule.specs.Views.{Has};
 ghost use Rattle.core_rule.specs.Hands.{IsReady, Takes, Steps};
-ghost use Rattle.core_rule.specs.Kinds.{take, fill_stamp, fill_reset, fill_cell, give, filled_place, filled_cells, IsFilling};
+ghost use Rattle.core_rule.specs.Kinds.{take, fill_stamp, fill_reset, fill_next, fill_cell, give, filled_place, filled_cells, IsFilling};
 
 use crate::hand::Hand;
 use crate::keeps::Keeps;
@@ -16,6 +17,16 @@ use word_layout::CELLS;
 const FREE: u64 = 0;
 
 const HELD: u64 = 1;
+
+/// The number that a word holds which links to this place, or to none.
+fn link_to(place: Option<u32>) -> u64
+    ensures { result ≡ link_of place }
+{
+    match place {
+        Some(place) => u64::from(place) + 1,
+        None => 0,
+    }
+}
 
 impl<J: Keeps> Core<J> {
     /// Takes a place if it is free.
@@ -55,6 +66,20 @@ impl<J: Keeps> Core<J> {
         let seat = &mut hand.seat;
         let word = self.layout.rts(place);
         self.store::<Brand>(seat, word, 0, 0);
+    }
+
+    /// Stores the link to the next older version, in the place that is being filled: the number of that version's place
+    /// plus 1, and 0 where there is none.
+    pub fn fill_next(&self, hand: &mut Hand<J>, place: u32, older: Option<u32>)
+        requires ready { IsReady self.now hand.old }
+        requires in_work { IsFilling hand.old.view.places.fills }
+        requires place { place ≡ filled_place hand.old.view.places.fills }
+        requires holds { Has place hand.old.view.places.held }
+        ensures { Steps (fill_next (link_of older)) hand.old (link_of older) hand.new }
+    {
+        let seat = &mut hand.seat;
+        let word = self.layout.next(place);
+        self.store::<Brand>(seat, word, link_to(older), 0);
     }
 
     /// Stores the next cell of the value, in the place that is being filled.

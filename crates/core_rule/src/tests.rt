@@ -74,6 +74,7 @@ fn a_place_is_filled_and_taken_again(rt: HostRuntime) -> Result<(), Fail> {
     if core.take(&mut hand, 1) {
         core.fill_stamp(&mut hand, 1, stamp);
         core.fill_reset(&mut hand, 1);
+        core.fill_next(&mut hand, 1, Some(0));
         core.fill_cell(&mut hand, 1, 0, 7);
         core.give(&mut hand, 1);
     }

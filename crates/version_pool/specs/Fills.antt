@@ -9,11 +9,11 @@ abbrev pub cells_of : Option (List ℕ) → List ℕ
 cells_of None = []
 cells_of (Some cells) = cells
 
--- the view after a place was filled with a version of this write stamp and value
+-- the view after a place was filled with a version of this write stamp and value; no link to an older version is stored
 abbrev pub after_filling : View → (place stamp : ℕ) → Option (List ℕ) → View
 after_filling v place stamp value = record (stepped v) {
   places = record v.places {
-    fills = record { place = place; stamp = stamp; reset = true; cells = cells_of value } ∷ without_fill place v.places.fills;
+    fills = record { place = place; stamp = stamp; reset = true; link = None; cells = cells_of value } ∷ without_fill place v.places.fills;
   };
 }
 

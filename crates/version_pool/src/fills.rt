@@ -11,7 +11,8 @@ use stamp_base::Stamp;
 use word_layout::CELLS;
 
 /// Fills a held place with a version: its write stamp, the read stamp 0, and the cells of its value, in this order. Of a
-/// deletion, which is `None`, no cell is stored. What was filled there before counts no more.
+/// deletion, which is `None`, no cell is stored. The link to an older version is not stored here. What was filled there
+/// before counts no more.
 pub fn fill<J: Keeps>(
     core: &Core<J>,
     hand: &mut Hand<J>,

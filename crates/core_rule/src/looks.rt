@@ -23,13 +23,13 @@ fn adopted_clock(clock: u64, published: u64) -> u64
 
 impl<J: Keeps> Core<J> {
     /// Loads the published write word of a seat, and advances the clock to it.
-    pub fn adopt_clock(&self, hand: &mut Hand<J>, seat: u32) -> u64
+    pub fn adopt_clock(&self, hand: &mut Hand<J>, other: u32) -> u64
         requires ready { IsReady self.now hand.old }
-        requires seat { seat < self.now.size.seats }
-        ensures { Steps (adopt_clock seat) hand.old result hand.new }
+        requires seat { other < self.now.size.seats }
+        ensures { Steps (adopt_clock other) hand.old result hand.new }
     {
-        let word = self.layout.published_write(seat);
-        let found = self.load::<Brand>(&mut hand.seat, word, seat.into());
+        let write_word = self.layout.published_write(other);
+        let found = self.load::<Brand>(&mut hand.seat, write_word, other.into());
         hand.clock = adopted_clock(hand.clock, found);
         found
     }
@@ -39,8 +39,8 @@ impl<J: Keeps> Core<J> {
         requires { IsReady self.now hand.old }
         ensures { Steps (hear stamp) hand.old result hand.new }
     {
-        let word = self.layout.published_write(hand.number);
-        let found = self.load::<Brand>(&mut hand.seat, word, stamp.number());
+        let write_word = self.layout.published_write(hand.number);
+        let found = self.load::<Brand>(&mut hand.seat, write_word, stamp.number());
         hand.clock = hand.clock.max(stamp.clock());
         found
     }
@@ -52,8 +52,8 @@ impl<J: Keeps> Core<J> {
         requires seat { seat < self.now.size.seats }
         ensures { Steps (scan_writes seat) hand.old result hand.new }
     {
-        let word = self.layout.published_write(seat);
-        self.load::<Brand>(&mut hand.seat, word, seat.into())
+        let write_word = self.layout.published_write(seat);
+        self.load::<Brand>(&mut hand.seat, write_word, seat.into())
     }
 
     /// Loads the published read word of the next seat, for `min_rts`. At seat 0 the raise begins anew.
@@ -63,8 +63,8 @@ impl<J: Keeps> Core<J> {
         requires seat { seat < self.now.size.seats }
         ensures { Steps (scan_reads seat) hand.old result hand.new }
     {
-        let word = self.layout.published_read(seat);
-        self.load::<Brand>(&mut hand.seat, word, seat.into())
+        let read_word = self.layout.published_read(seat);
+        self.load::<Brand>(&mut hand.seat, read_word, seat.into())
     }
 
     /// Loads `min_wts`, for the own published read word.
@@ -72,8 +72,8 @@ impl<J: Keeps> Core<J> {
         requires { IsReady self.now hand.old }
         ensures { Steps load_min_write hand.old result hand.new }
     {
-        let word = self.layout.min_write();
-        self.load::<Brand>(&mut hand.seat, word, 0)
+        let min_write = self.layout.min_write();
+        self.load::<Brand>(&mut hand.seat, min_write, 0)
     }
 
     /// Loads `min_rts`, which is at most the own published read word. A retired seat may load it too.
@@ -92,8 +92,8 @@ impl<J: Keeps> Core<J> {
         requires least { least ≡ hand.old.view.raises.writes.least }
         ensures { Steps raise_min_write hand.old result hand.new }
     {
-        let word = self.layout.min_write();
-        self.fetch_max::<Brand>(&mut hand.seat, word, least)
+        let min_write = self.layout.min_write();
+        self.fetch_max::<Brand>(&mut hand.seat, min_write, least)
     }
 
     /// Raises `min_rts` to the least of the words that were loaded for it, and gives what it was before.
@@ -103,7 +103,7 @@ impl<J: Keeps> Core<J> {
         requires least { least ≡ hand.old.view.raises.reads.least }
         ensures { Steps raise_min_read hand.old result hand.new }
     {
-        let word = self.layout.min_read();
-        self.fetch_max::<Brand>(&mut hand.seat, word, least)
+        let min_read = self.layout.min_read();
+        self.fetch_max::<Brand>(&mut hand.seat, min_read, least)
     }
 }

@@ -23,8 +23,8 @@ impl<J: Keeps> Core<J> {
         ensures step { Steps (publish_stamp clock) hand.old result hand.new }
     {
         let stamp = Stamp::make(clock, hand.number);
-        let word = self.layout.published_write(hand.number);
-        self.store::<Brand>(&mut hand.seat, word, stamp.number(), 0);
+        let write_word = self.layout.published_write(hand.number);
+        self.store::<Brand>(&mut hand.seat, write_word, stamp.number(), 0);
         hand.clock = clock;
         hand.published = stamp.number();
         stamp
@@ -38,8 +38,8 @@ impl<J: Keeps> Core<J> {
         ensures step { Steps publish_idle hand.old result hand.new }
     {
         let bound = hand.clock * 256 + u64::from(SEATS);
-        let word = self.layout.published_write(hand.number);
-        self.store::<Brand>(&mut hand.seat, word, bound, 0);
+        let write_word = self.layout.published_write(hand.number);
+        self.store::<Brand>(&mut hand.seat, write_word, bound, 0);
         hand.published = bound;
         bound
     }
@@ -50,8 +50,8 @@ impl<J: Keeps> Core<J> {
         requires holds_none { hand.old.view.places.held ≡ [] }
         ensures { Steps retire_write hand.old END hand.new }
     {
-        let word = self.layout.published_write(hand.number);
-        self.store::<Brand>(&mut hand.seat, word, END, 0);
+        let write_word = self.layout.published_write(hand.number);
+        self.store::<Brand>(&mut hand.seat, write_word, END, 0);
         hand.published = END;
     }
 
@@ -64,8 +64,8 @@ impl<J: Keeps> Core<J> {
         ensures step { Steps publish_bound hand.old result hand.new }
     {
         let bound = loaded - 1;
-        let word = self.layout.published_read(hand.number);
-        self.store::<Brand>(&mut hand.seat, word, bound, 0);
+        let read_word = self.layout.published_read(hand.number);
+        self.store::<Brand>(&mut hand.seat, read_word, bound, 0);
         hand.bound = bound;
         bound
     }
@@ -75,8 +75,8 @@ impl<J: Keeps> Core<J> {
         requires { IsHandOf self.now hand.old }
         ensures { Steps retire_read hand.old END hand.new }
     {
-        let word = self.layout.published_read(hand.number);
-        self.store::<Brand>(&mut hand.seat, word, END, 0);
+        let read_word = self.layout.published_read(hand.number);
+        self.store::<Brand>(&mut hand.seat, read_word, END, 0);
         hand.bound = END;
     }
 }

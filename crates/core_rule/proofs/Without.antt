@@ -3,7 +3,8 @@ use Rattle.std.proofs.Common.{◌≡◌, ◌≢◌, ℕ, true, false, Bool, cond
 use Rattle.core_rule.specs.Views.{AllOf, Has, IsDistinct}
 use Rattle.core_rule.specs.View.{Fill}
 use Rattle.core_rule.specs.Kinds.{without, without_fill}
-use Rattle.core_rule.specs.Parts.Filled.{FillOk, FillsOk, Others}
+use Rattle.core_rule.specs.Memory.{Stored}
+use Rattle.core_rule.specs.Parts.Filled.{Stands, FillsOk, Others}
 
 ne_from_test : (x y : ℕ) → eqb x y ≡ false → x ≢ y
 ne_from_test x y e same = let t = eq-eqb x y same in cc
@@ -59,12 +60,11 @@ module _ (p : ℕ) where
   Others-without [] = tt
   Others-without (f ∷ fs) = gone_case f (without_fill p fs) (eqb f.place p) refl (Others-without fs)
 
-  module _ (stamps resets links : ℕ → ℕ) (cells : ℕ → ℕ → ℕ) (places : List ℕ) where
-    fills_case : (f : Fill) (rest : List Fill) (b : Bool) → FillOk stamps resets links cells places f → Others f.place rest → FillsOk stamps resets links cells places rest
-        → FillsOk stamps resets links cells places (cond b rest (f ∷ rest))
-    fills_case f rest true h o r = r
-    fills_case f rest false h o r = (h, o, r)
+  module _ (w : Stored) (places : List ℕ) where
+    fills_case : (f : Fill) (rest : List Fill) (b : Bool) → Has f.place places → Stands w f → Others f.place rest → FillsOk w places rest → FillsOk w places (cond b rest (f ∷ rest))
+    fills_case f rest true h s o r = r
+    fills_case f rest false h s o r = (h, s, o, r)
 
-    pub FillsOk-without : (fs : List Fill) → FillsOk stamps resets links cells places fs → FillsOk stamps resets links cells places (without_fill p fs)
+    pub FillsOk-without : (fs : List Fill) → FillsOk w places fs → FillsOk w places (without_fill p fs)
     FillsOk-without [] h = tt
-    FillsOk-without (f ∷ fs) h = fills_case f (without_fill p fs) (eqb f.place p) h.0 (Others-still f.place fs h.1) (FillsOk-without fs h.2)
+    FillsOk-without (f ∷ fs) h = fills_case f (without_fill p fs) (eqb f.place p) h.0 h.1 (Others-still f.place fs h.2) (FillsOk-without fs h.3)

@@ -1,11 +1,11 @@
 -- The rule: what holds of the words and of all views between any two steps. One file of Parts each.
 use Rattle.std.specs.Prelude.{◌≡◌, ℕ, List, length}
-use Rattle.word_layout.specs.Name.{published_write, published_read, min_write, min_read, status, wts, rts, next, cell}
+use Rattle.word_layout.specs.Name.{published_write, published_read, min_write, min_read, status}
 use Rattle.atomic_table.specs.Table.{State as Table}
 use Rattle.replay_model.specs.State.{State, empty_state}
 use Rattle.word_layout.specs.Size.{Size, IsSize, words}
 use Rattle.core_rule.specs.View.{View}
-use Rattle.core_rule.specs.Memory.{Memory, memory}
+use Rattle.core_rule.specs.Memory.{Memory, memory, stored}
 use Rattle.core_rule.specs.World.{World}
 use Rattle.core_rule.specs.Parts.Seats.{Seats}
 use Rattle.core_rule.specs.Parts.Published.{Published}
@@ -28,18 +28,6 @@ read_words m s = m (published_read s)
 abbrev pub status_words : Memory → ℕ → ℕ
 status_words m p = m (status p)
 
-abbrev pub stamp_words : Memory → ℕ → ℕ
-stamp_words m p = m (wts p)
-
-abbrev pub reset_words : Memory → ℕ → ℕ
-reset_words m p = m (rts p)
-
-abbrev pub link_words : Memory → ℕ → ℕ
-link_words m p = m (next p)
-
-abbrev pub cell_words : Memory → ℕ → ℕ → ℕ
-cell_words m p i = m (cell p i)
-
 pub record Rule (kept : State → Type 0) (z : Size) (g : World) (m : Memory) (vs : List View) : Type 0 where
   pub begins_kept : kept empty_state
   pub sized : IsSize z
@@ -52,7 +40,7 @@ pub record Rule (kept : State → Type 0) (z : Size) (g : World) (m : Memory) (v
   pub scans : Scans vs
   pub bounds : Bounds (m min_write) vs
   pub places : Places z g.owner (status_words m) vs
-  pub filled : Filled (stamp_words m) (reset_words m) (link_words m) (cell_words m) vs
+  pub filled : Filled (stored m) vs
 
 -- the rule of a table of this size
 pub record Holds (kept : State → Type 0) (z : Size) {S : Type 0} (s : Table S View) : Type 0 where

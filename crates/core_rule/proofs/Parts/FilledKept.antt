@@ -1,8 +1,8 @@
 -- Filled places: nobody but its holder stores in a place that is held.
-use Rattle.std.proofs.Common.{◌≡◌, ◌≢◌, ℕ, suc, ◌+◌, ◌<◌, true, false, Bool, cond, eqb, ◌&&◌, List, [], ◌∷◌, ◌++◌, length, set, refl, sym, ◌∙◌, subst, arith, eq-eqb, ne_eqb, inr, add-zero, zero-add}
+use Rattle.std.proofs.Common.{◌≡◌, ◌≢◌, ℕ, suc, ◌+◌, ◌<◌, true, false, Bool, cond, eqb, ◌&&◌, List, [], ◌∷◌, ◌++◌, length, set, refl, sym, ◌∙◌, subst, arith, eq-eqb, ne_eqb, inr, add-zero, zero-add, None}
 use Rattle.replay_model.specs.State.{State}
 use Rattle.word_layout.specs.Size.{Size}
-use Rattle.core_rule.specs.Memory.{Memory, start}
+use Rattle.core_rule.specs.Memory.{Memory, Stored, stored, start}
 use Rattle.core_rule.specs.World.{World, at_number}
 use Rattle.core_rule.specs.Views.{AllOf, Has}
 use Rattle.core_rule.specs.View.{View, Fill, first_view}
@@ -11,13 +11,14 @@ use Rattle.core_rule.proofs.Step.{Step, at_number-other, at_number-same}
 use Rattle.core_rule.proofs.Making.{Split, Join}
 use Rattle.word_layout.specs.Name.{status}
 use Rattle.core_rule.specs.Kinds.{Kind, take, fill_stamp, fill_reset, fill_next, fill_cell, give, name, after, changed, filled_place, filled_cells, reset_fill, link_fill, more_cells, without, without_fill, IsFilling}
-use Rattle.core_rule.specs.Rule.{stamp_words, reset_words, link_words, cell_words}
-use Rattle.core_rule.specs.Parts.Filled.{CellsAre, FillOk, Others, FillsOk, FilledOk, Filled}
+use Rattle.core_rule.specs.Parts.Filled.{CellsAre, Stands, Others, FillsOk, FilledOk, Filled}
 use Rattle.core_rule.proofs.EachView.{Each-set, Each-own, Each-push, Each-join, Each-one, AllOf-Has, joined}
 use Rattle.core_rule.proofs.Without.{Has-without, Others-without, FillsOk-without}
 use Rattle.core_rule.proofs.Parts.PlacesKept.{others_hold_not}
 
--- the cells of one place, one of which was stored
+-- ---- cells
+
+-- the cells of all places, one of which was stored
 abbrev at_cell : (ℕ → ℕ → ℕ) → ℕ → ℕ → ℕ → ℕ → ℕ → ℕ
 at_cell cells p i x q j = cond (eqb p q && eqb i j) x (cells q j)
 
@@ -41,130 +42,162 @@ CellsAre-more c d x i (y ∷ ys) same new h =
       shift : (a b : ℕ) → a + suc b ≡ suc a + b
       shift a b = omega arith
 
--- from fills over some words to fills over others, each of another place than p
-module _ (S R L S' R' L' : ℕ → ℕ) (C C' : ℕ → ℕ → ℕ) (xs ys : List ℕ) (p : ℕ) (moves : (f : Fill) → f.place ≢ p → FillOk S R L C xs f → FillOk S' R' L' C' ys f) where
-  FillsOk-others : (fs : List Fill) → Others p fs → FillsOk S R L C xs fs → FillsOk S' R' L' C' ys fs
-  FillsOk-others [] o h = tt
-  FillsOk-others (f ∷ fs) o h = (moves f o.0 h.0, h.1, FillsOk-others fs o.1 h.2)
+-- ---- words that differ in one place alone
 
-Others-from_held : (S R L : ℕ → ℕ) (C : ℕ → ℕ → ℕ) (xs : List ℕ) (p : ℕ) (fs : List Fill) → AllOf (λ q. q ≢ p) xs → FillsOk S R L C xs fs → Others p fs
-Others-from_held S R L C xs p [] apart h = tt
-Others-from_held S R L C xs p (f ∷ fs) apart h = (AllOf-Has (λ q. q ≢ p) f.place xs apart h.0.has, Others-from_held S R L C xs p fs apart h.2)
+record DiffersAt (p : ℕ) (w w' : Stored) : Type 0 where
+  stamps : (q : ℕ) → q ≢ p → w'.stamps q ≡ w.stamps q
+  reads : (q : ℕ) → q ≢ p → w'.reads q ≡ w.reads q
+  links : (q : ℕ) → q ≢ p → w'.links q ≡ w.links q
+  cells : (q i : ℕ) → q ≢ p → w'.cells q i ≡ w.cells q i
 
-FillsOk-held : (S R L : ℕ → ℕ) (C : ℕ → ℕ → ℕ) (xs ys : List ℕ) (fs : List Fill) → ((q : ℕ) → Has q xs → Has q ys) → FillsOk S R L C xs fs → FillsOk S R L C ys fs
-FillsOk-held S R L C xs ys [] more h = tt
-FillsOk-held S R L C xs ys (f ∷ fs) more h =
-    (record { has = more f.place h.0.has; stamp = h.0.stamp; reset = h.0.reset; link = h.0.link; cells_are = h.0.cells_are }, h.1, FillsOk-held S R L C xs ys fs more h.2)
+module _ (w : Stored) (p : ℕ) where
+  abbrev with_stamp : ℕ → Stored
+  with_stamp t = record w { stamps = at_number w.stamps p t }
 
-module _ (S R L : ℕ → ℕ) (C : ℕ → ℕ → ℕ) (xs : List ℕ) where
-  stamp_moves : (p t : ℕ) (f : Fill) → f.place ≢ p → FillOk S R L C xs f → FillOk (at_number S p t) R L C xs f
-  stamp_moves p t f ne h = record { has = h.has; stamp = at_number-other S p f.place t (λ e. ne (sym e)) ∙ h.stamp; reset = h.reset; link = h.link; cells_are = h.cells_are }
+  abbrev with_reset : Stored
+  with_reset = record w { reads = at_number w.reads p 0 }
 
-  reset_moves : (p : ℕ) (f : Fill) → f.place ≢ p → FillOk S R L C xs f → FillOk S (at_number R p 0) L C xs f
-  reset_moves p f ne h = record { has = h.has; stamp = h.stamp; reset = rw (at_number-other R p f.place 0 (λ e. ne (sym e))) h.reset; link = h.link; cells_are = h.cells_are }
+  abbrev with_link : ℕ → Stored
+  with_link n = record w { links = at_number w.links p n }
 
-  link_moves : (p n : ℕ) (f : Fill) → f.place ≢ p → FillOk S R L C xs f → FillOk S R (at_number L p n) C xs f
-  link_moves p n f ne h = record { has = h.has; stamp = h.stamp; reset = h.reset; link = rw (at_number-other L p f.place n (λ e. ne (sym e))) h.link; cells_are = h.cells_are }
+  abbrev with_cell : ℕ → ℕ → Stored
+  with_cell i x = record w { cells = at_cell w.cells p i x }
 
-  cell_moves : (p i x : ℕ) (f : Fill) → f.place ≢ p → FillOk S R L C xs f → FillOk S R L (at_cell C p i x) xs f
-  cell_moves p i x f ne h = record {
-    has = h.has;
-    stamp = h.stamp;
-    reset = h.reset;
-    link = h.link;
-    cells_are = CellsAre-same (C f.place) (at_cell C p i x f.place) 0 f.cells (λ j. at_cell-elsewhere C p i x f.place j (λ e. ne (sym e))) h.cells_are;
+  same : DiffersAt p w w
+  same = record { stamps = λ q ne. refl; reads = λ q ne. refl; links = λ q ne. refl; cells = λ q i ne. refl }
+
+  stamp_differs : (t : ℕ) → DiffersAt p w (with_stamp t)
+  stamp_differs t = record { stamps = λ q ne. at_number-other w.stamps p q t (λ e. ne (sym e)); reads = λ q ne. refl; links = λ q ne. refl; cells = λ q i ne. refl }
+
+  reset_differs : DiffersAt p w with_reset
+  reset_differs = record { stamps = λ q ne. refl; reads = λ q ne. at_number-other w.reads p q 0 (λ e. ne (sym e)); links = λ q ne. refl; cells = λ q i ne. refl }
+
+  link_differs : (n : ℕ) → DiffersAt p w (with_link n)
+  link_differs n = record { stamps = λ q ne. refl; reads = λ q ne. refl; links = λ q ne. at_number-other w.links p q n (λ e. ne (sym e)); cells = λ q i ne. refl }
+
+  cell_differs : (i x : ℕ) → DiffersAt p w (with_cell i x)
+  cell_differs i x = record { stamps = λ q ne. refl; reads = λ q ne. refl; links = λ q ne. refl; cells = λ q j ne. at_cell-elsewhere w.cells p i x q j (λ e. ne (sym e)) }
+
+module _ (p : ℕ) (w w' : Stored) (differs : DiffersAt p w w') where
+  Stands-elsewhere : (f : Fill) → f.place ≢ p → Stands w f → Stands w' f
+  Stands-elsewhere f ne h = record {
+    stamp = differs.stamps f.place ne ∙ h.stamp;
+    reset = rw (differs.reads f.place ne) h.reset;
+    link = rw (differs.links f.place ne) h.link;
+    cells = CellsAre-same (w.cells f.place) (w'.cells f.place) 0 f.cells (λ i. differs.cells f.place i ne) h.cells;
   }
 
-  -- the place of the fill in work is held
-  front_has : (fs : List Fill) → IsFilling fs → FillsOk S R L C xs fs → Has (filled_place fs) xs
-  front_has [] in_work h = absurd in_work
-  front_has (f ∷ fs) in_work h = h.0.has
+  -- where no other place is given away, fills of other places stand as before
+  FillsOk-elsewhere : (xs ys : List ℕ) → ((q : ℕ) → q ≢ p → Has q xs → Has q ys) → (fs : List Fill) → Others p fs → FillsOk w xs fs → FillsOk w' ys fs
+  FillsOk-elsewhere xs ys still [] o h = tt
+  FillsOk-elsewhere xs ys still (f ∷ fs) o h = (still f.place o.0 h.0, Stands-elsewhere f o.0 h.1, h.2, FillsOk-elsewhere xs ys still fs o.1 h.3)
 
-  resets : (fs : List Fill) → IsFilling fs → FillsOk S R L C xs fs → FillsOk S (at_number R (filled_place fs) 0) L C xs (reset_fill fs)
+-- ---- the fills of a view
+
+Others-from_held : (w : Stored) (xs : List ℕ) (p : ℕ) (fs : List Fill) → AllOf (λ q. q ≢ p) xs → FillsOk w xs fs → Others p fs
+Others-from_held w xs p [] apart h = tt
+Others-from_held w xs p (f ∷ fs) apart h = (AllOf-Has (λ q. q ≢ p) f.place xs apart h.0, Others-from_held w xs p fs apart h.3)
+
+FillsOk-held : (w : Stored) (xs ys : List ℕ) → ((q : ℕ) → Has q xs → Has q ys) → (fs : List Fill) → FillsOk w xs fs → FillsOk w ys fs
+FillsOk-held w xs ys more [] h = tt
+FillsOk-held w xs ys more (f ∷ fs) h = (more f.place h.0, h.1, h.2, FillsOk-held w xs ys more fs h.3)
+
+module _ (w : Stored) (xs : List ℕ) where
+  -- the place of the fill in work is held
+  front_has : (fs : List Fill) → IsFilling fs → FillsOk w xs fs → Has (filled_place fs) xs
+  front_has [] in_work h = absurd in_work
+  front_has (f ∷ fs) in_work h = h.0
+
+  -- a fill begins in the place p
+  begins : (p t : ℕ) (fs : List Fill) → Has p xs → FillsOk w xs fs
+      → FillsOk (with_stamp w p t) xs (record { place = p; stamp = t; reset = false; link = None; cells = [] } ∷ without_fill p fs)
+  begins p t fs has h = (
+    has,
+    record { stamp = at_number-same w.stamps p t; reset = tt; link = tt; cells = tt },
+    Others-without p fs,
+    FillsOk-elsewhere p w (with_stamp w p t) (stamp_differs w p t) xs xs (λ q ne has. has) (without_fill p fs) (Others-without p fs) (FillsOk-without p w xs fs h),
+  )
+
+  -- the fill in work goes on
+  resets : (fs : List Fill) → IsFilling fs → FillsOk w xs fs → FillsOk (with_reset w (filled_place fs)) xs (reset_fill fs)
   resets [] in_work h = absurd in_work
   resets (f ∷ fs) in_work h = (
-    record { has = h.0.has; stamp = h.0.stamp; reset = at_number-same R f.place 0; link = h.0.link; cells_are = h.0.cells_are },
-    h.1,
-    FillsOk-others S R L S (at_number R f.place 0) L C C xs xs f.place (reset_moves f.place) fs h.1 h.2,
+    h.0,
+    record { stamp = h.1.stamp; reset = at_number-same w.reads f.place 0; link = h.1.link; cells = h.1.cells },
+    h.2,
+    FillsOk-elsewhere f.place w (with_reset w f.place) (reset_differs w f.place) xs xs (λ q ne has. has) fs h.2 h.3,
   )
 
-  links : (n : ℕ) (fs : List Fill) → IsFilling fs → FillsOk S R L C xs fs → FillsOk S R (at_number L (filled_place fs) n) C xs (link_fill n fs)
+  links : (n : ℕ) (fs : List Fill) → IsFilling fs → FillsOk w xs fs → FillsOk (with_link w (filled_place fs) n) xs (link_fill n fs)
   links n [] in_work h = absurd in_work
   links n (f ∷ fs) in_work h = (
-    record { has = h.0.has; stamp = h.0.stamp; reset = h.0.reset; link = at_number-same L f.place n; cells_are = h.0.cells_are },
-    h.1,
-    FillsOk-others S R L S R (at_number L f.place n) C C xs xs f.place (link_moves f.place n) fs h.1 h.2,
+    h.0,
+    record { stamp = h.1.stamp; reset = h.1.reset; link = at_number-same w.links f.place n; cells = h.1.cells },
+    h.2,
+    FillsOk-elsewhere f.place w (with_link w f.place n) (link_differs w f.place n) xs xs (λ q ne has. has) fs h.2 h.3,
   )
 
-  cells_more : (x : ℕ) (fs : List Fill) → IsFilling fs → FillsOk S R L C xs fs → FillsOk S R L (at_cell C (filled_place fs) (filled_cells fs) x) xs (more_cells x fs)
+  cells_more : (x : ℕ) (fs : List Fill) → IsFilling fs → FillsOk w xs fs → FillsOk (with_cell w (filled_place fs) (filled_cells fs) x) xs (more_cells x fs)
   cells_more x [] in_work h = absurd in_work
   cells_more x (f ∷ fs) in_work h = (
+    h.0,
     record {
-      has = h.0.has;
-      stamp = h.0.stamp;
-      reset = h.0.reset;
-      link = h.0.link;
-      cells_are = CellsAre-more (C f.place) (at_cell C f.place (length f.cells) x f.place) x 0 f.cells
-          (λ j lt. at_cell-other C f.place (length f.cells) x j (λ e. absurd (omega arith))) (new f.place f.cells) h.0.cells_are;
+      stamp = h.1.stamp;
+      reset = h.1.reset;
+      link = h.1.link;
+      cells = CellsAre-more (w.cells f.place) (at_cell w.cells f.place (length f.cells) x f.place) x 0 f.cells
+          (λ j lt. at_cell-other w.cells f.place (length f.cells) x j (λ e. absurd (omega arith))) (new f.place f.cells) h.1.cells;
     },
-    h.1,
-    FillsOk-others S R L S R L C (at_cell C f.place (length f.cells) x) xs xs f.place (cell_moves f.place (length f.cells) x) fs h.1 h.2,
+    h.2,
+    FillsOk-elsewhere f.place w (with_cell w f.place (length f.cells) x) (cell_differs w f.place (length f.cells) x) xs xs (λ q ne has. has) fs h.2 h.3,
   ) where
-    new : (p : ℕ) (cs : List ℕ) → at_cell C p (length cs) x p (0 + length cs) ≡ x
-    new p cs = subst (λ (k : ℕ). at_cell C p (length cs) x p k ≡ x) (sym (zero-add (length cs))) (at_cell-same C p (length cs) x)
+    new : (p : ℕ) (cs : List ℕ) → at_cell w.cells p (length cs) x p (0 + length cs) ≡ x
+    new p cs = subst (λ (k : ℕ). at_cell w.cells p (length cs) x p k ≡ x) (sym (zero-add (length cs))) (at_cell-same w.cells p (length cs) x)
+
+-- ---- the part
 
 module _ (kept : State → Type 0) (z : Size) (g : World) (m : Memory) (vs : List View) (id : ℕ) (v : View) where
   -- the words of a place that the view holds have changed
-  own : (k : Kind) → Step kept z g m vs id v k → (p : ℕ) → Has p v.places.held → (S' R' L' : ℕ → ℕ) (C' : ℕ → ℕ → ℕ) (w : View)
-      → ((xs : List ℕ) (f : Fill) → f.place ≢ p → FillOk (stamp_words m) (reset_words m) (link_words m) (cell_words m) xs f → FillOk S' R' L' C' xs f) → FilledOk S' R' L' C' w → Filled S' R' L' C' (set vs id w)
-  own k s p has S' R' L' C' w moves mine = Each-set (FilledOk (stamp_words m) (reset_words m) (link_words m) (cell_words m)) (FilledOk S' R' L' C') vs w id
-      (λ i u ne at live h. FillsOk-others (stamp_words m) (reset_words m) (link_words m) S' R' L' (cell_words m) C' u.places.held u.places.held p (moves u.places.held) u.places.fills
-      (Others-from_held (stamp_words m) (reset_words m) (link_words m) (cell_words m) u.places.held p u.places.fills (others_hold_not kept z g m vs id v k s p has i u ne at live) h) h)
-      (λ live. mine) s.rule.filled
+  own : (k : Kind) → Step kept z g m vs id v k → (p : ℕ) → Has p v.places.held → (w : Stored) → DiffersAt p (stored m) w → (u : View) → FilledOk w u → Filled w (set vs id u)
+  own k s p has w differs u mine = Each-set (FilledOk (stored m)) (FilledOk w) vs u id
+      (λ i x ne at live h. FillsOk-elsewhere p (stored m) w differs x.places.held x.places.held (λ q ne has. has) x.places.fills
+      (Others-from_held (stored m) x.places.held p x.places.fills (others_hold_not kept z g m vs id v k s p has i x ne at live) h) h) (λ live. mine) s.rule.filled
+
+  -- those of the place of the fill in work
+  in_front : (k : Kind) → Step kept z g m vs id v k → IsFilling v.places.fills → (w : Stored) → DiffersAt (filled_place v.places.fills) (stored m) w → (u : View) → FilledOk w u → Filled w (set vs id u)
+  in_front k s in_work = own k s (filled_place v.places.fills) (front_has (stored m) v.places.held v.places.fills in_work (s.rule.filled id v s.at s.allowed.is_open))
 
   more_held : (p : ℕ) (b : Bool) (xs : List ℕ) (q : ℕ) → Has q xs → Has q (cond b (p ∷ xs) xs)
   more_held p true xs q h = inr h
   more_held p false xs q h = h
 
-  pub filled_kept : (k : Kind) → Step kept z g m vs id v k → Filled (stamp_words (changed k v m)) (reset_words (changed k v m)) (link_words (changed k v m)) (cell_words (changed k v m)) (set vs id (after k v (m (name k v))))
-  filled_kept (take p) s = Each-own (FilledOk (stamp_words m) (reset_words m) (link_words m) (cell_words m)) vs id v _ s.rule.filled s.at s.allowed.is_open
-      (FillsOk-held (stamp_words m) (reset_words m) (link_words m) (cell_words m) v.places.held _ v.places.fills (more_held p (eqb (m (status p)) 0) v.places.held))
-  filled_kept (fill_stamp p t) s =
-      let mine = s.rule.filled id v s.at s.allowed.is_open in
-      own _ s p s.allowed.can (at_number (stamp_words m) p t) (reset_words m) (link_words m) (cell_words m) _ (λ xs. stamp_moves (stamp_words m) (reset_words m) (link_words m) (cell_words m) xs p t) (
-        record { has = s.allowed.can; stamp = at_number-same (stamp_words m) p t; reset = tt; link = tt; cells_are = tt },
-        Others-without p v.places.fills,
-        FillsOk-others (stamp_words m) (reset_words m) (link_words m) (at_number (stamp_words m) p t) (reset_words m) (link_words m) (cell_words m) (cell_words m) v.places.held v.places.held p
-            (stamp_moves (stamp_words m) (reset_words m) (link_words m) (cell_words m) v.places.held p t) (without_fill p v.places.fills) (Others-without p v.places.fills)
-            (FillsOk-without p (stamp_words m) (reset_words m) (link_words m) (cell_words m) v.places.held v.places.fills mine),
-      )
+  pub filled_kept : (k : Kind) → Step kept z g m vs id v k → Filled (stored (changed k v m)) (set vs id (after k v (m (name k v))))
+  filled_kept (take p) s = Each-own (FilledOk (stored m)) vs id v _ s.rule.filled s.at s.allowed.is_open
+      (FillsOk-held (stored m) v.places.held _ (more_held p (eqb (m (status p)) 0) v.places.held) v.places.fills)
+  filled_kept (fill_stamp p t) s = own _ s p s.allowed.can (with_stamp (stored m) p t) (stamp_differs (stored m) p t) _
+      (begins (stored m) v.places.held p t v.places.fills s.allowed.can (s.rule.filled id v s.at s.allowed.is_open))
   filled_kept fill_reset s =
-      let mine = s.rule.filled id v s.at s.allowed.is_open in let p = filled_place v.places.fills in
-      own _ s p (front_has (stamp_words m) (reset_words m) (link_words m) (cell_words m) v.places.held v.places.fills s.allowed.can mine) (stamp_words m) (at_number (reset_words m) p 0) (link_words m) (cell_words m) _
-      (λ xs. reset_moves (stamp_words m) (reset_words m) (link_words m) (cell_words m) xs p) (resets (stamp_words m) (reset_words m) (link_words m) (cell_words m) v.places.held v.places.fills s.allowed.can mine)
+      let p = filled_place v.places.fills in
+      in_front _ s s.allowed.can (with_reset (stored m) p) (reset_differs (stored m) p) _ (resets (stored m) v.places.held v.places.fills s.allowed.can (s.rule.filled id v s.at s.allowed.is_open))
   filled_kept (fill_next n) s =
-      let mine = s.rule.filled id v s.at s.allowed.is_open in let p = filled_place v.places.fills in
-      own _ s p (front_has (stamp_words m) (reset_words m) (link_words m) (cell_words m) v.places.held v.places.fills s.allowed.can mine) (stamp_words m) (reset_words m) (at_number (link_words m) p n) (cell_words m) _
-      (λ xs. link_moves (stamp_words m) (reset_words m) (link_words m) (cell_words m) xs p n) (links (stamp_words m) (reset_words m) (link_words m) (cell_words m) v.places.held n v.places.fills s.allowed.can mine)
+      let p = filled_place v.places.fills in
+      in_front _ s s.allowed.can (with_link (stored m) p n) (link_differs (stored m) p n) _ (links (stored m) v.places.held n v.places.fills s.allowed.can (s.rule.filled id v s.at s.allowed.is_open))
   filled_kept (fill_cell x) s =
-      let mine = s.rule.filled id v s.at s.allowed.is_open in let p = filled_place v.places.fills in let i = filled_cells v.places.fills in
-      own _ s p (front_has (stamp_words m) (reset_words m) (link_words m) (cell_words m) v.places.held v.places.fills s.allowed.can.0 mine) (stamp_words m) (reset_words m) (link_words m) (at_cell (cell_words m) p i x) _
-      (λ xs. cell_moves (stamp_words m) (reset_words m) (link_words m) (cell_words m) xs p i x) (cells_more (stamp_words m) (reset_words m) (link_words m) (cell_words m) v.places.held x v.places.fills s.allowed.can.0 mine)
-  filled_kept (give p) s = Each-own (FilledOk (stamp_words m) (reset_words m) (link_words m) (cell_words m)) vs id v _ s.rule.filled s.at s.allowed.is_open
-      (λ h. FillsOk-others (stamp_words m) (reset_words m) (link_words m) (stamp_words m) (reset_words m) (link_words m) (cell_words m) (cell_words m) v.places.held (without p v.places.held) p
-      (λ f ne o. record { has = Has-without p f.place v.places.held ne o.has; stamp = o.stamp; reset = o.reset; link = o.link; cells_are = o.cells_are })
-      (without_fill p v.places.fills) (Others-without p v.places.fills) (FillsOk-without p (stamp_words m) (reset_words m) (link_words m) (cell_words m) v.places.held v.places.fills h))
-  filled_kept k s = Each-own (FilledOk (stamp_words m) (reset_words m) (link_words m) (cell_words m)) vs id v _ s.rule.filled s.at s.allowed.is_open (λ p. p)
+      let p = filled_place v.places.fills in let i = filled_cells v.places.fills in
+      in_front _ s s.allowed.can.0 (with_cell (stored m) p i x) (cell_differs (stored m) p i x) _ (cells_more (stored m) v.places.held x v.places.fills s.allowed.can.0 (s.rule.filled id v s.at s.allowed.is_open))
+  filled_kept (give p) s = Each-own (FilledOk (stored m)) vs id v _ s.rule.filled s.at s.allowed.is_open
+      (λ h. FillsOk-elsewhere p (stored m) (stored m) (same (stored m) p) v.places.held (without p v.places.held) (λ q ne has. Has-without p q v.places.held ne has) (without_fill p v.places.fills)
+      (Others-without p v.places.fills) (FillsOk-without p (stored m) v.places.held v.places.fills h))
+  filled_kept k s = Each-own (FilledOk (stored m)) vs id v _ s.rule.filled s.at s.allowed.is_open (λ p. p)
 
 module _ (kept : State → Type 0) (z : Size) (g : World) (m : Memory) (vs : List View) (id : ℕ) (v : View) (s : Split kept z g m vs id v) where
-  pub filled_split : Filled (stamp_words m) (reset_words m) (link_words m) (cell_words m) (set vs id (split_left v) ++ split_right v ∷ [])
-  filled_split = Each-push (FilledOk (stamp_words m) (reset_words m) (link_words m) (cell_words m)) (FilledOk (stamp_words m) (reset_words m) (link_words m) (cell_words m)) (set vs id (split_left v)) (split_right v)
-      (λ i u at live p. p) (λ live. tt) (Each-own (FilledOk (stamp_words m) (reset_words m) (link_words m) (cell_words m)) vs id v _ s.rule.filled s.at s.is_open (λ p. p))
+  pub filled_split : Filled (stored m) (set vs id (split_left v) ++ split_right v ∷ [])
+  filled_split = Each-push (FilledOk (stored m)) (FilledOk (stored m)) (set vs id (split_left v)) (split_right v)
+      (λ i u at live p. p) (λ live. tt) (Each-own (FilledOk (stored m)) vs id v _ s.rule.filled s.at s.is_open (λ p. p))
 
 module _ (kept : State → Type 0) (z : Size) (g : World) (m : Memory) (vs : List View) (id other : ℕ) (v w : View) (s : Join kept z g m vs id other v w) where
-  pub filled_joined : Filled (stamp_words m) (reset_words m) (link_words m) (cell_words m) (joined vs (joined_view v w) id other)
-  filled_joined = Each-join vs _ id other (FilledOk (stamp_words m) (reset_words m) (link_words m) (cell_words m)) (FilledOk (stamp_words m) (reset_words m) (link_words m) (cell_words m)) (λ i u h live p. p)
-      (λ live. s.rule.filled id v s.at s.is_open) s.rule.filled
+  pub filled_joined : Filled (stored m) (joined vs (joined_view v w) id other)
+  filled_joined = Each-join vs _ id other (FilledOk (stored m)) (FilledOk (stored m)) (λ i u h live p. p) (λ live. s.rule.filled id v s.at s.is_open) s.rule.filled
 
-pub filled_start : (z : Size) → Filled (stamp_words (start z)) (reset_words (start z)) (link_words (start z)) (cell_words (start z)) (first_view z ∷ [])
-filled_start z = Each-one (FilledOk (stamp_words (start z)) (reset_words (start z)) (link_words (start z)) (cell_words (start z))) (first_view z) tt
+pub filled_start : (z : Size) → Filled (stored (start z)) (first_view z ∷ [])
+filled_start z = Each-one (FilledOk (stored (start z))) (first_view z) tt

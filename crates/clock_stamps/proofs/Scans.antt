@@ -5,7 +5,8 @@ use Rattle.std.proofs.lemmas.List.{length-append}
 use Rattle.word_layout.specs.Name.{Name, published_write, published_read}
 use Rattle.stamp_base.specs.declared.TheConstants.{END}
 use Rattle.core_rule.specs.View.{View, Published, Scan, no_scan, no_raises, Splitting, single, sharing, offers_write, offers_both, shared, Load}
-use Rattle.core_rule.specs.Kinds.{rested, scanned, scan_from, scan_writes, scan_reads}
+use Rattle.core_rule.specs.Offers.{rested}
+use Rattle.core_rule.specs.Kinds.{scanned, scan_from, scan_writes, scan_reads}
 use Rattle.core_rule.specs.Hands.{Shared, Seated, IsReady, IsSameSeat, Steps, stepped}
 use Rattle.clock_stamps.specs.Calls.{loaded}
 use Rattle.clock_stamps.specs.Minima as minima

@@ -4,7 +4,8 @@ use Rattle.atomic_table.specs.Seated.{TableId}
 use Rattle.word_layout.specs.Size.{Size, places}
 use Rattle.core_rule.specs.View.{View, Places, Splitting, single, sharing, offers_write, offers_both, shared, Seen}
 use Rattle.core_rule.specs.Views.{AllOf, Has}
-use Rattle.core_rule.specs.Kinds.{made_of, rested, without, MayOffer, IsSettled}
+use Rattle.core_rule.specs.Offers.{made_of, rested, MayOffer, IsSettled}
+use Rattle.core_rule.specs.Holding.{without}
 use Rattle.core_rule.specs.Hands.{Shared, Seated, HandOk}
 use Rattle.core_rule.proofs.EachView.{AllOf-Has}
 use Rattle.core_rule.proofs.Without.{AllOf-still}

@@ -7,7 +7,7 @@ use Rattle.core_rule.specs.View.{View, first_view}
 use Rattle.core_rule.specs.Views.{At}
 use Rattle.core_rule.specs.Memory.{Memory}
 use Rattle.core_rule.specs.World.{World}
-use Rattle.core_rule.specs.Kinds.{HasOfferedBoth, IsSettled}
+use Rattle.core_rule.specs.Offers.{HasOfferedBoth, IsSettled}
 use Rattle.core_rule.specs.Hands.{IsRetired, HandOk}
 use Rattle.core_rule.specs.Rule.{Rule}
 

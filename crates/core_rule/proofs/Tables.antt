@@ -12,7 +12,9 @@ use Rattle.word_layout.proofs.Words.{word_of-below, word_of-injective}
 use Rattle.core_rule.specs.View.{View, first_view, spent_view}
 use Rattle.core_rule.specs.Memory.{Memory, memory, put, starts_with}
 use Rattle.core_rule.specs.World.{first_world}
-use Rattle.core_rule.specs.Kinds.{Way, loads, stores, raises_to, exchanges, swaps, effect, told, written, Kind, name, way, next, after, splitting_after, seen_after, turned, changed, Allowed, Told, Learnt, HasOfferedBoth, IsSettled}
+use Rattle.core_rule.specs.Ways.{Way, loads, stores, raises_to, exchanges, swaps, effect, told, written, seen_after}
+use Rattle.core_rule.specs.Offers.{HasOfferedBoth, IsSettled}
+use Rattle.core_rule.specs.Kinds.{Kind, name, way, next, after, splitting_after, turned, changed, Allowed, Told, Learnt}
 use Rattle.core_rule.specs.Hands.{Shared, split_left, split_right, joined_view, IsRetired}
 use Rattle.core_rule.specs.Rule.{Rule, Holds}
 use Rattle.core_rule.proofs.Step.{Step}

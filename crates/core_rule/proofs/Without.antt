@@ -2,7 +2,7 @@
 use Rattle.std.proofs.Common.{◌≡◌, ◌≢◌, ℕ, true, false, Bool, cond, eqb, List, [], ◌∷◌, refl, eqb-true, eq-eqb, inl, inr}
 use Rattle.core_rule.specs.Views.{AllOf, Has, IsDistinct}
 use Rattle.core_rule.specs.View.{Fill}
-use Rattle.core_rule.specs.Kinds.{without, without_fill}
+use Rattle.core_rule.specs.Holding.{without, without_fill}
 use Rattle.core_rule.specs.Memory.{Stored}
 use Rattle.core_rule.specs.Parts.Filled.{Stands, FillsOk, Others}
 

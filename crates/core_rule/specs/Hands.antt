@@ -5,7 +5,8 @@ use Rattle.word_layout.specs.Size.{Size, IsSize, IsUsable, places}
 use Rattle.core_rule.specs.Views.{AllOf}
 use Rattle.stamp_base.specs.declared.TheConstants.{END, GREATEST_CLOCK}
 use Rattle.core_rule.specs.View.{View, Clock, sharing, shared, resting, no_raises, no_places, nothing_seen}
-use Rattle.core_rule.specs.Kinds.{Kind, take, after, Learnt, made_of, rested, MayOffer, IsSettled}
+use Rattle.core_rule.specs.Offers.{made_of, rested, MayOffer, IsSettled}
+use Rattle.core_rule.specs.Kinds.{Kind, take, after, Learnt}
 
 -- a table: which one it is, and its size
 pub record Shared : Type 0 where

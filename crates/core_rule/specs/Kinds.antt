@@ -1,49 +1,18 @@
 -- The kinds of step. A kind is data: its word, what it does there, when it is allowed, and the view and the world after it.
-use Rattle.std.specs.Prelude.{◌≡◌, ◌≢◌, ℕ, suc, ◌-◌, ◌<◌, ◌≤◌, min, max, Bool, true, false, ◌==◌, ◌&&◌, nat_lt, nat_le, if◌then◌else◌, List, [], ◌∷◌, ◌++◌, length, Option, Some, None, IsSome}
-use prog.Atomic.{either}
+use Rattle.std.specs.Prelude.{◌≡◌, ◌≢◌, ℕ, suc, ◌-◌, ◌<◌, ◌≤◌, min, max, false, ◌==◌, ◌&&◌, if◌then◌else◌, List, [], ◌∷◌, ◌++◌, Option, Some, None, IsSome}
 use Rattle.word_layout.specs.Name.{Name, published_write, published_read, min_write, min_read, status, wts, rts, next as next_word, cell}
-use Rattle.word_layout.specs.Size.{Size, places, kept_place}
+use Rattle.word_layout.specs.Size.{places}
 use Rattle.word_layout.specs.declared.TheConstants.{CELLS}
 use Rattle.stamp_base.specs.declared.TheConstants.{END, GREATEST_CLOCK}
 use Rattle.stamp_base.specs.Stamp.{stamp_of, clock_of, bound_of_clock}
 use Rattle.core_rule.specs.Stamps.{adopted}
-use Rattle.core_rule.specs.View.{View, resting, writing, Scan, no_scan, Splitting, single, sharing, offers_write, offers_both, shared, Fill, Seen}
+use Rattle.core_rule.specs.View.{View, resting, writing, Scan, no_scan, Splitting}
 use Rattle.core_rule.specs.Views.{AllOf, Has}
-use Rattle.core_rule.specs.Memory.{Memory, put}
+use Rattle.core_rule.specs.Memory.{Memory}
 use Rattle.core_rule.specs.World.{World, free, held, at_number}
-
--- what a step does to its word
-pub data Way : Type 0 where
-  loads : Way
-  stores : (new : ℕ) → Way
-  raises_to : (bound : ℕ) → Way
-  exchanges : (old new : ℕ) → Way
-  swaps : (new : ℕ) → Way
-
--- the word after it, from the number found
-abbrev pub effect : Way → ℕ → ℕ
-effect loads n = n
-effect (stores x) n = x
-effect (raises_to x) n = max n x
-effect (exchanges a b) n = either (n == a) b n
-effect (swaps x) n = x
-
--- the number that the step tells: that found, and for a store that stored
-abbrev pub told : Way → ℕ → ℕ
-told (stores x) n = x
-told w n = n
-
--- the memory after it
-abbrev pub written : Way → Name → Memory → Memory
-written loads n m = m
-written w n m = put m n (effect w (m n))
-
--- what was seen after it, at a word where a number was found
-abbrev pub seen_after : Way → Name → ℕ → Seen → Seen
-seen_after loads word n s = record s { loads = s.loads ++ record { word = word; number = n } ∷ [] }
-seen_after (raises_to x) word n s = record s { loads = s.loads ++ record { word = word; number = n } ∷ [] }
-seen_after (exchanges a b) word n s = record s { lost = s.lost ++ (if n == a then [] else record { word = word; number = n } ∷ []) }
-seen_after w word n s = s
+use Rattle.core_rule.specs.Ways.{Way, loads, stores, raises_to, exchanges, told, written, seen_after}
+use Rattle.core_rule.specs.Offers.{made_of, offered_write, offered_read, rested, MayOffer, HasOffered, IsSettled}
+use Rattle.core_rule.specs.Holding.{filled_place, filled_cells, reset_fill, link_fill, more_cells, without, without_fill, is_usable, IsFilling}
 
 pub data Kind : Type 0 where
   -- seat 0 stores its own published words as those of the next seat
@@ -79,63 +48,10 @@ pub data Kind : Type 0 where
   -- give a held place back
   give : (place : ℕ) → Kind
 
--- how many seats are made, as far as the seat that makes them knows
-abbrev pub made_of : Splitting → ℕ
-made_of single = 1
-made_of (sharing made) = made
-made_of (offers_write made) = made
-made_of (offers_both made) = made
-made_of shared = 0
-
-abbrev pub offered_write : Splitting → Splitting
-offered_write s = offers_write (made_of s)
-
-abbrev pub offered_read : Splitting → Splitting
-offered_read s = offers_both (made_of s)
-
--- after any other step: once it has shared, a seat makes no more seats
-abbrev pub rested : Splitting → Splitting
-rested single = single
-rested s = shared
-
 -- one less than what was loaded
 abbrev pub bound_of : Option ℕ → ℕ
 bound_of (Some n) = n - 1
 bound_of None = 0
-
--- the fill in work: its place, and how many cells it has
-abbrev pub filled_place : List Fill → ℕ
-filled_place [] = 0
-filled_place (f ∷ fs) = f.place
-
-abbrev pub filled_cells : List Fill → ℕ
-filled_cells [] = 0
-filled_cells (f ∷ fs) = length f.cells
-
-abbrev pub reset_fill : List Fill → List Fill
-reset_fill [] = []
-reset_fill (f ∷ fs) = record f { reset = true } ∷ fs
-
-abbrev pub link_fill : ℕ → List Fill → List Fill
-link_fill link [] = []
-link_fill link (f ∷ fs) = record f { link = Some link } ∷ fs
-
-abbrev pub more_cells : ℕ → List Fill → List Fill
-more_cells word [] = []
-more_cells word (f ∷ fs) = record f { cells = f.cells ++ word ∷ [] } ∷ fs
-
--- the others
-abbrev pub without : ℕ → List ℕ → List ℕ
-without place [] = []
-without place (p ∷ ps) = if p == place then without place ps else p ∷ without place ps
-
-abbrev pub without_fill : ℕ → List Fill → List Fill
-without_fill place [] = []
-without_fill place (f ∷ fs) = if f.place == place then without_fill place fs else f ∷ without_fill place fs
-
--- a pool place other than the kept one
-abbrev pub is_usable : Size → ℕ → Bool
-is_usable z p = nat_le z.records p && nat_lt p (kept_place z)
 
 abbrev pub name : Kind → View → Name
 name offer_write_word v = published_write (made_of v.splitting)
@@ -267,36 +183,11 @@ turned _ v n g = g
 abbrev pub changed : Kind → View → Memory → Memory
 changed k v m = written (way k v) (name k v) m
 
-abbrev pub MayOffer : Splitting → Type 0
-MayOffer single = Unit {0}
-MayOffer (sharing made) = Unit {0}
-MayOffer s = ⊥
-
-abbrev pub HasOffered : Splitting → Type 0
-HasOffered (offers_write made) = Unit {0}
-HasOffered s = ⊥
-
--- both words of the next seat are stored
-abbrev pub HasOfferedBoth : Splitting → Type 0
-HasOfferedBoth (offers_both made) = Unit {0}
-HasOfferedBoth s = ⊥
-
--- no seat is being made
-abbrev pub IsSettled : Splitting → Type 0
-IsSettled (offers_write made) = ⊥
-IsSettled (offers_both made) = ⊥
-IsSettled s = Unit {0}
-
 -- whether the making of seats allows it
 abbrev pub Fits : Kind → Splitting → Type 0
 Fits offer_write_word s = MayOffer s
 Fits offer_read_word s = HasOffered s
 Fits _ s = IsSettled s
-
--- a fill is in work
-abbrev pub IsFilling : List Fill → Type 0
-IsFilling [] = ⊥
-IsFilling (f ∷ fs) = Unit {0}
 
 -- whether the rest of the own view allows it
 abbrev pub Can : Kind → View → Type 0

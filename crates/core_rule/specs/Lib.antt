@@ -1,4 +1,7 @@
 pub mod Hands
+pub mod Ways
+pub mod Offers
+pub mod Holding
 pub mod Kinds
 pub mod Memory
 pub mod Parts

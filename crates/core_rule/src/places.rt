@@ -4,7 +4,8 @@ ghost use Rattle.word_layout.specs.Size.{places};
 ghost use Rattle.core_rule.specs.Memory.{link_of};
 ghost use Rattle.core_rule.specs.Views.{Has};
 ghost use Rattle.core_rule.specs.Hands.{IsReady, Takes, Steps};
-ghost use Rattle.core_rule.specs.Kinds.{take, fill_stamp, fill_reset, fill_next, fill_cell, give, filled_place, filled_cells, IsFilling};
+ghost use Rattle.core_rule.specs.Holding.{filled_place, filled_cells, IsFilling};
+ghost use Rattle.core_rule.specs.Kinds.{take, fill_stamp, fill_reset, fill_next, fill_cell, give};
 
 use crate::hand::Hand;
 use crate::keeps::Keeps;

@@ -1,7 +1,8 @@
 //! The seats of a table: the first one, splitting and joining.
 ghost use Rattle.std.specs.Prelude.{◌≡◌, ◌<◌, [], IfOk};
 ghost use Rattle.core_rule.specs.Hands.{IsHandOf, IsReady, StaysReady, IsRetired, IsSplit, IsJoined};
-ghost use Rattle.core_rule.specs.Kinds.{offer_write_word, offer_read_word, MayOffer, made_of, Allowed, Told};
+ghost use Rattle.core_rule.specs.Offers.{MayOffer, made_of};
+ghost use Rattle.core_rule.specs.Kinds.{offer_write_word, offer_read_word, Allowed, Told};
 ghost use Rattle.core_rule.specs.View.{first_view};
 
 use crate::begin::first_words;

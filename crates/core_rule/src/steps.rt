@@ -1,7 +1,8 @@
 //! The operations of the table, each for every kind of step that has this way.
 ghost use Rattle.std.specs.Prelude.{◌≡◌, []};
 ghost use Rattle.word_layout.specs.Name.{IsNamed, word_of};
-ghost use Rattle.core_rule.specs.Kinds.{name, way, loads, stores, raises_to, exchanges, Allowed, Told};
+ghost use Rattle.core_rule.specs.Ways.{loads, stores, raises_to, exchanges};
+ghost use Rattle.core_rule.specs.Kinds.{name, way, Allowed, Told};
 
 use crate::keeps::Keeps;
 use crate::rule::{Deed, Does};

@@ -7,7 +7,8 @@ use Rattle.word_layout.specs.Name.{status}
 use Rattle.word_layout.specs.Size.{Size, IsUsable, places, kept_place}
 use Rattle.core_rule.specs.View.{View, Splitting, Load}
 use Rattle.core_rule.specs.Views.{Has}
-use Rattle.core_rule.specs.Kinds.{take, after, is_usable}
+use Rattle.core_rule.specs.Holding.{is_usable}
+use Rattle.core_rule.specs.Kinds.{take, after}
 use Rattle.core_rule.specs.Hands.{Seated, Takes}
 use Rattle.core_rule.specs.Hands.{stepped}
 use Rattle.version_pool.specs.Takes.{first_in_turn, usable_from, usable_in_turn, IsLostOn, AreLostOn, after_losing, after_taking, TakesFree, TakesFirst, FindsNone, WasMet}

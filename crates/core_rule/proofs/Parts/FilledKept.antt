@@ -10,7 +10,8 @@ use Rattle.core_rule.specs.Hands.{split_left, split_right, joined_view}
 use Rattle.core_rule.proofs.Step.{Step, at_number-other, at_number-same}
 use Rattle.core_rule.proofs.Making.{Split, Join}
 use Rattle.word_layout.specs.Name.{status}
-use Rattle.core_rule.specs.Kinds.{Kind, take, fill_stamp, fill_reset, fill_next, fill_cell, give, name, after, changed, filled_place, filled_cells, reset_fill, link_fill, more_cells, without, without_fill, IsFilling}
+use Rattle.core_rule.specs.Holding.{filled_place, filled_cells, reset_fill, link_fill, more_cells, without, without_fill, IsFilling}
+use Rattle.core_rule.specs.Kinds.{Kind, take, fill_stamp, fill_reset, fill_next, fill_cell, give, name, after, changed}
 use Rattle.core_rule.specs.Parts.Filled.{CellsAre, Stands, Others, FillsOk, FilledOk, Filled}
 use Rattle.core_rule.proofs.EachView.{Each-set, Each-own, Each-push, Each-join, Each-one, AllOf-Has, joined}
 use Rattle.core_rule.proofs.Without.{Has-without, Others-without, FillsOk-without}

@@ -5,7 +5,8 @@ use Rattle.word_layout.specs.Size.{Size}
 use Rattle.core_rule.specs.Memory.{Memory}
 use Rattle.core_rule.specs.World.{World}
 use Rattle.core_rule.specs.View.{View}
-use Rattle.core_rule.specs.Kinds.{Kind, publish_stamp, hear, scan_writes, scan_reads, load_min_write, load_min_read, raise_min_write, raise_min_read, name, way, told, Learnt, take}
+use Rattle.core_rule.specs.Ways.{told}
+use Rattle.core_rule.specs.Kinds.{Kind, publish_stamp, hear, scan_writes, scan_reads, load_min_write, load_min_read, raise_min_write, raise_min_read, name, way, Learnt, take}
 use Rattle.stamp_base.specs.Stamp.{stamp_of, clock_of}
 use Rattle.core_rule.proofs.EachView.{AllOf-map}
 use Rattle.core_rule.proofs.Parts.PlacesKept.{free_place}

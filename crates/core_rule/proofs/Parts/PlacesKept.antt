@@ -12,7 +12,8 @@ use Rattle.core_rule.specs.View.{View, first_view}
 use Rattle.core_rule.specs.Hands.{split_left, split_right, joined_view}
 use Rattle.core_rule.proofs.Step.{Step, differs, ltb-true_from, at_number-other, at_number-same, at_number-stays, at_both, at_cases}
 use Rattle.core_rule.proofs.Making.{Split, Join}
-use Rattle.core_rule.specs.Kinds.{Kind, take, give, name, after, turned, changed, without}
+use Rattle.core_rule.specs.Holding.{without}
+use Rattle.core_rule.specs.Kinds.{Kind, take, give, name, after, turned, changed}
 use Rattle.core_rule.specs.Rule.{status_words}
 use Rattle.word_layout.specs.Name.{status}
 use Rattle.core_rule.specs.Parts.Places.{Shows, IsLinkedAt, HeldOk, HoldsPlace}

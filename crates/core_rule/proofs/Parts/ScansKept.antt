@@ -8,7 +8,8 @@ use Rattle.core_rule.specs.Memory.{Memory}
 use Rattle.core_rule.specs.World.{World}
 use Rattle.core_rule.specs.Views.{At}
 use Rattle.core_rule.specs.View.{View, Scan, no_scan, first_view}
-use Rattle.core_rule.specs.Kinds.{Kind, publish_stamp, publish_idle, retire_write, publish_bound, retire_read, scan_writes, scan_reads, raise_min_write, raise_min_read, scan_from, name, after, made_of}
+use Rattle.core_rule.specs.Offers.{made_of}
+use Rattle.core_rule.specs.Kinds.{Kind, publish_stamp, publish_idle, retire_write, publish_bound, retire_read, scan_writes, scan_reads, raise_min_write, raise_min_read, scan_from, name, after}
 use Rattle.stamp_base.specs.Stamp.{bound_of_clock}
 use Rattle.core_rule.proofs.Step.{Step}
 use Rattle.word_layout.specs.Name.{min_write}

@@ -7,7 +7,8 @@ use Rattle.core_rule.specs.World.{World, at_number, nothing_drawn}
 use Rattle.core_rule.specs.Views.{At}
 use Rattle.core_rule.proofs.Step.{Step, differs, at_number-other, at_number-same}
 use Rattle.core_rule.specs.View.{View, Published, Splitting, single, sharing, offers_write, offers_both, shared, first_view}
-use Rattle.core_rule.specs.Kinds.{Kind, offer_write_word, offer_read_word, publish_stamp, publish_idle, retire_write, publish_bound, retire_read, name, after, turned, changed, made_of, rested, MayOffer, HasOffered, HasOfferedBoth, IsSettled}
+use Rattle.core_rule.specs.Offers.{made_of, rested, MayOffer, HasOffered, HasOfferedBoth, IsSettled}
+use Rattle.core_rule.specs.Kinds.{Kind, offer_write_word, offer_read_word, publish_stamp, publish_idle, retire_write, publish_bound, retire_read, name, after, turned, changed}
 use Rattle.core_rule.specs.Rule.{write_words, read_words}
 use Rattle.core_rule.specs.Parts.Splitting.{Makes, Offered, SplittingOk, IsBelow, IsMade, Splittings}
 use Rattle.core_rule.proofs.EachView.{Each-set, Pairs-own, AllOf-map, Each-push, Each-join, Each-one, Pairs-push, Pairs-join, Pairs-one, AllOf-append, joined, Each-own}

@@ -1,7 +1,7 @@
 use Rattle.std.proofs.Common.{refl, subst, sym, ap, ◌∙◌, ◌<◌}
 use Rattle.word_layout.specs.Size.{places}
 use Rattle.core_rule.specs.Hands.{Seated}
-use Rattle.core_rule.specs.Kinds.{filled_place}
+use Rattle.core_rule.specs.Holding.{filled_place}
 use Rattle.core_rule.proofs.HandKept.{held_in_table, held_in_layout, after_fill}
 use Rattle.core_rule.proofs.shared.Core.fill_next.Goals as goal
 

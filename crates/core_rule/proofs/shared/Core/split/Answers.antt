@@ -1,7 +1,7 @@
 use Rattle.std.proofs.Common.{ap, sym, subst, ◌∙◌}
 use Rattle.core_rule.specs.View.{View}
 use Rattle.core_rule.specs.Hands.{Seated}
-use Rattle.core_rule.specs.Kinds.{HasOfferedBoth}
+use Rattle.core_rule.specs.Offers.{HasOfferedBoth}
 use Rattle.core_rule.proofs.Tables.{splits_asks}
 use Rattle.core_rule.proofs.shared.Core.split.Goals as goal
 

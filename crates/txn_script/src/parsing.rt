@@ -21,8 +21,8 @@ const MOST_BYTES: usize = 4_194_304;
 pub fn parse(alloc: Global, bytes: &[u8]) -> Result<Input, ParseFault>
     // At `Ok` the bytes are this input, which is accepted.
     ensures accepted { IfOk result (IsAccepted bytes.now) }
-    // Bytes spell one input at most.
-    ensures alone { IfOk result (λ input. (other : Input) → IsInput bytes.now other → input ≡ other) }
+    // Whatever is answered, bytes spell one input at most, accepted or not.
+    ensures alone { (a b : Input) → IsInput bytes.now a → IsInput bytes.now b → a ≡ b }
     // At `Form` no input is accepted for these bytes.
     ensures refused { IsErrOf result ParseFault.Form → IsRefused bytes.now }
 

@@ -31,9 +31,17 @@ returns-clause-accepted c = record {
   one_lane = omega (arith, c.if-len-ne1-2.false, c.len-else-len-ne1.ensures);
 }
 
+pub returns-then-bytes-gt-MOST_BYTES-clause-alone : goal.returns-then-bytes-gt-MOST_BYTES-clause-alone
+returns-then-bytes-gt-MOST_BYTES-clause-alone c = one_input c.args.bytes.now
+
+pub returns-in_err-input-clause-alone : goal.returns-in_err-input-clause-alone
+returns-in_err-input-clause-alone c = one_input c.args.bytes.now
+
+pub returns-then-len-ne1-clause-alone : goal.returns-then-len-ne1-clause-alone
+returns-then-len-ne1-clause-alone c = one_input c.args.bytes.now
+
 pub returns-clause-alone : goal.returns-clause-alone
-returns-clause-alone c other is =
-    one_input c.args.bytes.now c.in_ok-input.input other (kept c.args.bytes.now c.in_ok-input.input c.in_ok-input.ensures).0 is
+returns-clause-alone c = one_input c.args.bytes.now
 
 pub returns-clause-well_formed : goal.returns-clause-well_formed
 returns-clause-well_formed c = well_formed c.args.bytes.now c.in_ok-input.input (kept c.args.bytes.now c.in_ok-input.input c.in_ok-input.ensures)

@@ -39,12 +39,12 @@ pub data Kind : Type 0 where
   raise_min_read : Kind
   -- take a free place, or meet it taken
   take : (place : ℕ) → Kind
-  -- fill a held place: its write stamp; its read stamp with 0, the link to the next older version, and its next cell, where
-  -- the fill in work is
+  -- fill a held place: its write stamp; its read stamp with 0 and its next cell, where the fill in work is; its link to the
+  -- next older version
   fill_stamp : (place stamp : ℕ) → Kind
   fill_reset : Kind
-  fill_next : (link : ℕ) → Kind
   fill_cell : (word : ℕ) → Kind
+  fill_next : (place link : ℕ) → Kind
   -- give a held place back
   give : (place : ℕ) → Kind
 
@@ -72,8 +72,8 @@ name raise_min_read v = min_read
 name (take place) v = status place
 name (fill_stamp place stamp) v = wts place
 name fill_reset v = rts (filled_place v.places.fills)
-name (fill_next link) v = next_word (filled_place v.places.fills)
 name (fill_cell word) v = cell (filled_place v.places.fills) (filled_cells v.places.fills)
+name (fill_next place link) v = next_word place
 name (give place) v = status place
 
 abbrev pub way : Kind → View → Way
@@ -89,8 +89,8 @@ way raise_min_read v = raises_to v.raises.reads.least
 way (take place) v = exchanges 0 1
 way (fill_stamp place stamp) v = stores stamp
 way fill_reset v = stores 0
-way (fill_next link) v = stores link
 way (fill_cell word) v = stores word
+way (fill_next place link) v = stores link
 way (give place) v = stores 0
 way _ v = loads
 
@@ -152,8 +152,8 @@ next (fill_stamp place stamp) v n = record v {
   };
 }
 next fill_reset v n = record v { places = record v.places { fills = reset_fill v.places.fills } }
-next (fill_next link) v n = record v { places = record v.places { fills = link_fill link v.places.fills } }
 next (fill_cell word) v n = record v { places = record v.places { fills = more_cells word v.places.fills } }
+next (fill_next place link) v n = record v { places = record v.places { fills = link_fill place link v.places.fills } }
 next (give place) v n = record v {
   places = record v.places { held = without place v.places.held; fills = without_fill place v.places.fills };
 }
@@ -204,8 +204,8 @@ Can raise_min_read v = (v.raises.reads.next ≡ v.size.seats) × (v.published.re
 Can (take place) v = place < places v.size
 Can (fill_stamp place stamp) v = Has place v.places.held
 Can fill_reset v = IsFilling v.places.fills
-Can (fill_next link) v = IsFilling v.places.fills
 Can (fill_cell word) v = IsFilling v.places.fills × (filled_cells v.places.fills < CELLS)
+Can (fill_next place link) v = Has place v.places.held
 Can (give place) v = Has place v.places.held
 Can _ v = Unit {0}
 

@@ -69,20 +69,6 @@ impl<J: Keeps> Core<J> {
         self.store::<Brand>(seat, word, 0, 0);
     }
 
-    /// Stores the link to the next older version, in the place that is being filled: the number of that version's place
-    /// plus 1, and 0 where there is none.
-    pub fn fill_next(&self, hand: &mut Hand<J>, place: u32, older: Option<u32>)
-        requires ready { IsReady self.now hand.old }
-        requires in_work { IsFilling hand.old.view.places.fills }
-        requires place { place ≡ filled_place hand.old.view.places.fills }
-        requires holds { Has place hand.old.view.places.held }
-        ensures { Steps (fill_next (link_of older)) hand.old (link_of older) hand.new }
-    {
-        let seat = &mut hand.seat;
-        let word = self.layout.next(place);
-        self.store::<Brand>(seat, word, link_to(older), 0);
-    }
-
     /// Stores the next cell of the value, in the place that is being filled.
     pub fn fill_cell(&self, hand: &mut Hand<J>, place: u32, cell: u32, value: u64)
         requires ready { IsReady self.now hand.old }
@@ -96,6 +82,18 @@ impl<J: Keeps> Core<J> {
         let seat = &mut hand.seat;
         let word = self.layout.cell(place, cell);
         self.store::<Brand>(seat, word, value, 0);
+    }
+
+    /// Stores the link to the next older version in a held place: the number of that version's place plus 1, and 0 where
+    /// there is none.
+    pub fn fill_next(&self, hand: &mut Hand<J>, place: u32, older: Option<u32>)
+        requires ready { IsReady self.now hand.old }
+        requires holds { Has place hand.old.view.places.held }
+        ensures { Steps (fill_next place (link_of older)) hand.old (link_of older) hand.new }
+    {
+        let seat = &mut hand.seat;
+        let word = self.layout.next(place);
+        self.store::<Brand>(seat, word, link_to(older), place.into());
     }
 
     /// Gives a held place back.

@@ -1,5 +1,5 @@
 -- Filled places: nobody but its holder stores in a place that is held.
-use Rattle.std.proofs.Common.{◌≡◌, ◌≢◌, ℕ, suc, ◌+◌, ◌<◌, true, false, Bool, cond, eqb, ◌&&◌, List, [], ◌∷◌, ◌++◌, length, set, refl, sym, ◌∙◌, subst, arith, eq-eqb, ne_eqb, inr, add-zero, zero-add, None}
+use Rattle.std.proofs.Common.{◌≡◌, ◌≢◌, ℕ, suc, ◌+◌, ◌<◌, true, false, Bool, cond, eqb, ◌&&◌, List, [], ◌∷◌, ◌++◌, length, set, refl, sym, ◌∙◌, subst, arith, eq-eqb, eqb-true, ne_eqb, inr, add-zero, zero-add, None, Some}
 use Rattle.replay_model.specs.State.{State}
 use Rattle.word_layout.specs.Size.{Size}
 use Rattle.core_rule.specs.Memory.{Memory, Stored, stored, start}
@@ -14,7 +14,7 @@ use Rattle.core_rule.specs.Holding.{filled_place, filled_cells, reset_fill, link
 use Rattle.core_rule.specs.Kinds.{Kind, take, fill_stamp, fill_reset, fill_next, fill_cell, give, name, after, changed}
 use Rattle.core_rule.specs.Parts.Filled.{CellsAre, Stands, Others, FillsOk, FilledOk, Filled}
 use Rattle.core_rule.proofs.EachView.{Each-set, Each-own, Each-push, Each-join, Each-one, AllOf-Has, joined}
-use Rattle.core_rule.proofs.Without.{Has-without, Others-without, FillsOk-without}
+use Rattle.core_rule.proofs.Without.{ne_from_test, Has-without, Others-without, FillsOk-without}
 use Rattle.core_rule.proofs.Parts.PlacesKept.{others_hold_not}
 
 -- ---- cells
@@ -129,15 +129,6 @@ module _ (w : Stored) (xs : List ℕ) where
     FillsOk-elsewhere f.place w (with_reset w f.place) (reset_differs w f.place) xs xs (λ q ne has. has) fs h.2 h.3,
   )
 
-  links : (n : ℕ) (fs : List Fill) → IsFilling fs → FillsOk w xs fs → FillsOk (with_link w (filled_place fs) n) xs (link_fill n fs)
-  links n [] in_work h = absurd in_work
-  links n (f ∷ fs) in_work h = (
-    h.0,
-    record { stamp = h.1.stamp; reset = h.1.reset; link = at_number-same w.links f.place n; cells = h.1.cells },
-    h.2,
-    FillsOk-elsewhere f.place w (with_link w f.place n) (link_differs w f.place n) xs xs (λ q ne has. has) fs h.2 h.3,
-  )
-
   cells_more : (x : ℕ) (fs : List Fill) → IsFilling fs → FillsOk w xs fs → FillsOk (with_cell w (filled_place fs) (filled_cells fs) x) xs (more_cells x fs)
   cells_more x [] in_work h = absurd in_work
   cells_more x (f ∷ fs) in_work h = (
@@ -154,6 +145,33 @@ module _ (w : Stored) (xs : List ℕ) where
   ) where
     new : (p : ℕ) (cs : List ℕ) → at_cell w.cells p (length cs) x p (0 + length cs) ≡ x
     new p cs = subst (λ (k : ℕ). at_cell w.cells p (length cs) x p k ≡ x) (sym (zero-add (length cs))) (at_cell-same w.cells p (length cs) x)
+
+  -- the link of a place is stored, whether something is filled there or not
+  link_place : (n : ℕ) (f : Fill) (b : Bool) → (cond b (record f { link = Some n }) f).place ≡ f.place
+  link_place n f true = refl
+  link_place n f false = refl
+
+  link_stands : (p n : ℕ) (f : Fill) (b : Bool) → eqb f.place p ≡ b → Stands w f → Stands (with_link w p n) (cond b (record f { link = Some n }) f)
+  link_stands p n f true e h = record {
+    stamp = h.stamp;
+    reset = h.reset;
+    link = subst (λ (q : ℕ). at_number w.links p n q ≡ n) (sym (eqb-true f.place p e)) (at_number-same w.links p n);
+    cells = h.cells;
+  }
+  link_stands p n f false e h = Stands-elsewhere p w (with_link w p n) (link_differs w p n) f (ne_from_test f.place p e) h
+
+  Others-link : (p n q : ℕ) (fs : List Fill) → Others q fs → Others q (link_fill p n fs)
+  Others-link p n q [] o = tt
+  Others-link p n q (f ∷ fs) o = (rw (link_place n f (eqb f.place p)) o.0, Others-link p n q fs o.1)
+
+  links : (p n : ℕ) (fs : List Fill) → FillsOk w xs fs → FillsOk (with_link w p n) xs (link_fill p n fs)
+  links p n [] h = tt
+  links p n (f ∷ fs) h = (
+    rw (link_place n f (eqb f.place p)) h.0,
+    link_stands p n f (eqb f.place p) refl h.1,
+    rw (link_place n f (eqb f.place p)) (Others-link p n f.place fs h.2),
+    links p n fs h.3,
+  )
 
 -- ---- the part
 
@@ -180,12 +198,11 @@ module _ (kept : State → Type 0) (z : Size) (g : World) (m : Memory) (vs : Lis
   filled_kept fill_reset s =
       let p = filled_place v.places.fills in
       in_front _ s s.allowed.can (with_reset (stored m) p) (reset_differs (stored m) p) _ (resets (stored m) v.places.held v.places.fills s.allowed.can (s.rule.filled id v s.at s.allowed.is_open))
-  filled_kept (fill_next n) s =
-      let p = filled_place v.places.fills in
-      in_front _ s s.allowed.can (with_link (stored m) p n) (link_differs (stored m) p n) _ (links (stored m) v.places.held n v.places.fills s.allowed.can (s.rule.filled id v s.at s.allowed.is_open))
   filled_kept (fill_cell x) s =
       let p = filled_place v.places.fills in let i = filled_cells v.places.fills in
       in_front _ s s.allowed.can.0 (with_cell (stored m) p i x) (cell_differs (stored m) p i x) _ (cells_more (stored m) v.places.held x v.places.fills s.allowed.can.0 (s.rule.filled id v s.at s.allowed.is_open))
+  filled_kept (fill_next p n) s = own _ s p s.allowed.can (with_link (stored m) p n) (link_differs (stored m) p n) _
+      (links (stored m) v.places.held p n v.places.fills (s.rule.filled id v s.at s.allowed.is_open))
   filled_kept (give p) s = Each-own (FilledOk (stored m)) vs id v _ s.rule.filled s.at s.allowed.is_open
       (λ h. FillsOk-elsewhere p (stored m) (stored m) (same (stored m) p) v.places.held (without p v.places.held) (λ q ne has. Has-without p q v.places.held ne has) (without_fill p v.places.fills)
       (Others-without p v.places.fills) (FillsOk-without p (stored m) v.places.held v.places.fills h))

@@ -17,3 +17,8 @@ HasRisen before now = (before < now) ⊎ (now ≡ count_end)
 pub record GoesOn (before now : ℕ) : Type 0 where
   pub never_falls : before ≤ now
   pub ends : now ≤ count_end
+
+-- a stream, and how often it has failed
+pub record Counted (A : Type 0) : Type 0 where
+  pub stream : A
+  pub faults : ℕ

@@ -15,7 +15,7 @@ pub use gate::{Gate, OpenGate};
 pub use memory::{MemSink, MemSource};
 pub use sink::{Sink, SinkFault};
 pub use source::{Failed, Source};
-pub use standard::{StdSink, StdSource};
+pub use standard::{ReaderSource, StdSink, StdSource, WriterSink};
 
 #[cfg(test)]
 mod tests;

@@ -1,5 +1,5 @@
-ghost use Rattle.std.specs.Prelude.{◌≡◌, ℕ, ◌≤◌, length, take, None, Err, IfOk, OnOk, OnErr};
-ghost use Rattle.std.specs.Io.KnownBytes.{Keeps, Appends, ReadConsumes};
+ghost use Rattle.std.specs.Prelude.{◌≡◌, ◌≤◌, length, take, None, Err, IfOk, OnOk, OnErr};
+ghost use Rattle.std.specs.Io.KnownBytes.{ReadConsumes, WriteAppends};
 ghost use Rattle.outside_io.specs.Faults.{one_more};
 ghost use Rattle.outside_io.specs.Source.{ReadCause};
 ghost use Rattle.outside_io.specs.Sink.{WriteCause};
@@ -9,127 +9,109 @@ use std::io::{Read, Write};
 use std::marker::Model;
 use std::rt::{Stdin, Stdout};
 
-/// Standard input. It tells nothing of its bytes and is seen as its count of faults. It reads no more than it is
-/// asked for. Each error of the system is a fault, also that a signal came in between.
+/// Standard input.
+pub type StdSource = ReaderSource<Stdin>;
+
+/// Standard output.
+pub type StdSink = WriterSink<Stdout>;
+
+/// A source over a reader. It tells nothing of its bytes: what it gives is what the reader gives. It reads no more than it
+/// is asked for. Each error of the reader is a fault, also that a signal came in between.
 #[derive(Drop)]
-pub struct StdSource {
-    input: Stdin,
+pub struct ReaderSource<R> {
+    input: R,
     faults: u64,
 }
 
-impl Model for StdSource {
-    ghost use Rattle.std.specs.Prelude.{ℕ};
+impl<R> Model for ReaderSource<R> {
+    ghost use Rattle.outside_io.specs.Faults.{Counted};
 
-    ghost Value = { ℕ };
+    ghost Value = { Counted R };
 
-    ghost view = { λ source. source.faults };
+    ghost view = { λ source. record { stream = source.input; faults = source.faults } };
 }
 
-impl StdSource {
-    /// Standard input, with no fault yet.
-    pub fn new(input: Stdin) -> StdSource
-        ensures { result ≡ 0 }
+impl<R> ReaderSource<R> {
+    /// A source over this reader, with no fault yet.
+    pub fn new(input: R) -> ReaderSource<R>
+        ensures { result ≡ record { stream = input; faults = 0 } }
     {
-        StdSource { input, faults: 0 }
+        ReaderSource { input, faults: 0 }
     }
 }
 
-impl Source for StdSource {
+impl<R: Read> Source for ReaderSource<R> {
     ghost left = { λ _. None };
 
-    ghost faults = { λ count. count };
+    ghost faults = { λ source. source.faults };
 
     fn read(&mut self, buf: &mut [u8]) -> Result<usize, Failed>
         ensures bound { IfOk result (λ n. n ≤ length buf.old) }
-        ensures cause { ReadCause self.old self.new result }
-        ensures ok { OnOk result (self.new ≡ self.old) }
-        ensures failed { OnErr result (self.new ≡ one_more self.old) }
-    {
-        read_counted(&mut self.input, &mut self.faults, buf)
-    }
-}
+        ensures cause { ReadCause self.old.faults self.new.faults result }
 
-// Reads once. An error counts as a fault.
-pub(crate) fn read_counted<R: Read>(
-    input: &mut R,
-    faults: &mut u64,
-    buf: &mut [u8],
-) -> Result<usize, Failed>
-    ensures bound { IfOk result (λ n. n ≤ length buf.old) }
-    ensures bytes { ReadConsumes (R.remaining input.old) (R.remaining input.new) result buf.new }
-    ensures ok { OnOk result (faults.new ≡ faults.old) }
-    ensures failed { OnErr result (faults.new ≡ one_more faults.old) }
-    ensures cause { ReadCause faults.old faults.new result }
-{
-    let one_more = faults.saturating_add(1);
-    match input.read(buf) {
-        Ok(count) => Ok(count),
-        Err(_) => {
-            *faults = one_more;
-            Err(Failed)
+        // What the reader gave is what is answered.
+        ensures given { ReadConsumes (R.remaining self.old.stream) (R.remaining self.new.stream) result buf.new }
+        ensures ok { OnOk result (self.new.faults ≡ self.old.faults) }
+        ensures failed { OnErr result (self.new.faults ≡ one_more self.old.faults) }
+    {
+        let one_more = self.faults.saturating_add(1);
+        match self.input.read(buf) {
+            Ok(count) => Ok(count),
+            Err(_) => {
+                self.faults = one_more;
+                Err(Failed)
+            }
         }
     }
 }
 
-/// Standard output. It tells nothing of its bytes and is seen as its count of faults. It keeps nothing back: what it
-/// took was written. Each error of the system is a fault, also that a signal came in between.
+/// A sink over a writer. It tells nothing of its bytes: what it takes is what the writer takes. It keeps nothing back. Each
+/// error of the writer is a fault, also that a signal came in between, and so is a writer that takes nothing of a piece that
+/// is not empty.
 #[derive(Drop)]
-pub struct StdSink {
-    output: Stdout,
+pub struct WriterSink<W> {
+    output: W,
     faults: u64,
 }
 
-impl Model for StdSink {
-    ghost use Rattle.std.specs.Prelude.{ℕ};
+impl<W> Model for WriterSink<W> {
+    ghost use Rattle.outside_io.specs.Faults.{Counted};
 
-    ghost Value = { ℕ };
+    ghost Value = { Counted W };
 
-    ghost view = { λ sink. sink.faults };
+    ghost view = { λ sink. record { stream = sink.output; faults = sink.faults } };
 }
 
-impl StdSink {
-    /// Standard output, with no fault yet.
-    pub fn new(output: Stdout) -> StdSink
-        ensures { result ≡ 0 }
+impl<W> WriterSink<W> {
+    /// A sink over this writer, with no fault yet.
+    pub fn new(output: W) -> WriterSink<W>
+        ensures { result ≡ record { stream = output; faults = 0 } }
     {
-        StdSink { output, faults: 0 }
+        WriterSink { output, faults: 0 }
     }
 }
 
-impl Sink for StdSink {
+impl<W: Write> Sink for WriterSink<W> {
     ghost taken = { λ _. None };
 
-    ghost faults = { λ count. count };
+    ghost faults = { λ sink. sink.faults };
 
     fn write(&mut self, piece: &[u8]) -> Result<usize, SinkFault>
         ensures bound { IfOk result (λ n. n ≤ length piece.now) }
-        ensures cause { WriteCause self.old self.new piece.now result }
-        ensures ok { OnOk result (self.new ≡ self.old) }
-        ensures failed { OnErr result ((result ≡ Err SinkFault.Failed) × (self.new ≡ one_more self.old)) }
-    {
-        write_counted(&mut self.output, &mut self.faults, piece)
-    }
-}
+        ensures cause { WriteCause self.old.faults self.new.faults piece.now result }
 
-// Writes once. An error counts as a fault, and so does a writer that takes nothing of a piece that is not empty.
-pub(crate) fn write_counted<W: Write>(
-    output: &mut W,
-    faults: &mut u64,
-    piece: &[u8],
-) -> Result<usize, SinkFault>
-    ensures bound { IfOk result (λ n. n ≤ length piece.now) }
-    ensures bytes { IfOk result (λ n. Appends (W.contents output.old) (W.contents output.new) (take n piece.now)) }
-    ensures refused { OnErr result (Keeps (W.contents output.old) (W.contents output.new)) }
-    ensures ok { OnOk result (faults.new ≡ faults.old) }
-    ensures failed { OnErr result ((result ≡ Err SinkFault.Failed) × (faults.new ≡ one_more faults.old)) }
-    ensures cause { WriteCause faults.old faults.new piece.now result }
-{
-    let one_more = faults.saturating_add(1);
-    match output.write(piece) {
-        Ok(0) if !piece.is_empty() => {}
-        Ok(count) => return Ok(count),
-        Err(_) => {}
+        // What the writer took is what is answered.
+        ensures written { WriteAppends (W.contents self.old.stream) (W.contents self.new.stream) result piece.now }
+        ensures ok { OnOk result (self.new.faults ≡ self.old.faults) }
+        ensures failed { OnErr result ((result ≡ Err SinkFault.Failed) × (self.new.faults ≡ one_more self.old.faults)) }
+    {
+        let one_more = self.faults.saturating_add(1);
+        match self.output.write(piece) {
+            Ok(0) if !piece.is_empty() => {}
+            Ok(count) => return Ok(count),
+            Err(_) => {}
+        }
+        self.faults = one_more;
+        Err(SinkFault::Failed)
     }
-    *faults = one_more;
-    Err(SinkFault::Failed)
 }

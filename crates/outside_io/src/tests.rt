@@ -1,5 +1,4 @@
 use super::*;
-use crate::standard::{read_counted, write_counted};
 use std::alloc::{AllocError, Global};
 use std::io::{self, ErrorKind, Read, Write};
 use std::test::Fail;
@@ -174,30 +173,15 @@ impl Write for Flaky {
 }
 
 #[test]
-fn errors_of_a_stream_are_counted(rt: HostRuntime) {
-    let mut stream = Flaky { calls: 0 };
-    let mut faults = 0;
+fn errors_of_a_stream_are_faults(rt: HostRuntime) {
+    let mut source = ReaderSource::new(Flaky { calls: 0 });
     let mut buf = [0; 3];
-    assert_eq!(rt;
-        read_counted(&mut stream, &mut faults, &mut buf),
-        Err(Failed)
-    );
-    assert_eq!(rt; faults, 1);
-    assert_eq!(rt; read_counted(&mut stream, &mut faults, &mut buf), Ok(1));
-    assert_eq!(rt; (faults, buf[0]), (1, b'x'));
-    assert_eq!(rt;
-        write_counted(&mut stream, &mut faults, b"abc"),
-        Err(SinkFault::Failed)
-    );
-    assert_eq!(rt; faults, 2);
-    assert_eq!(rt; write_counted(&mut stream, &mut faults, b"abc"), Ok(3));
-    assert_eq!(rt; faults, 2);
-    faults = u64::MAX;
-    assert_eq!(rt;
-        read_counted(&mut stream, &mut faults, &mut buf),
-        Err(Failed)
-    );
-    assert_eq!(rt; faults, u64::MAX);
+    assert_eq!(rt; source.read(&mut buf), Err(Failed));
+    assert_eq!(rt; source.read(&mut buf), Ok(1));
+    assert_eq!(rt; buf[0], b'x');
+    let mut sink = WriterSink::new(Flaky { calls: 0 });
+    assert_eq!(rt; sink.write(b"abc"), Err(SinkFault::Failed));
+    assert_eq!(rt; sink.write(b"abc"), Ok(3));
 }
 
 fn reading<C: Clock>(clock: &mut C) -> u64 {

@@ -3,7 +3,7 @@ use Rattle.std.proofs.Common.{◌≡◌, ℕ, ◌+◌, ◌<◌, List, [], ◌∷
 use Rattle.std.specs.Prelude.{position, ◌==◌}
 use Rattle.std.proofs.lemmas.List.{append-nil}
 use Rattle.std.proofs.lemmas.Option.{same_Some, none-some}
-use Rattle.replay_model.specs.State.{State, overlay}
+use Rattle.plain_data.specs.State.{State, overlay}
 use Rattle.record_store.specs.Meaning.{Meaning}
 use Rattle.hash_index.specs.declared.search.Link.{Link}
 use Rattle.hash_index.specs.declared.search.Place.{Place}
@@ -11,7 +11,8 @@ use Rattle.hash_index.specs.declared.search.Place.TheVariants.{Found, Room, Full
 use Rattle.hash_index.specs.Node.{IsNode, pairs_of}
 use Rattle.hash_index.specs.Chain.{Leads, IsChain, EachChain, Tears, start_of, record_at, record_of, row_pairs, bucket_of}
 use Rattle.hash_index.specs.Answers.{IsTorn}
-use Rattle.hash_index.specs.Search.{EachState, Reaches, InRow, IsPlace}
+use Rattle.record_store.specs.States.{EachState}
+use Rattle.hash_index.specs.Search.{Reaches, InRow, IsPlace}
 use Rattle.hash_index.proofs.Pairs.{position-found, record_at-behind, record_at-before}
 use Rattle.hash_index.proofs.Rows.{Leads-follow, row_pairs-append, start_absent}
 
@@ -94,7 +95,7 @@ pub not_in_empty : (size base key : ℕ) (state : State) (rows : ℕ → List (�
 not_in_empty size base key state rows chain absent = ap (λ row. record_at (row_pairs row) key) (empty_row size base key state rows chain absent)
 
 -- no chain is lawful where a walk meets what is no node
-pub torn_no_chain : (size base key rid : ℕ) (state : State) (rows : ℕ → List (ℕ × List ℕ)) → Tears size (base + bucket_of key) state rid → IsChain size base state rows → ⊥
+pub torn_no_chain : (size base key rid : ℕ) (state : State) (rows : ℕ → List (ℕ × List ℕ)) → Tears size (base + bucket_of key) key state rid → IsChain size base state rows → ⊥
 torn_no_chain size base key rid state rows tears chain =
     let follows = Leads-follow size state 0 (start_of state (base + bucket_of key)) (Some rid) tears.nodes (rows (bucket_of key)) tears.reached (chain.walks (bucket_of key) (bucket_below key)) in
     let first = begins size (0 + length tears.nodes) rid state follows.rest follows.leads in
@@ -102,7 +103,7 @@ torn_no_chain size base key rid state rows tears chain =
     let place : 0 + length tears.nodes ≡ length tears.nodes = omega arith in
     tears.no_node first.words first.here (subst P place first.node)
 
-pub is_torn : (base key size rid : ℕ) (before after : Meaning) → size ≡ before.size → EachState before after (λ state. Tears size (base + bucket_of key) state rid) → IsTorn base key before after rid
+pub is_torn : (base key size rid : ℕ) (before after : Meaning) → size ≡ before.size → EachState before after (λ state. Tears size (base + bucket_of key) key state rid) → IsTorn base key before after rid
 is_torn base key size rid before after same tears = record {
   tears = rw (← same) tears;
   no_chain = λ state rows agrees chain. torn_no_chain before.size base key rid (overlay before.writes state) rows (rw (← same) (tears state agrees)) chain;

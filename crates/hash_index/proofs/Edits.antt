@@ -4,7 +4,7 @@ use Rattle.std.specs.Prelude.{IfSome}
 use Rattle.std.proofs.lemmas.Bool.{cases_eq}
 use Rattle.std.proofs.lemmas.List.{map-append}
 use Rattle.std.proofs.lemmas.List.Elements.{Contains-append_right}
-use Rattle.replay_model.specs.State.{State}
+use Rattle.plain_data.specs.State.{State}
 use Rattle.hash_index.specs.Node.{IsNode, pairs_of, next_of, position_of, words_of}
 use Rattle.hash_index.specs.Chain.{Leads, IsChain, start_of, records_of, row_pairs, bucket_of, record_of}
 use Rattle.hash_index.proofs.Words.{pairs_of-words_of, next_of-words_of, position_of-words_of}

@@ -2,7 +2,7 @@
 use Rattle.std.proofs.Common.{◌≡◌, ◌≢◌, ℕ, ◌+◌, ◌<◌, ◌≤◌, suc, List, [], ◌∷◌, ◌++◌, length, Option, Some, All, Contains, refl, sym, ap, ◌∙◌, arith}
 use Rattle.std.proofs.lemmas.Option.{same_Some}
 use Rattle.std.proofs.lemmas.List.Elements.{All-head, All-tail, All-cons, All-nil, All-weaker, All-map, All-contains}
-use Rattle.replay_model.specs.State.{State}
+use Rattle.plain_data.specs.State.{State}
 use Rattle.hash_index.specs.Node.{IsNode, next_of, position_of}
 use Rattle.hash_index.specs.Chain.{Leads, records_of}
 use Rattle.hash_index.proofs.Rows.{Leads-at, Leads-append}

@@ -4,7 +4,7 @@ use Rattle.std.proofs.lemmas.List.{length-map, get_or-map}
 use Rattle.std.specs.Prelude.{option_map}
 use Rattle.std.proofs.lemmas.Bool.{cases_eq}
 use Rattle.std.proofs.lemmas.Option.{none-some}
-use Rattle.replay_model.specs.State.{State}
+use Rattle.plain_data.specs.State.{State}
 use Rattle.hash_index.specs.Chain.{Leads, IsChain, start_of, records_of, row_pairs, bucket_of, record_at, record_of}
 use Rattle.hash_index.proofs.Rows.{start_present}
 use Rattle.hash_index.proofs.Chains.{begins}

@@ -2,14 +2,16 @@ pub mod Words
 pub mod Pairs
 pub mod Rows
 pub mod Walked
-pub mod States
 pub mod Passed
 pub mod Chains
+pub mod Ends
+pub mod Sides
 pub mod Distinct
 pub mod Moved
 pub mod Frames
 pub mod Joined
 pub mod Edits
+pub mod Reached
 pub mod Removed
 pub mod Linked
 pub mod Stored

@@ -8,7 +8,7 @@ use Rattle.std.proofs.lemmas.List.{append_assoc, append-nil, length-map, length_
 use Rattle.std.proofs.lemmas.List.Elements.{All-head, All-tail, All-cons, All-nil, All-weaker, All-map, Contains-push, Contains-push_cases}
 use Rattle.std.proofs.lemmas.Map.Keys.{IsDistinct-from_apart}
 use Rattle.std.proofs.lemmas.Map.Steps.{length-le_from_distinct_below}
-use Rattle.replay_model.specs.State.{State}
+use Rattle.plain_data.specs.State.{State}
 use Rattle.hash_index.specs.Node.{IsNode, pairs_of, next_of, position_of, words_of}
 use Rattle.hash_index.specs.Chain.{Leads, IsChain, start_of, records_of, row_pairs, bucket_of, record_at}
 use Rattle.hash_index.proofs.Words.{pairs_of-words_of, next_of-words_of}

@@ -2,23 +2,26 @@
 use Rattle.std.proofs.Common.{◌≡◌, ◌≢◌, ℕ, ◌+◌, ◌-◌, ◌<◌, ◌≤◌, List, ◌∷◌, ◌++◌, length, get_or, set, Option, None, Some, refl, sym, ap, ◌∙◌, arith, subst, eq-eqb, ne_eqb}
 use Rattle.std.specs.Prelude.{position, swap_remove, is_some, true, false, ◌==◌}
 use Rattle.std.proofs.lemmas.List.{length-take, length-set, get_or_default}
-use Rattle.replay_model.specs.State.{State, overlay}
+use Rattle.plain_data.specs.State.{State, overlay}
 use Rattle.record_store.specs.Meaning.{Meaning, with_value, after_write}
 use Rattle.record_store.specs.Walks.{OnlyReads}
 use Rattle.record_store.proofs.Agreement.{overlay-with_value, written_after, given_same, writes_same}
+use Rattle.record_store.proofs.Writes.{writes-none, writes-one, writes-weaken}
 use Rattle.hash_index.specs.declared.search.Link.{Link}
 use Rattle.hash_index.specs.Node.{pairs_of, next_of, position_of, words_of}
 use Rattle.hash_index.specs.Chain.{IsChain, EachChain, row_pairs, record_of, bucket_of}
 use Rattle.hash_index.specs.Answers.{RemovesPair}
 use Rattle.hash_index.specs.Changes.{Removes, IsRemoved}
 use Rattle.hash_index.specs.Changes.Removes.{removed}
-use Rattle.hash_index.specs.Search.{EachState, Stands, Reaches}
+use Rattle.record_store.specs.States.{EachState}
+use Rattle.hash_index.specs.Search.{Stands, Reaches}
 use Rattle.hash_index.proofs.Pairs.{FoundAt, position-found}
 use Rattle.hash_index.proofs.Chains.{found_in, row_at, row_pairs-around, bucket_below}
 use Rattle.hash_index.proofs.Walked.{few_pairs}
 use Rattle.hash_index.proofs.Moved.{pairs_removed, all_swap_remove, keyed_along}
 use Rattle.hash_index.proofs.Joined.{with_row, with_row-same, with_row-other}
 use Rattle.hash_index.proofs.Edits.{edited, row_keyed}
+use Rattle.hash_index.proofs.Reached.{removed_records, spot_moved}
 
 -- a state with one record written over
 pub written_here : (writes : List (ℕ × Option (List ℕ))) (state : State) (rid : ℕ) (value : Option (List ℕ)) → overlay (with_value writes rid value) state rid ≡ value
@@ -64,25 +67,27 @@ removed_in size base key index before after state rows link taken same chain' r 
     (λ other differs. ap (λ w. overlay w state other) writes ∙ written_others before.writes state link.at (Some words') other differs)
     (pairs_removed b key found.rid index (row_pairs r.before) (pairs_of r.words) (row_pairs at.after) found.here (keyed_along b _ _ (ap row_pairs at.joined ∙ row_pairs-around r.before at.after link.at r.words) (row_keyed size base b st rows chain (bucket_below key)))) in
     let row' : List (ℕ × List ℕ) = r.before ++ (link.at, words') ∷ at.after in
-    let R : List (ℕ × List ℕ) → List (ℕ × List ℕ) → Type 0 = Removes key in (
+    let R : List (ℕ × List ℕ) → List (ℕ × List ℕ) → Type 0 = Removes key in
+    let own_row : Removes key (rows b) (with_row rows b row' b) = subst (λ x. R x (with_row rows b row' b)) (sym at.joined) (subst (λ y. R (r.before ++ (link.at, r.words) ∷ at.after) y) (sym (with_row-same rows b row')) (removed r.before at.after (link.at, r.words) index found.rid found.here)) in (
       with_row rows b row',
       record {
         lawful = rw (← same) done.lawful;
         at_key = done.at_key;
-        own_row = subst (λ x. R x (with_row rows b row' b)) (sym at.joined) (subst (λ y. R (r.before ++ (link.at, r.words) ∷ at.after) y) (sym (with_row-same rows b row')) (removed r.before at.after (link.at, r.words) index found.rid found.here));
+        own_row = own_row;
         other_rows = λ other differs. with_row-other rows b other row' differs;
-        outside = done.outside;
+        moved = spot_moved size base before.fixed key None st st' rows (with_row rows b row') chain done.lawful (removed_records (base + b) key (rows b) (with_row rows b row' b) own_row) tt done.outside;
       },
     )
 
 -- the contract, over each state
-pub removes_pair : (size base key index : ℕ) (before between after : Meaning) (link : Link) (taken : ℕ × ℕ) → size ≡ before.size → OnlyReads before between → EachState before between (λ state. Reaches size (base + bucket_of key) key state link) → position (λ pair. pair.0 == key) link.node.pairs.items ≡ Some index → taken ≡ get_or link.node.pairs.items index taken → after ≡ after_write between link.at (Some (words_of (swap_remove link.node.pairs.items index taken) link.node.next link.node.position)) → RemovesPair base key true before after
-removes_pair size base key index before between after link taken same only reaches is read wrote =
+pub removes_pair : (size base key index : ℕ) (before between after : Meaning) (link : Link) (taken : ℕ × ℕ) (pairs : List (ℕ × ℕ)) → size ≡ before.size → OnlyReads before between → EachState before between (λ state. Reaches size (base + bucket_of key) key state link) → position (λ pair. pair.0 == key) link.node.pairs.items ≡ Some index → taken ≡ get_or link.node.pairs.items index taken → pairs ≡ swap_remove link.node.pairs.items index taken → after ≡ after_write between link.at (Some (words_of pairs link.node.next link.node.position)) → RemovesPair base key true before after
+removes_pair size base key index before between after link taken pairs same only reaches is read edit wrote =
     let one = written_after before between after link.at _ only wrote in
     record {
       answer = λ state rows agrees chain. sym (ap is_some (found_in size base key index (overlay before.writes state) rows link (rw same chain) (reaches state (rw one.reads at agrees)) is));
       given = one.given;
-      removed = λ _ state rows agrees chain. removed_in size base key index before after state rows link taken same chain (reaches state (rw one.reads at agrees)) is read one.writes;
+      few = writes-one before after link.at _ one.writes;
+      removed = λ _ state rows agrees chain. removed_in size base key index before after state rows link taken same chain (reaches state (rw one.reads at agrees)) is read (one.writes ∙ ap (λ ps. with_value before.writes link.at (Some (words_of ps link.node.next link.node.position))) edit);
       unchanged = λ e. cc;
     }
 
@@ -90,6 +95,7 @@ pub removes_nothing : (base key : ℕ) (before after : Meaning) → OnlyReads be
 removes_nothing base key before after only absent = record {
   answer = λ state rows agrees chain. sym (ap is_some (absent state rows agrees chain));
   given = given_same before after only;
+  few = writes-weaken 0 1 before after (omega arith) (writes-none before after (writes_same before after only));
   removed = λ e. cc;
   unchanged = λ _. writes_same before after only;
 }

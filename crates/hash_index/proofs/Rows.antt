@@ -3,7 +3,7 @@ use Rattle.std.proofs.Common.{◌≡◌, ℕ, ◌+◌, suc, List, [], ◌∷◌,
 use Rattle.std.specs.Prelude.{option_map}
 use Rattle.std.proofs.lemmas.Option.{same_Some, none-some}
 use Rattle.std.proofs.lemmas.Grind.{flat_map-append}
-use Rattle.replay_model.specs.State.{State}
+use Rattle.plain_data.specs.State.{State}
 use Rattle.hash_index.specs.Node.{IsNode, pairs_of, next_of}
 use Rattle.hash_index.specs.Chain.{Leads, start_of, row_pairs}
 
@@ -28,7 +28,7 @@ pub record Follows (size : ℕ) (state : State) (position : ℕ) (mid : Option �
   pub joined : ys ≡ xs ++ rest
   pub leads : Leads size state (position + length xs) mid rest None
 
-same_node : (state : State) (from : Option ℕ) (x y : ℕ × List ℕ) → from ≡ Some x.0 → from ≡ Some y.0 → state x.0 ≡ Some x.1 → state y.0 ≡ Some y.1 → y ≡ x
+pub same_node : (state : State) (from : Option ℕ) (x y : ℕ × List ℕ) → from ≡ Some x.0 → from ≡ Some y.0 → state x.0 ≡ Some x.1 → state y.0 ≡ Some y.1 → y ≡ x
 same_node state from x y from_x from_y at_x at_y =
     let first : y.0 ≡ x.0 = same_Some y.0 x.0 (sym from_y ∙ from_x) in
     let second : y.1 ≡ x.1 = same_Some y.1 x.1 (sym at_y ∙ ap state first ∙ at_x) in

@@ -5,20 +5,22 @@ use Rattle.std.proofs.lemmas.Option.{none-some}
 use Rattle.std.proofs.lemmas.List.{length-set, length_push, append-nil, take_at}
 use Rattle.std.specs.List.{refill}
 use Rattle.std.proofs.lemmas.List.Elements.{All-set, All-push, All-cons, All-nil, Contains-push_cases}
-use Rattle.replay_model.specs.State.{State, Agrees, overlay}
+use Rattle.plain_data.specs.State.{State, Agrees, overlay}
 use Rattle.record_store.specs.Meaning.{Meaning, value_at, with_value, after_write, after_fresh}
 use Rattle.record_store.specs.Store.{IsFresh}
 use Rattle.record_store.specs.Walks.{Extends, OnlyReads}
 use Rattle.record_store.proofs.Values.{value_at-append}
 use Rattle.record_store.proofs.Steps.{known_from_reads}
 use Rattle.record_store.proofs.Agreement.{overlay-unwritten, agrees-value_at, written_after, given_same, writes_same, size_same, fixed_same, agrees-extends, extends-after_read}
+use Rattle.record_store.proofs.Writes.{writes-one, writes-trans}
 use Rattle.hash_index.specs.declared.search.Link.{Link}
 use Rattle.hash_index.specs.Node.{pairs_of, next_of, position_of, words_of}
 use Rattle.hash_index.specs.Chain.{Leads, IsChain, EachChain, records_of, row_pairs, record_at, bucket_of}
 use Rattle.hash_index.specs.Changes.{Puts, IsPut, IsFull, NeedsNode}
 use Rattle.hash_index.specs.Changes.Puts.{replaced, added, began, linked as links}
 use Rattle.hash_index.specs.Answers.{PutsPair}
-use Rattle.hash_index.specs.Search.{EachState, Reaches, InRow, AddsNode}
+use Rattle.record_store.specs.States.{EachState}
+use Rattle.hash_index.specs.Search.{Reaches, InRow, AddsNode}
 use Rattle.hash_index.proofs.Words.{pairs_of-words_of, next_of-words_of}
 use Rattle.hash_index.proofs.Rows.{start_present}
 use Rattle.hash_index.proofs.Chains.{row_at, not_in_row, empty_row, row_pairs-around, bucket_below}
@@ -26,23 +28,25 @@ use Rattle.hash_index.proofs.Walked.{few_pairs}
 use Rattle.hash_index.proofs.Distinct.{changes_insert}
 use Rattle.hash_index.proofs.Moved.{pairs_replaced, pairs_added, keyed_along, along}
 use Rattle.hash_index.proofs.Joined.{IsNew, with_row, with_row-same, with_row-other}
+use Rattle.hash_index.proofs.Reached.{put_records, spot_moved}
 use Rattle.hash_index.proofs.Edits.{Edited, edited, edited_row, node_words, row_keyed, not_nil}
 use Rattle.hash_index.proofs.Removed.{written_here, written_others, found_in_words, same_words}
 use Rattle.hash_index.proofs.Linked.{linked}
 
 -- the contract of one state, from the chain once its row changed
-put_state : (base key rid : ℕ) (fresh : Option ℕ) (before after : Meaning) (state : State) (rows : ℕ → List (ℕ × List ℕ)) (row row' : List (ℕ × List ℕ)) → rows (bucket_of key) ≡ row → Edited before.size base key (Some rid) (overlay before.writes state) (overlay after.writes state) rows row' → Puts (base + bucket_of key) key rid fresh row row' → IfSome fresh (λ new. overlay before.writes state new ≡ None) → (rows' : ℕ → List (ℕ × List ℕ)) × IsPut base key rid fresh before after state rows rows'
-put_state base key rid fresh before after state rows row row' joined done puts absent =
+put_state : (base key rid : ℕ) (fresh : Option ℕ) (before after : Meaning) (state : State) (rows : ℕ → List (ℕ × List ℕ)) (row row' : List (ℕ × List ℕ)) → rows (bucket_of key) ≡ row → IsChain before.size base (overlay before.writes state) rows → Edited before.size base key (Some rid) (overlay before.writes state) (overlay after.writes state) rows row' → Puts (base + bucket_of key) key rid fresh row row' → IfSome fresh (λ new. (overlay before.writes state new ≡ None) × (before.fixed ≤ new)) → (rows' : ℕ → List (ℕ × List ℕ)) × IsPut base key rid fresh before after state rows rows'
+put_state base key rid fresh before after state rows row row' joined chain done puts spare =
     let b = bucket_of key in
-    let R : List (ℕ × List ℕ) → List (ℕ × List ℕ) → Type 0 = Puts (base + b) key rid fresh in (
+    let st : State = overlay before.writes state in
+    let R : List (ℕ × List ℕ) → List (ℕ × List ℕ) → Type 0 = Puts (base + b) key rid fresh in
+    let own_row : Puts (base + b) key rid fresh (rows b) (with_row rows b row' b) = subst (λ x. R x (with_row rows b row' b)) (sym joined) (subst (λ y. R row y) (sym (with_row-same rows b row')) puts) in (
       with_row rows b row',
       record {
         lawful = done.lawful;
         at_key = done.at_key;
-        own_row = subst (λ x. R x (with_row rows b row' b)) (sym joined) (subst (λ y. R row y) (sym (with_row-same rows b row')) puts);
+        own_row = own_row;
         other_rows = λ other differs. with_row-other rows b other row' differs;
-        outside = done.outside;
-        was_absent = absent;
+        moved = spot_moved before.size base before.fixed key fresh st (overlay after.writes state) rows (with_row rows b row') chain done.lawful (put_records (base + b) key rid fresh (rows b) (with_row rows b row' b) own_row) spare done.outside;
       },
     )
 
@@ -63,7 +67,7 @@ found_state base key rid index before after state rows link stored chain r is wr
     (ap (λ w. overlay w state link.at) writes ∙ written_here before.writes state link.at (Some words'))
     (λ other differs. ap (λ w. overlay w state other) writes ∙ written_others before.writes state link.at (Some words') other differs)
     (pairs_replaced b key found.rid rid index (row_pairs r.before) (pairs_of r.words) (row_pairs at.after) found.here refl (keyed_along b _ _ (ap row_pairs at.joined ∙ row_pairs-around r.before at.after link.at r.words) (row_keyed before.size base b st rows chain (bucket_below key)))) in
-    put_state base key rid None before after state rows (r.before ++ (link.at, r.words) ∷ at.after) (r.before ++ (link.at, words') ∷ at.after) at.joined done (replaced r.before at.after (link.at, r.words) index found.rid found.here) tt
+    put_state base key rid None before after state rows (r.before ++ (link.at, r.words) ∷ at.after) (r.before ++ (link.at, words') ∷ at.after) at.joined chain done (replaced r.before at.after (link.at, r.words) index found.rid found.here) tt
 
 -- a node has room
 room_state : (base key rid : ℕ) (before after : Meaning) (state : State) (rows : ℕ → List (ℕ × List ℕ)) (link : Link) → rid < before.size → IsChain before.size base (overlay before.writes state) rows → InRow before.size (base + bucket_of key) key (overlay before.writes state) link → length link.node.pairs.items < 14 → after.writes ≡ with_value before.writes link.at (Some (words_of (link.node.pairs.items ++ (key, rid) ∷ []) link.node.next link.node.position)) → (rows' : ℕ → List (ℕ × List ℕ)) × IsPut base key rid None before after state rows rows'
@@ -82,7 +86,7 @@ room_state base key rid before after state rows link stored chain r room written
     (ap (λ w. overlay w state link.at) writes ∙ written_here before.writes state link.at (Some words'))
     (λ other differs. ap (λ w. overlay w state other) writes ∙ written_others before.writes state link.at (Some words') other differs)
     (pairs_added b key rid (row_pairs r.before) (pairs_of r.words) (row_pairs r.after) refl (keyed_along b _ _ (ap row_pairs joined ∙ around) (row_keyed before.size base b st rows chain (bucket_below key))) (ap (λ ps. record_at ps key) (sym around) ∙ r.not_there)) in
-    put_state base key rid None before after state rows (r.before ++ (link.at, r.words) ∷ r.after) (r.before ++ (link.at, words') ∷ r.after) joined done (added r.before r.after (link.at, r.words) r.not_there r.full_before few) tt
+    put_state base key rid None before after state rows (r.before ++ (link.at, r.words) ∷ r.after) (r.before ++ (link.at, words') ∷ r.after) joined chain done (added r.before r.after (link.at, r.words) r.not_there r.full_before few) tt
 
 -- the bucket was absent
 began_row : (size base key rid : ℕ) (state state' : State) (rows : ℕ → List (ℕ × List ℕ)) → rid < size → 0 < size → IsChain size base state rows → state (base + bucket_of key) ≡ None → state' (base + bucket_of key) ≡ Some (words_of ((key, rid) ∷ []) None 0) → ((other : ℕ) → other ≢ base + bucket_of key → state' other ≡ state other) → Edited size base key (Some rid) state state' rows ((base + bucket_of key, words_of ((key, rid) ∷ []) None 0) ∷ [])
@@ -115,11 +119,11 @@ empty_state_put base key rid before after state rows stored some chain absent wr
     let done = began_row before.size base key rid st (overlay after.writes state) rows stored some chain absent
     (ap (λ w. overlay w state bucket) written ∙ written_here before.writes state bucket (Some words'))
     (λ other differs. ap (λ w. overlay w state other) written ∙ written_others before.writes state bucket (Some words') other differs) in
-    put_state base key rid None before after state rows [] ((bucket, words') ∷ []) (empty_row before.size base key st rows chain absent) done began tt
+    put_state base key rid None before after state rows [] ((bucket, words') ∷ []) (empty_row before.size base key st rows chain absent) chain done began tt
 
 -- every node was full
-full_state : (base key rid fresh : ℕ) (before after : Meaning) (state : State) (rows : ℕ → List (ℕ × List ℕ)) (last : Link) → rid < before.size → base + 511 ≤ fresh → fresh < before.size → IsChain before.size base (overlay before.writes state) rows → (r : InRow before.size (base + bucket_of key) key (overlay before.writes state) last) → r.after ≡ [] → length last.node.pairs.items ≡ 14 → overlay before.writes state fresh ≡ None → after.writes ≡ with_value (with_value before.writes fresh (Some (words_of ((key, rid) ∷ []) None (last.node.position + 1)))) last.at (Some (words_of last.node.pairs.items (Some fresh) last.node.position)) → (rows' : ℕ → List (ℕ × List ℕ)) × IsPut base key rid (Some fresh) before after state rows rows'
-full_state base key rid fresh before after state rows last stored outside within chain r ends full absent written =
+full_state : (base key rid fresh : ℕ) (before after : Meaning) (state : State) (rows : ℕ → List (ℕ × List ℕ)) (last : Link) → rid < before.size → base + 511 ≤ fresh → before.fixed ≤ fresh → fresh < before.size → IsChain before.size base (overlay before.writes state) rows → (r : InRow before.size (base + bucket_of key) key (overlay before.writes state) last) → r.after ≡ [] → length last.node.pairs.items ≡ 14 → overlay before.writes state fresh ≡ None → after.writes ≡ with_value (with_value before.writes fresh (Some (words_of ((key, rid) ∷ []) None (last.node.position + 1)))) last.at (Some (words_of last.node.pairs.items (Some fresh) last.node.position)) → (rows' : ℕ → List (ℕ × List ℕ)) × IsPut base key rid (Some fresh) before after state rows rows'
+full_state base key rid fresh before after state rows last stored outside spare within chain r ends full absent written =
     let st : State = overlay before.writes state in
     let st' : State = overlay after.writes state in
     let b = bucket_of key in
@@ -138,7 +142,7 @@ full_state base key rid fresh before after state rows last stored outside within
     (ap (λ w. overlay w state last.at) writes ∙ written_here inner state last.at (Some last_words))
     (λ other not_last not_fresh. ap (λ w. overlay w state other) writes ∙ written_others inner state last.at (Some last_words) other not_last ∙ written_others before.writes state fresh (Some new_words) other not_fresh) in
     let all_full : All IsFull (r.before ++ (last.at, r.words) ∷ []) = All-push IsFull r.before (last.at, r.words) r.full_before (ap length (sym r.stands.held.pairs) ∙ full) in
-    put_state base key rid (Some fresh) before after state rows (r.before ++ (last.at, r.words) ∷ []) (r.before ++ (last.at, last_words) ∷ (fresh, new_words) ∷ []) joined done (links r.before (last.at, r.words) fresh (ap (λ row. record_at (row_pairs row) key) (sym joined) ∙ not_there) all_full) absent
+    put_state base key rid (Some fresh) before after state rows (r.before ++ (last.at, r.words) ∷ []) (r.before ++ (last.at, last_words) ∷ (fresh, new_words) ∷ []) joined chain done (links r.before (last.at, r.words) fresh (ap (λ row. record_at (row_pairs row) key) (sym joined) ∙ not_there) all_full) (absent, spare)
 
 -- the contract, over each state
 pub puts_found : (size base key rid index : ℕ) (before between after : Meaning) (link : Link) (pairs : List (ℕ × ℕ)) → size ≡ before.size → rid < before.size → OnlyReads before between → EachState before between (λ state. Reaches size (base + bucket_of key) key state link) → position (λ pair. pair.0 == key) link.node.pairs.items ≡ Some index → pairs ≡ slice_set link.node.pairs.items index (key, rid) → after ≡ after_write between link.at (Some (words_of pairs link.node.next link.node.position)) → PutsPair base key rid before after
@@ -148,6 +152,7 @@ puts_found size base key rid index before between after link pairs same stored o
       fresh = None;
       given = one.given ∙ sym (append-nil before.given);
       is_fresh = tt;
+      few = writes-one before after _ _ one.writes;
       put = λ state rows agrees chain. found_state base key rid index before after state rows link stored chain (rw same at (reaches state (rw one.reads at agrees))) is (one.writes ∙ ap (λ ps. with_value before.writes link.at (Some (words_of ps link.node.next link.node.position))) edit);
     }
 
@@ -158,6 +163,7 @@ puts_room size base key rid before between after link pairs same stored only in_
       fresh = None;
       given = one.given ∙ sym (append-nil before.given);
       is_fresh = tt;
+      few = writes-one before after _ _ one.writes;
       put = λ state rows agrees chain. room_state base key rid before after state rows link stored chain (rw same at (in_row state (rw one.reads at agrees))) room (one.writes ∙ ap (λ ps. with_value before.writes link.at (Some (words_of ps link.node.next link.node.position))) edit);
     }
 
@@ -168,6 +174,7 @@ puts_empty size base key rid bucket before between after words same stored only 
       fresh = None;
       given = one.given ∙ sym (append-nil before.given);
       is_fresh = tt;
+      few = writes-one before after _ _ one.writes;
       put = λ state rows agrees chain. empty_state_put base key rid before after state rows stored (omega arith) chain (absent state (rw one.reads at agrees)) (one.writes ∙ ap (λ b. with_value before.writes b (Some words)) at ∙ ap (λ ws. with_value before.writes (base + bucket_of key) (Some ws)) form);
     }
 
@@ -200,12 +207,13 @@ puts_full size base key rid before between after last same stored buckets only p
       fresh = Some adds.fresh;
       given = ap (λ (m : Meaning). m.given) adds.written ∙ ap (λ gs. gs ++ adds.fresh ∷ []) (given_same before between only);
       is_fresh = is;
+      few = writes-trans 1 1 before (record before { writes = with_value before.writes adds.fresh (Some (words_of ((key, rid) ∷ []) None (last.node.position + 1))) }) after (writes-one before _ adds.fresh _ refl) (writes-one _ after last.at _ writes);
       put = λ state rows agrees chain.
           let agrees_fresh = rw reads at agrees in
           let agrees_between = agrees-extends between.reads (after_fresh between adds.fresh).reads state (extends-after_read between adds.fresh None) agrees_fresh in
           let found = rw same at (place state agrees_between) in
           let absent = ap (λ ws. overlay ws state adds.fresh) (sym (writes_same before between only)) ∙ absent_now between adds.fresh state adds.is_fresh agrees_fresh in
-          full_state base key rid adds.fresh before after state rows last stored (omega (arith, is.new)) is.within chain found.0 found.1 found.2 absent writes;
+          full_state base key rid adds.fresh before after state rows last stored (omega (arith, is.new)) is.new is.within chain found.0 found.1 found.2 absent writes;
     }
 
 -- where a new node is needed

@@ -5,7 +5,7 @@ use Rattle.std.specs.Prelude.{IfSome, position}
 use Rattle.std.proofs.lemmas.List.{append_assoc, append-nil, length-take, length_push}
 use Rattle.std.proofs.lemmas.List.Elements.{All-nil, All-push}
 use Rattle.std.proofs.lemmas.Option.{same_Some, none-some}
-use Rattle.replay_model.specs.State.{State}
+use Rattle.plain_data.specs.State.{State}
 use Rattle.hash_index.specs.declared.search.Link.{Link}
 use Rattle.hash_index.specs.Changes.{IsFull}
 use Rattle.hash_index.specs.Search.{Stands, Reaches, InRow, IsInStore, IsRoom, IsWithin, IsUnfit, IsPlace, first_room, end_place}
@@ -73,7 +73,7 @@ walk_begins size bucket key state link words stands at = record {
 stands_at : (size place place' : ℕ) (state : State) (link : Link) (words : List ℕ) → place ≡ place' → Stands size place state link words → Stands size place' state link words
 stands_at size place place' state link words same stands = let P : ℕ → Type 0 = λ p. Stands size p state link words in subst P same stands
 
-at_place : (size place place' : ℕ) (words : List ℕ) → place ≡ place' → IsNode size place words → IsNode size place' words
+pub at_place : (size place place' : ℕ) (words : List ℕ) → place ≡ place' → IsNode size place words → IsNode size place' words
 at_place size place place' words same node = let P : ℕ → Type 0 = λ p. IsNode size p words in subst P same node
 
 full_from : (size place : ℕ) (state : State) (here : Link) (words : List ℕ) → Stands size place state here words → 14 ≤ length here.node.pairs.items → length (pairs_of words) ≡ 14
@@ -167,8 +167,8 @@ pub walk_ends : (size bucket key : ℕ) (state : State) (room : Option Link) (he
 walk_ends size bucket key state room here walked absent ends = end_by room size bucket key state here walked.reaches walked.first_room absent ends
 
 -- the walk comes to a record that is no node at its place
-pub walk_tears : (size bucket key next : ℕ) (state : State) (room : Option Link) (here : Link) → Walked size bucket key state room here → here.node.next ≡ Some next → ((words : List ℕ) → state next ≡ Some words → IsNode size (here.node.position + 1) words → ⊥) → Tears size bucket state next
-walk_tears size bucket key next state room here walked names torn =
+pub walk_tears : (size bucket key next : ℕ) (state : State) (room : Option Link) (here : Link) → Walked size bucket key state room here → position (λ pair. eqb pair.0 key) here.node.pairs.items ≡ None → here.node.next ≡ Some next → ((words : List ℕ) → state next ≡ Some words → IsNode size (here.node.position + 1) words → ⊥) → Tears size bucket key state next
+walk_tears size bucket key next state room here walked absent names torn =
     let r = walked.reaches in
     let place = place_is size (length r.before) state here r.words r.stands in
     let passed : List (ℕ × List ℕ) = r.before ++ (here.at, r.words) ∷ [] in
@@ -176,6 +176,7 @@ walk_tears size bucket key next state room here walked names torn =
       nodes = passed;
       reached = Leads-to size state 0 (start_of state bucket) (next_of r.words) (Some next) passed (sym r.stands.held.next ∙ names) (Leads-push size state 0 (start_of state bucket) here.at r.words r.before r.reached r.stands.here (at_place size (length r.before) (0 + length r.before) r.words (omega arith) r.stands.node));
       no_node = λ words is node. torn words is (at_place size (length passed) (here.node.position + 1) words (omega (arith, length_push r.before (here.at, r.words))) node);
+      not_before = not_there_push r.before here.at key r.words r.not_before (not_in_node size (length r.before) key state here r.words r.stands absent);
     }
 
 pub unfit : (size position rid : ℕ) (state : State) → IsUnfit size position state rid → (words : List ℕ) → state rid ≡ Some words → IsNode size position words → ⊥
@@ -185,11 +186,12 @@ pub absent_unfit : (size position rid : ℕ) (state : State) → state rid ≡ N
 absent_unfit size position rid state absent words is node = none-some words (sym absent ∙ is)
 
 -- the bucket itself is no node
-pub bucket_tears : (size bucket : ℕ) (state : State) → IsUnfit size 0 state bucket → Tears size bucket state bucket
-bucket_tears size bucket state torn = record {
+pub bucket_tears : (size bucket key : ℕ) (state : State) → IsUnfit size 0 state bucket → Tears size bucket key state bucket
+bucket_tears size bucket key state torn = record {
   nodes = [];
   reached = start_present state bucket torn.0 torn.1;
   no_node = unfit size 0 bucket state torn;
+  not_before = refl;
 }
 
 room_or_none : (test : Bool) (size : ℕ) (here : Link) → ltb (length here.node.pairs.items) 14 ≡ test → IsInStore size here → IfSome (cond test (Some here) None) (IsRoom size)

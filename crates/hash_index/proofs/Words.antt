@@ -1,11 +1,12 @@
 -- The words of a node: how its pairs are read and written.
-use Rattle.std.proofs.Common.{◌≡◌, ℕ, ◌+◌, ◌-◌, ◌*◌, ◌<◌, ◌≤◌, zero, suc, List, [], ◌∷◌, ◌++◌, length, get_or, take, drop, set, Option, None, Some, refl, sym, ap, ◌∙◌, arith}
+use Rattle.std.proofs.Common.{◌≡◌, ℕ, ◌+◌, ◌-◌, ◌*◌, ◌<◌, ◌≤◌, zero, suc, List, [], ◌∷◌, ◌++◌, length, get_or, take, drop, set, Option, refl, sym, ap, ◌∙◌, arith}
 use Rattle.std.specs.Prelude.{slice_index}
 use lib.ListN.{replicate}
 use Rattle.std.proofs.lemmas.List.{length-append, take_at, set_at, get_or_at, append_assoc, take_all, get_or-take, length-take, length-drop, get_or-drop, take_more, length_push, length-replicate}
-use Rattle.std.proofs.lemmas.Bool.Decides.{nat_tests}
 use Rattle.std.proofs.lemmas.Grind.{flat_map-append}
-use Rattle.hash_index.specs.Node.{paired, pairs_of, named_by, next_of, position_of, link_word, pair_words, words_of}
+use Rattle.record_store.specs.Links.{link_word}
+use Rattle.record_store.proofs.Links.{named_by-link_word}
+use Rattle.hash_index.specs.Node.{paired, pairs_of, next_of, position_of, pair_words, words_of}
 
 -- words two by two, at a place
 length-paired : (words : List ℕ) (i : ℕ) → 2 * i + 1 < length words → i < length (paired words)
@@ -61,12 +62,8 @@ pairs_of-words_of pairs next position =
     ∙ ap (take (length pairs)) (paired-append pairs (zeros ++ back))
     ∙ take_at pairs (paired (zeros ++ back)) (length pairs) refl
 
-named_by-more : (rid : ℕ) → named_by (rid + 1) ≡ Some rid
-named_by-more rid = grind (arith, nat_tests)
-
 pub next_of-words_of : (pairs : List (ℕ × ℕ)) (next : Option ℕ) (position : ℕ) → next_of (words_of pairs next position) ≡ next
-next_of-words_of pairs None position = refl
-next_of-words_of pairs (Some rid) position = named_by-more rid
+next_of-words_of pairs next position = named_by-link_word next
 
 pub position_of-words_of : (pairs : List (ℕ × ℕ)) (next : Option ℕ) (position : ℕ) → length pairs ≤ 14 → position_of (words_of pairs next position) ≡ position
 position_of-words_of pairs next position few =
@@ -102,7 +99,7 @@ words_more words count link i pairs back within few before =
 -- the words once all pairs are written
 pub words_all : (words : List ℕ) (pairs : List (ℕ × ℕ)) (next : Option ℕ) (position i : ℕ) → i ≡ length pairs → words ≡ length pairs ∷ link_word next ∷ (pair_words (take i pairs) ++ (replicate (28 - 2 * i) 0 ++ position ∷ 0 ∷ [])) → words ≡ words_of pairs next position
 words_all words pairs next position i all written =
-    let zeros = replicate (28 - 2 * length pairs) 0 in
+    let zeros : List ℕ = replicate (28 - 2 * length pairs) 0 in
     let whole : take i pairs ≡ pairs = take_all i pairs (omega arith) in
     written
     ∙ ap (λ ps. length pairs ∷ link_word next ∷ (pair_words ps ++ (replicate (28 - 2 * i) 0 ++ position ∷ 0 ∷ []))) whole

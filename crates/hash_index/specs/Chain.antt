@@ -1,7 +1,7 @@
 -- The chain of a base: 511 buckets, each with a row of nodes, and the map that they hold together.
-use Rattle.std.specs.Prelude.{◌≡◌, ◌≢◌, ℕ, ◌+◌, ◌%◌, ◌<◌, ◌==◌, if◌then◌else◌, List, [], ◌∷◌, map, length, All, AllPairs, Contains, Option, None, Some, option_map}
+use Rattle.std.specs.Prelude.{◌≡◌, ◌≢◌, ◌⊎◌, ℕ, ◌+◌, ◌%◌, ◌<◌, ◌==◌, if◌then◌else◌, List, [], ◌∷◌, map, length, All, AllPairs, Contains, Option, None, Some, IsSome, option_map}
 use Rattle.std.specs.List.{flat_map}
-use Rattle.replay_model.specs.State.{State, Agrees, overlay}
+use Rattle.plain_data.specs.State.{State, Agrees, overlay}
 use Rattle.record_store.specs.Meaning.{Meaning}
 use Rattle.hash_index.specs.Node.{IsNode, pairs_of, next_of}
 
@@ -55,8 +55,16 @@ abbrev pub EachChain : ℕ → Meaning → Meaning → (State → (ℕ → List 
 EachChain base before after P =
     (state : State) (rows : ℕ → List (ℕ × List ℕ)) → Agrees state after.reads → IsChain before.size base (overlay before.writes state) rows → P state rows
 
--- a walk over a bucket reaches a record that is no node at its place
-pub record Tears (size bucket : ℕ) (state : State) (rid : ℕ) : Type 0 where
+-- a walk over a bucket for a key is torn: it reaches a record that is no node at its place, and no node before has the key
+pub record Tears (size bucket key : ℕ) (state : State) (rid : ℕ) : Type 0 where
   pub nodes : List (ℕ × List ℕ)
   pub reached : Leads size state 0 (start_of state bucket) nodes (Some rid)
   pub no_node : (words : List ℕ) → state rid ≡ Some words → IsNode size (length nodes) words → ⊥
+  pub not_before : record_at (row_pairs nodes) key ≡ None
+
+-- it ends well: the nodes run to the end of the row, or to a node that has the key
+pub record EndsWell (size bucket key : ℕ) (state : State) : Type 0 where
+  pub nodes : List (ℕ × List ℕ)
+  pub to : Option ℕ
+  pub reached : Leads size state 0 (start_of state bucket) nodes to
+  pub ends : (to ≡ None) ⊎ IsSome (record_at (row_pairs nodes) key)

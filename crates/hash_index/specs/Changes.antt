@@ -1,7 +1,8 @@
 -- How a row changes where a pair is put or removed.
-use Rattle.std.specs.Prelude.{◌≡◌, ◌≢◌, ℕ, ◌+◌, ◌<◌, ◌==◌, if◌then◌else◌, List, [], ◌∷◌, ◌++◌, length, slice_get, slice_set, swap_remove, All, Contains, Option, None, Some, IfSome}
-use Rattle.replay_model.specs.State.{State, overlay}
+use Rattle.std.specs.Prelude.{◌≡◌, ◌≢◌, ℕ, ◌+◌, ◌<◌, ◌==◌, if◌then◌else◌, List, [], ◌∷◌, ◌++◌, length, slice_get, slice_set, swap_remove, All, Contains, Option, None, Some}
+use Rattle.plain_data.specs.State.{State, overlay}
 use Rattle.record_store.specs.Meaning.{Meaning}
+use Rattle.record_store.specs.Spots.{IsMoved}
 use Rattle.hash_index.specs.Node.{pairs_of, next_of, position_of, words_of}
 use Rattle.hash_index.specs.Chain.{IsChain, record_at, record_of, records_of, row_pairs, bucket_of}
 
@@ -27,22 +28,21 @@ pub data Puts (bucket key rid : ℕ) : Option ℕ → List (ℕ × List ℕ) →
 pub data Removes (key : ℕ) : List (ℕ × List ℕ) → List (ℕ × List ℕ) → Type 0 where
   removed : (before after : List (ℕ × List ℕ)) (node : ℕ × List ℕ) (index old : ℕ) → slice_get (pairs_of node.1) index ≡ Some (key, old) → Removes key (before ++ node ∷ after) (before ++ with_pairs node (swap_remove (pairs_of node.1) index (key, old)) ∷ after)
 
--- the chain after a pair was put
+-- the chain after a pair was put: of its spots, which are the buckets, only that of the key changed
 pub record IsPut (base key rid : ℕ) (fresh : Option ℕ) (before after : Meaning) (state : State) (rows rows' : ℕ → List (ℕ × List ℕ)) : Type 0 where
   pub lawful : IsChain before.size base (overlay after.writes state) rows'
   pub at_key : (other : ℕ) → record_of rows' other ≡ (if other == key then Some rid else record_of rows other)
   pub own_row : Puts (base + bucket_of key) key rid fresh (rows (bucket_of key)) (rows' (bucket_of key))
   pub other_rows : (bucket : ℕ) → bucket ≢ bucket_of key → rows' bucket ≡ rows bucket
-  pub outside : (other : ℕ) → (Contains (records_of (rows' (bucket_of key))) other → ⊥) → overlay after.writes state other ≡ overlay before.writes state other
-  pub was_absent : IfSome fresh (λ new. overlay before.writes state new ≡ None)
+  pub moved : IsMoved before.fixed (base + bucket_of key) (Contains (records_of (rows (bucket_of key)))) (Contains (records_of (rows' (bucket_of key)))) (overlay before.writes state) (overlay after.writes state)
 
--- the chain after a pair was removed
+-- the chain after a pair was removed: only the spot of the key's bucket changed
 pub record IsRemoved (base key : ℕ) (before after : Meaning) (state : State) (rows rows' : ℕ → List (ℕ × List ℕ)) : Type 0 where
   pub lawful : IsChain before.size base (overlay after.writes state) rows'
   pub at_key : (other : ℕ) → record_of rows' other ≡ (if other == key then None else record_of rows other)
   pub own_row : Removes key (rows (bucket_of key)) (rows' (bucket_of key))
   pub other_rows : (bucket : ℕ) → bucket ≢ bucket_of key → rows' bucket ≡ rows bucket
-  pub outside : (other : ℕ) → (Contains (records_of (rows' (bucket_of key))) other → ⊥) → overlay after.writes state other ≡ overlay before.writes state other
+  pub moved : IsMoved before.fixed (base + bucket_of key) (Contains (records_of (rows (bucket_of key)))) (Contains (records_of (rows' (bucket_of key)))) (overlay before.writes state) (overlay after.writes state)
 
 -- where `fresh` may be asked: the key is not there, and its bucket is present with each node full
 pub record NeedsNode (key : ℕ) (rows : ℕ → List (ℕ × List ℕ)) : Type 0 where

@@ -1,7 +1,8 @@
 -- A node of a chain: a record that holds up to 14 pairs of a key and a record number.
-use Rattle.std.specs.Prelude.{◌≡◌, ℕ, ◌+◌, ◌-◌, ◌*◌, ◌<◌, ◌≤◌, ◌==◌, if◌then◌else◌, List, [], ◌∷◌, ◌++◌, length, take, drop, slice_index, All, Option, None, Some, IfSome}
+use Rattle.std.specs.Prelude.{◌≡◌, ℕ, ◌-◌, ◌*◌, ◌<◌, ◌≤◌, List, [], ◌∷◌, ◌++◌, length, take, drop, slice_index, All, Option, IfSome}
 use Rattle.std.specs.List.{flat_map}
 use lib.ListN.{replicate}
+use Rattle.record_store.specs.Links.{named_by, link_word}
 
 -- words two by two
 abbrev pub paired : List ℕ → List (ℕ × ℕ)
@@ -13,10 +14,7 @@ paired (key ∷ rid ∷ words) = (key, rid) ∷ paired words
 abbrev pub pairs_of : List ℕ → List (ℕ × ℕ)
 pairs_of words = take (slice_index words 0) (paired (drop 2 words))
 
--- word 1 names the next node by its record number plus 1; 0 names none
-abbrev pub named_by : ℕ → Option ℕ
-named_by word = if word == 0 then None else Some (word - 1)
-
+-- word 1 names the next node
 abbrev pub next_of : List ℕ → Option ℕ
 next_of words = named_by (slice_index words 1)
 
@@ -31,10 +29,6 @@ pub record IsNode (size position : ℕ) (words : List ℕ) : Type 0 where
   pub in_store : position < size
   pub next : IfSome (next_of words) (λ rid. rid < size)
   pub records : All (λ pair. pair.1 < size) (pairs_of words)
-
-abbrev pub link_word : Option ℕ → ℕ
-link_word None = 0
-link_word (Some rid) = rid + 1
 
 abbrev pub pair_words : List (ℕ × ℕ) → List ℕ
 pair_words pairs = flat_map (λ pair. pair.0 ∷ pair.1 ∷ []) pairs

@@ -1,6 +1,6 @@
 -- Where a search for a key ends.
 use Rattle.std.specs.Prelude.{◌≡◌, ℕ, ◌+◌, ◌<◌, ◌==◌, List, [], ◌∷◌, ◌++◌, length, position, nat_lt, if◌then◌else◌, All, Option, None, Some, IfSome}
-use Rattle.replay_model.specs.State.{State, Agrees, overlay}
+use Rattle.plain_data.specs.State.{State}
 use Rattle.record_store.specs.Meaning.{Meaning, after_write, after_fresh}
 use Rattle.record_store.specs.Store.{IsFresh}
 use Rattle.hash_index.specs.declared.search.Link.{Link}
@@ -11,15 +11,12 @@ use Rattle.hash_index.specs.Held.{Holds}
 use Rattle.hash_index.specs.Chain.{Leads, start_of, record_at, row_pairs}
 use Rattle.hash_index.specs.Changes.{IsFull}
 
--- what holds of each state that agrees with the reads of a call, where the call begins
-abbrev pub EachState : Meaning → Meaning → (State → Type 0) → Type 0
-EachState before after P = (state : State) → Agrees state after.reads → P (overlay before.writes state)
-
 -- a node in memory that was read from a store of this size
 pub record IsInStore (size : ℕ) (link : Link) : Type 0 where
   pub record_number : link.at < size
   pub position : link.node.position < size
   pub next : IfSome link.node.next (λ next. next < size)
+  pub pairs : All (λ pair. pair.1 < size) link.node.pairs.items
 
 -- it was read at this record and this position
 pub record IsLink (size rid position : ℕ) (link : Link) : Type 0 where

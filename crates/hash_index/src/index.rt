@@ -1,14 +1,15 @@
 //! The calls of the index.
 
-ghost use Rattle.std.specs.Prelude.{◌≡◌, ℕ, ◌+◌, ◌<◌, ◌≤◌, IfOk, OnOk, OnErr, true, Some, ⊤};
+ghost use Rattle.std.specs.Prelude.{◌≡◌, ℕ, ◌+◌, ◌<◌, ◌≤◌, IfOk, IfSome, OnOk, OnErr, true, Some, ⊤};
 ghost use Rattle.record_store.specs.Calls.{Reads, ReadFault, Calls, CallFault};
+ghost use Rattle.record_store.specs.Limits.{record_limit};
+ghost use Rattle.record_store.specs.States.{EachState};
 ghost use Rattle.record_store.specs.Walks.{IfTorn, IfStore, IfNoMemory, OnlyReads, ReadsGrow};
 ghost use Rattle.record_store.specs.Meaning.{after_write};
 ghost use Rattle.hash_index.specs.Node.{words_of};
-ghost use Rattle.hash_index.specs.Chain.{EachChain, record_of};
-ghost use Rattle.hash_index.specs.Changes.{NeedsNode};
+ghost use Rattle.hash_index.specs.Chain.{EachChain, EndsWell, bucket_of, record_of};
 ghost use Rattle.hash_index.specs.Search.{AddsNode};
-ghost use Rattle.hash_index.specs.Answers.{IsTorn, PutsPair, RemovesPair};
+ghost use Rattle.hash_index.specs.Answers.{IsTorn, MayAsk, PutsPair, RemovesPair};
 
 use crate::node::Node;
 use crate::search::{Link, Place, search};
@@ -18,14 +19,20 @@ use record_store::{RecordRead, RecordStore, Walk};
 pub fn get<S: RecordRead>(store: &mut S, base: u32, key: u64) -> Result<Option<u32>, Walk<S::Fault>>
     requires { base + 511 ≤ (S.meaning store.old).size }
     ensures ok { IfOk result (λ answer. EachChain base (S.meaning store.old) (S.meaning store.new) (λ _ rows. answer ≡ record_of rows key)) }
+
+    // whatever the records are, also where none that agree with what was read have a lawful chain
+    ensures stored { IfOk result (λ answer. IfSome answer (λ rid. rid < (S.meaning store.old).size)) }
+    ensures walked { OnOk result (EachState (S.meaning store.old) (S.meaning store.new) (EndsWell (S.meaning store.old).size (base + bucket_of key) key)) }
     ensures torn { IfTorn result (IsTorn base key (S.meaning store.old) (S.meaning store.new)) }
     ensures fault { IfStore result (ReadFault S.read_gives store.old store.new) }
     ensures memory { IfNoMemory result ⊥ }
     ensures calls { Reads S.read_gives store.old store.new }
     ensures after { OnlyReads (S.meaning store.old) (S.meaning store.new) }
+    ensures rest { S.rest store.new ≡ S.rest store.old }
 {
     let size = store.size();
-    match search(store, size, base, key)? {
+    let place = search(store, size, base, key)?;
+    match place {
         Place::Found(link, index) => Ok(Some(link.node.pairs[index].1)),
         Place::Room(_) | Place::Full(_) | Place::Empty(_) => Ok(None),
     }
@@ -43,13 +50,15 @@ pub fn put<S: RecordStore>(
     requires buckets { base + 511 ≤ (S.meaning store.old).fixed }
     requires rid { rid < (S.meaning store.old).size }
     ensures ok { OnOk result (PutsPair base key rid (S.meaning store.old) (S.meaning store.new)) }
+    ensures walked { OnOk result (EachState (S.meaning store.old) (S.meaning store.new) (EndsWell (S.meaning store.old).size (base + bucket_of key) key)) }
     ensures torn { IfTorn result (IsTorn base key (S.meaning store.old) (S.meaning store.new)) }
 
-    // `fresh` is asked once at most, and only where a node is needed
-    ensures fault { IfStore result (CallFault S.read_gives S.write_gives S.fresh_gives (EachChain base (S.meaning store.old) (S.meaning store.new) (λ _ rows. NeedsNode key rows)) store.old store.new) }
+    // each ask of `fresh` is counted, and may be made
+    ensures fault { IfStore result (CallFault S.read_gives S.write_gives S.fresh_gives (MayAsk base key (S.meaning store.old) (S.meaning store.new)) store.old store.new) }
     ensures memory { IfNoMemory result ⊥ }
-    ensures calls { (asked : ℕ) × Calls S.read_gives S.write_gives S.fresh_gives store.old asked store.new × (asked ≤ 1) × (0 < asked → EachChain base (S.meaning store.old) (S.meaning store.new) (λ _ rows. NeedsNode key rows)) }
+    ensures calls { (asked : ℕ) × Calls S.read_gives S.write_gives S.fresh_gives store.old asked store.new × (0 < asked → MayAsk base key (S.meaning store.old) (S.meaning store.new) asked) }
     ensures after { ReadsGrow (S.meaning store.old) (S.meaning store.new) }
+    ensures rest { S.rest store.new ≡ S.rest store.old }
 {
     let size = store.size();
     match search(store, size, base, key)? {
@@ -74,13 +83,14 @@ fn add_node<S: RecordStore>(
     rid: u32,
 ) -> Result<(), Walk<S::Fault>>
     requires last { last.at < (S.meaning store.old).size }
-    requires position { last.node.position < 200000 }
+    requires position { last.node.position < record_limit }
     ensures ok { OnOk result (AddsNode key rid last (S.meaning store.old) (S.meaning store.new)) }
     ensures torn { IfTorn result (λ _. ⊥) }
-    ensures fault { IfStore result (CallFault S.read_gives S.write_gives S.fresh_gives ⊤ store.old store.new) }
+    ensures fault { IfStore result (CallFault S.read_gives S.write_gives S.fresh_gives (λ asks. asks ≤ 1) store.old store.new) }
     ensures memory { IfNoMemory result ⊥ }
     ensures calls { Calls S.read_gives S.write_gives S.fresh_gives store.old 1 store.new }
     ensures after { ReadsGrow (S.meaning store.old) (S.meaning store.new) }
+    ensures rest { S.rest store.new ≡ S.rest store.old }
 {
     let fresh = store.fresh()?;
     let node = Node::with_pair(key, rid, last.node.position + 1);
@@ -95,9 +105,10 @@ fn write_node<S: RecordStore>(store: &mut S, rid: u32, node: &Node) -> Result<()
     ensures ok { OnOk result (S.meaning store.new ≡ after_write (S.meaning store.old) rid (Some (words_of node.now.pairs.items node.now.next node.now.position))) }
     ensures err { OnErr result (S.meaning store.new ≡ S.meaning store.old) }
     ensures torn { IfTorn result (λ _. ⊥) }
-    ensures fault { IfStore result (CallFault S.read_gives S.write_gives S.fresh_gives ⊥ store.old store.new) }
+    ensures fault { IfStore result (CallFault S.read_gives S.write_gives S.fresh_gives (λ _. ⊥) store.old store.new) }
     ensures memory { IfNoMemory result ⊥ }
     ensures calls { Calls S.read_gives S.write_gives S.fresh_gives store.old 0 store.new }
+    ensures rest { S.rest store.new ≡ S.rest store.old }
 {
     store.write(rid, Some(node.cells()))?;
     Ok(())
@@ -109,13 +120,15 @@ fn write_node<S: RecordStore>(store: &mut S, rid: u32, node: &Node) -> Result<()
 pub fn remove<S: RecordStore>(store: &mut S, base: u32, key: u64) -> Result<bool, Walk<S::Fault>>
     requires { base + 511 ≤ (S.meaning store.old).fixed }
     ensures ok { IfOk result (λ was_there. RemovesPair base key was_there (S.meaning store.old) (S.meaning store.new)) }
+    ensures walked { OnOk result (EachState (S.meaning store.old) (S.meaning store.new) (EndsWell (S.meaning store.old).size (base + bucket_of key) key)) }
     ensures torn { IfTorn result (IsTorn base key (S.meaning store.old) (S.meaning store.new)) }
-    ensures fault { IfStore result (CallFault S.read_gives S.write_gives S.fresh_gives ⊥ store.old store.new) }
+    ensures fault { IfStore result (CallFault S.read_gives S.write_gives S.fresh_gives (λ _. ⊥) store.old store.new) }
     ensures memory { IfNoMemory result ⊥ }
 
     // `fresh` is never asked
     ensures calls { Calls S.read_gives S.write_gives S.fresh_gives store.old 0 store.new }
     ensures after { ReadsGrow (S.meaning store.old) (S.meaning store.new) }
+    ensures rest { S.rest store.new ≡ S.rest store.old }
 {
     let size = store.size();
     match search(store, size, base, key)? {

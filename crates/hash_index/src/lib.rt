@@ -10,6 +10,3 @@ mod search;
 
 pub use index::{get, put, remove};
 pub use record_store::Walk;
-
-#[cfg(test)]
-mod tests;

@@ -1,10 +1,12 @@
 //! A node as it stands in a record.
 
 ghost use Rattle.std.specs.Prelude.{◌≡◌, ◌≢◌, ◌==◌, ℕ, ◌+◌, ◌<◌, ◌≤◌, [], slice_index, position, IfNone, IfSome, All, None, ◌∷◌};
-ghost use Rattle.hash_index.specs.Node.{IsNode, pairs_of, named_by, words_of, link_word as link_word_of};
+ghost use Rattle.record_store.specs.Limits.{record_limit};
+ghost use Rattle.record_store.specs.Links.{named_by, link_word as link_word_of};
+ghost use Rattle.hash_index.specs.Node.{IsNode, pairs_of, words_of};
 
 use arrayvec::ArrayVec;
-use replay_model::Cells;
+use plain_data::Cells;
 
 /// A node: at most 14 pairs of a key and a record number, the record of the next node, and the position in the row, from 0.
 #[derive(Drop)]
@@ -34,7 +36,7 @@ impl Node {
 
     /// The node of these cells, if they are one at this position of a store of this size.
     pub fn read(cells: &Cells, position: u32, size: u32) -> Option<Self>
-        requires { size ≤ 200000 }
+        requires { size ≤ record_limit }
         ensures node { IfSome result (λ node. IsNode size position cells.now × Holds node cells.now) }
         ensures no_node { IfNone result (IsNode size position cells.now → ⊥) }
     {

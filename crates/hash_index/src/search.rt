@@ -1,10 +1,12 @@
 //! The walk over the nodes of a bucket.
 
-ghost use Rattle.std.specs.Prelude.{◌≡◌, ℕ, ◌+◌, ◌<◌, ◌≤◌, IfOk, IfSome};
+ghost use Rattle.std.specs.Prelude.{◌≡◌, ℕ, ◌+◌, ◌<◌, ◌≤◌, IfOk, IfSome, OnOk};
 ghost use Rattle.record_store.specs.Calls.{Reads, ReadFault};
+ghost use Rattle.record_store.specs.Limits.{record_limit};
+ghost use Rattle.record_store.specs.States.{EachState};
 ghost use Rattle.record_store.specs.Walks.{IfTorn, IfStore, IfNoMemory, OnlyReads};
-ghost use Rattle.hash_index.specs.Chain.{Tears, bucket_of};
-ghost use Rattle.hash_index.specs.Search.{EachState, IsLink, ReadAs, IsUnfit, IsPlace, IsWithin, first_room, end_place};
+ghost use Rattle.hash_index.specs.Chain.{EndsWell, Tears, bucket_of};
+ghost use Rattle.hash_index.specs.Search.{IsLink, ReadAs, IsUnfit, IsPlace, IsWithin, first_room, end_place};
 
 use crate::node::Node;
 use record_store::{RecordRead, Walk};
@@ -41,15 +43,17 @@ pub fn search<S: RecordRead>(
     key: u64,
 ) -> Result<Place, Walk<S::Fault>>
     requires size { size ≡ (S.meaning store.old).size }
-    requires at_most { size ≤ 200000 }
+    requires at_most { size ≤ record_limit }
     requires buckets { base + 511 ≤ size }
     ensures place { IfOk result (λ place. EachState (S.meaning store.old) (S.meaning store.new) (λ state. IsPlace size (base + bucket_of key) key state place)) }
     ensures within { IfOk result (λ place. IsWithin size (base + bucket_of key) key place) }
-    ensures torn { IfTorn result (λ rid. EachState (S.meaning store.old) (S.meaning store.new) (λ state. Tears size (base + bucket_of key) state rid)) }
+    ensures walked { OnOk result (EachState (S.meaning store.old) (S.meaning store.new) (EndsWell size (base + bucket_of key) key)) }
+    ensures torn { IfTorn result (λ rid. EachState (S.meaning store.old) (S.meaning store.new) (λ state. Tears size (base + bucket_of key) key state rid)) }
     ensures fault { IfStore result (ReadFault S.read_gives store.old store.new) }
     ensures memory { IfNoMemory result ⊥ }
     ensures calls { Reads S.read_gives store.old store.new }
     ensures after { OnlyReads (S.meaning store.old) (S.meaning store.new) }
+    ensures rest { S.rest store.new ≡ S.rest store.old }
 {
     let bucket = base + (key % BUCKETS) as u32;
     let Some(mut here) = read_link(store, size, bucket, 0)? else {
@@ -79,7 +83,7 @@ fn read_link<S: RecordRead>(
     position: u32,
 ) -> Result<Option<Link>, Walk<S::Fault>>
     requires size { size ≡ (S.meaning store.old).size }
-    requires at_most { size ≤ 200000 }
+    requires at_most { size ≤ record_limit }
     requires rid { rid < size }
     ensures link { IfOk result (λ link. IfSome link (IsLink size rid position)) }
     ensures read { IfOk result (λ link. EachState (S.meaning store.old) (S.meaning store.new) (λ state. ReadAs size rid position state link)) }
@@ -88,6 +92,7 @@ fn read_link<S: RecordRead>(
     ensures memory { IfNoMemory result ⊥ }
     ensures calls { Reads S.read_gives store.old store.new }
     ensures after { OnlyReads (S.meaning store.old) (S.meaning store.new) }
+    ensures rest { S.rest store.new ≡ S.rest store.old }
 {
     let Some(cells) = store.read(rid)? else {
         return Ok(None);

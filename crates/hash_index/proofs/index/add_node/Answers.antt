@@ -1,16 +1,16 @@
-use Rattle.std.proofs.Common.{Some, ap, ◌∙◌}
+use Rattle.std.proofs.Common.{Some, ap, ◌∙◌, arith}
 use Rattle.record_store.specs.Meaning.{after_write, after_fresh}
 use Rattle.record_store.specs.Calls.Calls.{none, fresh}
 use Rattle.record_store.specs.Calls.CallFault.{by_fresh}
 use Rattle.record_store.proofs.Refusals.{store_fault, fault_moved, IfStore-map, OnOk-map}
-use Rattle.record_store.proofs.Paths.{Calls-trans, CallFault-behind}
+use Rattle.record_store.proofs.Paths.{Calls-trans, CallFault-never}
 use Rattle.hash_index.specs.Node.{words_of}
 use Rattle.hash_index.proofs.Words.{words_alike}
 use Rattle.hash_index.proofs.index.add_node.Goals as goal
 
 pub returns-in_err-fresh-clause-fault : goal.returns-in_err-fresh-clause-fault
 returns-in_err-fresh-clause-fault g c =
-    store_fault c.from_residual.result c.in_err-fresh.field-0.0 _ c.from_residual.ensures.1 (by_fresh c.args.store.now (none c.args.store.now) c.in_err-fresh.ensures.gives tt)
+    store_fault c.from_residual.result c.in_err-fresh.field-0.0 _ c.from_residual.ensures.1 (by_fresh c.args.store.now 0 (none c.args.store.now) c.in_err-fresh.ensures.gives (omega arith))
 
 pub returns-in_err-fresh-clause-calls : goal.returns-in_err-fresh-clause-calls
 returns-in_err-fresh-clause-calls g c = fresh _ _ _ 0 _ (none _) c.fresh.ensures.gives
@@ -18,7 +18,7 @@ returns-in_err-fresh-clause-calls g c = fresh _ _ _ 0 _ (none _) c.fresh.ensures
 pub returns-in_err-write_node-clause-fault : goal.returns-in_err-write_node-clause-fault
 returns-in_err-write_node-clause-fault g c =
     fault_moved c.from_residual-in_err-write_node.result c.write_node.result c.in_err-write_node.field-0.0 _ c.in_err-write_node.was c.from_residual-in_err-write_node.ensures.1
-    (IfStore-map c.write_node.result (λ fault. CallFault-behind _ _ _ _ 1 fault (fresh _ _ _ 0 _ (none _) c.fresh.ensures.gives)) c.write_node.ensures.fault)
+    (IfStore-map c.write_node.result (λ fault. CallFault-never _ _ _ _ 1 fault (fresh _ _ _ 0 _ (none _) c.fresh.ensures.gives)) c.write_node.ensures.fault)
 
 pub returns-in_err-write_node-clause-calls : goal.returns-in_err-write_node-clause-calls
 returns-in_err-write_node-clause-calls g c = Calls-trans _ _ _ 1 0 (fresh _ _ _ 0 _ (none _) c.fresh.ensures.gives) c.write_node.ensures.calls
@@ -37,7 +37,7 @@ returns-clause-ok g c = OnOk-map c.write_node-2.result (λ wrote. record {
 
 pub returns-clause-fault : goal.returns-clause-fault
 returns-clause-fault g c =
-    IfStore-map c.write_node-2.result (λ fault. CallFault-behind _ _ _ _ 1 fault (Calls-trans _ _ _ 1 0 (fresh _ _ _ 0 _ (none _) c.fresh.ensures.gives) c.write_node.ensures.calls)) c.write_node-2.ensures.fault
+    IfStore-map c.write_node-2.result (λ fault. CallFault-never _ _ _ _ 1 fault (Calls-trans _ _ _ 1 0 (fresh _ _ _ 0 _ (none _) c.fresh.ensures.gives) c.write_node.ensures.calls)) c.write_node-2.ensures.fault
 
 pub returns-clause-calls : goal.returns-clause-calls
 returns-clause-calls g c = Calls-trans _ _ _ 1 0 (Calls-trans _ _ _ 1 0 (fresh _ _ _ 0 _ (none _) c.fresh.ensures.gives) c.write_node.ensures.calls) c.write_node-2.ensures.calls

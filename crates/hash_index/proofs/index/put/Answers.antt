@@ -1,10 +1,11 @@
 use Rattle.std.proofs.Common.{arith}
 use Rattle.record_store.proofs.Refusals.{fault_moved, torn_moved, IfStore-map, IfTorn-map, OnOk-map}
-use Rattle.record_store.proofs.Paths.{Calls-reads, Calls-trans, CallFault-read, CallFault-behind, CallFault-reads}
+use Rattle.record_store.proofs.Paths.{Calls-reads, Calls-trans, CallFault-read, CallFault-behind, CallFault-never}
 use Rattle.hash_index.proofs.Words.{words_alike}
 use Rattle.hash_index.proofs.Pairs.{position-found}
 use Rattle.hash_index.proofs.Chains.{is_torn}
 use Rattle.hash_index.proofs.Stored.{puts_found, puts_room, puts_empty, puts_full, needs_node, edited_pairs}
+use Rattle.hash_index.proofs.Ends.{walked_on, walked_written}
 use Rattle.hash_index.proofs.index.put.Goals as goal
 
 pub returns-in_err-link-clause-torn : goal.returns-in_err-link-clause-torn
@@ -18,7 +19,7 @@ returns-in_err-link-clause-fault g c =
     (IfStore-map c.search.result (λ fault. CallFault-read _ _ _ fault) c.search.ensures.fault)
 
 pub returns-in_err-link-clause-calls : goal.returns-in_err-link-clause-calls
-returns-in_err-link-clause-calls g c = (0, Calls-reads _ _ c.search.ensures.calls, omega arith, λ asked. absurd (omega arith))
+returns-in_err-link-clause-calls g c = (0, Calls-reads _ _ c.search.ensures.calls, λ asked. absurd (omega arith))
 
 -- the key is there
 pub returns-in-Found-clause-ok : goal.returns-in-Found-clause-ok
@@ -29,10 +30,10 @@ returns-in-Found-clause-ok g c =
     c.size-size.ensures.size c.requires.rid c.in_ok-link.ensures.after (λ state agrees. rw c.in-Found.is at (c.in_ok-link.ensures.place state agrees)) within.1 (edited_pairs c.in-Found.link.node.pairs.items c.deref_mut.result.now c.in-Found.index c.args.key found.rid c.args.rid c.deref_mut.ensures.value found.at_index) wrote) c.write_node.ensures.ok
 
 pub returns-in-Found-clause-fault : goal.returns-in-Found-clause-fault
-returns-in-Found-clause-fault g c = IfStore-map c.write_node.result (λ fault. CallFault-behind _ _ _ _ 0 fault (Calls-reads _ _ c.search.ensures.calls)) c.write_node.ensures.fault
+returns-in-Found-clause-fault g c = IfStore-map c.write_node.result (λ fault. CallFault-never _ _ _ _ 0 fault (Calls-reads _ _ c.search.ensures.calls)) c.write_node.ensures.fault
 
 pub returns-in-Found-clause-calls : goal.returns-in-Found-clause-calls
-returns-in-Found-clause-calls g c = (0, Calls-trans _ _ _ 0 0 (Calls-reads _ _ c.search.ensures.calls) c.write_node.ensures.calls, omega arith, λ asked. absurd (omega arith))
+returns-in-Found-clause-calls g c = (0, Calls-trans _ _ _ 0 0 (Calls-reads _ _ c.search.ensures.calls) c.write_node.ensures.calls, λ asked. absurd (omega arith))
 
 -- a node has room
 pub returns-in-Room-clause-ok : goal.returns-in-Room-clause-ok
@@ -42,10 +43,10 @@ returns-in-Room-clause-ok g c =
     c.size-size.ensures.size c.requires.rid c.in_ok-link.ensures.after (λ state agrees. rw c.in-Room.is at (c.in_ok-link.ensures.place state agrees)) within.has_room c.push.ensures.items wrote) c.write_node-in-Room.ensures.ok
 
 pub returns-in-Room-clause-fault : goal.returns-in-Room-clause-fault
-returns-in-Room-clause-fault g c = IfStore-map c.write_node-in-Room.result (λ fault. CallFault-behind _ _ _ _ 0 fault (Calls-reads _ _ c.search.ensures.calls)) c.write_node-in-Room.ensures.fault
+returns-in-Room-clause-fault g c = IfStore-map c.write_node-in-Room.result (λ fault. CallFault-never _ _ _ _ 0 fault (Calls-reads _ _ c.search.ensures.calls)) c.write_node-in-Room.ensures.fault
 
 pub returns-in-Room-clause-calls : goal.returns-in-Room-clause-calls
-returns-in-Room-clause-calls g c = (0, Calls-trans _ _ _ 0 0 (Calls-reads _ _ c.search.ensures.calls) c.write_node-in-Room.ensures.calls, omega arith, λ asked. absurd (omega arith))
+returns-in-Room-clause-calls g c = (0, Calls-trans _ _ _ 0 0 (Calls-reads _ _ c.search.ensures.calls) c.write_node-in-Room.ensures.calls, λ asked. absurd (omega arith))
 
 -- every node is full
 pub returns-in-Full-clause-ok : goal.returns-in-Full-clause-ok
@@ -56,12 +57,12 @@ returns-in-Full-clause-ok g c =
 pub returns-in-Full-clause-fault : goal.returns-in-Full-clause-fault
 returns-in-Full-clause-fault g c =
     let needs = needs_node c.size-size.result c.args.base c.args.key (g.S.RecordRead.meaning c.args.store.now) (g.S.RecordRead.meaning c.search.new.store) (g.S.RecordRead.meaning c.add_node.new.store) c.in-Full.link c.size-size.ensures.size c.add_node.ensures.after.reads (λ state agrees. rw c.in-Full.is at (c.in_ok-link.ensures.place state agrees)) in
-    IfStore-map c.add_node.result (λ fault. CallFault-reads _ _ _ _ fault c.search.ensures.calls needs) c.add_node.ensures.fault
+    IfStore-map c.add_node.result (λ fault. CallFault-behind _ _ _ _ _ 0 fault (Calls-reads _ _ c.search.ensures.calls) (λ asks once. record { once = omega (arith, once); needs_node = needs })) c.add_node.ensures.fault
 
 pub returns-in-Full-clause-calls : goal.returns-in-Full-clause-calls
 returns-in-Full-clause-calls g c =
     let needs = needs_node c.size-size.result c.args.base c.args.key (g.S.RecordRead.meaning c.args.store.now) (g.S.RecordRead.meaning c.search.new.store) (g.S.RecordRead.meaning c.add_node.new.store) c.in-Full.link c.size-size.ensures.size c.add_node.ensures.after.reads (λ state agrees. rw c.in-Full.is at (c.in_ok-link.ensures.place state agrees)) in
-    (1, Calls-trans _ _ _ 0 1 (Calls-reads _ _ c.search.ensures.calls) c.add_node.ensures.calls, omega arith, λ asked. needs)
+    (1, Calls-trans _ _ _ 0 1 (Calls-reads _ _ c.search.ensures.calls) c.add_node.ensures.calls, λ asked. record { once = omega arith; needs_node = needs })
 
 -- the bucket is absent
 pub returns-in-Empty-clause-ok : goal.returns-in-Empty-clause-ok
@@ -71,7 +72,20 @@ returns-in-Empty-clause-ok g c =
     c.size-size.ensures.size c.requires.rid c.in_ok-link.ensures.after within (λ state agrees. rw c.in-Empty.is at (c.in_ok-link.ensures.place state agrees)) (words_alike _ _ _ _ _ _ c.with_pair.ensures.pairs c.with_pair.ensures.next c.with_pair.ensures.position) wrote) c.write_node-in-Empty.ensures.ok
 
 pub returns-in-Empty-clause-fault : goal.returns-in-Empty-clause-fault
-returns-in-Empty-clause-fault g c = IfStore-map c.write_node-in-Empty.result (λ fault. CallFault-behind _ _ _ _ 0 fault (Calls-reads _ _ c.search.ensures.calls)) c.write_node-in-Empty.ensures.fault
+returns-in-Empty-clause-fault g c = IfStore-map c.write_node-in-Empty.result (λ fault. CallFault-never _ _ _ _ 0 fault (Calls-reads _ _ c.search.ensures.calls)) c.write_node-in-Empty.ensures.fault
 
 pub returns-in-Empty-clause-calls : goal.returns-in-Empty-clause-calls
-returns-in-Empty-clause-calls g c = (0, Calls-trans _ _ _ 0 0 (Calls-reads _ _ c.search.ensures.calls) c.write_node-in-Empty.ensures.calls, omega arith, λ asked. absurd (omega arith))
+returns-in-Empty-clause-calls g c = (0, Calls-trans _ _ _ 0 0 (Calls-reads _ _ c.search.ensures.calls) c.write_node-in-Empty.ensures.calls, λ asked. absurd (omega arith))
+
+-- the walk ended well
+pub returns-in-Found-clause-walked : goal.returns-in-Found-clause-walked
+returns-in-Found-clause-walked g c = OnOk-map c.write_node.result (walked_written c.size-size.result _ c.args.key _ _ (g.S.RecordRead.meaning c.args.store.now) (g.S.RecordRead.meaning c.search.new.store) (g.S.RecordRead.meaning c.write_node.new.store) c.size-size.ensures.size c.in_ok-link.ensures.walked) c.write_node.ensures.ok
+
+pub returns-in-Room-clause-walked : goal.returns-in-Room-clause-walked
+returns-in-Room-clause-walked g c = OnOk-map c.write_node-in-Room.result (walked_written c.size-size.result _ c.args.key _ _ (g.S.RecordRead.meaning c.args.store.now) (g.S.RecordRead.meaning c.search.new.store) (g.S.RecordRead.meaning c.write_node-in-Room.new.store) c.size-size.ensures.size c.in_ok-link.ensures.walked) c.write_node-in-Room.ensures.ok
+
+pub returns-in-Full-clause-walked : goal.returns-in-Full-clause-walked
+returns-in-Full-clause-walked g c = OnOk-map c.add_node.result (λ _. walked_on c.size-size.result _ c.args.key (g.S.RecordRead.meaning c.args.store.now) (g.S.RecordRead.meaning c.search.new.store) (g.S.RecordRead.meaning c.add_node.new.store) c.size-size.ensures.size c.add_node.ensures.after.reads c.in_ok-link.ensures.walked) c.add_node.ensures.ok
+
+pub returns-in-Empty-clause-walked : goal.returns-in-Empty-clause-walked
+returns-in-Empty-clause-walked g c = OnOk-map c.write_node-in-Empty.result (walked_written c.size-size.result _ c.args.key _ _ (g.S.RecordRead.meaning c.args.store.now) (g.S.RecordRead.meaning c.search.new.store) (g.S.RecordRead.meaning c.write_node-in-Empty.new.store) c.size-size.ensures.size c.in_ok-link.ensures.walked) c.write_node-in-Empty.ensures.ok

@@ -1,17 +1,15 @@
-use Rattle.std.proofs.Common.{Some, ap, ◌∙◌}
 use Rattle.record_store.proofs.Refusals.{fault_moved, torn_moved, IfStore-map, IfTorn-map}
-use Rattle.record_store.specs.Meaning.{after_write}
-use Rattle.hash_index.specs.Node.{words_of}
-use Rattle.record_store.proofs.Paths.{Calls-reads, Calls-trans, CallFault-read, CallFault-behind}
+use Rattle.record_store.proofs.Paths.{Calls-reads, Calls-trans, CallFault-read, CallFault-never}
 use Rattle.record_store.proofs.Agreement.{ReadsGrow-only}
 use Rattle.hash_index.proofs.Chains.{each_absent, is_torn}
 use Rattle.hash_index.proofs.Removed.{removes_pair, removes_nothing}
+use Rattle.hash_index.proofs.Ends.{walked_written}
 use Rattle.hash_index.proofs.index.remove.Goals as goal
 
 pub returns-in_err-link-clause-fault : goal.returns-in_err-link-clause-fault
 returns-in_err-link-clause-fault g c =
     fault_moved c.from_residual.result c.search.result c.in_err-link.field-0.0 _ c.in_err-link.was c.from_residual.ensures.1
-    (IfStore-map c.search.result (λ fault. CallFault-read ⊥ _ _ fault) c.search.ensures.fault)
+    (IfStore-map c.search.result (λ fault. CallFault-read (λ _. ⊥) _ _ fault) c.search.ensures.fault)
 
 pub returns-in_err-link-clause-calls : goal.returns-in_err-link-clause-calls
 returns-in_err-link-clause-calls g c = Calls-reads _ _ c.search.ensures.calls
@@ -19,7 +17,7 @@ returns-in_err-link-clause-calls g c = Calls-reads _ _ c.search.ensures.calls
 pub returns-in_err-write_node-in-Found-clause-fault : goal.returns-in_err-write_node-in-Found-clause-fault
 returns-in_err-write_node-in-Found-clause-fault g c =
     fault_moved c.from_residual-in_err-write_node-in-Found.result c.write_node.result c.in_err-write_node-in-Found.field-0.0 _ c.in_err-write_node-in-Found.was c.from_residual-in_err-write_node-in-Found.ensures.1
-    (IfStore-map c.write_node.result (λ fault. CallFault-behind ⊥ _ _ _ 0 fault (Calls-reads _ _ c.search.ensures.calls)) c.write_node.ensures.fault)
+    (IfStore-map c.write_node.result (λ fault. CallFault-never (λ _. ⊥) _ _ _ 0 fault (Calls-reads _ _ c.search.ensures.calls)) c.write_node.ensures.fault)
 
 pub returns-in_err-write_node-in-Found-clause-calls : goal.returns-in_err-write_node-in-Found-clause-calls
 returns-in_err-write_node-in-Found-clause-calls g c = Calls-trans _ _ _ 0 0 (Calls-reads _ _ c.search.ensures.calls) c.write_node.ensures.calls
@@ -27,9 +25,9 @@ returns-in_err-write_node-in-Found-clause-calls g c = Calls-trans _ _ _ 0 0 (Cal
 pub returns-in_ok-write_node-in-Found-clause-ok : goal.returns-in_ok-write_node-in-Found-clause-ok
 returns-in_ok-write_node-in-Found-clause-ok g c =
     let within = rw c.in-Found.is at c.in_ok-link.ensures.within in
-    removes_pair c.size-size.result c.args.base c.args.key c.in-Found.index (g.S.RecordRead.meaning c.args.store.now) (g.S.RecordRead.meaning c.search.new.store) (g.S.RecordRead.meaning c.write_node.new.store) c.in-Found.link c.swap_remove.result
+    removes_pair c.size-size.result c.args.base c.args.key c.in-Found.index (g.S.RecordRead.meaning c.args.store.now) (g.S.RecordRead.meaning c.search.new.store) (g.S.RecordRead.meaning c.write_node.new.store) c.in-Found.link c.swap_remove.result c.swap_remove.new.self.items
     c.size-size.ensures.size c.in_ok-link.ensures.after (λ state agrees. rw c.in-Found.is at (c.in_ok-link.ensures.place state agrees)) within.1 c.swap_remove.ensures.value
-    (c.in_ok-write_node-in-Found.ensures.ok ∙ ap (λ ps. after_write (g.S.RecordRead.meaning c.search.new.store) c.in-Found.link.at (Some (words_of ps c.in-Found.link.node.next c.in-Found.link.node.position))) c.swap_remove.ensures.items)
+    c.swap_remove.ensures.items c.in_ok-write_node-in-Found.ensures.ok
 
 pub returns-in_ok-write_node-in-Found-clause-calls : goal.returns-in_ok-write_node-in-Found-clause-calls
 returns-in_ok-write_node-in-Found-clause-calls g c = Calls-trans _ _ _ 0 0 (Calls-reads _ _ c.search.ensures.calls) c.write_node.ensures.calls
@@ -47,3 +45,7 @@ pub returns-in_err-link-clause-torn : goal.returns-in_err-link-clause-torn
 returns-in_err-link-clause-torn g c =
     torn_moved c.from_residual.result c.search.result c.in_err-link.field-0.0 _ c.in_err-link.was c.from_residual.ensures.1
     (IfTorn-map c.search.result (λ rid. is_torn c.args.base c.args.key c.size-size.result rid _ _ c.size-size.ensures.size) c.search.ensures.torn)
+
+pub returns-in_ok-write_node-in-Found-clause-walked : goal.returns-in_ok-write_node-in-Found-clause-walked
+returns-in_ok-write_node-in-Found-clause-walked g c =
+    walked_written c.size-size.result _ c.args.key _ _ (g.S.RecordRead.meaning c.args.store.now) (g.S.RecordRead.meaning c.search.new.store) (g.S.RecordRead.meaning c.write_node.new.store) c.size-size.ensures.size c.in_ok-link.ensures.walked c.in_ok-write_node-in-Found.ensures.ok

@@ -36,3 +36,15 @@ returns-in-None-clause-torn g c =
 
 pub returns-in-None-clause-calls : goal.returns-in-None-clause-calls
 returns-in-None-clause-calls g c = read _ _ _ c.args.rid _ (none _) c.read.ensures.gives
+
+pub returns-in-Some-read-clause-link : goal.returns-in-Some-read-clause-link
+returns-in-Some-read-clause-link g c = record {
+  at = refl;
+  placed = c.in-Some-read.ensures.node.1.position ∙ c.in-Some-read.ensures.node.0.placed;
+  in_store = record {
+    record_number = c.requires.rid;
+    position = rw (c.in-Some-read.ensures.node.1.position ∙ c.in-Some-read.ensures.node.0.placed) c.in-Some-read.ensures.node.0.in_store;
+    next = rw c.in-Some-read.ensures.node.1.next c.in-Some-read.ensures.node.0.next;
+    pairs = rw c.in-Some-read.ensures.node.1.pairs c.in-Some-read.ensures.node.0.records;
+  };
+}

@@ -5,6 +5,7 @@ use Rattle.record_store.proofs.Refusals.{fault_moved, torn_moved, IfStore-map, I
 use Rattle.hash_index.specs.Search.{IsLink}
 use Rattle.hash_index.proofs.Passed.{each_tears, each_absent, each_steps}
 use Rattle.hash_index.proofs.Walked.{at_some, walk_begins, walk_ends, room_in_store, place_in_store}
+use Rattle.hash_index.proofs.Ends.{ends_found, ends_last}
 use Rattle.hash_index.proofs.search.search.Goals as goal
 
 pub loop-index-init : goal.loop-index-init
@@ -12,6 +13,7 @@ loop-index-init g c =
     let link = at_some (IsLink c.args.size _ 0) c.in-Some.here c.in-Some.is c.in_ok-here.ensures.link in
     record {
       calls = c.in_ok-here.ensures.calls;
+      rest = c.in_ok-here.ensures.rest;
       after = c.in_ok-here.ensures.after;
       here = link.in_store;
       room = tt;
@@ -29,7 +31,7 @@ pub returns-in_err-link-clause-torn : goal.returns-in_err-link-clause-torn
 returns-in_err-link-clause-torn g c =
     torn_moved c.from_residual-in_err-link.result c.read_link-in-loop-index.result c.in_err-link.field-0.0 _ c.in_err-link.was c.from_residual-in_err-link.ensures.1
     (IfTorn-map c.read_link-in-loop-index.result
-    (λ rid torn. each_tears _ _ _ c.args.size _ c.args.key c.in-Some-next.next rid c.loop-index.room c.loop-index.here c.loop-index.invariant.after c.read_link-in-loop-index.ensures.after c.loop-index.invariant.walked c.in-Some-next.is torn.0 torn.1)
+    (λ rid torn. each_tears _ _ _ c.args.size _ c.args.key c.in-Some-next.next rid c.loop-index.room c.loop-index.here c.loop-index.invariant.after c.read_link-in-loop-index.ensures.after c.loop-index.invariant.walked (sym c.find.ensures ∙ c.in_default-find.is) c.in-Some-next.is torn.0 torn.1)
     c.read_link-in-loop-index.ensures.torn)
 
 pub returns-in_err-link-clause-fault : goal.returns-in_err-link-clause-fault
@@ -42,7 +44,7 @@ returns-in_err-link-clause-calls g c = Reads-trans _ _ _ c.loop-index.invariant.
 
 pub returns-in_default-2-clause-torn : goal.returns-in_default-2-clause-torn
 returns-in_default-2-clause-torn g c =
-    each_absent _ _ _ c.args.size _ c.args.key c.in-Some-next.next c.loop-index.room c.loop-index.here c.in_ok-link.field-0 c.loop-index.invariant.after c.in_ok-link.ensures.after c.loop-index.invariant.walked c.in-Some-next.is c.in_default-2.is c.in_ok-link.ensures.read
+    each_absent _ _ _ c.args.size _ c.args.key c.in-Some-next.next c.loop-index.room c.loop-index.here c.in_ok-link.field-0 c.loop-index.invariant.after c.in_ok-link.ensures.after c.loop-index.invariant.walked (sym c.find.ensures ∙ c.in_default-find.is) c.in-Some-next.is c.in_default-2.is c.in_ok-link.ensures.read
 
 pub returns-in_default-2-clause-calls : goal.returns-in_default-2-clause-calls
 returns-in_default-2-clause-calls g c = Reads-trans _ _ _ c.loop-index.invariant.calls c.read_link-in-loop-index.ensures.calls
@@ -52,6 +54,7 @@ loop-index-preserved g c =
     let link = at_some (IsLink c.args.size _ _) c.in-Some-2.link c.in-Some-2.is c.in_ok-link.ensures.link in
     record {
       calls = Reads-trans _ _ _ c.loop-index.invariant.calls c.read_link-in-loop-index.ensures.calls;
+      rest = c.read_link-in-loop-index.ensures.rest ∙ c.loop-index.invariant.rest;
       after = OnlyReads-trans _ _ _ c.loop-index.invariant.after c.read_link-in-loop-index.ensures.after;
       here = rw c.replace-passed.ensures.after link.in_store;
       room = rw (c.first_with_room-room.ensures, c.replace-passed.ensures.value) (room_in_store c.args.size c.loop-index.room c.loop-index.here c.loop-index.invariant.room c.loop-index.invariant.here);
@@ -62,3 +65,11 @@ loop-index-preserved g c =
 
 pub returns-in_default-next-clause-within : goal.returns-in_default-next-clause-within
 returns-in_default-next-clause-within g c = rw c.end_of_row.ensures (place_in_store c.args.size _ c.args.key c.loop-index.room c.loop-index.here c.loop-index.invariant.room c.loop-index.invariant.here)
+
+pub returns-in-Some-find-clause-walked : goal.returns-in-Some-find-clause-walked
+returns-in-Some-find-clause-walked g c = λ state agrees.
+    ends_found c.args.size _ c.args.key c.in-Some-find.index _ c.loop-index.here (c.loop-index.invariant.walked state agrees).reaches (sym c.find.ensures ∙ c.in-Some-find.is)
+
+pub returns-in_default-next-clause-walked : goal.returns-in_default-next-clause-walked
+returns-in_default-next-clause-walked g c = λ state agrees.
+    ends_last c.args.size _ c.args.key _ c.loop-index.here (c.loop-index.invariant.walked state agrees).reaches c.in_default-next.is

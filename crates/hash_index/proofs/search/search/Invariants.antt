@@ -1,9 +1,10 @@
-use Rattle.std.proofs.Common.{◌-◌, ◌+◌}
+use Rattle.std.proofs.Common.{◌≡◌, ◌-◌, ◌+◌}
 use Rattle.std.specs.Prelude.{IfSome}
 use Rattle.record_store.specs.Calls.{Reads}
 use Rattle.record_store.specs.Walks.{OnlyReads}
 use Rattle.hash_index.specs.Chain.{bucket_of}
-use Rattle.hash_index.specs.Search.{EachState, IsInStore, IsRoom}
+use Rattle.record_store.specs.States.{EachState}
+use Rattle.hash_index.specs.Search.{IsInStore, IsRoom}
 use Rattle.hash_index.proofs.Walked.{Walked}
 use Rattle.hash_index.proofs.search.search.Given as goal
 
@@ -11,6 +12,7 @@ use Rattle.hash_index.proofs.search.search.Given as goal
 abbrev pub invariant-loop-index : goal.invariant-loop-index
 invariant-loop-index g l = record {
   calls : Reads g.S.RecordRead.read_gives l.fn.store l.store;
+  rest : g.S.RecordRead.rest l.store ≡ g.S.RecordRead.rest l.fn.store;
   after : OnlyReads (g.S.RecordRead.meaning l.fn.store) (g.S.RecordRead.meaning l.store);
   here : IsInStore l.size l.here;
   room : IfSome l.room (IsRoom l.size);

@@ -1,6 +1,7 @@
 use Rattle.std.proofs.Common.{◌≡◌, ◌-◌, ◌*◌, [], ◌∷◌, ◌++◌, length, take}
 use lib.ListN.{replicate}
-use Rattle.hash_index.specs.Node.{pair_words, link_word}
+use Rattle.record_store.specs.Links.{link_word}
+use Rattle.hash_index.specs.Node.{pair_words}
 use Rattle.hash_index.proofs.node.Node.cells.Given as goal
 
 -- the words with the pairs written so far, and zeros in place of the others

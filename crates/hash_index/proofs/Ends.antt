@@ -1,0 +1,49 @@
+-- Where a search ends, the walk ends well.
+use Rattle.std.proofs.Common.{◌≡◌, ℕ, ◌+◌, List, [], ◌∷◌, ◌++◌, length, Option, None, Some, sym, ap, ◌∙◌, arith, inl, inr}
+use Rattle.std.specs.Prelude.{position, is_some, ◌==◌}
+use Rattle.std.proofs.lemmas.List.{append-nil}
+use Rattle.plain_data.specs.State.{State}
+use Rattle.record_store.specs.Meaning.{Meaning, after_write}
+use Rattle.record_store.specs.States.{EachState}
+use Rattle.record_store.specs.Walks.{Extends}
+use Rattle.record_store.proofs.States.{each_later}
+use Rattle.hash_index.specs.declared.search.Link.{Link}
+use Rattle.hash_index.specs.Node.{pairs_of, next_of}
+use Rattle.hash_index.specs.Chain.{EndsWell, start_of, record_at, row_pairs}
+use Rattle.hash_index.specs.Search.{Reaches}
+use Rattle.hash_index.proofs.Pairs.{position-found, record_at-behind}
+use Rattle.hash_index.proofs.Rows.{Leads-push, row_pairs-append}
+use Rattle.hash_index.proofs.Walked.{at_place}
+
+-- at a node that has the key
+pub ends_found : (size bucket key index : ℕ) (state : State) (link : Link) → Reaches size bucket key state link → position (λ pair. pair.0 == key) link.node.pairs.items ≡ Some index → EndsWell size bucket key state
+ends_found size bucket key index state link r is =
+    let passed : List (ℕ × List ℕ) = r.before ++ (link.at, r.words) ∷ [] in
+    let found = position-found link.node.pairs.items key index is in
+    let here : record_at (row_pairs passed) key ≡ Some found.rid =
+    ap (λ ps. record_at ps key) (row_pairs-append r.before ((link.at, r.words) ∷ []))
+    ∙ record_at-behind (row_pairs r.before) (pairs_of r.words ++ []) key r.not_before
+    ∙ ap (λ ps. record_at ps key) (append-nil (pairs_of r.words) ∙ sym r.stands.held.pairs)
+    ∙ found.found in
+    record {
+      nodes = passed;
+      to = next_of r.words;
+      reached = Leads-push size state 0 (start_of state bucket) link.at r.words r.before r.reached r.stands.here (at_place size (length r.before) (0 + length r.before) r.words (omega arith) r.stands.node);
+      ends = inr (ap is_some here);
+    }
+
+-- at a node that names no next one
+pub ends_last : (size bucket key : ℕ) (state : State) (link : Link) → Reaches size bucket key state link → link.node.next ≡ None → EndsWell size bucket key state
+ends_last size bucket key state link r ends = record {
+  nodes = r.before ++ (link.at, r.words) ∷ [];
+  to = next_of r.words;
+  reached = Leads-push size state 0 (start_of state bucket) link.at r.words r.before r.reached r.stands.here (at_place size (length r.before) (0 + length r.before) r.words (omega arith) r.stands.node);
+  ends = inl (sym r.stands.held.next ∙ ends);
+}
+
+-- told of the later reads
+pub walked_on : (size bucket key : ℕ) (before between after : Meaning) → size ≡ before.size → Extends between.reads after.reads → EachState before between (EndsWell size bucket key) → EachState before after (EndsWell before.size bucket key)
+walked_on size bucket key before between after same more walked = each_later before between after (EndsWell before.size bucket key) more (rw (← same) walked)
+
+pub walked_written : (size bucket key rid : ℕ) (value : Option (List ℕ)) (before between after : Meaning) → size ≡ before.size → EachState before between (EndsWell size bucket key) → after ≡ after_write between rid value → EachState before after (EndsWell before.size bucket key)
+walked_written size bucket key rid value before between after same walked wrote = walked_on size bucket key before between after same ([], ap (λ (m : Meaning). m.reads) wrote ∙ sym (append-nil between.reads)) walked

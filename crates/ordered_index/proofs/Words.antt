@@ -1,0 +1,138 @@
+-- The words of a node: how its entries are read and written.
+use Rattle.std.proofs.Common.{◌≡◌, ℕ, ◌+◌, ◌-◌, ◌*◌, ◌<◌, ◌≤◌, zero, suc, List, [], ◌∷◌, ◌++◌, length, get_or, take, drop, set, Option, None, Some, refl, sym, ap, ◌∙◌, arith}
+use Rattle.std.specs.Prelude.{slice_index}
+use lib.ListN.{replicate}
+use Rattle.std.proofs.lemmas.List.{length-append, take_at, set_at, get_or_at, append_assoc, get_or-take, length-take, length-drop, get_or-drop, take_more, length_push, length-replicate}
+use Rattle.std.proofs.lemmas.Grind.{flat_map-append}
+use Rattle.ordered_index.specs.declared.key.Key.{Key}
+use Rattle.ordered_index.specs.declared.node.Kind.{Kind}
+use Rattle.ordered_index.specs.declared.node.Kind.TheVariants.{Leaf, Inner}
+use Rattle.record_store.specs.Links.{link_word}
+use Rattle.record_store.proofs.Links.{named_by-link_word}
+use Rattle.ordered_index.specs.Node.{Content, Holds, in_threes, next_of, entry_words, words_of}
+
+abbrev pub key_of : ℕ → ℕ → Key
+key_of high low = record { high = high; low = low }
+
+-- words three by three, at a place
+length-in_threes : (words : List ℕ) (i : ℕ) → 3 * i + 2 < length words → i < length (in_threes words)
+length-in_threes [] i within = omega arith
+length-in_threes (a ∷ []) i within = omega arith
+length-in_threes (a ∷ b ∷ []) i within = omega arith
+length-in_threes (a ∷ b ∷ c ∷ words) zero within = omega arith
+length-in_threes (a ∷ b ∷ c ∷ words) (suc i) within = let more = length-in_threes words i (omega arith) in omega arith
+
+get_or-in_threes : (words : List ℕ) (i : ℕ) (d : Key × ℕ) → 3 * i + 2 < length words → get_or (in_threes words) i d ≡ (key_of (get_or words (3 * i) 0) (get_or words (3 * i + 1) 0), get_or words (3 * i + 2) 0)
+get_or-in_threes [] i d within = absurd (omega arith)
+get_or-in_threes (a ∷ []) i d within = absurd (omega arith)
+get_or-in_threes (a ∷ b ∷ []) i d within = absurd (omega arith)
+get_or-in_threes (a ∷ b ∷ c ∷ words) zero d within = refl
+get_or-in_threes (a ∷ b ∷ c ∷ words) (suc i) d within =
+    let all : List ℕ = a ∷ b ∷ c ∷ words in
+    let first : suc (suc (suc (3 * i))) ≡ 3 * suc i = omega arith in
+    let second : suc (suc (suc (3 * i + 1))) ≡ 3 * suc i + 1 = omega arith in
+    let third : suc (suc (suc (3 * i + 2))) ≡ 3 * suc i + 2 = omega arith in
+    get_or-in_threes words i d (omega arith)
+    ∙ ap (λ n. (key_of (get_or all n 0) (get_or words (3 * i + 1) 0), get_or words (3 * i + 2) 0)) first
+    ∙ ap (λ n. (key_of (get_or all (3 * suc i) 0) (get_or all n 0), get_or words (3 * i + 2) 0)) second
+    ∙ ap (λ n. (key_of (get_or all (3 * suc i) 0) (get_or all (3 * suc i + 1) 0), get_or all n 0)) third
+
+abbrev pub entry_in : List ℕ → ℕ → Key × ℕ
+entry_in words i = (key_of (get_or words (4 + 3 * i) 0) (get_or words (5 + 3 * i) 0), get_or words (6 + 3 * i) 0)
+
+-- the entry of this number, in the words from the fifth on
+entry_read : (words : List ℕ) (i : ℕ) (d : Key × ℕ) → length words ≡ 32 → i < 9 → get_or (in_threes (drop 4 words)) i d ≡ entry_in words i
+entry_read words i d whole within =
+    let second : 4 + (3 * i + 1) ≡ 5 + 3 * i = omega arith in
+    let third : 4 + (3 * i + 2) ≡ 6 + 3 * i = omega arith in
+    get_or-in_threes (drop 4 words) i d (omega (arith, length-drop 4 words))
+    ∙ ap (λ high. (key_of high (get_or (drop 4 words) (3 * i + 1) 0), get_or (drop 4 words) (3 * i + 2) 0)) (get_or-drop 4 words (3 * i) 0)
+    ∙ ap (λ low. (key_of (get_or words (4 + 3 * i) 0) low, get_or (drop 4 words) (3 * i + 2) 0)) (get_or-drop 4 words (3 * i + 1) 0 ∙ ap (λ n. get_or words n 0) second)
+    ∙ ap (λ rid. (key_of (get_or words (4 + 3 * i) 0) (get_or words (5 + 3 * i) 0), rid)) (get_or-drop 4 words (3 * i + 2) 0 ∙ ap (λ n. get_or words n 0) third)
+
+-- one entry more of a node's words
+pub entries_more : (words : List ℕ) (i : ℕ) → length words ≡ 32 → i < 9 → take (i + 1) (in_threes (drop 4 words)) ≡ take i (in_threes (drop 4 words)) ++ entry_in words i ∷ []
+entries_more words i whole within =
+    take_more (in_threes (drop 4 words)) i (entry_in words i) (length-in_threes (drop 4 words) i (omega (arith, length-drop 4 words)))
+    ∙ ap (λ entry. take i (in_threes (drop 4 words)) ++ entry ∷ []) (entry_read words i (entry_in words i) whole within)
+
+pub record EntryIs (words : List ℕ) (count i : ℕ) : Type 0 where
+  pub within : i < length (take count (in_threes (drop 4 words)))
+  pub rid : (get_or (take count (in_threes (drop 4 words))) i (key_of 0 0, 0)).1 ≡ get_or words (6 + 3 * i) 0
+
+pub entry_is : (words : List ℕ) (count i : ℕ) → length words ≡ 32 → i < 9 → i < count → EntryIs words count i
+entry_is words count i whole within counted =
+    let long = length-in_threes (drop 4 words) i (omega (arith, length-drop 4 words)) in
+    record {
+      within = omega (arith, long, length-take count (in_threes (drop 4 words)));
+      rid = ap (λ (e : Key × ℕ). e.1) (get_or-take count (in_threes (drop 4 words)) i (key_of 0 0, 0) counted ∙ entry_read words i (key_of 0 0, 0) whole within);
+    }
+
+pub entries_counted : (words : List ℕ) (count : ℕ) → length words ≡ 32 → count ≤ 9 → length (take count (in_threes (drop 4 words))) ≡ count
+entries_counted words zero whole few = refl
+entries_counted words (suc n) whole few =
+    let long = length-in_threes (drop 4 words) n (omega (arith, length-drop 4 words)) in
+    omega (arith, long, length-take (suc n) (in_threes (drop 4 words)))
+
+-- what the words of a node say
+pub length-entry_words : (entries : List (Key × ℕ)) → length (entry_words entries) ≡ 3 * length entries
+length-entry_words [] = refl
+length-entry_words (entry ∷ entries) = let more = length-entry_words entries in omega arith
+
+in_threes-append : (entries : List (Key × ℕ)) (words : List ℕ) → in_threes (entry_words entries ++ words) ≡ entries ++ in_threes words
+in_threes-append [] words = refl
+in_threes-append (entry ∷ entries) words = ap (λ more. entry ∷ more) (in_threes-append entries words)
+
+next-leaf : (next : Option ℕ) → next_of Leaf (link_word next) ≡ next
+next-leaf None = refl
+next-leaf (Some rid) = named_by-link_word (Some rid)
+
+next-of : (kind : Kind) (next : Option ℕ) → (kind ≡ Inner → next ≡ None) → next_of kind (link_word next) ≡ next
+next-of Leaf next none = next-leaf next
+next-of Inner next none = sym (none refl)
+
+-- a node is read from the words that were written of it
+pub holds_words : (node : Content) → length node.entries ≤ 9 → (node.kind ≡ Inner → node.next ≡ None) → Holds (words_of node) node
+holds_words node few inner =
+    let zeros : List ℕ = replicate (27 - 3 * length node.entries) 0 in
+    let back : List ℕ = link_word node.next ∷ [] in
+    let last : slice_index (words_of node) 31 ≡ link_word node.next =
+    get_or_at (entry_words node.entries ++ zeros) (link_word node.next) [] 0 27 (omega (arith, length-append (entry_words node.entries) zeros, length-entry_words node.entries, length-replicate {A = ℕ} (27 - 3 * length node.entries) 0)) in
+    record {
+      kind = refl;
+      count = refl;
+      low = refl;
+      entries = ap (λ ws. take (length node.entries) (in_threes ws)) (append_assoc (entry_words node.entries) zeros back) ∙ ap (take (length node.entries)) (in_threes-append node.entries (zeros ++ back)) ∙ take_at node.entries (in_threes (zeros ++ back)) (length node.entries) refl;
+      next = ap (next_of node.kind) last ∙ next-of node.kind node.next inner;
+    }
+
+-- one entry more is written
+pub written_more : (front : List ℕ) (n i a b c : ℕ) (back : List ℕ) → length front ≡ i → set (set (set (front ++ (replicate (suc (suc (suc n))) 0 ++ back)) i a) (i + 1) b) (i + 2) c ≡ (front ++ a ∷ b ∷ c ∷ []) ++ (replicate n 0 ++ back)
+written_more front n i a b c back at =
+    let rest = replicate n 0 ++ back in
+    let one : length (front ++ a ∷ []) ≡ i + 1 = length_push front a ∙ ap (λ n. n + 1) at in
+    let two : length ((front ++ a ∷ []) ++ b ∷ []) ≡ i + 2 = omega (arith, one, length_push (front ++ a ∷ []) b) in
+    let join : ((front ++ a ∷ []) ++ b ∷ []) ++ c ∷ rest ≡ (front ++ a ∷ b ∷ c ∷ []) ++ rest = append_assoc (front ++ a ∷ []) (b ∷ []) (c ∷ rest) ∙ append_assoc front (a ∷ []) (b ∷ c ∷ rest) ∙ sym (append_assoc front (a ∷ b ∷ c ∷ []) rest) in
+    ap (λ words. set (set words (i + 1) b) (i + 2) c) (set_at front 0 (0 ∷ 0 ∷ rest) a i at ∙ sym (append_assoc front (a ∷ []) (0 ∷ 0 ∷ rest)))
+    ∙ ap (λ words. set words (i + 2) c) (set_at (front ++ a ∷ []) 0 (0 ∷ rest) b (i + 1) one ∙ sym (append_assoc (front ++ a ∷ []) (b ∷ []) (0 ∷ rest)))
+    ∙ set_at ((front ++ a ∷ []) ++ b ∷ []) 0 rest c (i + 2) two
+    ∙ join
+
+entry_words-more : (entries : List (Key × ℕ)) (i : ℕ) (d : Key × ℕ) → i < length entries → entry_words (take (i + 1) entries) ≡ entry_words (take i entries) ++ (get_or entries i d).0.high ∷ (get_or entries i d).0.low ∷ (get_or entries i d).1 ∷ []
+entry_words-more entries i d within = ap entry_words (take_more entries i d within) ∙ flat_map-append (λ (entry : Key × ℕ). entry.0.high ∷ entry.0.low ∷ entry.1 ∷ []) (take i entries) (get_or entries i d ∷ [])
+
+-- the words once one entry more is written
+pub words_more : (words : List ℕ) (kind count high low i : ℕ) (entries : List (Key × ℕ)) (d : Key × ℕ) (back : List ℕ) → i < length entries → length entries ≤ 9 → words ≡ kind ∷ count ∷ high ∷ low ∷ (entry_words (take i entries) ++ (replicate (27 - 3 * i) 0 ++ back)) → set (set (set words (4 + 3 * i) (get_or entries i d).0.high) (5 + 3 * i) (get_or entries i d).0.low) (6 + 3 * i) (get_or entries i d).1 ≡ kind ∷ count ∷ high ∷ low ∷ (entry_words (take (i + 1) entries) ++ (replicate (27 - 3 * (i + 1)) 0 ++ back))
+words_more words kind count high low i entries d back within few before =
+    let n : ℕ = 27 - 3 * (i + 1) in
+    let e = get_or entries i d in
+    let front : List ℕ = kind ∷ count ∷ high ∷ low ∷ entry_words (take i entries) in
+    let room : 27 - 3 * i ≡ suc (suc (suc n)) = omega arith in
+    let second : 5 + 3 * i ≡ 4 + 3 * i + 1 = omega arith in
+    let third : 6 + 3 * i ≡ 4 + 3 * i + 2 = omega arith in
+    let at : length front ≡ 4 + 3 * i = omega (arith, length-entry_words (take i entries), length-take i entries) in
+    ap (λ k. set (set (set words (4 + 3 * i) e.0.high) k e.0.low) (6 + 3 * i) e.1) second
+    ∙ ap (λ k. set (set (set words (4 + 3 * i) e.0.high) (4 + 3 * i + 1) e.0.low) k e.1) third
+    ∙ ap (λ ws. set (set (set ws (4 + 3 * i) e.0.high) (4 + 3 * i + 1) e.0.low) (4 + 3 * i + 2) e.1) (before ∙ ap (λ k. front ++ (replicate k 0 ++ back)) room)
+    ∙ written_more front n (4 + 3 * i) e.0.high e.0.low e.1 back at
+    ∙ ap (λ ws. kind ∷ count ∷ high ∷ low ∷ (ws ++ (replicate n 0 ++ back))) (sym (entry_words-more entries i d within))

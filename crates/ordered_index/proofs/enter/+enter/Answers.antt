@@ -1,0 +1,306 @@
+use Rattle.std.proofs.Common.{◌+◌, ◌<◌, ℕ, Some, None, Ok, refl, sym, ◌∙◌, ap, arith, subst}
+use Rattle.std.specs.Prelude.{is_some}
+use Rattle.record_store.specs.Calls.Calls.{none}
+use Rattle.record_store.proofs.Refusals.{fault_moved, torn_moved, IfStore-map, IfTorn-map}
+use Rattle.record_store.proofs.Agreement.{OnlyReads-refl, extends-refl, size_same}
+use Rattle.record_store.proofs.Paths.{Calls-trans, Calls-reads, CallFault-read, CallFault-behind}
+use Rattle.ordered_index.specs.Keys.{first_key}
+use Rattle.ordered_index.specs.Held.{content_of}
+use Rattle.record_store.specs.States.{EachState}
+use Rattle.ordered_index.specs.Walk.{IsLink}
+use Rattle.ordered_index.specs.Tree.{IsAt}
+use Rattle.ordered_index.specs.Asks.{asks_at}
+use Rattle.ordered_index.proofs.Asking.{Calls-behind, asks_leaf, asks_reads, below_err, below_there, below_done, put_due, takes_err, takes_none, takes_more, due_behind, one_at}
+use Rattle.ordered_index.proofs.Reaching.{each_reaches}
+use Rattle.ordered_index.proofs.Parting.{length-with}
+use Rattle.ordered_index.proofs.Entries.{entry_at-place}
+use Rattle.ordered_index.proofs.Passed.{at_some}
+use Rattle.ordered_index.proofs.Tearing.{tears_deep, tears_unfit, tears_absent, tears_below, rank_some, child_is, child_at, from_reads}
+use Rattle.ordered_index.proofs.Entering.{IsChild, child_low, enter_there, enter_done, enter_takes}
+use Rattle.ordered_index.proofs.enter.+enter.Goals as goal
+
+pub returns-in-Some-clause-leaf : goal.returns-in-Some-clause-leaf
+returns-in-Some-clause-leaf g t c = λ kind.
+    let place = rw c.in-Some.is at c.place.ensures.place in
+    (ap is_some (entry_at-place c.args.here.now.entries.items c.in-Some.field-0 (first_key, 0) c.args.key c.requires.sound.rising place.within (place.here (first_key, 0))), refl)
+
+pub returns-in-Some-clause-calls : goal.returns-in-Some-clause-calls
+returns-in-Some-clause-calls g t c =
+    (0, none _, asks_leaf c.args.key c.args.here.now.kind c.args.here.now.entries.items c.args.depth (g.S.RecordRead.meaning c.args.store.now) _ (c.is_inner.ensures.leaf c.if-not-is_inner.true) c.requires.depth)
+
+pub returns-in-None-clause-calls : goal.returns-in-None-clause-calls
+returns-in-None-clause-calls g t c =
+    (0, none _, asks_leaf c.args.key c.args.here.now.kind c.args.here.now.entries.items c.args.depth (g.S.RecordRead.meaning c.args.store.now) _ (c.is_inner.ensures.leaf c.if-not-is_inner.true) c.requires.depth)
+
+pub returns-then-depth-eq-MOST_DEPTH-clause-torn : goal.returns-then-depth-eq-MOST_DEPTH-clause-torn
+returns-then-depth-eq-MOST_DEPTH-clause-torn g t c =
+    let kind = c.is_inner.ensures.inner c.if-not-is_inner.false in
+    let some = rank_some c.args.size (content_of c.args.here.now) c.args.key c.args.rank c.requires.sound kind c.requires.low c.requires.rank in
+    (kind, rw c.deref.ensures.0 (tears_deep c.args.size c.args.depth c.args.key c.args.here.now.entries.items c.args.rank (g.S.RecordRead.meaning c.args.store.now) c.requires.rank some c.if-depth-eq-MOST_DEPTH.true))
+
+pub returns-then-depth-eq-MOST_DEPTH-clause-calls : goal.returns-then-depth-eq-MOST_DEPTH-clause-calls
+returns-then-depth-eq-MOST_DEPTH-clause-calls g t c =
+    (0, none _, asks_reads c.args.key c.args.here.now.kind c.args.here.now.entries.items c.args.depth (g.S.RecordRead.meaning c.args.store.now) (g.S.RecordRead.meaning c.args.store.now) _ refl c.requires.depth (OnlyReads-refl (g.S.RecordRead.meaning c.args.store.now)))
+
+pub returns-in_err-child-clause-torn : goal.returns-in_err-child-clause-torn
+returns-in_err-child-clause-torn g t c =
+    let kind = c.is_inner.ensures.inner c.if-not-is_inner.false in
+    let some = rank_some c.args.size (content_of c.args.here.now) c.args.key c.args.rank c.requires.sound kind c.requires.low c.requires.rank in
+    torn_moved c.from_residual.result c.read_node.result c.in_err-child.field-0.0 _ c.in_err-child.was c.from_residual.ensures.1
+    (IfTorn-map c.read_node.result
+    (λ rid torn. (kind, tears_unfit c.args.size c.args.depth rid c.args.key c.args.here.now.entries.items c.args.rank (g.S.RecordRead.meaning c.args.store.now) (g.S.RecordRead.meaning c.read_node.new.store) c.requires.rank some (rw c.deref.ensures.0 at torn.0) (rw c.deref.ensures.0 at torn.1)))
+    c.read_node.ensures.torn)
+
+pub returns-in_err-child-clause-fault : goal.returns-in_err-child-clause-fault
+returns-in_err-child-clause-fault g t c =
+    fault_moved c.from_residual.result c.read_node.result c.in_err-child.field-0.0 _ c.in_err-child.was c.from_residual.ensures.1
+    (IfStore-map c.read_node.result (λ fault. CallFault-read _ _ _ fault) c.read_node.ensures.fault)
+
+pub returns-in_err-child-clause-calls : goal.returns-in_err-child-clause-calls
+returns-in_err-child-clause-calls g t c =
+    (0, Calls-reads _ _ c.read_node.ensures.calls, asks_reads c.args.key c.args.here.now.kind c.args.here.now.entries.items c.args.depth (g.S.RecordRead.meaning c.args.store.now) (g.S.RecordRead.meaning c.read_node.new.store) _ c.from_residual.ensures.0 c.requires.depth c.read_node.ensures.after)
+
+pub returns-in_default-clause-torn : goal.returns-in_default-clause-torn
+returns-in_default-clause-torn g t c =
+    let kind = c.is_inner.ensures.inner c.if-not-is_inner.false in
+    let some = rank_some c.args.size (content_of c.args.here.now) c.args.key c.args.rank c.requires.sound kind c.requires.low c.requires.rank in
+    (kind, rw c.deref.ensures.0 (tears_absent c.args.size c.args.depth c.args.key c.args.here.now.entries.items c.args.rank (g.S.RecordRead.meaning c.args.store.now) (g.S.RecordRead.meaning c.read_node.new.store) c.in_ok-child.field-0 c.requires.rank some c.in_default.is (rw c.deref.ensures.0 at c.in_ok-child.ensures.read)))
+
+pub returns-in_default-clause-calls : goal.returns-in_default-clause-calls
+returns-in_default-clause-calls g t c =
+    (0, Calls-reads _ _ c.read_node.ensures.calls, asks_reads c.args.key c.args.here.now.kind c.args.here.now.entries.items c.args.depth (g.S.RecordRead.meaning c.args.store.now) (g.S.RecordRead.meaning c.read_node.new.store) _ refl c.requires.depth c.read_node.ensures.after)
+
+pub enter-requires : goal.enter-requires
+enter-requires g t c κs within =
+    let kind = c.is_inner.ensures.inner c.if-not-is_inner.false in
+    let some = rank_some c.args.size (content_of c.args.here.now) c.args.key c.args.rank c.requires.sound kind c.requires.low c.requires.rank in
+    let read = rw c.deref.ensures.0 at c.in_ok-child.ensures.link in
+    let link = at_some (IsLink c.args.size _ _) c.in-Some-2.child c.in-Some-2.is read in
+    let low = child_low c.args.size c.args.key c.args.here.now.entries.items c.args.rank (c.in-Some-2.child.node.low, c.in-Some-2.child.at) (content_of c.in-Some-2.child.node) (child_is c.args.size c.args.key c.args.here.now.entries.items c.args.rank c.in-Some-2.child c.requires.rank some link) in
+    let size = c.requires.size ∙ sym (size_same (g.S.RecordRead.meaning c.args.store.now) (g.S.RecordRead.meaning c.read_node.new.store) c.in_ok-child.ensures.after) in
+    (omega (arith, c.decreases, c.requires.depth, c.if-depth-eq-MOST_DEPTH.false), (within.0, (within.1, (size, (c.requires.at_most, (c.requires.rid, (link.sound, (c.rank-child_rank.ensures.rank, (low, omega (arith, c.requires.depth, c.if-depth-eq-MOST_DEPTH.false))))))))))
+
+pub returns-in_err-enter-clause-torn : goal.returns-in_err-enter-clause-torn
+returns-in_err-enter-clause-torn g t c =
+    let kind = c.is_inner.ensures.inner c.if-not-is_inner.false in
+    let some = rank_some c.args.size (content_of c.args.here.now) c.args.key c.args.rank c.requires.sound kind c.requires.low c.requires.rank in
+    let read = rw c.deref.ensures.0 at c.in_ok-child.ensures.link in
+    let link = at_some (IsLink c.args.size _ _) c.in-Some-2.child c.in-Some-2.is read in
+    let child = child_is c.args.size c.args.key c.args.here.now.entries.items c.args.rank c.in-Some-2.child c.requires.rank some link in
+    torn_moved c.from_residual-in_err-enter.result c.enter.result c.in_err-enter.field-0.0 _ c.in_err-enter.was c.from_residual-in_err-enter.ensures.1
+    (IfTorn-map c.enter.result
+    (λ rid torn. (kind, tears_below c.args.size c.args.depth rid c.args.key c.args.here.now.entries.items c.args.rank (c.in-Some-2.child.node.low, c.in-Some-2.child.at) (content_of c.in-Some-2.child.node) (g.S.RecordRead.meaning c.args.store.now) (g.S.RecordRead.meaning c.read_node.new.store) (g.S.RecordRead.meaning c.enter.new.store) c.in_ok-child.ensures.after c.enter.ensures.after child (child_at c.args.size _ (g.S.RecordRead.meaning c.args.store.now) (g.S.RecordRead.meaning c.read_node.new.store) c.in-Some-2.child c.in_ok-child.field-0 c.in-Some-2.is c.in_ok-child.ensures.read) torn.0 torn.1))
+    c.enter.ensures.torn)
+
+pub returns-in_err-enter-clause-fault : goal.returns-in_err-enter-clause-fault
+returns-in_err-enter-clause-fault g t c =
+    let kind = c.is_inner.ensures.inner c.if-not-is_inner.false in
+    let some = rank_some c.args.size (content_of c.args.here.now) c.args.key c.args.rank c.requires.sound kind c.requires.low c.requires.rank in
+    let read = rw c.deref.ensures.0 at c.in_ok-child.ensures.link in
+    let link = at_some (IsLink c.args.size _ _) c.in-Some-2.child c.in-Some-2.is read in
+    let child = child_is c.args.size c.args.key c.args.here.now.entries.items c.args.rank c.in-Some-2.child c.requires.rank some link in
+    let at = child_at c.args.size _ (g.S.RecordRead.meaning c.args.store.now) (g.S.RecordRead.meaning c.read_node.new.store) c.in-Some-2.child c.in_ok-child.field-0 c.in-Some-2.is c.in_ok-child.ensures.read in
+    let C : ℕ → Type 0 = λ n. IsChild n c.args.key c.args.here.now.entries.items c.args.rank (c.in-Some-2.child.node.low, c.in-Some-2.child.at) (content_of c.in-Some-2.child.node) in
+    let A : ℕ → Type 0 = λ n. EachState (g.S.RecordRead.meaning c.args.store.now) (g.S.RecordRead.meaning c.read_node.new.store) (λ state. IsAt n state (c.in-Some-2.child.at, content_of c.in-Some-2.child.node)) in
+    fault_moved c.from_residual-in_err-enter.result c.enter.result c.in_err-enter.field-0.0 _ c.in_err-enter.was c.from_residual-in_err-enter.ensures.1
+    (IfStore-map c.enter.result (λ fault. CallFault-behind _ _ _ _ _ 0 fault (Calls-reads _ _ c.read_node.ensures.calls) (λ asks later. (kind, due_behind (g.S.RecordRead.meaning c.args.store.now) (g.S.RecordRead.meaning c.read_node.new.store) (g.S.RecordRead.meaning c.enter.new.store) c.args.key c.args.here.now.entries.items c.args.rank (c.in-Some-2.child.node.low, c.in-Some-2.child.at) (content_of c.in-Some-2.child.node) asks c.in_ok-child.ensures.after c.enter.ensures.after.reads (subst C c.requires.size child) (subst A c.requires.size at) later))) c.enter.ensures.fault)
+
+pub returns-in_err-enter-clause-calls : goal.returns-in_err-enter-clause-calls
+returns-in_err-enter-clause-calls g t c =
+    let kind = c.is_inner.ensures.inner c.if-not-is_inner.false in
+    let some = rank_some c.args.size (content_of c.args.here.now) c.args.key c.args.rank c.requires.sound kind c.requires.low c.requires.rank in
+    let read = rw c.deref.ensures.0 at c.in_ok-child.ensures.link in
+    let link = at_some (IsLink c.args.size _ _) c.in-Some-2.child c.in-Some-2.is read in
+    let child = child_is c.args.size c.args.key c.args.here.now.entries.items c.args.rank c.in-Some-2.child c.requires.rank some link in
+    let at = child_at c.args.size _ (g.S.RecordRead.meaning c.args.store.now) (g.S.RecordRead.meaning c.read_node.new.store) c.in-Some-2.child c.in_ok-child.field-0 c.in-Some-2.is c.in_ok-child.ensures.read in
+    let C : ℕ → Type 0 = λ n. IsChild n c.args.key c.args.here.now.entries.items c.args.rank (c.in-Some-2.child.node.low, c.in-Some-2.child.at) (content_of c.in-Some-2.child.node) in
+    let A : ℕ → Type 0 = λ n. EachState (g.S.RecordRead.meaning c.args.store.now) (g.S.RecordRead.meaning c.read_node.new.store) (λ state. IsAt n state (c.in-Some-2.child.at, content_of c.in-Some-2.child.node)) in
+    (c.enter.ensures.calls.0, (Calls-behind _ _ _ c.enter.ensures.calls.0 c.read_node.ensures.calls c.enter.ensures.calls.1), below_err (g.S.RecordRead.meaning c.args.store.now) (g.S.RecordRead.meaning c.read_node.new.store) (g.S.RecordRead.meaning c.enter.new.store) (g.S.RecordRead.meaning c.enter.new.store) c.args.key c.args.here.now.entries.items c.args.rank (c.in-Some-2.child.node.low, c.in-Some-2.child.at) (content_of c.in-Some-2.child.node) c.enter.ensures.calls.0 c.args.depth c.args.here.now.kind kind c.in_ok-child.ensures.after c.enter.ensures.after.reads (extends-refl (g.S.RecordRead.meaning c.enter.new.store).reads) (subst C c.requires.size child) (subst A c.requires.size at) c.enter.result c.enter.ensures.calls.2 c.from_residual-in_err-enter.result c.from_residual-in_err-enter.ensures.0 refl)
+
+pub returns-in_err-new-in-Takes-clause-fault : goal.returns-in_err-new-in-Takes-clause-fault
+returns-in_err-new-in-Takes-clause-fault g t c =
+    let kind = c.is_inner.ensures.inner c.if-not-is_inner.false in
+    let some = rank_some c.args.size (content_of c.args.here.now) c.args.key c.args.rank c.requires.sound kind c.requires.low c.requires.rank in
+    let read = rw c.deref.ensures.0 at c.in_ok-child.ensures.link in
+    let link = at_some (IsLink c.args.size _ _) c.in-Some-2.child c.in-Some-2.is read in
+    let child = child_is c.args.size c.args.key c.args.here.now.entries.items c.args.rank c.in-Some-2.child c.requires.rank some link in
+    let at = child_at c.args.size _ (g.S.RecordRead.meaning c.args.store.now) (g.S.RecordRead.meaning c.read_node.new.store) c.in-Some-2.child c.in_ok-child.field-0 c.in-Some-2.is c.in_ok-child.ensures.read in
+    let C : ℕ → Type 0 = λ n. IsChild n c.args.key c.args.here.now.entries.items c.args.rank (c.in-Some-2.child.node.low, c.in-Some-2.child.at) (content_of c.in-Some-2.child.node) in
+    let A : ℕ → Type 0 = λ n. EachState (g.S.RecordRead.meaning c.args.store.now) (g.S.RecordRead.meaning c.read_node.new.store) (λ state. IsAt n state (c.in-Some-2.child.at, content_of c.in-Some-2.child.node)) in
+    fault_moved c.from_residual-in_err-new-in-Takes.result c.put_entry.result c.in_err-new-in-Takes.field-0.0 _ c.in_err-new-in-Takes.was c.from_residual-in_err-new-in-Takes.ensures.1
+    (IfStore-map c.put_entry.result (λ fault. CallFault-behind _ _ _ _ _ c.enter.ensures.calls.0 fault (Calls-behind _ _ _ c.enter.ensures.calls.0 c.read_node.ensures.calls c.enter.ensures.calls.1) (λ asks one. (kind, put_due (g.S.RecordRead.meaning c.args.store.now) (g.S.RecordRead.meaning c.read_node.new.store) (g.S.RecordRead.meaning c.enter.new.store) (g.S.RecordRead.meaning c.put_entry.new.store) c.args.key c.args.here.now.entries.items c.args.rank (c.in-Some-2.child.node.low, c.in-Some-2.child.at) (content_of c.in-Some-2.child.node) c.enter.ensures.calls.0 c.args.depth c.args.here.now.kind kind c.in_ok-child.ensures.after c.enter.ensures.after.reads c.put_entry.ensures.after.reads (subst C c.requires.size child) (subst A c.requires.size at) c.enter.result c.enter.ensures.calls.2 c.args.rid c.rank-child_rank.result c.in-Takes.entry (c.in_ok-enter.was ∙ ap (λ e. Ok e) c.in-Takes.is) (λ leaf. (let l = rw c.in-Takes.is at (c.in_ok-enter.ensures.leaf leaf) in l.0.1)) (λ inner. from_reads (g.S.RecordRead.meaning c.args.store.now) (g.S.RecordRead.meaning c.read_node.new.store) (g.S.RecordRead.meaning c.enter.new.store) c.args.key c.args.rid c.in-Some-2.child.node.entries.items c.rank-child_rank.result c.in_ok-enter.field-0 _ c.in_ok-child.ensures.after c.in-Takes.is (c.in_ok-enter.ensures.inner inner)) asks (one_at c.in-Some-2.child.node.entries.items asks one)))) c.put_entry.ensures.fault)
+
+pub returns-in_err-new-in-Takes-clause-calls : goal.returns-in_err-new-in-Takes-clause-calls
+returns-in_err-new-in-Takes-clause-calls g t c =
+    let kind = c.is_inner.ensures.inner c.if-not-is_inner.false in
+    let some = rank_some c.args.size (content_of c.args.here.now) c.args.key c.args.rank c.requires.sound kind c.requires.low c.requires.rank in
+    let read = rw c.deref.ensures.0 at c.in_ok-child.ensures.link in
+    let link = at_some (IsLink c.args.size _ _) c.in-Some-2.child c.in-Some-2.is read in
+    let child = child_is c.args.size c.args.key c.args.here.now.entries.items c.args.rank c.in-Some-2.child c.requires.rank some link in
+    let at = child_at c.args.size _ (g.S.RecordRead.meaning c.args.store.now) (g.S.RecordRead.meaning c.read_node.new.store) c.in-Some-2.child c.in_ok-child.field-0 c.in-Some-2.is c.in_ok-child.ensures.read in
+    let C : ℕ → Type 0 = λ n. IsChild n c.args.key c.args.here.now.entries.items c.args.rank (c.in-Some-2.child.node.low, c.in-Some-2.child.at) (content_of c.in-Some-2.child.node) in
+    let A : ℕ → Type 0 = λ n. EachState (g.S.RecordRead.meaning c.args.store.now) (g.S.RecordRead.meaning c.read_node.new.store) (λ state. IsAt n state (c.in-Some-2.child.at, content_of c.in-Some-2.child.node)) in
+    (c.enter.ensures.calls.0 + asks_at c.in-Some-2.child.node.entries.items, (Calls-trans _ _ _ c.enter.ensures.calls.0 (asks_at c.in-Some-2.child.node.entries.items) (Calls-behind _ _ _ c.enter.ensures.calls.0 c.read_node.ensures.calls c.enter.ensures.calls.1) c.put_entry.ensures.calls), takes_err (g.S.RecordRead.meaning c.args.store.now) (g.S.RecordRead.meaning c.read_node.new.store) (g.S.RecordRead.meaning c.enter.new.store) (g.S.RecordRead.meaning c.put_entry.new.store) c.args.key c.args.here.now.entries.items c.args.rank (c.in-Some-2.child.node.low, c.in-Some-2.child.at) (content_of c.in-Some-2.child.node) c.enter.ensures.calls.0 c.args.depth c.args.here.now.kind kind c.in_ok-child.ensures.after c.enter.ensures.after.reads c.put_entry.ensures.after.reads (subst C c.requires.size child) (subst A c.requires.size at) c.enter.result c.enter.ensures.calls.2 c.args.rid c.rank-child_rank.result c.in-Takes.entry (c.in_ok-enter.was ∙ ap (λ e. Ok e) c.in-Takes.is) (λ leaf. (let l = rw c.in-Takes.is at (c.in_ok-enter.ensures.leaf leaf) in l.0.1)) (λ inner. from_reads (g.S.RecordRead.meaning c.args.store.now) (g.S.RecordRead.meaning c.read_node.new.store) (g.S.RecordRead.meaning c.enter.new.store) c.args.key c.args.rid c.in-Some-2.child.node.entries.items c.rank-child_rank.result c.in_ok-enter.field-0 _ c.in_ok-child.ensures.after c.in-Takes.is (c.in_ok-enter.ensures.inner inner)) c.from_residual-in_err-new-in-Takes.result c.from_residual-in_err-new-in-Takes.ensures.0 c.put_entry.ensures.few)
+
+pub returns-in-There-clause-inner : goal.returns-in-There-clause-inner
+returns-in-There-clause-inner g t c = λ kind.
+    let some = rank_some c.args.size (content_of c.args.here.now) c.args.key c.args.rank c.requires.sound kind c.requires.low c.requires.rank in
+    let read = rw c.deref.ensures.0 at c.in_ok-child.ensures.link in
+    let link = at_some (IsLink c.args.size _ _) c.in-Some-2.child c.in-Some-2.is read in
+    let child = child_is c.args.size c.args.key c.args.here.now.entries.items c.args.rank c.in-Some-2.child c.requires.rank some link in
+    let at = child_at c.args.size _ (g.S.RecordRead.meaning c.args.store.now) (g.S.RecordRead.meaning c.read_node.new.store) c.in-Some-2.child c.in_ok-child.field-0 c.in-Some-2.is c.in_ok-child.ensures.read in
+    let C : ℕ → Type 0 = λ n. IsChild n c.args.key c.args.here.now.entries.items c.args.rank (c.in-Some-2.child.node.low, c.in-Some-2.child.at) (content_of c.in-Some-2.child.node) in
+    let A : ℕ → Type 0 = λ n. EachState (g.S.RecordRead.meaning c.args.store.now) (g.S.RecordRead.meaning c.read_node.new.store) (λ state. IsAt n state (c.in-Some-2.child.at, content_of c.in-Some-2.child.node)) in
+    enter_there (g.S.RecordRead.meaning c.args.store.now) (g.S.RecordRead.meaning c.read_node.new.store) (g.S.RecordRead.meaning c.enter.new.store) c.args.key c.args.rid c.args.here.now.entries.items c.args.rank (c.in-Some-2.child.node.low, c.in-Some-2.child.at) (content_of c.in-Some-2.child.node) c.rank-child_rank.result
+    c.enter.ensures.after.reads (subst C c.requires.size child) (subst A c.requires.size at)
+    (λ leaf. (let l = c.in_ok-enter.ensures.leaf leaf in (rw c.in-There.is at l).0))
+    (λ inner. from_reads (g.S.RecordRead.meaning c.args.store.now) (g.S.RecordRead.meaning c.read_node.new.store) (g.S.RecordRead.meaning c.enter.new.store) c.args.key c.args.rid c.in-Some-2.child.node.entries.items c.rank-child_rank.result c.in_ok-enter.field-0 _ c.in_ok-child.ensures.after c.in-There.is (c.in_ok-enter.ensures.inner inner))
+
+pub returns-in-There-clause-calls : goal.returns-in-There-clause-calls
+returns-in-There-clause-calls g t c =
+    let kind = c.is_inner.ensures.inner c.if-not-is_inner.false in
+    let some = rank_some c.args.size (content_of c.args.here.now) c.args.key c.args.rank c.requires.sound kind c.requires.low c.requires.rank in
+    let read = rw c.deref.ensures.0 at c.in_ok-child.ensures.link in
+    let link = at_some (IsLink c.args.size _ _) c.in-Some-2.child c.in-Some-2.is read in
+    let child = child_is c.args.size c.args.key c.args.here.now.entries.items c.args.rank c.in-Some-2.child c.requires.rank some link in
+    let at = child_at c.args.size _ (g.S.RecordRead.meaning c.args.store.now) (g.S.RecordRead.meaning c.read_node.new.store) c.in-Some-2.child c.in_ok-child.field-0 c.in-Some-2.is c.in_ok-child.ensures.read in
+    let C : ℕ → Type 0 = λ n. IsChild n c.args.key c.args.here.now.entries.items c.args.rank (c.in-Some-2.child.node.low, c.in-Some-2.child.at) (content_of c.in-Some-2.child.node) in
+    let A : ℕ → Type 0 = λ n. EachState (g.S.RecordRead.meaning c.args.store.now) (g.S.RecordRead.meaning c.read_node.new.store) (λ state. IsAt n state (c.in-Some-2.child.at, content_of c.in-Some-2.child.node)) in
+    (c.enter.ensures.calls.0, (Calls-behind _ _ _ c.enter.ensures.calls.0 c.read_node.ensures.calls c.enter.ensures.calls.1), below_there (g.S.RecordRead.meaning c.args.store.now) (g.S.RecordRead.meaning c.read_node.new.store) (g.S.RecordRead.meaning c.enter.new.store) (g.S.RecordRead.meaning c.enter.new.store) c.args.key c.args.here.now.entries.items c.args.rank (c.in-Some-2.child.node.low, c.in-Some-2.child.at) (content_of c.in-Some-2.child.node) c.enter.ensures.calls.0 c.args.depth c.args.here.now.kind kind c.in_ok-child.ensures.after c.enter.ensures.after.reads (extends-refl (g.S.RecordRead.meaning c.enter.new.store).reads) (subst C c.requires.size child) (subst A c.requires.size at) c.enter.result c.enter.ensures.calls.2 (c.in_ok-enter.was ∙ ap (λ e. Ok e) c.in-There.is) refl)
+
+pub returns-in-Done-clause-inner : goal.returns-in-Done-clause-inner
+returns-in-Done-clause-inner g t c = λ kind.
+    let some = rank_some c.args.size (content_of c.args.here.now) c.args.key c.args.rank c.requires.sound kind c.requires.low c.requires.rank in
+    let read = rw c.deref.ensures.0 at c.in_ok-child.ensures.link in
+    let link = at_some (IsLink c.args.size _ _) c.in-Some-2.child c.in-Some-2.is read in
+    let child = child_is c.args.size c.args.key c.args.here.now.entries.items c.args.rank c.in-Some-2.child c.requires.rank some link in
+    let at = child_at c.args.size _ (g.S.RecordRead.meaning c.args.store.now) (g.S.RecordRead.meaning c.read_node.new.store) c.in-Some-2.child c.in_ok-child.field-0 c.in-Some-2.is c.in_ok-child.ensures.read in
+    let C : ℕ → Type 0 = λ n. IsChild n c.args.key c.args.here.now.entries.items c.args.rank (c.in-Some-2.child.node.low, c.in-Some-2.child.at) (content_of c.in-Some-2.child.node) in
+    let A : ℕ → Type 0 = λ n. EachState (g.S.RecordRead.meaning c.args.store.now) (g.S.RecordRead.meaning c.read_node.new.store) (λ state. IsAt n state (c.in-Some-2.child.at, content_of c.in-Some-2.child.node)) in
+    enter_done (g.S.RecordRead.meaning c.args.store.now) (g.S.RecordRead.meaning c.read_node.new.store) (g.S.RecordRead.meaning c.enter.new.store) c.args.key c.args.rid c.args.here.now.entries.items c.args.rank (c.in-Some-2.child.node.low, c.in-Some-2.child.at) (content_of c.in-Some-2.child.node) c.rank-child_rank.result
+    c.enter.ensures.after.reads (subst C c.requires.size child) (subst A c.requires.size at)
+    (λ leaf. (let l = c.in_ok-enter.ensures.leaf leaf in (rw c.in-Done.is at l).0))
+    (λ inner. from_reads (g.S.RecordRead.meaning c.args.store.now) (g.S.RecordRead.meaning c.read_node.new.store) (g.S.RecordRead.meaning c.enter.new.store) c.args.key c.args.rid c.in-Some-2.child.node.entries.items c.rank-child_rank.result c.in_ok-enter.field-0 _ c.in_ok-child.ensures.after c.in-Done.is (c.in_ok-enter.ensures.inner inner))
+
+pub returns-in-Done-clause-calls : goal.returns-in-Done-clause-calls
+returns-in-Done-clause-calls g t c =
+    let kind = c.is_inner.ensures.inner c.if-not-is_inner.false in
+    let some = rank_some c.args.size (content_of c.args.here.now) c.args.key c.args.rank c.requires.sound kind c.requires.low c.requires.rank in
+    let read = rw c.deref.ensures.0 at c.in_ok-child.ensures.link in
+    let link = at_some (IsLink c.args.size _ _) c.in-Some-2.child c.in-Some-2.is read in
+    let child = child_is c.args.size c.args.key c.args.here.now.entries.items c.args.rank c.in-Some-2.child c.requires.rank some link in
+    let at = child_at c.args.size _ (g.S.RecordRead.meaning c.args.store.now) (g.S.RecordRead.meaning c.read_node.new.store) c.in-Some-2.child c.in_ok-child.field-0 c.in-Some-2.is c.in_ok-child.ensures.read in
+    let C : ℕ → Type 0 = λ n. IsChild n c.args.key c.args.here.now.entries.items c.args.rank (c.in-Some-2.child.node.low, c.in-Some-2.child.at) (content_of c.in-Some-2.child.node) in
+    let A : ℕ → Type 0 = λ n. EachState (g.S.RecordRead.meaning c.args.store.now) (g.S.RecordRead.meaning c.read_node.new.store) (λ state. IsAt n state (c.in-Some-2.child.at, content_of c.in-Some-2.child.node)) in
+    (c.enter.ensures.calls.0, (Calls-behind _ _ _ c.enter.ensures.calls.0 c.read_node.ensures.calls c.enter.ensures.calls.1), below_done (g.S.RecordRead.meaning c.args.store.now) (g.S.RecordRead.meaning c.read_node.new.store) (g.S.RecordRead.meaning c.enter.new.store) (g.S.RecordRead.meaning c.enter.new.store) c.args.key c.args.here.now.entries.items c.args.rank (c.in-Some-2.child.node.low, c.in-Some-2.child.at) (content_of c.in-Some-2.child.node) c.enter.ensures.calls.0 c.args.depth c.args.here.now.kind kind c.in_ok-child.ensures.after c.enter.ensures.after.reads (extends-refl (g.S.RecordRead.meaning c.enter.new.store).reads) (subst C c.requires.size child) (subst A c.requires.size at) c.enter.result c.enter.ensures.calls.2 (c.in_ok-enter.was ∙ ap (λ e. Ok e) c.in-Done.is) (λ leaf. (let l = c.in_ok-enter.ensures.leaf leaf in (rw c.in-Done.is at l).0)) refl)
+
+pub returns-in-Some-3-clause-inner : goal.returns-in-Some-3-clause-inner
+returns-in-Some-3-clause-inner g t c = λ kind.
+    let some = rank_some c.args.size (content_of c.args.here.now) c.args.key c.args.rank c.requires.sound kind c.requires.low c.requires.rank in
+    let read = rw c.deref.ensures.0 at c.in_ok-child.ensures.link in
+    let link = at_some (IsLink c.args.size _ _) c.in-Some-2.child c.in-Some-2.is read in
+    let child = child_is c.args.size c.args.key c.args.here.now.entries.items c.args.rank c.in-Some-2.child c.requires.rank some link in
+    let at = child_at c.args.size _ (g.S.RecordRead.meaning c.args.store.now) (g.S.RecordRead.meaning c.read_node.new.store) c.in-Some-2.child c.in_ok-child.field-0 c.in-Some-2.is c.in_ok-child.ensures.read in
+    let C : ℕ → Type 0 = λ n. IsChild n c.args.key c.args.here.now.entries.items c.args.rank (c.in-Some-2.child.node.low, c.in-Some-2.child.at) (content_of c.in-Some-2.child.node) in
+    let A : ℕ → Type 0 = λ n. EachState (g.S.RecordRead.meaning c.args.store.now) (g.S.RecordRead.meaning c.read_node.new.store) (λ state. IsAt n state (c.in-Some-2.child.at, content_of c.in-Some-2.child.node)) in
+    let low = child_low c.args.size c.args.key c.args.here.now.entries.items c.args.rank (c.in-Some-2.child.node.low, c.in-Some-2.child.at) (content_of c.in-Some-2.child.node) child in
+    let L : ℕ → Type 0 = λ n. c.args.rid < n in
+    let N : ℕ → Type 0 = λ n. c.in-Takes.entry.1 < n in
+    let within = rw c.in-Takes.is at c.in_ok-enter.ensures.within in
+    let puts = rw c.in-Some-3.is at c.in_ok-new-in-Takes.ensures.ok in
+    enter_takes (Some c.in-Some-3.new) (g.S.RecordRead.meaning c.args.store.now) (g.S.RecordRead.meaning c.read_node.new.store) (g.S.RecordRead.meaning c.enter.new.store) (g.S.RecordRead.meaning c.put_entry.new.store) c.args.key c.args.rid c.args.here.now.entries.items c.args.rank (c.in-Some-2.child.node.low, c.in-Some-2.child.at) (content_of c.in-Some-2.child.node) c.rank-child_rank.result c.in-Takes.entry
+    c.in_ok-child.ensures.after c.enter.ensures.after c.put_entry.ensures.after (subst L c.requires.size c.requires.rid) (subst N c.requires.size within) (subst C c.requires.size child) c.rank-child_rank.ensures.rank
+    (λ inner. rank_some c.args.size (content_of c.in-Some-2.child.node) c.args.key c.rank-child_rank.result link.sound inner low c.rank-child_rank.ensures.rank) (subst A c.requires.size at)
+    (λ leaf. (let l = rw c.in-Takes.is at (c.in_ok-enter.ensures.leaf leaf) in (l.0.0, l.0.1, l.1)))
+    (λ inner. from_reads (g.S.RecordRead.meaning c.args.store.now) (g.S.RecordRead.meaning c.read_node.new.store) (g.S.RecordRead.meaning c.enter.new.store) c.args.key c.args.rid c.in-Some-2.child.node.entries.items c.rank-child_rank.result c.in_ok-enter.field-0 _ c.in_ok-child.ensures.after c.in-Takes.is (c.in_ok-enter.ensures.inner inner)) puts
+
+pub returns-in-Some-3-clause-calls : goal.returns-in-Some-3-clause-calls
+returns-in-Some-3-clause-calls g t c =
+    let kind = c.is_inner.ensures.inner c.if-not-is_inner.false in
+    let some = rank_some c.args.size (content_of c.args.here.now) c.args.key c.args.rank c.requires.sound kind c.requires.low c.requires.rank in
+    let read = rw c.deref.ensures.0 at c.in_ok-child.ensures.link in
+    let link = at_some (IsLink c.args.size _ _) c.in-Some-2.child c.in-Some-2.is read in
+    let child = child_is c.args.size c.args.key c.args.here.now.entries.items c.args.rank c.in-Some-2.child c.requires.rank some link in
+    let at = child_at c.args.size _ (g.S.RecordRead.meaning c.args.store.now) (g.S.RecordRead.meaning c.read_node.new.store) c.in-Some-2.child c.in_ok-child.field-0 c.in-Some-2.is c.in_ok-child.ensures.read in
+    let C : ℕ → Type 0 = λ n. IsChild n c.args.key c.args.here.now.entries.items c.args.rank (c.in-Some-2.child.node.low, c.in-Some-2.child.at) (content_of c.in-Some-2.child.node) in
+    let A : ℕ → Type 0 = λ n. EachState (g.S.RecordRead.meaning c.args.store.now) (g.S.RecordRead.meaning c.read_node.new.store) (λ state. IsAt n state (c.in-Some-2.child.at, content_of c.in-Some-2.child.node)) in
+    let puts = rw c.in-Some-3.is at c.in_ok-new-in-Takes.ensures.ok in
+    let two = rw c.in-Some-3.is at c.in_ok-new-in-Takes.ensures.parted in
+    (c.enter.ensures.calls.0 + asks_at c.in-Some-2.child.node.entries.items, (Calls-trans _ _ _ c.enter.ensures.calls.0 (asks_at c.in-Some-2.child.node.entries.items) (Calls-behind _ _ _ c.enter.ensures.calls.0 c.read_node.ensures.calls c.enter.ensures.calls.1) c.put_entry.ensures.calls), takes_more (g.S.RecordRead.meaning c.args.store.now) (g.S.RecordRead.meaning c.read_node.new.store) (g.S.RecordRead.meaning c.enter.new.store) (g.S.RecordRead.meaning c.put_entry.new.store) c.args.key c.args.here.now.entries.items c.args.rank (c.in-Some-2.child.node.low, c.in-Some-2.child.at) (content_of c.in-Some-2.child.node) c.enter.ensures.calls.0 c.args.depth c.args.here.now.kind kind c.in_ok-child.ensures.after c.enter.ensures.after.reads c.put_entry.ensures.after.reads (subst C c.requires.size child) (subst A c.requires.size at) c.enter.result c.enter.ensures.calls.2 c.args.rid c.rank-child_rank.result c.in-Takes.entry (c.in_ok-enter.was ∙ ap (λ e. Ok e) c.in-Takes.is) (λ leaf. (let l = rw c.in-Takes.is at (c.in_ok-enter.ensures.leaf leaf) in l.0.1)) (λ inner. from_reads (g.S.RecordRead.meaning c.args.store.now) (g.S.RecordRead.meaning c.read_node.new.store) (g.S.RecordRead.meaning c.enter.new.store) c.args.key c.args.rid c.in-Some-2.child.node.entries.items c.rank-child_rank.result c.in_ok-enter.field-0 _ c.in_ok-child.ensures.after c.in-Takes.is (c.in_ok-enter.ensures.inner inner)) c.in-Some-3.new (omega (arith, puts.0, length-with c.in-Some-2.child.node.entries.items c.rank-child_rank.result c.in-Takes.entry)) c.put_entry.ensures.few two)
+
+pub returns-in-None-2-clause-inner : goal.returns-in-None-2-clause-inner
+returns-in-None-2-clause-inner g t c = λ kind.
+    let some = rank_some c.args.size (content_of c.args.here.now) c.args.key c.args.rank c.requires.sound kind c.requires.low c.requires.rank in
+    let read = rw c.deref.ensures.0 at c.in_ok-child.ensures.link in
+    let link = at_some (IsLink c.args.size _ _) c.in-Some-2.child c.in-Some-2.is read in
+    let child = child_is c.args.size c.args.key c.args.here.now.entries.items c.args.rank c.in-Some-2.child c.requires.rank some link in
+    let at = child_at c.args.size _ (g.S.RecordRead.meaning c.args.store.now) (g.S.RecordRead.meaning c.read_node.new.store) c.in-Some-2.child c.in_ok-child.field-0 c.in-Some-2.is c.in_ok-child.ensures.read in
+    let C : ℕ → Type 0 = λ n. IsChild n c.args.key c.args.here.now.entries.items c.args.rank (c.in-Some-2.child.node.low, c.in-Some-2.child.at) (content_of c.in-Some-2.child.node) in
+    let A : ℕ → Type 0 = λ n. EachState (g.S.RecordRead.meaning c.args.store.now) (g.S.RecordRead.meaning c.read_node.new.store) (λ state. IsAt n state (c.in-Some-2.child.at, content_of c.in-Some-2.child.node)) in
+    let low = child_low c.args.size c.args.key c.args.here.now.entries.items c.args.rank (c.in-Some-2.child.node.low, c.in-Some-2.child.at) (content_of c.in-Some-2.child.node) child in
+    let L : ℕ → Type 0 = λ n. c.args.rid < n in
+    let N : ℕ → Type 0 = λ n. c.in-Takes.entry.1 < n in
+    let within = rw c.in-Takes.is at c.in_ok-enter.ensures.within in
+    let puts = rw c.in-None-2.is at c.in_ok-new-in-Takes.ensures.ok in
+    enter_takes None (g.S.RecordRead.meaning c.args.store.now) (g.S.RecordRead.meaning c.read_node.new.store) (g.S.RecordRead.meaning c.enter.new.store) (g.S.RecordRead.meaning c.put_entry.new.store) c.args.key c.args.rid c.args.here.now.entries.items c.args.rank (c.in-Some-2.child.node.low, c.in-Some-2.child.at) (content_of c.in-Some-2.child.node) c.rank-child_rank.result c.in-Takes.entry
+    c.in_ok-child.ensures.after c.enter.ensures.after c.put_entry.ensures.after (subst L c.requires.size c.requires.rid) (subst N c.requires.size within) (subst C c.requires.size child) c.rank-child_rank.ensures.rank
+    (λ inner. rank_some c.args.size (content_of c.in-Some-2.child.node) c.args.key c.rank-child_rank.result link.sound inner low c.rank-child_rank.ensures.rank) (subst A c.requires.size at)
+    (λ leaf. (let l = rw c.in-Takes.is at (c.in_ok-enter.ensures.leaf leaf) in (l.0.0, l.0.1, l.1)))
+    (λ inner. from_reads (g.S.RecordRead.meaning c.args.store.now) (g.S.RecordRead.meaning c.read_node.new.store) (g.S.RecordRead.meaning c.enter.new.store) c.args.key c.args.rid c.in-Some-2.child.node.entries.items c.rank-child_rank.result c.in_ok-enter.field-0 _ c.in_ok-child.ensures.after c.in-Takes.is (c.in_ok-enter.ensures.inner inner)) puts
+
+pub returns-in-None-2-clause-calls : goal.returns-in-None-2-clause-calls
+returns-in-None-2-clause-calls g t c =
+    let kind = c.is_inner.ensures.inner c.if-not-is_inner.false in
+    let some = rank_some c.args.size (content_of c.args.here.now) c.args.key c.args.rank c.requires.sound kind c.requires.low c.requires.rank in
+    let read = rw c.deref.ensures.0 at c.in_ok-child.ensures.link in
+    let link = at_some (IsLink c.args.size _ _) c.in-Some-2.child c.in-Some-2.is read in
+    let child = child_is c.args.size c.args.key c.args.here.now.entries.items c.args.rank c.in-Some-2.child c.requires.rank some link in
+    let at = child_at c.args.size _ (g.S.RecordRead.meaning c.args.store.now) (g.S.RecordRead.meaning c.read_node.new.store) c.in-Some-2.child c.in_ok-child.field-0 c.in-Some-2.is c.in_ok-child.ensures.read in
+    let C : ℕ → Type 0 = λ n. IsChild n c.args.key c.args.here.now.entries.items c.args.rank (c.in-Some-2.child.node.low, c.in-Some-2.child.at) (content_of c.in-Some-2.child.node) in
+    let A : ℕ → Type 0 = λ n. EachState (g.S.RecordRead.meaning c.args.store.now) (g.S.RecordRead.meaning c.read_node.new.store) (λ state. IsAt n state (c.in-Some-2.child.at, content_of c.in-Some-2.child.node)) in
+    let puts = rw c.in-None-2.is at c.in_ok-new-in-Takes.ensures.ok in
+    (c.enter.ensures.calls.0 + asks_at c.in-Some-2.child.node.entries.items, (Calls-trans _ _ _ c.enter.ensures.calls.0 (asks_at c.in-Some-2.child.node.entries.items) (Calls-behind _ _ _ c.enter.ensures.calls.0 c.read_node.ensures.calls c.enter.ensures.calls.1) c.put_entry.ensures.calls), takes_none (g.S.RecordRead.meaning c.args.store.now) (g.S.RecordRead.meaning c.read_node.new.store) (g.S.RecordRead.meaning c.enter.new.store) (g.S.RecordRead.meaning c.put_entry.new.store) c.args.key c.args.here.now.entries.items c.args.rank (c.in-Some-2.child.node.low, c.in-Some-2.child.at) (content_of c.in-Some-2.child.node) c.enter.ensures.calls.0 c.args.depth c.args.here.now.kind kind c.in_ok-child.ensures.after c.enter.ensures.after.reads c.put_entry.ensures.after.reads (subst C c.requires.size child) (subst A c.requires.size at) c.enter.result c.enter.ensures.calls.2 c.args.rid c.rank-child_rank.result c.in-Takes.entry (c.in_ok-enter.was ∙ ap (λ e. Ok e) c.in-Takes.is) (λ leaf. (let l = rw c.in-Takes.is at (c.in_ok-enter.ensures.leaf leaf) in l.0.1)) (λ inner. from_reads (g.S.RecordRead.meaning c.args.store.now) (g.S.RecordRead.meaning c.read_node.new.store) (g.S.RecordRead.meaning c.enter.new.store) c.args.key c.args.rid c.in-Some-2.child.node.entries.items c.rank-child_rank.result c.in_ok-enter.field-0 _ c.in_ok-child.ensures.after c.in-Takes.is (c.in_ok-enter.ensures.inner inner)) (λ nine. omega (arith, nine, puts.0, length-with c.in-Some-2.child.node.entries.items c.rank-child_rank.result c.in-Takes.entry)) c.put_entry.ensures.few)
+
+pub returns-in-There-clause-walked : goal.returns-in-There-clause-walked
+returns-in-There-clause-walked g t c =
+    λ here.
+    let kind = c.is_inner.ensures.inner c.if-not-is_inner.false in
+    let some = rank_some c.args.size (content_of c.args.here.now) c.args.key c.args.rank c.requires.sound kind c.requires.low c.requires.rank in
+    let read = rw c.deref.ensures.0 at c.in_ok-child.ensures.link in
+    let link = at_some (IsLink c.args.size _ _) c.in-Some-2.child c.in-Some-2.is read in
+    let child = child_is c.args.size c.args.key c.args.here.now.entries.items c.args.rank c.in-Some-2.child c.requires.rank some link in
+    let at = child_at c.args.size _ (g.S.RecordRead.meaning c.args.store.now) (g.S.RecordRead.meaning c.read_node.new.store) c.in-Some-2.child c.in_ok-child.field-0 c.in-Some-2.is c.in_ok-child.ensures.read in
+    each_reaches c.args.size c.args.depth c.args.key c.args.here.now.entries.items c.args.rank (c.in-Some-2.child.node.low, c.in-Some-2.child.at) (content_of c.in-Some-2.child.node) (g.S.RecordRead.meaning c.args.store.now) (g.S.RecordRead.meaning c.read_node.new.store) (g.S.RecordRead.meaning c.enter.new.store) (g.S.RecordRead.meaning c.enter.new.store) c.in_ok-child.ensures.after c.enter.ensures.after.reads (extends-refl (g.S.RecordRead.meaning c.enter.new.store).reads) child at (omega (arith, c.requires.depth, c.if-depth-eq-MOST_DEPTH.false)) c.in_ok-enter.ensures.walked
+
+pub returns-in-Done-clause-walked : goal.returns-in-Done-clause-walked
+returns-in-Done-clause-walked g t c =
+    λ here.
+    let kind = c.is_inner.ensures.inner c.if-not-is_inner.false in
+    let some = rank_some c.args.size (content_of c.args.here.now) c.args.key c.args.rank c.requires.sound kind c.requires.low c.requires.rank in
+    let read = rw c.deref.ensures.0 at c.in_ok-child.ensures.link in
+    let link = at_some (IsLink c.args.size _ _) c.in-Some-2.child c.in-Some-2.is read in
+    let child = child_is c.args.size c.args.key c.args.here.now.entries.items c.args.rank c.in-Some-2.child c.requires.rank some link in
+    let at = child_at c.args.size _ (g.S.RecordRead.meaning c.args.store.now) (g.S.RecordRead.meaning c.read_node.new.store) c.in-Some-2.child c.in_ok-child.field-0 c.in-Some-2.is c.in_ok-child.ensures.read in
+    each_reaches c.args.size c.args.depth c.args.key c.args.here.now.entries.items c.args.rank (c.in-Some-2.child.node.low, c.in-Some-2.child.at) (content_of c.in-Some-2.child.node) (g.S.RecordRead.meaning c.args.store.now) (g.S.RecordRead.meaning c.read_node.new.store) (g.S.RecordRead.meaning c.enter.new.store) (g.S.RecordRead.meaning c.enter.new.store) c.in_ok-child.ensures.after c.enter.ensures.after.reads (extends-refl (g.S.RecordRead.meaning c.enter.new.store).reads) child at (omega (arith, c.requires.depth, c.if-depth-eq-MOST_DEPTH.false)) c.in_ok-enter.ensures.walked
+
+pub returns-in-Some-3-clause-walked : goal.returns-in-Some-3-clause-walked
+returns-in-Some-3-clause-walked g t c =
+    λ here.
+    let kind = c.is_inner.ensures.inner c.if-not-is_inner.false in
+    let some = rank_some c.args.size (content_of c.args.here.now) c.args.key c.args.rank c.requires.sound kind c.requires.low c.requires.rank in
+    let read = rw c.deref.ensures.0 at c.in_ok-child.ensures.link in
+    let link = at_some (IsLink c.args.size _ _) c.in-Some-2.child c.in-Some-2.is read in
+    let child = child_is c.args.size c.args.key c.args.here.now.entries.items c.args.rank c.in-Some-2.child c.requires.rank some link in
+    let at = child_at c.args.size _ (g.S.RecordRead.meaning c.args.store.now) (g.S.RecordRead.meaning c.read_node.new.store) c.in-Some-2.child c.in_ok-child.field-0 c.in-Some-2.is c.in_ok-child.ensures.read in
+    each_reaches c.args.size c.args.depth c.args.key c.args.here.now.entries.items c.args.rank (c.in-Some-2.child.node.low, c.in-Some-2.child.at) (content_of c.in-Some-2.child.node) (g.S.RecordRead.meaning c.args.store.now) (g.S.RecordRead.meaning c.read_node.new.store) (g.S.RecordRead.meaning c.enter.new.store) (g.S.RecordRead.meaning c.put_entry.new.store) c.in_ok-child.ensures.after c.enter.ensures.after.reads c.put_entry.ensures.after.reads child at (omega (arith, c.requires.depth, c.if-depth-eq-MOST_DEPTH.false)) c.in_ok-enter.ensures.walked
+
+pub returns-in-None-2-clause-walked : goal.returns-in-None-2-clause-walked
+returns-in-None-2-clause-walked g t c =
+    λ here.
+    let kind = c.is_inner.ensures.inner c.if-not-is_inner.false in
+    let some = rank_some c.args.size (content_of c.args.here.now) c.args.key c.args.rank c.requires.sound kind c.requires.low c.requires.rank in
+    let read = rw c.deref.ensures.0 at c.in_ok-child.ensures.link in
+    let link = at_some (IsLink c.args.size _ _) c.in-Some-2.child c.in-Some-2.is read in
+    let child = child_is c.args.size c.args.key c.args.here.now.entries.items c.args.rank c.in-Some-2.child c.requires.rank some link in
+    let at = child_at c.args.size _ (g.S.RecordRead.meaning c.args.store.now) (g.S.RecordRead.meaning c.read_node.new.store) c.in-Some-2.child c.in_ok-child.field-0 c.in-Some-2.is c.in_ok-child.ensures.read in
+    each_reaches c.args.size c.args.depth c.args.key c.args.here.now.entries.items c.args.rank (c.in-Some-2.child.node.low, c.in-Some-2.child.at) (content_of c.in-Some-2.child.node) (g.S.RecordRead.meaning c.args.store.now) (g.S.RecordRead.meaning c.read_node.new.store) (g.S.RecordRead.meaning c.enter.new.store) (g.S.RecordRead.meaning c.put_entry.new.store) c.in_ok-child.ensures.after c.enter.ensures.after.reads c.put_entry.ensures.after.reads child at (omega (arith, c.requires.depth, c.if-depth-eq-MOST_DEPTH.false)) c.in_ok-enter.ensures.walked

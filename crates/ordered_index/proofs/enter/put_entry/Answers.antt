@@ -1,0 +1,108 @@
+use Rattle.std.proofs.Common.{◌+◌, ◌*◌, refl, sym, ap, arith}
+use Rattle.record_store.specs.Calls.Calls.{none, fresh}
+use Rattle.record_store.specs.Calls.CallFault.{by_fresh}
+use Rattle.record_store.specs.Meaning.{Meaning}
+use Rattle.record_store.proofs.Refusals.{store_fault, fault_moved, IfStore-map}
+use Rattle.record_store.proofs.Paths.{Calls-at, Calls-trans, CallFault-never}
+use Rattle.record_store.proofs.Writes.{writes-none, writes-weaken}
+use Rattle.ordered_index.specs.Asks.{asks_at}
+use Rattle.ordered_index.proofs.Counting.{asks_nine}
+use Rattle.ordered_index.proofs.Asking.{asks_few, had_nine, wrote_none, wrote_fresh, wrote_one}
+use Rattle.ordered_index.proofs.enter.put_entry.Goals as goal
+
+pub returns-in_err-write_node-clause-fault : goal.returns-in_err-write_node-clause-fault
+returns-in_err-write_node-clause-fault g c =
+    fault_moved c.from_residual.result c.write_node.result c.in_err-write_node.field-0.0 _ c.in_err-write_node.was c.from_residual.ensures.1
+    (IfStore-map c.write_node.result (λ fault. CallFault-never _ _ _ _ 0 fault (none _)) c.write_node.ensures.fault)
+
+pub returns-in_err-write_node-clause-calls : goal.returns-in_err-write_node-clause-calls
+returns-in_err-write_node-clause-calls g c =
+    let few = asks_few c.args.link.node.entries.items c.args.rank c.args.entry c.insert.new.self.items c.is_full.result c.insert.ensures.items c.is_full.ensures.value c.if-not-is_full.true c.is_full.ensures.fits in
+    Calls-at _ _ 0 (asks_at c.args.link.node.entries.items) (sym few) c.write_node.ensures.calls
+
+pub returns-in_err-write_node-clause-few : goal.returns-in_err-write_node-clause-few
+returns-in_err-write_node-clause-few g c =
+    writes-weaken 0 (2 * asks_at c.args.link.node.entries.items + 1) (g.S.RecordRead.meaning c.args.store.now) (g.S.RecordRead.meaning c.write_node.new.store) (omega arith) (writes-none (g.S.RecordRead.meaning c.args.store.now) (g.S.RecordRead.meaning c.write_node.new.store) (ap (λ (m : Meaning). m.writes) c.in_err-write_node.ensures.err))
+
+pub returns-then-not-is_full-clause-calls : goal.returns-then-not-is_full-clause-calls
+returns-then-not-is_full-clause-calls g c =
+    let few = asks_few c.args.link.node.entries.items c.args.rank c.args.entry c.insert.new.self.items c.is_full.result c.insert.ensures.items c.is_full.ensures.value c.if-not-is_full.true c.is_full.ensures.fits in
+    Calls-at _ _ 0 (asks_at c.args.link.node.entries.items) (sym few) c.write_node.ensures.calls
+
+pub returns-then-not-is_full-clause-few : goal.returns-then-not-is_full-clause-few
+returns-then-not-is_full-clause-few g c =
+    let m0 = g.S.RecordRead.meaning c.args.store.now in
+    let m1 = g.S.RecordRead.meaning c.write_node.new.store in
+    writes-weaken (0 + 1) (2 * asks_at c.args.link.node.entries.items + 1) m0 m1 (omega arith) (wrote_one 0 m0 m0 m1 _ _ (writes-none m0 m0 refl) c.in_ok-write_node.ensures.ok)
+
+pub returns-in_err-fresh-clause-fault : goal.returns-in_err-fresh-clause-fault
+returns-in_err-fresh-clause-fault g c =
+    let nine = had_nine c.args.link.node.entries.items c.args.rank c.args.entry c.insert.new.self.items c.is_full.result c.insert.ensures.items c.is_full.ensures.value c.if-not-is_full.false in
+    store_fault c.from_residual-in_err-fresh.result c.in_err-fresh.field-0.0 _ c.from_residual-in_err-fresh.ensures.1 (by_fresh c.args.store.now 0 (none c.args.store.now) c.in_err-fresh.ensures.gives (omega arith, nine))
+
+pub returns-in_err-fresh-clause-calls : goal.returns-in_err-fresh-clause-calls
+returns-in_err-fresh-clause-calls g c =
+    let nine = had_nine c.args.link.node.entries.items c.args.rank c.args.entry c.insert.new.self.items c.is_full.result c.insert.ensures.items c.is_full.ensures.value c.if-not-is_full.false in
+    Calls-at _ _ 1 (asks_at c.args.link.node.entries.items) (sym (asks_nine c.args.link.node.entries.items nine)) (fresh _ _ _ 0 _ (none _) c.fresh.ensures.gives)
+
+pub returns-in_err-fresh-clause-few : goal.returns-in_err-fresh-clause-few
+returns-in_err-fresh-clause-few g c =
+    writes-weaken 0 (2 * asks_at c.args.link.node.entries.items + 1) (g.S.RecordRead.meaning c.args.store.now) (g.S.RecordRead.meaning c.fresh.new.self) (omega arith) (writes-none (g.S.RecordRead.meaning c.args.store.now) (g.S.RecordRead.meaning c.fresh.new.self) (ap (λ (m : Meaning). m.writes) c.in_err-fresh.ensures.err))
+
+pub returns-in_err-write_node-2-clause-fault : goal.returns-in_err-write_node-2-clause-fault
+returns-in_err-write_node-2-clause-fault g c =
+    fault_moved c.from_residual-in_err-write_node-2.result c.write_node-2.result c.in_err-write_node-2.field-0.0 _ c.in_err-write_node-2.was c.from_residual-in_err-write_node-2.ensures.1
+    (IfStore-map c.write_node-2.result (λ fault. CallFault-never _ _ _ _ 1 fault (fresh _ _ _ 0 _ (none _) c.fresh.ensures.gives)) c.write_node-2.ensures.fault)
+
+pub returns-in_err-write_node-2-clause-calls : goal.returns-in_err-write_node-2-clause-calls
+returns-in_err-write_node-2-clause-calls g c =
+    let nine = had_nine c.args.link.node.entries.items c.args.rank c.args.entry c.insert.new.self.items c.is_full.result c.insert.ensures.items c.is_full.ensures.value c.if-not-is_full.false in
+    Calls-at _ _ 1 (asks_at c.args.link.node.entries.items) (sym (asks_nine c.args.link.node.entries.items nine)) (Calls-trans _ _ _ 1 0 (fresh _ _ _ 0 _ (none _) c.fresh.ensures.gives) c.write_node-2.ensures.calls)
+
+pub returns-in_err-write_node-2-clause-few : goal.returns-in_err-write_node-2-clause-few
+returns-in_err-write_node-2-clause-few g c =
+    let m0 = g.S.RecordRead.meaning c.args.store.now in
+    let m1 = g.S.RecordRead.meaning c.fresh.new.self in
+    let m2 = g.S.RecordRead.meaning c.write_node-2.new.store in
+    writes-weaken 0 (2 * asks_at c.args.link.node.entries.items + 1) m0 m2 (omega arith) (wrote_none 0 m0 m1 m2 (wrote_fresh m0 m1 _ c.in_ok-fresh.ensures.ok) c.in_err-write_node-2.ensures.err)
+
+pub returns-in_err-write_node-3-clause-fault : goal.returns-in_err-write_node-3-clause-fault
+returns-in_err-write_node-3-clause-fault g c =
+    fault_moved c.from_residual-in_err-write_node-3.result c.write_node-3.result c.in_err-write_node-3.field-0.0 _ c.in_err-write_node-3.was c.from_residual-in_err-write_node-3.ensures.1
+    (IfStore-map c.write_node-3.result (λ fault. CallFault-never _ _ _ _ 1 fault (Calls-trans _ _ _ 1 0 (fresh _ _ _ 0 _ (none _) c.fresh.ensures.gives) c.write_node-2.ensures.calls)) c.write_node-3.ensures.fault)
+
+pub returns-in_err-write_node-3-clause-calls : goal.returns-in_err-write_node-3-clause-calls
+returns-in_err-write_node-3-clause-calls g c =
+    let nine = had_nine c.args.link.node.entries.items c.args.rank c.args.entry c.insert.new.self.items c.is_full.result c.insert.ensures.items c.is_full.ensures.value c.if-not-is_full.false in
+    Calls-at _ _ 1 (asks_at c.args.link.node.entries.items) (sym (asks_nine c.args.link.node.entries.items nine)) (Calls-trans _ _ _ 1 0 (Calls-trans _ _ _ 1 0 (fresh _ _ _ 0 _ (none _) c.fresh.ensures.gives) c.write_node-2.ensures.calls) c.write_node-3.ensures.calls)
+
+pub returns-in_err-write_node-3-clause-few : goal.returns-in_err-write_node-3-clause-few
+returns-in_err-write_node-3-clause-few g c =
+    let m0 = g.S.RecordRead.meaning c.args.store.now in
+    let m1 = g.S.RecordRead.meaning c.fresh.new.self in
+    let m2 = g.S.RecordRead.meaning c.write_node-2.new.store in
+    let m3 = g.S.RecordRead.meaning c.write_node-3.new.store in
+    writes-weaken (0 + 1) (2 * asks_at c.args.link.node.entries.items + 1) m0 m3 (omega arith) (wrote_none (0 + 1) m0 m2 m3 (wrote_one 0 m0 m1 m2 _ _ (wrote_fresh m0 m1 _ c.in_ok-fresh.ensures.ok) c.in_ok-write_node-2.ensures.ok) c.in_err-write_node-3.ensures.err)
+
+pub returns-clause-calls : goal.returns-clause-calls
+returns-clause-calls g c =
+    let nine = had_nine c.args.link.node.entries.items c.args.rank c.args.entry c.insert.new.self.items c.is_full.result c.insert.ensures.items c.is_full.ensures.value c.if-not-is_full.false in
+    Calls-at _ _ 1 (asks_at c.args.link.node.entries.items) (sym (asks_nine c.args.link.node.entries.items nine)) (Calls-trans _ _ _ 1 0 (Calls-trans _ _ _ 1 0 (fresh _ _ _ 0 _ (none _) c.fresh.ensures.gives) c.write_node-2.ensures.calls) c.write_node-3.ensures.calls)
+
+pub returns-clause-few : goal.returns-clause-few
+returns-clause-few g c =
+    let nine = had_nine c.args.link.node.entries.items c.args.rank c.args.entry c.insert.new.self.items c.is_full.result c.insert.ensures.items c.is_full.ensures.value c.if-not-is_full.false in
+    let m0 = g.S.RecordRead.meaning c.args.store.now in
+    let m1 = g.S.RecordRead.meaning c.fresh.new.self in
+    let m2 = g.S.RecordRead.meaning c.write_node-2.new.store in
+    let m3 = g.S.RecordRead.meaning c.write_node-3.new.store in
+    writes-weaken (0 + 1 + 1) (2 * asks_at c.args.link.node.entries.items + 1) m0 m3 (omega (arith, asks_nine c.args.link.node.entries.items nine)) (wrote_one (0 + 1) m0 m2 m3 _ _ (wrote_one 0 m0 m1 m2 _ _ (wrote_fresh m0 m1 _ c.in_ok-fresh.ensures.ok) c.in_ok-write_node-2.ensures.ok) c.in_ok-write_node-3.ensures.ok)
+
+pub returns-clause-parted : goal.returns-clause-parted
+returns-clause-parted g c =
+    let nine = had_nine c.args.link.node.entries.items c.args.rank c.args.entry c.insert.new.self.items c.is_full.result c.insert.ensures.items c.is_full.ensures.value c.if-not-is_full.false in
+    let m0 = g.S.RecordRead.meaning c.args.store.now in
+    let m1 = g.S.RecordRead.meaning c.fresh.new.self in
+    let m2 = g.S.RecordRead.meaning c.write_node-2.new.store in
+    let m3 = g.S.RecordRead.meaning c.write_node-3.new.store in
+    writes-weaken (0 + 1 + 1) (2 * asks_at c.args.link.node.entries.items) m0 m3 (omega (arith, asks_nine c.args.link.node.entries.items nine)) (wrote_one (0 + 1) m0 m2 m3 _ _ (wrote_one 0 m0 m1 m2 _ _ (wrote_fresh m0 m1 _ c.in_ok-fresh.ensures.ok) c.in_ok-write_node-2.ensures.ok) c.in_ok-write_node-3.ensures.ok)

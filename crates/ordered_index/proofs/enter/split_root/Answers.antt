@@ -1,0 +1,147 @@
+use Rattle.std.proofs.Common.{◌≡◌, Some, refl, ap, ◌∙◌, arith}
+use Rattle.record_store.specs.Meaning.{Meaning, after_write, after_fresh}
+use Rattle.ordered_index.specs.Node.{Content, words_of}
+use Rattle.ordered_index.specs.Held.{content_of}
+use Rattle.ordered_index.specs.Enter.{key_at, left_of, right_of, over_of}
+use Rattle.record_store.specs.Calls.Calls.{none, fresh}
+use Rattle.record_store.proofs.Refusals.{store_fault, fault_moved, IfStore-map}
+use Rattle.record_store.proofs.Paths.{Calls-trans, CallFault-never}
+use Rattle.record_store.specs.Calls.CallFault.{by_fresh}
+use Rattle.ordered_index.specs.Enter.PutsRoot.{parted}
+use Rattle.ordered_index.proofs.Rooting.{grow_two, grow_write, grow_equal}
+use Rattle.record_store.proofs.Writes.{writes-none, writes-trans, writes-weaken}
+use Rattle.ordered_index.proofs.Asking.{wrote_none, wrote_fresh, wrote_one, on_err}
+use Rattle.ordered_index.proofs.enter.split_root.Goals as goal
+
+pub returns-in_err-left-clause-fault : goal.returns-in_err-left-clause-fault
+returns-in_err-left-clause-fault g c =
+    store_fault c.from_residual.result c.in_err-left.field-0.0 _ c.from_residual.ensures.1 (by_fresh c.args.store.now 0 (none c.args.store.now) c.in_err-left.ensures.gives (omega arith))
+
+pub returns-in_err-left-clause-calls : goal.returns-in_err-left-clause-calls
+returns-in_err-left-clause-calls g c = (1, fresh _ _ _ 0 _ (none _) c.fresh.ensures.gives, omega arith, on_err c.from_residual.result _ c.from_residual.ensures.0, omega arith)
+
+pub returns-in_err-right-clause-fault : goal.returns-in_err-right-clause-fault
+returns-in_err-right-clause-fault g c =
+    store_fault c.from_residual-in_err-right.result c.in_err-right.field-0.0 _ c.from_residual-in_err-right.ensures.1 (by_fresh c.fresh.new.self 1 (fresh _ _ _ 0 _ (none _) c.fresh.ensures.gives) c.in_err-right.ensures.gives (omega arith))
+
+pub returns-in_err-right-clause-calls : goal.returns-in_err-right-clause-calls
+returns-in_err-right-clause-calls g c = (2, fresh _ _ _ 1 _ (fresh _ _ _ 0 _ (none _) c.fresh.ensures.gives) c.fresh-2.ensures.gives, omega arith, on_err c.from_residual-in_err-right.result _ c.from_residual-in_err-right.ensures.0, omega arith)
+
+pub returns-in_err-write_node-clause-fault : goal.returns-in_err-write_node-clause-fault
+returns-in_err-write_node-clause-fault g c =
+    fault_moved c.from_residual-in_err-write_node.result c.write_node.result c.in_err-write_node.field-0.0 _ c.in_err-write_node.was c.from_residual-in_err-write_node.ensures.1
+    (IfStore-map c.write_node.result (λ fault. CallFault-never _ _ _ _ 2 fault (fresh _ _ _ 1 _ (fresh _ _ _ 0 _ (none _) c.fresh.ensures.gives) c.fresh-2.ensures.gives)) c.write_node.ensures.fault)
+
+pub returns-in_err-write_node-clause-calls : goal.returns-in_err-write_node-clause-calls
+returns-in_err-write_node-clause-calls g c = (2, Calls-trans _ _ _ 2 0 (fresh _ _ _ 1 _ (fresh _ _ _ 0 _ (none _) c.fresh.ensures.gives) c.fresh-2.ensures.gives) c.write_node.ensures.calls, omega arith, on_err c.from_residual-in_err-write_node.result _ c.from_residual-in_err-write_node.ensures.0, omega arith)
+
+pub returns-in_err-write_node-2-clause-fault : goal.returns-in_err-write_node-2-clause-fault
+returns-in_err-write_node-2-clause-fault g c =
+    fault_moved c.from_residual-in_err-write_node-2.result c.write_node-2.result c.in_err-write_node-2.field-0.0 _ c.in_err-write_node-2.was c.from_residual-in_err-write_node-2.ensures.1
+    (IfStore-map c.write_node-2.result (λ fault. CallFault-never _ _ _ _ 2 fault (Calls-trans _ _ _ 2 0 (fresh _ _ _ 1 _ (fresh _ _ _ 0 _ (none _) c.fresh.ensures.gives) c.fresh-2.ensures.gives) c.write_node.ensures.calls)) c.write_node-2.ensures.fault)
+
+pub returns-in_err-write_node-2-clause-calls : goal.returns-in_err-write_node-2-clause-calls
+returns-in_err-write_node-2-clause-calls g c = (2, Calls-trans _ _ _ 2 0 (Calls-trans _ _ _ 2 0 (fresh _ _ _ 1 _ (fresh _ _ _ 0 _ (none _) c.fresh.ensures.gives) c.fresh-2.ensures.gives) c.write_node.ensures.calls) c.write_node-2.ensures.calls, omega arith, on_err c.from_residual-in_err-write_node-2.result _ c.from_residual-in_err-write_node-2.ensures.0, omega arith)
+
+pub returns-in_err-write_node-3-clause-fault : goal.returns-in_err-write_node-3-clause-fault
+returns-in_err-write_node-3-clause-fault g c =
+    fault_moved c.from_residual-in_err-write_node-3.result c.write_node-3.result c.in_err-write_node-3.field-0.0 _ c.in_err-write_node-3.was c.from_residual-in_err-write_node-3.ensures.1
+    (IfStore-map c.write_node-3.result (λ fault. CallFault-never _ _ _ _ 2 fault (Calls-trans _ _ _ 2 0 (Calls-trans _ _ _ 2 0 (fresh _ _ _ 1 _ (fresh _ _ _ 0 _ (none _) c.fresh.ensures.gives) c.fresh-2.ensures.gives) c.write_node.ensures.calls) c.write_node-2.ensures.calls)) c.write_node-3.ensures.fault)
+
+pub returns-in_err-write_node-3-clause-calls : goal.returns-in_err-write_node-3-clause-calls
+returns-in_err-write_node-3-clause-calls g c = (2, Calls-trans _ _ _ 2 0 (Calls-trans _ _ _ 2 0 (Calls-trans _ _ _ 2 0 (fresh _ _ _ 1 _ (fresh _ _ _ 0 _ (none _) c.fresh.ensures.gives) c.fresh-2.ensures.gives) c.write_node.ensures.calls) c.write_node-2.ensures.calls) c.write_node-3.ensures.calls, omega arith, on_err c.from_residual-in_err-write_node-3.result _ c.from_residual-in_err-write_node-3.ensures.0, omega arith)
+
+pub returns-clause-calls : goal.returns-clause-calls
+returns-clause-calls g c = (2, Calls-trans _ _ _ 2 0 (Calls-trans _ _ _ 2 0 (Calls-trans _ _ _ 2 0 (fresh _ _ _ 1 _ (fresh _ _ _ 0 _ (none _) c.fresh.ensures.gives) c.fresh-2.ensures.gives) c.write_node.ensures.calls) c.write_node-2.ensures.calls) c.write_node-3.ensures.calls, omega arith, refl, omega arith)
+
+pub returns-clause-ok : goal.returns-clause-ok
+returns-clause-ok g c =
+    let base : g.S.RecordRead.meaning c.fresh-2.new.self ≡ after_fresh (after_fresh (g.S.RecordRead.meaning c.args.store.now) c.in_ok-left.left) c.in_ok-right.right = c.in_ok-right.ensures.ok ∙ ap (λ m. after_fresh m c.in_ok-right.right) c.in_ok-left.ensures.ok in
+    let low : c.part-right_node.result.low ≡ key_at c.args.top.node.entries.items 5 = ap (λ (n : Content). n.low) c.part-right_node.ensures.right in
+    let over : content_of c.over-over.result ≡ over_of c.args.top.node.low c.in_ok-left.left (key_at c.args.top.node.entries.items 5) c.in_ok-right.right = c.over-over.ensures ∙ ap (λ k. over_of c.args.top.node.low c.in_ok-left.left k c.in_ok-right.right) low in
+    let first : Meaning = after_fresh (after_fresh (g.S.RecordRead.meaning c.args.store.now) c.in_ok-left.left) c.in_ok-right.right in
+    let left : Content = left_of (content_of c.args.top.node) c.args.top.node.entries.items c.in_ok-right.right in
+    let right : Content = right_of (content_of c.args.top.node) c.args.top.node.entries.items in
+    let one : g.S.RecordRead.meaning c.write_node.new.store ≡ after_write first c.in_ok-left.left (Some (words_of left)) = c.in_ok-write_node.ensures.ok ∙ ap (λ n. after_write (g.S.RecordRead.meaning c.fresh-2.new.self) c.in_ok-left.left (Some (words_of n))) c.part-right_node.ensures.left ∙ ap (λ m. after_write m c.in_ok-left.left (Some (words_of left))) base in
+    let two : g.S.RecordRead.meaning c.write_node-2.new.store ≡ after_write (after_write first c.in_ok-left.left (Some (words_of left))) c.in_ok-right.right (Some (words_of right)) = c.in_ok-write_node-2.ensures.ok ∙ ap (λ n. after_write (g.S.RecordRead.meaning c.write_node.new.store) c.in_ok-right.right (Some (words_of n))) c.part-right_node.ensures.right ∙ ap (λ m. after_write m c.in_ok-right.right (Some (words_of right))) one in
+    parted c.in_ok-left.left c.in_ok-right.right c.requires.ten c.in_ok-left.ensures.fresh (rw c.in_ok-left.ensures.ok at c.in_ok-right.ensures.fresh)
+    (c.in_ok-write_node-3.ensures.ok ∙ ap (λ n. after_write (g.S.RecordRead.meaning c.write_node-2.new.store) c.args.top.at (Some (words_of n))) over ∙ ap (λ m. after_write m c.args.top.at (Some (words_of (over_of c.args.top.node.low c.in_ok-left.left (key_at c.args.top.node.entries.items 5) c.in_ok-right.right)))) two)
+
+pub returns-in_err-write_node-clause-after : goal.returns-in_err-write_node-clause-after
+returns-in_err-write_node-clause-after g c =
+    let base : g.S.RecordRead.meaning c.fresh-2.new.self ≡ after_fresh (after_fresh (g.S.RecordRead.meaning c.args.store.now) c.in_ok-left.left) c.in_ok-right.right = c.in_ok-right.ensures.ok ∙ ap (λ m. after_fresh m c.in_ok-right.right) c.in_ok-left.ensures.ok in
+    let g0 = grow_equal (g.S.RecordRead.meaning c.args.store.now) _ (g.S.RecordRead.meaning c.fresh-2.new.self) (grow_two (g.S.RecordRead.meaning c.args.store.now) c.in_ok-left.left c.in_ok-right.right) base in
+    grow_equal (g.S.RecordRead.meaning c.args.store.now) (g.S.RecordRead.meaning c.fresh-2.new.self) (g.S.RecordRead.meaning c.write_node.new.store) g0 c.in_err-write_node.ensures.err
+
+pub returns-in_err-write_node-2-clause-after : goal.returns-in_err-write_node-2-clause-after
+returns-in_err-write_node-2-clause-after g c =
+    let base : g.S.RecordRead.meaning c.fresh-2.new.self ≡ after_fresh (after_fresh (g.S.RecordRead.meaning c.args.store.now) c.in_ok-left.left) c.in_ok-right.right = c.in_ok-right.ensures.ok ∙ ap (λ m. after_fresh m c.in_ok-right.right) c.in_ok-left.ensures.ok in
+    let g0 = grow_equal (g.S.RecordRead.meaning c.args.store.now) _ (g.S.RecordRead.meaning c.fresh-2.new.self) (grow_two (g.S.RecordRead.meaning c.args.store.now) c.in_ok-left.left c.in_ok-right.right) base in
+    let g1 = grow_write (g.S.RecordRead.meaning c.args.store.now) (g.S.RecordRead.meaning c.fresh-2.new.self) (g.S.RecordRead.meaning c.write_node.new.store) _ _ g0 c.in_ok-write_node.ensures.ok in
+    grow_equal (g.S.RecordRead.meaning c.args.store.now) (g.S.RecordRead.meaning c.write_node.new.store) (g.S.RecordRead.meaning c.write_node-2.new.store) g1 c.in_err-write_node-2.ensures.err
+
+pub returns-in_err-write_node-3-clause-after : goal.returns-in_err-write_node-3-clause-after
+returns-in_err-write_node-3-clause-after g c =
+    let base : g.S.RecordRead.meaning c.fresh-2.new.self ≡ after_fresh (after_fresh (g.S.RecordRead.meaning c.args.store.now) c.in_ok-left.left) c.in_ok-right.right = c.in_ok-right.ensures.ok ∙ ap (λ m. after_fresh m c.in_ok-right.right) c.in_ok-left.ensures.ok in
+    let g0 = grow_equal (g.S.RecordRead.meaning c.args.store.now) _ (g.S.RecordRead.meaning c.fresh-2.new.self) (grow_two (g.S.RecordRead.meaning c.args.store.now) c.in_ok-left.left c.in_ok-right.right) base in
+    let g1 = grow_write (g.S.RecordRead.meaning c.args.store.now) (g.S.RecordRead.meaning c.fresh-2.new.self) (g.S.RecordRead.meaning c.write_node.new.store) _ _ g0 c.in_ok-write_node.ensures.ok in
+    let g2 = grow_write (g.S.RecordRead.meaning c.args.store.now) (g.S.RecordRead.meaning c.write_node.new.store) (g.S.RecordRead.meaning c.write_node-2.new.store) _ _ g1 c.in_ok-write_node-2.ensures.ok in
+    grow_equal (g.S.RecordRead.meaning c.args.store.now) (g.S.RecordRead.meaning c.write_node-2.new.store) (g.S.RecordRead.meaning c.write_node-3.new.store) g2 c.in_err-write_node-3.ensures.err
+
+pub returns-clause-after : goal.returns-clause-after
+returns-clause-after g c =
+    let base : g.S.RecordRead.meaning c.fresh-2.new.self ≡ after_fresh (after_fresh (g.S.RecordRead.meaning c.args.store.now) c.in_ok-left.left) c.in_ok-right.right = c.in_ok-right.ensures.ok ∙ ap (λ m. after_fresh m c.in_ok-right.right) c.in_ok-left.ensures.ok in
+    let g0 = grow_equal (g.S.RecordRead.meaning c.args.store.now) _ (g.S.RecordRead.meaning c.fresh-2.new.self) (grow_two (g.S.RecordRead.meaning c.args.store.now) c.in_ok-left.left c.in_ok-right.right) base in
+    let g1 = grow_write (g.S.RecordRead.meaning c.args.store.now) (g.S.RecordRead.meaning c.fresh-2.new.self) (g.S.RecordRead.meaning c.write_node.new.store) _ _ g0 c.in_ok-write_node.ensures.ok in
+    let g2 = grow_write (g.S.RecordRead.meaning c.args.store.now) (g.S.RecordRead.meaning c.write_node.new.store) (g.S.RecordRead.meaning c.write_node-2.new.store) _ _ g1 c.in_ok-write_node-2.ensures.ok in
+    grow_write (g.S.RecordRead.meaning c.args.store.now) (g.S.RecordRead.meaning c.write_node-2.new.store) (g.S.RecordRead.meaning c.write_node-3.new.store) _ _ g2 c.in_ok-write_node-3.ensures.ok
+
+pub returns-in_err-left-clause-few : goal.returns-in_err-left-clause-few
+returns-in_err-left-clause-few g c =
+    let m0 = g.S.RecordRead.meaning c.args.store.now in
+    let m1 = g.S.RecordRead.meaning c.fresh.new.self in
+    writes-weaken 0 3 m0 m1 (omega arith) (wrote_none 0 m0 m0 m1 (writes-none m0 m0 refl) c.in_err-left.ensures.err)
+
+pub returns-in_err-right-clause-few : goal.returns-in_err-right-clause-few
+returns-in_err-right-clause-few g c =
+    let m0 = g.S.RecordRead.meaning c.args.store.now in
+    let m1 = g.S.RecordRead.meaning c.fresh.new.self in
+    let m2 = g.S.RecordRead.meaning c.fresh-2.new.self in
+    writes-weaken 0 3 m0 m2 (omega arith) (wrote_none 0 m0 m1 m2 (wrote_fresh m0 m1 _ c.in_ok-left.ensures.ok) c.in_err-right.ensures.err)
+
+pub returns-in_err-write_node-clause-few : goal.returns-in_err-write_node-clause-few
+returns-in_err-write_node-clause-few g c =
+    let m0 = g.S.RecordRead.meaning c.args.store.now in
+    let m1 = g.S.RecordRead.meaning c.fresh.new.self in
+    let m2 = g.S.RecordRead.meaning c.fresh-2.new.self in
+    let m3 = g.S.RecordRead.meaning c.write_node.new.store in
+    writes-weaken 0 3 m0 m3 (omega arith) (wrote_none 0 m0 m2 m3 (writes-trans 0 0 m0 m1 m2 (wrote_fresh m0 m1 _ c.in_ok-left.ensures.ok) (wrote_fresh m1 m2 _ c.in_ok-right.ensures.ok)) c.in_err-write_node.ensures.err)
+
+pub returns-in_err-write_node-2-clause-few : goal.returns-in_err-write_node-2-clause-few
+returns-in_err-write_node-2-clause-few g c =
+    let m0 = g.S.RecordRead.meaning c.args.store.now in
+    let m1 = g.S.RecordRead.meaning c.fresh.new.self in
+    let m2 = g.S.RecordRead.meaning c.fresh-2.new.self in
+    let m3 = g.S.RecordRead.meaning c.write_node.new.store in
+    let m4 = g.S.RecordRead.meaning c.write_node-2.new.store in
+    writes-weaken 1 3 m0 m4 (omega arith) (wrote_none 1 m0 m3 m4 (wrote_one 0 m0 m2 m3 _ _ (writes-trans 0 0 m0 m1 m2 (wrote_fresh m0 m1 _ c.in_ok-left.ensures.ok) (wrote_fresh m1 m2 _ c.in_ok-right.ensures.ok)) c.in_ok-write_node.ensures.ok) c.in_err-write_node-2.ensures.err)
+
+pub returns-in_err-write_node-3-clause-few : goal.returns-in_err-write_node-3-clause-few
+returns-in_err-write_node-3-clause-few g c =
+    let m0 = g.S.RecordRead.meaning c.args.store.now in
+    let m1 = g.S.RecordRead.meaning c.fresh.new.self in
+    let m2 = g.S.RecordRead.meaning c.fresh-2.new.self in
+    let m3 = g.S.RecordRead.meaning c.write_node.new.store in
+    let m4 = g.S.RecordRead.meaning c.write_node-2.new.store in
+    let m5 = g.S.RecordRead.meaning c.write_node-3.new.store in
+    writes-weaken 2 3 m0 m5 (omega arith) (wrote_none 2 m0 m4 m5 (wrote_one 1 m0 m3 m4 _ _ (wrote_one 0 m0 m2 m3 _ _ (writes-trans 0 0 m0 m1 m2 (wrote_fresh m0 m1 _ c.in_ok-left.ensures.ok) (wrote_fresh m1 m2 _ c.in_ok-right.ensures.ok)) c.in_ok-write_node.ensures.ok) c.in_ok-write_node-2.ensures.ok) c.in_err-write_node-3.ensures.err)
+
+pub returns-clause-few : goal.returns-clause-few
+returns-clause-few g c =
+    let m0 = g.S.RecordRead.meaning c.args.store.now in
+    let m1 = g.S.RecordRead.meaning c.fresh.new.self in
+    let m2 = g.S.RecordRead.meaning c.fresh-2.new.self in
+    let m3 = g.S.RecordRead.meaning c.write_node.new.store in
+    let m4 = g.S.RecordRead.meaning c.write_node-2.new.store in
+    let m5 = g.S.RecordRead.meaning c.write_node-3.new.store in
+    wrote_one 2 m0 m4 m5 _ _ (wrote_one 1 m0 m3 m4 _ _ (wrote_one 0 m0 m2 m3 _ _ (writes-trans 0 0 m0 m1 m2 (wrote_fresh m0 m1 _ c.in_ok-left.ensures.ok) (wrote_fresh m1 m2 _ c.in_ok-right.ensures.ok)) c.in_ok-write_node.ensures.ok) c.in_ok-write_node-2.ensures.ok) c.in_ok-write_node-3.ensures.ok

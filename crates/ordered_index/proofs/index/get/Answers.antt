@@ -1,0 +1,27 @@
+use Rattle.std.proofs.Common.{sym, ◌∙◌}
+use Rattle.record_store.proofs.Refusals.{torn_moved, IfTorn-map}
+use Rattle.plain_data.specs.State.{overlay}
+use Rattle.ordered_index.specs.Held.{content_of}
+use Rattle.ordered_index.proofs.Entries.{entry_at-place}
+use Rattle.ordered_index.proofs.Words.{key_of}
+use Rattle.ordered_index.proofs.Trees.{is_torn, found_in}
+use Rattle.ordered_index.proofs.index.get.Goals as goal
+
+pub returns-in_err-leaf-clause-torn : goal.returns-in_err-leaf-clause-torn
+returns-in_err-leaf-clause-torn g c =
+    torn_moved c.from_residual.result c.leaf_for.result c.in_err-leaf.field-0.0 _ c.in_err-leaf.was c.from_residual.ensures.1
+    (IfTorn-map c.leaf_for.result (λ rid. is_torn c.args.root c.size-size.result rid c.args.key _ _ c.size-size.ensures.size) c.leaf_for.ensures.torn)
+
+pub returns-in-Some-place-clause-ok : goal.returns-in-Some-place-clause-ok
+returns-in-Some-place-clause-ok g c = λ state levels leaves agrees tree.
+    let reaches = rw c.in-Some.is at (c.in_ok-leaf.ensures.leaf state agrees) in
+    let within = rw c.in-Some.is at c.in_ok-leaf.ensures.within in
+    let place = rw c.in-Some-place.is at c.place.ensures.place in
+    let found = found_in c.size-size.result c.args.root c.args.key (overlay (g.S.RecordRead.meaning c.args.store.now).writes state) levels leaves (c.in-Some.leaf.at, content_of c.in-Some.leaf.node) (rw c.size-size.ensures.size tree) reaches in
+    rw c.deref.ensures.0 (sym (found ∙ entry_at-place c.in-Some.leaf.node.entries.items c.in-Some-place.index (key_of 0 0, 0) c.args.key within.1.rising place.within (place.here (key_of 0 0, 0))))
+
+pub returns-in-None-clause-ok : goal.returns-in-None-clause-ok
+returns-in-None-clause-ok g c = λ state levels leaves agrees tree.
+    let reaches = rw c.in-Some.is at (c.in_ok-leaf.ensures.leaf state agrees) in
+    let found = found_in c.size-size.result c.args.root c.args.key (overlay (g.S.RecordRead.meaning c.args.store.now).writes state) levels leaves (c.in-Some.leaf.at, content_of c.in-Some.leaf.node) (rw c.size-size.ensures.size tree) reaches in
+    sym (found ∙ rw c.in-None.is at c.place.ensures.absent)

@@ -1,0 +1,70 @@
+use Rattle.std.proofs.Common.{Some, ap, ◌∙◌}
+use Rattle.record_store.proofs.Refusals.{fault_moved, torn_moved, IfStore-map, IfTorn-map}
+use Rattle.record_store.specs.Meaning.{after_write}
+use Rattle.record_store.proofs.Paths.{Calls-reads, Calls-trans, CallFault-read, CallFault-never}
+use Rattle.record_store.proofs.Agreement.{writes_same}
+use Rattle.record_store.proofs.Writes.{writes-none}
+use Rattle.ordered_index.proofs.Asking.{read_few, wrote_none, wrote_one}
+use Rattle.ordered_index.specs.Node.{words_of, Content}
+use Rattle.ordered_index.specs.Held.{content_of}
+use Rattle.ordered_index.proofs.Trees.{is_torn}
+use Rattle.ordered_index.proofs.Removed.{removes_entry, removes_nothing, each_absent}
+use Rattle.ordered_index.proofs.index.remove.Goals as goal
+
+pub returns-in_err-leaf-clause-torn : goal.returns-in_err-leaf-clause-torn
+returns-in_err-leaf-clause-torn g c =
+    torn_moved c.from_residual.result c.leaf_for.result c.in_err-leaf.field-0.0 _ c.in_err-leaf.was c.from_residual.ensures.1
+    (IfTorn-map c.leaf_for.result (λ rid. is_torn c.args.root c.size-size.result rid c.args.key _ _ c.size-size.ensures.size) c.leaf_for.ensures.torn)
+
+pub returns-in_err-leaf-clause-fault : goal.returns-in_err-leaf-clause-fault
+returns-in_err-leaf-clause-fault g c =
+    fault_moved c.from_residual.result c.leaf_for.result c.in_err-leaf.field-0.0 _ c.in_err-leaf.was c.from_residual.ensures.1
+    (IfStore-map c.leaf_for.result (λ fault. CallFault-read _ _ _ fault) c.leaf_for.ensures.fault)
+
+pub returns-in_err-leaf-clause-calls : goal.returns-in_err-leaf-clause-calls
+returns-in_err-leaf-clause-calls g c = Calls-reads _ _ c.leaf_for.ensures.calls
+
+pub returns-in_default-clause-calls : goal.returns-in_default-clause-calls
+returns-in_default-clause-calls g c = Calls-reads _ _ c.leaf_for.ensures.calls
+
+pub returns-in_default-place-clause-ok : goal.returns-in_default-place-clause-ok
+returns-in_default-place-clause-ok g c =
+    removes_nothing c.args.root c.args.key _ _ c.in_ok-leaf.ensures.after
+    (each_absent c.size-size.result c.args.root c.in-Some.leaf.at c.args.key (g.S.RecordRead.meaning c.args.store.now) (g.S.RecordRead.meaning c.leaf_for.new.store) (content_of c.in-Some.leaf.node) c.size-size.ensures.size (λ state agrees. rw c.in-Some.is at (c.in_ok-leaf.ensures.leaf state agrees)) (rw c.in_default-place.is at c.place.ensures.absent))
+
+pub returns-in_default-place-clause-calls : goal.returns-in_default-place-clause-calls
+returns-in_default-place-clause-calls g c = Calls-reads _ _ c.leaf_for.ensures.calls
+
+pub returns-in_err-write_node-clause-fault : goal.returns-in_err-write_node-clause-fault
+returns-in_err-write_node-clause-fault g c =
+    fault_moved c.from_residual-in_err-write_node.result c.write_node.result c.in_err-write_node.field-0.0 _ c.in_err-write_node.was c.from_residual-in_err-write_node.ensures.1
+    (IfStore-map c.write_node.result (λ fault. CallFault-never _ _ _ _ 0 fault (Calls-reads _ _ c.leaf_for.ensures.calls)) c.write_node.ensures.fault)
+
+pub returns-in_err-write_node-clause-calls : goal.returns-in_err-write_node-clause-calls
+returns-in_err-write_node-clause-calls g c = Calls-trans _ _ _ 0 0 (Calls-reads _ _ c.leaf_for.ensures.calls) c.write_node.ensures.calls
+
+pub returns-clause-ok : goal.returns-clause-ok
+returns-clause-ok g c =
+    let within = rw c.in-Some.is at c.in_ok-leaf.ensures.within in
+    let place = rw c.in-Some-place.is at c.place.ensures.place in
+    removes_entry c.size-size.result c.args.root c.in-Some.leaf.at c.in-Some-place.index c.args.key (g.S.RecordRead.meaning c.args.store.now) (g.S.RecordRead.meaning c.leaf_for.new.store) (g.S.RecordRead.meaning c.write_node.new.store) (content_of c.in-Some.leaf.node)
+    c.size-size.ensures.size c.in_ok-leaf.ensures.after (λ state agrees. rw c.in-Some.is at (c.in_ok-leaf.ensures.leaf state agrees)) within.1.rising place
+    (c.in_ok-write_node.ensures.ok ∙ ap (λ es. after_write (g.S.RecordRead.meaning c.leaf_for.new.store) c.in-Some.leaf.at (Some (words_of (let n : Content = record { kind = c.in-Some.leaf.node.kind; low = c.in-Some.leaf.node.low; entries = es; next = c.in-Some.leaf.node.next } in n)))) c.remove.ensures.items)
+
+pub returns-clause-calls : goal.returns-clause-calls
+returns-clause-calls g c = Calls-trans _ _ _ 0 0 (Calls-reads _ _ c.leaf_for.ensures.calls) c.write_node.ensures.calls
+
+pub returns-in_err-leaf-clause-few : goal.returns-in_err-leaf-clause-few
+returns-in_err-leaf-clause-few g c = read_few (g.S.RecordRead.meaning c.args.store.now) (g.S.RecordRead.meaning c.leaf_for.new.store) c.leaf_for.ensures.after
+
+pub returns-in_default-clause-few : goal.returns-in_default-clause-few
+returns-in_default-clause-few g c = read_few (g.S.RecordRead.meaning c.args.store.now) (g.S.RecordRead.meaning c.leaf_for.new.store) c.leaf_for.ensures.after
+
+pub returns-in_default-place-clause-few : goal.returns-in_default-place-clause-few
+returns-in_default-place-clause-few g c = read_few (g.S.RecordRead.meaning c.args.store.now) (g.S.RecordRead.meaning c.leaf_for.new.store) c.leaf_for.ensures.after
+
+pub returns-in_err-write_node-clause-few : goal.returns-in_err-write_node-clause-few
+returns-in_err-write_node-clause-few g c = wrote_none 1 (g.S.RecordRead.meaning c.args.store.now) (g.S.RecordRead.meaning c.leaf_for.new.store) (g.S.RecordRead.meaning c.write_node.new.store) (read_few (g.S.RecordRead.meaning c.args.store.now) (g.S.RecordRead.meaning c.leaf_for.new.store) c.leaf_for.ensures.after) c.in_err-write_node.ensures.err
+
+pub returns-clause-few : goal.returns-clause-few
+returns-clause-few g c = wrote_one 0 (g.S.RecordRead.meaning c.args.store.now) (g.S.RecordRead.meaning c.leaf_for.new.store) (g.S.RecordRead.meaning c.write_node.new.store) _ _ (writes-none (g.S.RecordRead.meaning c.args.store.now) (g.S.RecordRead.meaning c.leaf_for.new.store) (writes_same (g.S.RecordRead.meaning c.args.store.now) (g.S.RecordRead.meaning c.leaf_for.new.store) c.leaf_for.ensures.after)) c.in_ok-write_node.ensures.ok

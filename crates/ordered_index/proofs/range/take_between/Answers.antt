@@ -1,0 +1,40 @@
+use Rattle.std.proofs.Common.{◌≡◌, ℕ, ◌+◌, ◌-◌, ◌≤◌, [], ◌∷◌, ◌++◌, length, get_or, take, true, sym, ap, ◌∙◌, arith, inl}
+use Rattle.std.specs.Prelude.{not, is_ok}
+use Rattle.std.proofs.lemmas.List.{append_assoc, length-append}
+use Rattle.ordered_index.specs.declared.key.Key.{Key}
+use Rattle.ordered_index.specs.Keys.{first_key}
+use Rattle.ordered_index.specs.Scan.{between}
+use Rattle.ordered_index.proofs.Between.{between_ends, between_fills, between_takes, has_behind}
+use Rattle.ordered_index.proofs.range.take_between.Goals as goal
+
+pub returns-then-is_before-clause-items : goal.returns-then-is_before-clause-items
+returns-then-is_before-clause-items c =
+    let old = c.args.out.now.items in
+    let n = c.args.most - length old in
+    let same = c.as_slice-entry-items.ensures.value in
+    let so_far = c.loop-entry.invariant.items in
+    let few : length (between c.args.lo c.args.hi (take c.loop-entry.entry-index c.as_slice-entry-items.result.now)) ≤ n = omega (arith, ap length so_far, length-append old (between c.args.lo c.args.hi (take c.loop-entry.entry-index c.as_slice-entry-items.result.now)), c.loop-entry.out.ok.0, c.loop-entry.invariant.some) in
+    so_far
+    ∙ ap (λ ys. old ++ ys) (between_ends c.args.lo c.args.hi c.as_slice-entry-items.result.now c.loop-entry.entry-index n _ (rw same c.requires.rising) c.loop-entry-test.true (sym c.is_before.ensures ∙ c.if-is_before.true) few)
+    ∙ ap (λ xs. old ++ take n (between c.args.lo c.args.hi xs)) same
+
+pub returns-then-is_before-clause-ends : goal.returns-then-is_before-clause-ends
+returns-then-is_before-clause-ends c = λ no. inl (rw (← c.as_slice-entry-items.ensures.value) (has_behind c.args.hi c.as_slice-entry-items.result.now c.loop-entry.entry-index _ c.loop-entry-test.true (sym c.is_before.ensures ∙ c.if-is_before.true)))
+
+pub returns-then-len-most-clause-items : goal.returns-then-len-most-clause-items
+returns-then-len-most-clause-items c =
+    let old = c.args.out.now.items in
+    let n = c.args.most - length old in
+    let xs = c.as_slice-entry-items.result.now in
+    let i = c.loop-entry.entry-index in
+    let d : Key × ℕ = (first_key, 0) in
+    let ok : is_ok c.push.result ≡ true = c.is_err.ensures.negation ∙ ap not c.if-is_err.false in
+    let now : c.push.new.self.items ≡ old ++ between c.args.lo c.args.hi (take (i + 1) xs) =
+    rw ok at c.push.ensures.items
+    ∙ ap (λ ys. ys ++ get_or xs i d ∷ []) c.loop-entry.invariant.items
+    ∙ append_assoc old (between c.args.lo c.args.hi (take i xs)) (get_or xs i d ∷ [])
+    ∙ ap (λ ys. old ++ ys) (sym (between_takes c.args.lo c.args.hi xs i _ c.loop-entry-test.true (sym c.is_before-in-loop-entry.ensures ∙ c.if-is_before-2.false) (sym c.is_before.ensures ∙ c.if-is_before.false))) in
+    let full : length (between c.args.lo c.args.hi (take (i + 1) xs)) ≡ n = omega (arith, ap length now, length-append old (between c.args.lo c.args.hi (take (i + 1) xs)), c.push.new.self.ok.0, c.len.ensures, c.if-len-most.true) in
+    now
+    ∙ ap (λ ys. old ++ ys) (between_fills c.args.lo c.args.hi xs (i + 1) n full)
+    ∙ ap (λ ys. old ++ take n (between c.args.lo c.args.hi ys)) c.as_slice-entry-items.ensures.value

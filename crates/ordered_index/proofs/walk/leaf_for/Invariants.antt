@@ -1,0 +1,26 @@
+use Rattle.std.proofs.Common.{◌≡◌, ◌-◌, ◌<◌, ◌≤◌}
+use Rattle.record_store.specs.Calls.{Reads}
+use Rattle.record_store.specs.Walks.{OnlyReads}
+use Rattle.ordered_index.specs.Keys.{NotAfter}
+use Rattle.ordered_index.specs.Node.{IsSound}
+use Rattle.ordered_index.specs.Held.{content_of}
+use Rattle.record_store.specs.States.{EachState}
+use Rattle.ordered_index.proofs.Paths.{Walked}
+use Rattle.ordered_index.proofs.walk.leaf_for.Given as goal
+
+-- each state that agrees has the nodes passed so far
+abbrev pub invariant-loop-key : goal.invariant-loop-key
+invariant-loop-key g l = record {
+  calls : Reads g.S.RecordRead.read_gives l.fn.store l.store;
+  after : OnlyReads (g.S.RecordRead.meaning l.fn.store) (g.S.RecordRead.meaning l.store);
+  rest : g.S.RecordRead.rest l.store ≡ g.S.RecordRead.rest l.fn.store;
+  at : l.here.at < l.size;
+  sound : IsSound l.size (content_of l.here.node);
+  low : NotAfter l.here.node.low l.key;
+  deep : l.depth ≤ 24;
+  walked : EachState (g.S.RecordRead.meaning l.fn.store) (g.S.RecordRead.meaning l.store) (λ state. Walked l.size l.root l.depth l.key state l.here);
+}
+
+-- a walk passes 24 nodes at most
+abbrev pub decreases-loop-key : goal.decreases-loop-key
+decreases-loop-key g l = 24 - l.depth

@@ -1,0 +1,10 @@
+pub mod Keys
+pub mod Node
+pub mod Held
+pub mod Tree
+pub mod Walk
+pub mod Splits
+pub mod Changes
+pub mod Enter
+pub mod Asks
+pub mod Scan

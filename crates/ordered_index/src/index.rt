@@ -1,0 +1,135 @@
+//! The calls of the index.
+
+ghost use Rattle.std.specs.Prelude.{◌≡◌, ℕ, ◌+◌, ◌<◌, ◌≤◌, length, IfOk, IfSome, OnOk, OnErr, true, Some, ⊤};
+ghost use Rattle.record_store.specs.Calls.{Reads, ReadFault, Calls, CallFault};
+ghost use Rattle.record_store.specs.Meaning.{after_write};
+ghost use Rattle.ordered_index.specs.Node.{words_of};
+ghost use Rattle.ordered_index.specs.Held.{content_of};
+ghost use Rattle.ordered_index.specs.Changes.{RemovesEntry, InsertsEntry};
+ghost use Rattle.record_store.specs.Writes.{WritesAtMost};
+ghost use Rattle.ordered_index.specs.Asks.{MayAsk, Asks};
+ghost use Rattle.record_store.specs.Walks.{IfTorn, IfStore, IfNoMemory, OnlyReads, ReadsGrow};
+ghost use Rattle.ordered_index.specs.Tree.{EachTree, record_of_key};
+ghost use Rattle.record_store.specs.States.{EachState};
+ghost use Rattle.ordered_index.specs.Walk.{EndsWell, IsTorn};
+
+use crate::enter::{Entering, enter, put_root};
+use crate::key::Key;
+use crate::node::Node;
+use crate::walk::{FIRST, leaf_for, read_node};
+use record_store::{RecordRead, RecordStore, Walk};
+
+/// The record number beside a key in the tree of `root`.
+pub fn get<S: RecordRead>(store: &mut S, root: u32, key: Key) -> Result<Option<u32>, Walk<S::Fault>>
+    requires { root < (S.meaning store.old).size }
+    ensures ok { IfOk result (λ answer. EachTree root (S.meaning store.old) (S.meaning store.new) (λ _ _ leaves. answer ≡ record_of_key leaves key)) }
+
+    // also where no state that agrees has a lawful tree
+    ensures stored { IfOk result (λ answer. IfSome answer (λ rid. rid < (S.meaning store.old).size)) }
+    ensures walked { OnOk result (EachState (S.meaning store.old) (S.meaning store.new) (EndsWell (S.meaning store.old).size root key)) }
+    ensures torn { IfTorn result (IsTorn root key (S.meaning store.old) (S.meaning store.new)) }
+    ensures fault { IfStore result (ReadFault S.read_gives store.old store.new) }
+    ensures memory { IfNoMemory result ⊥ }
+    ensures calls { Reads S.read_gives store.old store.new }
+    ensures rest { S.rest store.new ≡ S.rest store.old }
+    ensures after { OnlyReads (S.meaning store.old) (S.meaning store.new) }
+{
+    let size = store.size();
+    let Some(leaf) = leaf_for(store, size, root, key)? else {
+        return Ok(None);
+    };
+    match leaf.node.place(key) {
+        Some(index) => Ok(Some(leaf.node.entries[index].1)),
+        None => Ok(None),
+    }
+}
+
+/// Removes a key from the tree of `root`, and answers whether it was there.
+///
+/// After a refusal what was read and written may have grown.
+pub fn remove<S: RecordStore>(store: &mut S, root: u32, key: Key) -> Result<bool, Walk<S::Fault>>
+    requires { root < (S.meaning store.old).fixed }
+    ensures ok { IfOk result (λ was_there. RemovesEntry root key was_there (S.meaning store.old) (S.meaning store.new)) }
+    ensures walked { OnOk result (EachState (S.meaning store.old) (S.meaning store.new) (EndsWell (S.meaning store.old).size root key)) }
+    ensures torn { IfTorn result (IsTorn root key (S.meaning store.old) (S.meaning store.new)) }
+    ensures fault { IfStore result (CallFault S.read_gives S.write_gives S.fresh_gives (λ _. ⊥) store.old store.new) }
+    ensures memory { IfNoMemory result ⊥ }
+
+    ensures few { WritesAtMost 1 (S.meaning store.old) (S.meaning store.new) }
+
+    // `fresh` is never asked
+    ensures calls { Calls S.read_gives S.write_gives S.fresh_gives store.old 0 store.new }
+    ensures rest { S.rest store.new ≡ S.rest store.old }
+    ensures after { ReadsGrow (S.meaning store.old) (S.meaning store.new) }
+{
+    let size = store.size();
+    let Some(mut leaf) = leaf_for(store, size, root, key)? else {
+        return Ok(false);
+    };
+    let Some(index) = leaf.node.place(key) else {
+        return Ok(false);
+    };
+    leaf.node.entries.remove(index);
+    write_node(store, leaf.at, &leaf.node)?;
+    Ok(true)
+}
+
+/// Inserts a key with its record number into the tree of `root`, and answers whether it did: a key that is there stays as it was.
+///
+/// A node with nine entries that takes a tenth is parted in two, and a new record is asked for; the root asks for two. After a
+/// refusal what was read and written may have grown.
+pub fn insert<S: RecordStore>(
+    store: &mut S,
+    root: u32,
+    key: Key,
+    rid: u32,
+) -> Result<bool, Walk<S::Fault>>
+    requires root { root < (S.meaning store.old).fixed }
+    requires rid { rid < (S.meaning store.old).size }
+    ensures ok { IfOk result (λ done. InsertsEntry root key rid done (S.meaning store.old) (S.meaning store.new)) }
+    ensures walked { OnOk result (EachState (S.meaning store.old) (S.meaning store.new) (EndsWell (S.meaning store.old).size root key)) }
+    ensures torn { IfTorn result (IsTorn root key (S.meaning store.old) (S.meaning store.new)) }
+
+    // `fresh` is asked where the key is not there, and so often at most as new records are due
+    ensures fault { IfStore result (CallFault S.read_gives S.write_gives S.fresh_gives (MayAsk root key (S.meaning store.old) (S.meaning store.new)) store.old store.new) }
+    ensures memory { IfNoMemory result ⊥ }
+    ensures calls { (asked : ℕ) × Calls S.read_gives S.write_gives S.fresh_gives store.old asked store.new × Asks root key (S.meaning store.old) (S.meaning store.new) result asked }
+    ensures few { WritesAtMost 51 (S.meaning store.old) (S.meaning store.new) }
+    ensures rest { S.rest store.new ≡ S.rest store.old }
+    ensures after { ReadsGrow (S.meaning store.old) (S.meaning store.new) }
+{
+    let size = store.size();
+    let Some(top) = read_node(store, size, root, FIRST)? else {
+        write_node(store, root, &Node::leaf(key, rid))?;
+        return Ok(true);
+    };
+    let rank = top.node.rank(key);
+    match enter(store, size, &top.node, rank, 1, key, rid)? {
+        Entering::There => Ok(false),
+        Entering::Done => Ok(true),
+        Entering::Takes(entry) => {
+            put_root(store, top, rank, entry)?;
+            Ok(true)
+        }
+    }
+}
+
+/// Writes a node to its record.
+pub fn write_node<S: RecordStore>(
+    store: &mut S,
+    rid: u32,
+    node: &Node,
+) -> Result<(), Walk<S::Fault>>
+    requires rid { rid < (S.meaning store.old).size }
+    requires few { length node.now.entries.items ≤ 9 }
+    ensures ok { OnOk result (S.meaning store.new ≡ after_write (S.meaning store.old) rid (Some (words_of (content_of node.now)))) }
+    ensures err { OnErr result (S.meaning store.new ≡ S.meaning store.old) }
+    ensures torn { IfTorn result (λ _. ⊥) }
+    ensures fault { IfStore result (CallFault S.read_gives S.write_gives S.fresh_gives (λ _. ⊥) store.old store.new) }
+    ensures memory { IfNoMemory result ⊥ }
+    ensures calls { Calls S.read_gives S.write_gives S.fresh_gives store.old 0 store.new }
+    ensures rest { S.rest store.new ≡ S.rest store.old }
+{
+    store.write(rid, Some(node.cells()))?;
+    Ok(())
+}

@@ -1,0 +1,167 @@
+//! The scan over the row of leaves.
+
+ghost use Rattle.std.specs.Prelude.{◌≡◌, ◌⊎◌, ℕ, ◌+◌, ◌-◌, ◌<◌, ◌≤◌, ◌++◌, length, take, IfOk, OnOk, OnErr, true, false, vec_len};
+ghost use Rattle.record_store.specs.Limits.{record_limit};
+ghost use Rattle.std.specs.Vec.{vec_capacity};
+ghost use Rattle.record_store.specs.Calls.{Reads, ReadFault};
+ghost use Rattle.record_store.specs.Walks.{IfTorn, IfStore, IfNoMemory, OnlyReads};
+ghost use Rattle.ordered_index.specs.Held.{content_of};
+ghost use Rattle.ordered_index.specs.Keys.{is_before as is_before_of, Rising};
+ghost use Rattle.ordered_index.specs.Tree.{EachTree, IsAt, row_entries};
+ghost use Rattle.record_store.specs.States.{EachState};
+ghost use Rattle.ordered_index.specs.Scan.{between, Appends, ListsNothing, Scans, ScanTears, IsScanTorn, HasBehind, IsLeafBehind, IsNoLeaf, keys_behind};
+
+use crate::key::Key;
+use crate::node::Node;
+use crate::walk::{Link, leaf_for};
+use record_store::{RecordRead, Walk};
+
+/// Appends to `out` the first `limit` pairs of the tree of `root` whose keys lie from `lo` to `hi`, both taken in, by rising key.
+///
+/// Room for `limit` pairs is taken first, and `NoMemory` comes of that alone. After a refusal `out` is as it was. Where the
+/// arguments alone say that there is no such pair, nothing is read.
+pub fn scan<S: RecordRead>(
+    store: &mut S,
+    root: u32,
+    lo: Key,
+    hi: Key,
+    limit: u32,
+    out: &mut Vec<(Key, u32)>,
+) -> Result<(), Walk<S::Fault>>
+    requires { root < (S.meaning store.old).size }
+    ensures ok { OnOk result (EachTree root (S.meaning store.old) (S.meaning store.new) (λ _ _ leaves. out.new.items ≡ out.old.items ++ take limit (between lo hi (row_entries leaves)))) }
+    ensures rising { OnOk result (EachTree root (S.meaning store.old) (S.meaning store.new) (λ _ _ leaves. Rising (take limit (between lo hi (row_entries leaves))))) }
+
+    // also where no state that agrees has a lawful tree
+    ensures stored { OnOk result (Appends (S.meaning store.old).size limit lo hi out.old.items out.new.items) }
+    ensures err { OnErr result (out.new.items ≡ out.old.items) }
+    ensures walked { OnOk result (ListsNothing lo hi limit ⊎ EachState (S.meaning store.old) (S.meaning store.new) (Scans (S.meaning store.old).size root lo hi limit out.old.items out.new.items)) }
+    ensures nothing { ListsNothing lo hi limit → store.new ≡ store.old }
+    ensures torn { IfTorn result (IsScanTorn root lo (S.meaning store.old) (S.meaning store.new)) }
+    ensures fault { IfStore result (ReadFault S.read_gives store.old store.new) }
+    ensures memory { IfNoMemory result ((vec_capacity out.old < vec_len out.old + limit) × (store.new ≡ store.old)) }
+    ensures calls { Reads S.read_gives store.old store.new }
+    ensures rest { S.rest store.new ≡ S.rest store.old }
+    ensures after { OnlyReads (S.meaning store.old) (S.meaning store.new) }
+{
+    if out.reserve(limit as usize).is_err() {
+        return Err(Walk::NoMemory);
+    }
+    if limit == 0 || hi.is_before(lo) {
+        return Ok(());
+    }
+    let kept = out.len();
+    let answer = scan_leaves(store, root, lo, hi, limit as usize, out);
+    if answer.is_err() {
+        out.truncate(kept);
+    }
+    answer
+}
+
+/// Appends pairs of the leaves from that for `lo` on, until there are so many, a key behind `hi` was met, or no leaf is left.
+fn scan_leaves<S: RecordRead>(
+    store: &mut S,
+    root: u32,
+    lo: Key,
+    hi: Key,
+    limit: usize,
+    out: &mut Vec<(Key, u32)>,
+) -> Result<(), Walk<S::Fault>>
+    requires root { root < (S.meaning store.old).size }
+    requires some { 0 < limit }
+    requires room { vec_len out.old + limit ≤ vec_capacity out.old }
+    ensures ok { OnOk result (EachState (S.meaning store.old) (S.meaning store.new) (Scans (S.meaning store.old).size root lo hi limit out.old.items out.new.items)) }
+    ensures appends { Appends (S.meaning store.old).size limit lo hi out.old.items out.new.items }
+    ensures torn { IfTorn result (λ rid. EachState (S.meaning store.old) (S.meaning store.new) (ScanTears (S.meaning store.old).size root lo rid)) }
+    ensures fault { IfStore result (ReadFault S.read_gives store.old store.new) }
+    ensures memory { IfNoMemory result ⊥ }
+    ensures calls { Reads S.read_gives store.old store.new }
+    ensures rest { S.rest store.new ≡ S.rest store.old }
+    ensures after { OnlyReads (S.meaning store.old) (S.meaning store.new) }
+{
+    let size = store.size();
+    let most = out.len() + limit;
+    let Some(mut here) = leaf_for(store, size, root, lo)? else {
+        return Ok(());
+    };
+    let mut goes_on = take_between(&here.node, lo, hi, most, out);
+    while goes_on {
+        let Some(next) = here.node.next else {
+            return Ok(());
+        };
+        let link = read_next_leaf(store, size, next, here.node.low)?;
+        if hi.is_before(link.node.low) {
+            return Ok(());
+        }
+        here = link;
+        goes_on = take_between(&here.node, lo, hi, most, out);
+    }
+    Ok(())
+}
+
+/// Appends a node's entries with keys from `lo` to `hi` until the list has `most`, and answers whether nodes behind it may have
+/// more.
+fn take_between(node: &Node, lo: Key, hi: Key, most: usize, out: &mut Vec<(Key, u32)>) -> bool
+    requires rising { Rising node.now.entries.items }
+    requires some { vec_len out.old < most }
+    requires room { most ≤ vec_capacity out.old }
+    ensures items { out.new.items ≡ out.old.items ++ take (most - length out.old.items) (between lo hi node.now.entries.items) }
+    ensures room { most ≤ vec_capacity out.new }
+    ensures goes_on { result ≡ true → vec_len out.new < most }
+    ensures ends { result ≡ false → HasBehind hi node.now.entries.items ⊎ (vec_len out.new ≡ most) }
+{
+    for entry in node.entries.as_slice() {
+        if hi.is_before(entry.0) {
+            return false;
+        }
+        if entry.0.is_before(lo) {
+            continue;
+        }
+        if out.push(*entry).is_err() {
+            unreachable!();
+        }
+        if out.len() == most {
+            return false;
+        }
+    }
+    true
+}
+
+/// The leaf of a record, with a fence behind that of the leaf before.
+fn read_next_leaf<S: RecordRead>(
+    store: &mut S,
+    size: u32,
+    rid: u32,
+    before: Key,
+) -> Result<Link, Walk<S::Fault>>
+    requires size { size ≡ (S.meaning store.old).size }
+    requires at_most { size ≤ record_limit }
+    requires rid { rid < size }
+    ensures leaf { IfOk result (IsLeafBehind size rid before) }
+    ensures read { IfOk result (λ link. EachState (S.meaning store.old) (S.meaning store.new) (λ state. IsAt size state (link.at, content_of link.node))) }
+    ensures torn { IfTorn result (λ torn. (torn ≡ rid) × EachState (S.meaning store.old) (S.meaning store.new) (λ state. IsNoLeaf size before state rid)) }
+    ensures fault { IfStore result (ReadFault S.read_gives store.old store.new) }
+    ensures memory { IfNoMemory result ⊥ }
+    ensures calls { Reads S.read_gives store.old store.new }
+    ensures rest { S.rest store.new ≡ S.rest store.old }
+    ensures after { OnlyReads (S.meaning store.old) (S.meaning store.new) }
+{
+    let Some(cells) = store.read(rid)? else {
+        return Err(Walk::Torn(rid));
+    };
+    let Some(node) = Node::read(&cells, size) else {
+        return Err(Walk::Torn(rid));
+    };
+    if node.kind.is_inner() || !rises(before, node.low) {
+        return Err(Walk::Torn(rid));
+    }
+    Ok(Link { at: rid, node })
+}
+
+/// Whether a fence rises to the next one.
+fn rises(before: Key, next: Key) -> bool
+    ensures before { result ≡ is_before_of before next }
+    ensures nearer { result ≡ true → keys_behind next < keys_behind before }
+{
+    before.is_before(next)
+}

@@ -1,0 +1,11 @@
+-- How a word of a record names another record.
+use Rattle.std.specs.Prelude.{ℕ, ◌+◌, ◌-◌, ◌==◌, if◌then◌else◌, Option, None, Some}
+
+-- a word names a record by its number plus 1, and 0 names none
+abbrev pub named_by : ℕ → Option ℕ
+named_by word = if word == 0 then None else Some (word - 1)
+
+-- the word that names this record, or none
+abbrev pub link_word : Option ℕ → ℕ
+link_word None = 0
+link_word (Some rid) = rid + 1

@@ -1,0 +1,6 @@
+use Rattle.std.proofs.Common.{◌≡◌}
+use Rattle.store_rows.proofs.store.write_all.Given as goal
+
+-- the store keeps its size
+abbrev pub invariant-loop-rid : goal.invariant-loop-rid
+invariant-loop-rid l = l.store.size ≡ 200000

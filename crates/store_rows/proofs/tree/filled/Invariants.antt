@@ -1,0 +1,10 @@
+use Rattle.std.proofs.Common.{◌≡◌, ◌≤◌}
+use Rattle.store_rows.proofs.tree.filled.Given as goal
+
+-- the store keeps its size, and no more keys were new than inserted
+abbrev pub invariant-loop-i : goal.invariant-loop-i
+invariant-loop-i l = record {
+  size : l.store.size ≡ 513;
+  fixed : l.store.fixed ≡ 512;
+  new : l.new ≤ l.i;
+}

@@ -4,8 +4,10 @@ ghost use Rattle.stamp_base.specs.Stamp.{stamp_of, seat_of, clock_of, bound_of_c
 ghost use Rattle.core_rule.specs.Stamps.{adopted};
 ghost use Rattle.core_rule.specs.Views.{AllOf};
 ghost use Rattle.core_rule.specs.Hands.{IsReady, StaysReady};
+ghost use Rattle.core_rule.specs.Searching.{Ends};
 ghost use Rattle.clock_stamps.specs.Calls.{BecomesRetired};
 ghost use Rattle.clock_stamps.specs.Clocks.{drawn_clock, drawn, rests, synchronised, heard, closed};
+ghost use Rattle.stamp_base.specs.Limits.{greatest_adopted_clock, greatest_clock};
 
 use core_rule::{Core, Hand, Keeps};
 use stamp_base::{GREATEST_ADOPTED_CLOCK, GREATEST_CLOCK, SEATS, Stamp};
@@ -25,7 +27,7 @@ impl fmt::Display for ClockOut {
 impl Error for ClockOut {}
 
 fn next_clock(clock: u64, reading: u64) -> u64
-    requires { clock ≤ GREATEST_CLOCK }
+    requires { clock ≤ greatest_clock }
     ensures { result ≡ drawn_clock clock reading }
 {
     (clock + 1).max(reading.min(GREATEST_ADOPTED_CLOCK))
@@ -34,14 +36,15 @@ fn next_clock(clock: u64, reading: u64) -> u64
 /// Draws the stamp of the next clock, and publishes it as the seat's write stamp. A reading, in any unit, moves the
 /// clock on, but not beyond 2^55. What was in flight before has ended.
 pub fn draw<J: Keeps>(core: &Core<J>, hand: &mut Hand<J>, reading: u64) -> Result<Stamp, ClockOut>
-    requires { IsReady core.now hand.old }
+    requires ready { IsReady core.now hand.old }
+    requires ends { Ends hand.old.view.work }
     ensures stamp { IfOk result (λ t. t ≡ stamp_of (drawn_clock hand.old.view.clock.clock reading) hand.old.view.number) }
     ensures seat { IfOk result (λ t. seat_of t ≡ hand.old.view.number) }
     ensures above_known { IfOk result (λ t. AllOf (λ known. known < t) hand.old.view.clock.known) }
     ensures above_published { IfOk result (λ t. hand.old.view.published.write < t) }
     ensures published { IfOk result (λ t. hand.new.view.published.write ≡ t) }
     ensures view { OnOk result (hand.new.view ≡ drawn hand.old.view (drawn_clock hand.old.view.clock.clock reading)) }
-    ensures clock_out { IsErr result ↔ (drawn_clock hand.old.view.clock.clock reading ≡ GREATEST_CLOCK + 1) }
+    ensures clock_out { IsErr result ↔ (drawn_clock hand.old.view.clock.clock reading ≡ greatest_clock + 1) }
     ensures unchanged { OnErr result (hand.new ≡ hand.old) }
     ensures ready { StaysReady core.now hand.old hand.new }
 {
@@ -55,7 +58,8 @@ pub fn draw<J: Keeps>(core: &Core<J>, hand: &mut Hand<J>, reading: u64) -> Resul
 /// Publishes a bound above every stamp of the seat's clock, whatever their seats, and below the seat's next stamp, where
 /// it is greater than what is published. What was in flight has ended.
 pub fn idle<J: Keeps>(core: &Core<J>, hand: &mut Hand<J>)
-    requires { IsReady core.now hand.old }
+    requires ready { IsReady core.now hand.old }
+    requires ends { Ends hand.old.view.work }
     ensures published { hand.new.view.published.write ≡ max hand.old.view.published.write (bound_of_clock hand.old.view.clock.clock) }
     ensures rises { hand.old.view.published.write < bound_of_clock hand.old.view.clock.clock → hand.new.view ≡ rests hand.old.view }
     ensures unchanged { bound_of_clock hand.old.view.clock.clock ≤ hand.old.view.published.write → hand.new ≡ hand.old }
@@ -72,7 +76,7 @@ pub fn sync<J: Keeps>(core: &Core<J>, hand: &mut Hand<J>, other: u32)
     requires ready { IsReady core.now hand.old }
     requires seat { other < core.now.size.seats }
     ensures adopted { (word : ℕ) × (hand.new.view ≡ synchronised hand.old.view other word) }
-    ensures capped { hand.new.view.clock.clock ≤ max hand.old.view.clock.clock GREATEST_ADOPTED_CLOCK }
+    ensures capped { hand.new.view.clock.clock ≤ max hand.old.view.clock.clock greatest_adopted_clock }
     ensures not_back { hand.old.view.clock.clock ≤ hand.new.view.clock.clock }
     ensures ready { StaysReady core.now hand.old hand.new }
 {
@@ -93,6 +97,7 @@ pub fn hear<J: Keeps>(core: &Core<J>, hand: &mut Hand<J>, stamp: Stamp)
 pub fn retire<J: Keeps>(core: &Core<J>, hand: &mut Hand<J>)
     requires ready { IsReady core.now hand.old }
     requires holds_none { hand.old.view.places.held ≡ [] }
+    requires ends { Ends hand.old.view.work }
     ensures view { hand.new.view ≡ closed hand.old.view }
     ensures retired { BecomesRetired core.now hand.old hand.new }
 {

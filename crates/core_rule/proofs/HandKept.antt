@@ -1,28 +1,13 @@
 -- What a hand's numbers say of its view after a step that changes its places alone.
-use Rattle.std.proofs.Common.{◌≡◌, ℕ, ◌<◌, [], sym, ap, ◌∙◌, subst, Option}
+use Rattle.std.proofs.Common.{◌≡◌, List, ℕ, ◌<◌, [], sym, ap, ◌∙◌, subst, Option}
 use Rattle.atomic_table.specs.Seated.{TableId}
 use Rattle.word_layout.specs.Size.{Size, places}
-use Rattle.core_rule.specs.View.{View, Places, Splitting, single, sharing, offers_write, offers_both, shared, Seen}
+use Rattle.core_rule.specs.View.{View, Places, Work, Front, Seen, Logged, Gone}
 use Rattle.core_rule.specs.Views.{AllOf, Has}
-use Rattle.core_rule.specs.Offers.{made_of, rested, MayOffer, IsSettled}
 use Rattle.core_rule.specs.Holding.{without}
 use Rattle.core_rule.specs.Hands.{Shared, Seated, HandOk}
 use Rattle.core_rule.proofs.EachView.{AllOf-Has}
 use Rattle.core_rule.proofs.Without.{AllOf-still}
-
-IsSettled-rested : (s : Splitting) → IsSettled (rested s)
-IsSettled-rested single = tt
-IsSettled-rested (sharing made) = tt
-IsSettled-rested (offers_write made) = tt
-IsSettled-rested (offers_both made) = tt
-IsSettled-rested shared = tt
-
-made-rested : (made : ℕ) (s : Splitting) → (MayOffer s → made ≡ made_of s) → MayOffer (rested s) → made ≡ made_of (rested s)
-made-rested made single is h = is tt
-made-rested made (sharing k) is h = absurd h
-made-rested made (offers_write k) is h = absurd h
-made-rested made (offers_both k) is h = absurd h
-made-rested made shared is h = absurd h
 
 module _ (number clock published bound made : ℕ) (last_pool : Option ℕ) (v : View) (ok : HandOk number clock published bound made last_pool v) where
   -- a place that the hand holds is a place of the table
@@ -41,30 +26,92 @@ module _ (number clock published bound made : ℕ) (last_pool : Option ℕ) (v :
     pub held_in_layout : (p : ℕ) → Has p hand.view.places.held → p < places layout
     held_in_layout p has = subst (λ (x : Size). p < places x) (sym (ap (λ (x : Shared). x.size) seen_is)) (held_in_table p has)
 
-  with_places : (q : Places) (t : Seen) (w : View) → w ≡ record v { splitting = rested v.splitting; places = q; seen = t } → q.last_pool ≡ v.places.last_pool → AllOf (λ p. p < places v.size) q.held
+  with_places : (x : Work) (q : Places) (t : Seen) (w : View) → w ≡ record v { work = x; places = q; seen = t } → q.last_pool ≡ v.places.last_pool → AllOf (λ p. p < places v.size) q.held
       → (v.places.held ≡ [] → q.held ≡ []) → HandOk number clock published bound made last_pool w
-  with_places q t w e last in_range none = subst (HandOk number clock published bound made last_pool) (sym e) record {
+  with_places x q t w e last in_range none = subst (HandOk number clock published bound made last_pool) (sym e) record {
     number_is = ok.number_is;
     clock_is = ok.clock_is;
     clock_in_range = ok.clock_in_range;
     published_is = ok.published_is;
     bound_is = ok.bound_is;
-    made_is = made-rested made v.splitting ok.made_is;
+    made_is = ok.made_is;
     is_size = ok.is_size;
     in_range = ok.in_range;
     is_open = ok.is_open;
-    settled = IsSettled-rested v.splitting;
+    settled = ok.settled;
     last_pool_is = ok.last_pool_is ∙ sym last;
     last_pool_usable = ok.last_pool_usable;
     places_in_range = in_range;
     retired_holds_none = λ h. none (ok.retired_holds_none h);
   }
 
-  -- the fills alone have changed
-  pub after_fill : (q : Places) (t : Seen) (w : View) → w ≡ record v { splitting = rested v.splitting; places = q; seen = t } → q.held ≡ v.places.held → q.last_pool ≡ v.places.last_pool
-      → HandOk number clock published bound made last_pool w
-  after_fill q t w e same last = with_places q t w e last (rw same ok.places_in_range) (λ h. same ∙ h)
+  -- what is in flight and the log alone have changed
+  pub after_work : (y : Work) (l : List Logged) (t : Seen) (w : View) → w ≡ record v { work = y; log = l; seen = t } → HandOk number clock published bound made last_pool w
+  after_work y l t w e = subst (HandOk number clock published bound made last_pool) (sym e) record {
+    number_is = ok.number_is;
+    clock_is = ok.clock_is;
+    clock_in_range = ok.clock_in_range;
+    published_is = ok.published_is;
+    bound_is = ok.bound_is;
+    made_is = ok.made_is;
+    is_size = ok.is_size;
+    in_range = ok.in_range;
+    is_open = ok.is_open;
+    settled = ok.settled;
+    last_pool_is = ok.last_pool_is;
+    last_pool_usable = ok.last_pool_usable;
+    places_in_range = ok.places_in_range;
+    retired_holds_none = ok.retired_holds_none;
+  }
 
-  pub after_give : (p : ℕ) (q : Places) (t : Seen) (w : View) → w ≡ record v { splitting = rested v.splitting; places = q; seen = t } → q.held ≡ without p v.places.held
+  -- what is collected, and what became of it, alone have changed
+  pub after_collecting : (y : Work) (x : Gone) (t : Seen) (w : View) → w ≡ record v { work = y; gone = x; seen = t } → HandOk number clock published bound made last_pool w
+  after_collecting y x t w e = subst (HandOk number clock published bound made last_pool) (sym e) record {
+    number_is = ok.number_is;
+    clock_is = ok.clock_is;
+    clock_in_range = ok.clock_in_range;
+    published_is = ok.published_is;
+    bound_is = ok.bound_is;
+    made_is = ok.made_is;
+    is_size = ok.is_size;
+    in_range = ok.in_range;
+    is_open = ok.is_open;
+    settled = ok.settled;
+    last_pool_is = ok.last_pool_is;
+    last_pool_usable = ok.last_pool_usable;
+    places_in_range = ok.places_in_range;
+    retired_holds_none = ok.retired_holds_none;
+  }
+
+  -- the fills alone have changed
+  pub after_fill : (q : Places) (t : Seen) (w : View) → w ≡ record v { places = q; seen = t } → q.held ≡ v.places.held → q.last_pool ≡ v.places.last_pool
+      → HandOk number clock published bound made last_pool w
+  after_fill q t w e same last = with_places v.work q t w e last (rw same ok.places_in_range) (λ h. same ∙ h)
+
+  -- a place is held no more
+  pub after_mark : (p : ℕ) (y : Work) (q : Places) (t : Seen) (w : View) → w ≡ record v { work = y; places = q; seen = t } → q.held ≡ without p v.places.held
       → q.last_pool ≡ v.places.last_pool → HandOk number clock published bound made last_pool w
-  after_give p q t w e same last = with_places q t w e last (rw same (AllOf-still (λ x. x < places v.size) p v.places.held ok.places_in_range)) (λ h. same ∙ ap (without p) h)
+  after_mark p y q t w e same last = with_places y q t w e last (rw same (AllOf-still (λ x. x < places v.size) p v.places.held ok.places_in_range)) (λ h. same ∙ ap (without p) h)
+
+  pub after_give : (p : ℕ) (q : Places) (t : Seen) (w : View) → w ≡ record v { places = q; seen = t } → q.held ≡ without p v.places.held
+      → q.last_pool ≡ v.places.last_pool → HandOk number clock published bound made last_pool w
+  after_give p q t w e same last = after_mark p v.work q t w e same last
+
+  -- the look at a first version alone has changed
+  pub after_look : (f : Front) (t : Seen) (w : View) → w ≡ record v { front = f; seen = t } → HandOk number clock published bound made last_pool w
+  after_look f t w e = subst (HandOk number clock published bound made last_pool) (sym e) record {
+    number_is = ok.number_is;
+    clock_is = ok.clock_is;
+    clock_in_range = ok.clock_in_range;
+    published_is = ok.published_is;
+    bound_is = ok.bound_is;
+    made_is = ok.made_is;
+    is_size = ok.is_size;
+    in_range = ok.in_range;
+    is_open = ok.is_open;
+    settled = ok.settled;
+    last_pool_is = ok.last_pool_is;
+    last_pool_usable = ok.last_pool_usable;
+    places_in_range = ok.places_in_range;
+    retired_holds_none = ok.retired_holds_none;
+  }

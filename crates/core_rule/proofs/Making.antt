@@ -1,13 +1,14 @@
 -- What each part's lemma is given where a seat is made, and where one is taken in.
 use Rattle.std.proofs.Common.{◌≡◌, ◌≢◌, ℕ, false, List, [], refl, sym, subst, arith, None}
 use Rattle.atomic_table.specs.Table.{Me}
-use Rattle.replay_model.specs.State.{State}
+use Rattle.plain_data.specs.State.{State}
 use Rattle.word_layout.specs.Size.{Size, IsSize}
 use Rattle.core_rule.specs.View.{View, first_view}
 use Rattle.core_rule.specs.Views.{At}
 use Rattle.core_rule.specs.Memory.{Memory}
 use Rattle.core_rule.specs.World.{World}
 use Rattle.core_rule.specs.Offers.{HasOfferedBoth, IsSettled}
+use Rattle.core_rule.specs.Searching.{Ends}
 use Rattle.core_rule.specs.Hands.{IsRetired, HandOk}
 use Rattle.core_rule.specs.Rule.{Rule}
 
@@ -38,6 +39,7 @@ pub record Split (kept : State → Type 0) (z : Size) (g : World) (m : Memory) (
   pub at : At vs id v
   pub is_open : v.spent ≡ false
   pub offered : HasOfferedBoth v.splitting
+  pub ends : Ends v.work
 
 pub record Join (kept : State → Type 0) (z : Size) (g : World) (m : Memory) (vs : List View) (id other : ℕ) (v w : View) : Type 0 where
   pub rule : Rule kept z g m vs
@@ -50,6 +52,8 @@ pub record Join (kept : State → Type 0) (z : Size) (g : World) (m : Memory) (v
   pub other_settled : IsSettled w.splitting
   pub retired : IsRetired w
   pub holds_none : w.places.held ≡ []
+  pub ends : Ends v.work
+  pub other_ends : Ends w.work
 
 pub IsRetired-same : (v w : View) → v ≡ w → IsRetired w → IsRetired v
 IsRetired-same v w e h = subst IsRetired (sym e) h

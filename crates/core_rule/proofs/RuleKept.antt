@@ -1,6 +1,6 @@
 -- Each step, and each making and taking in of a seat, keeps the rule: one line for each part.
 use Rattle.std.proofs.Common.{ℕ, List, [], ◌∷◌, ◌++◌, set}
-use Rattle.replay_model.specs.State.{State, empty_state}
+use Rattle.plain_data.specs.State.{State, empty_state}
 use Rattle.word_layout.specs.Size.{Size, IsSize}
 use Rattle.core_rule.specs.View.{View, first_view}
 use Rattle.core_rule.specs.Memory.{Memory, start}
@@ -21,6 +21,28 @@ use Rattle.core_rule.proofs.Parts.ScansKept.{scans_kept, scans_split, scans_join
 use Rattle.core_rule.proofs.Parts.BoundsKept.{bounds_kept, bounds_split, bounds_joined, bounds_start}
 use Rattle.core_rule.proofs.Parts.PlacesKept.{places_kept, places_split, places_joined, places_start}
 use Rattle.core_rule.proofs.Parts.FilledKept.{filled_kept, filled_split, filled_joined, filled_start}
+use Rattle.core_rule.proofs.Parts.ListsKept.{lists_kept, lists_split, lists_joined, lists_start}
+use Rattle.core_rule.proofs.Parts.SearchesKept.{searches_kept, searches_split, searches_joined, searches_start}
+use Rattle.core_rule.proofs.Parts.ReadsKept.{reads_kept, reads_split, reads_joined, reads_start}
+use Rattle.core_rule.proofs.Parts.LinkingKept.{linking_kept, linking_split, linking_joined, linking_start}
+use Rattle.core_rule.proofs.Parts.VersionsKept.{versions_kept, versions_split, versions_joined, versions_start}
+use Rattle.core_rule.proofs.Parts.CountsKept.{counts_kept, counts_split, counts_joined, counts_start}
+use Rattle.core_rule.proofs.Parts.TxnsKept.{txns_kept, txns_split, txns_joined, txns_start}
+use Rattle.core_rule.proofs.Parts.CellsKept.{word_cells_kept, word_cells_split, word_cells_joined, word_cells_start}
+use Rattle.core_rule.proofs.Parts.JoinedKept.{joined_kept, joined_split, joined_joined, joined_start}
+use Rattle.core_rule.proofs.Parts.ReadStampsKept.{read_stamps_kept, read_stamps_split, read_stamps_joined, read_stamps_start}
+use Rattle.core_rule.proofs.Parts.AnchoredKept.{anchored_kept, anchored_split, anchored_joined, anchored_start}
+use Rattle.core_rule.proofs.Parts.ReachKept.{reach_kept, reach_split, reach_joined, reach_start}
+use Rattle.core_rule.proofs.Parts.ValuesKept.{values_kept, values_split, values_joined, values_start}
+use Rattle.core_rule.proofs.Parts.EnteredKept.{entered_kept, entered_split, entered_joined, entered_start}
+use Rattle.core_rule.proofs.Parts.HistoryKept.{history_kept, history_split, history_joined, history_start}
+use Rattle.core_rule.proofs.Parts.LocksKept.{locks_kept, locks_split, locks_joined, locks_start}
+use Rattle.core_rule.proofs.Parts.ItemsKept.{items_kept, items_split, items_joined, items_start}
+use Rattle.core_rule.proofs.Parts.ChainsKept.{chains_kept, chains_split, chains_joined, chains_start}
+use Rattle.core_rule.proofs.Parts.FrontsKept.{fronts_kept, fronts_split, fronts_joined, fronts_start}
+use Rattle.core_rule.proofs.Parts.LeftsKept.{lefts_kept, lefts_split, lefts_joined, lefts_start}
+use Rattle.core_rule.proofs.Parts.TopsKept.{tops_kept, tops_split, tops_joined, tops_start}
+use Rattle.core_rule.proofs.Parts.MarkedKept.{marked_kept, marked_split, marked_joined, marked_start}
 
 module _ (kept : State → Type 0) (z : Size) (g : World) (m : Memory) (vs : List View) (id : ℕ) (v : View) where
   pub rule_kept : (k : Kind) → Step kept z g m vs id v k → Rule kept z (turned k v (m (name k v)) g) (changed k v m) (set vs id (after k v (m (name k v))))
@@ -37,6 +59,28 @@ module _ (kept : State → Type 0) (z : Size) (g : World) (m : Memory) (vs : Lis
     bounds = bounds_kept kept z g m vs id v k s;
     places = places_kept kept z g m vs id v k s;
     filled = filled_kept kept z g m vs id v k s;
+    lists = lists_kept kept z g m vs id v k s;
+    searches = searches_kept kept z g m vs id v k s;
+    reads = reads_kept kept z g m vs id v k s;
+    linking = linking_kept kept z g m vs id v k s;
+    versions = versions_kept kept z g m vs id v k s;
+    counts = counts_kept kept z g m vs id v k s;
+    txns = txns_kept kept z g m vs id v k s;
+    word_cells = word_cells_kept kept z g m vs id v k s;
+    joined = joined_kept kept z g m vs id v k s;
+    read_stamps = read_stamps_kept kept z g m vs id v k s;
+    anchored = anchored_kept kept z g m vs id v k s;
+    reach = reach_kept kept z g m vs id v k s;
+    values = values_kept kept z g m vs id v k s;
+    entered = entered_kept kept z g m vs id v k s;
+    history = history_kept kept z g m vs id v k s;
+    locks = locks_kept kept z g m vs id v k s;
+    items = items_kept kept z g m vs id v k s;
+    chains = chains_kept kept z g m vs id v k s;
+    fronts = fronts_kept kept z g m vs id v k s;
+    lefts = lefts_kept kept z g m vs id v k s;
+    marked = marked_kept kept z g m vs id v k s;
+    tops = tops_kept kept z g m vs id v k s;
   }
 
   pub rule_split : Split kept z g m vs id v → Rule kept z g m (set vs id (split_left v) ++ split_right v ∷ [])
@@ -53,6 +97,28 @@ module _ (kept : State → Type 0) (z : Size) (g : World) (m : Memory) (vs : Lis
     bounds = bounds_split kept z g m vs id v s;
     places = places_split kept z g m vs id v s;
     filled = filled_split kept z g m vs id v s;
+    lists = lists_split kept z g m vs id v s;
+    searches = searches_split kept z g m vs id v s;
+    reads = reads_split kept z g m vs id v s;
+    linking = linking_split kept z g m vs id v s;
+    versions = versions_split kept z g m vs id v s;
+    counts = counts_split kept z g m vs id v s;
+    txns = txns_split kept z g m vs id v s;
+    word_cells = word_cells_split kept z g m vs id v s;
+    joined = joined_split kept z g m vs id v s;
+    read_stamps = read_stamps_split kept z g m vs id v s;
+    anchored = anchored_split kept z g m vs id v s;
+    reach = reach_split kept z g m vs id v s;
+    values = values_split kept z g m vs id v s;
+    entered = entered_split kept z g m vs id v s;
+    history = history_split kept z g m vs id v s;
+    locks = locks_split kept z g m vs id v s;
+    items = items_split kept z g m vs id v s;
+    chains = chains_split kept z g m vs id v s;
+    fronts = fronts_split kept z g m vs id v s;
+    lefts = lefts_split kept z g m vs id v s;
+    marked = marked_split kept z g m vs id v s;
+    tops = tops_split kept z g m vs id v s;
   }
 
   pub rule_joined : (other : ℕ) (w : View) → Join kept z g m vs id other v w → Rule kept z g m (joined vs (joined_view v w) id other)
@@ -69,6 +135,28 @@ module _ (kept : State → Type 0) (z : Size) (g : World) (m : Memory) (vs : Lis
     bounds = bounds_joined kept z g m vs id other v w s;
     places = places_joined kept z g m vs id other v w s;
     filled = filled_joined kept z g m vs id other v w s;
+    lists = lists_joined kept z g m vs id other v w s;
+    searches = searches_joined kept z g m vs id other v w s;
+    reads = reads_joined kept z g m vs id other v w s;
+    linking = linking_joined kept z g m vs id other v w s;
+    versions = versions_joined kept z g m vs id other v w s;
+    counts = counts_joined kept z g m vs id other v w s;
+    txns = txns_joined kept z g m vs id other v w s;
+    word_cells = word_cells_joined kept z g m vs id other v w s;
+    joined = joined_joined kept z g m vs id other v w s;
+    read_stamps = read_stamps_joined kept z g m vs id other v w s;
+    anchored = anchored_joined kept z g m vs id other v w s;
+    reach = reach_joined kept z g m vs id other v w s;
+    values = values_joined kept z g m vs id other v w s;
+    entered = entered_joined kept z g m vs id other v w s;
+    history = history_joined kept z g m vs id other v w s;
+    locks = locks_joined kept z g m vs id other v w s;
+    items = items_joined kept z g m vs id other v w s;
+    chains = chains_joined kept z g m vs id other v w s;
+    fronts = fronts_joined kept z g m vs id other v w s;
+    lefts = lefts_joined kept z g m vs id other v w s;
+    marked = marked_joined kept z g m vs id other v w s;
+    tops = tops_joined kept z g m vs id other v w s;
   }
 
 pub rule_start : (kept : State → Type 0) (z : Size) → IsSize z → kept empty_state → Rule kept z (first_world z) (start z) (first_view z ∷ [])
@@ -85,4 +173,26 @@ rule_start kept z h k = record {
   bounds = bounds_start z;
   places = places_start z;
   filled = filled_start z;
+  lists = lists_start z h;
+  searches = searches_start z h;
+  reads = reads_start z h;
+  linking = linking_start z h;
+  versions = versions_start z h;
+  counts = counts_start z h;
+  txns = txns_start z h;
+  word_cells = word_cells_start z h;
+  joined = joined_start z h;
+  read_stamps = read_stamps_start z h;
+  anchored = anchored_start z h;
+  reach = reach_start z h;
+  values = values_start z h;
+  entered = entered_start z h;
+  history = history_start kept z h;
+  locks = locks_start z h;
+  items = items_start z h;
+  chains = chains_start z h;
+  fronts = fronts_start z h;
+  lefts = lefts_start z h;
+  marked = marked_start z h;
+  tops = tops_start z h;
 }

@@ -2,7 +2,7 @@
 use Rattle.std.proofs.Common.{◌≡◌, ◌≢◌, ℕ, ◌<◌, true, false, Bool, cond, eqb, List, refl, sym, ap, eq-eqb, eqb-true, ne_eqb}
 use Rattle.std.specs.Prelude.{nat_lt}
 use Rattle.std.proofs.lemmas.Bool.Decides.{Decides-ltb}
-use Rattle.replay_model.specs.State.{State}
+use Rattle.plain_data.specs.State.{State}
 use Rattle.word_layout.specs.Size.{Size}
 use Rattle.core_rule.specs.View.{View}
 use Rattle.core_rule.specs.Views.{At}
@@ -14,7 +14,7 @@ use Rattle.core_rule.specs.Rule.{Rule}
 pub record Step (kept : State → Type 0) (z : Size) (g : World) (m : Memory) (vs : List View) (id : ℕ) (v : View) (k : Kind) : Type 0 where
   pub rule : Rule kept z g m vs
   pub at : At vs id v
-  pub allowed : Allowed k v
+  pub allowed : Allowed kept k v
   pub fits : m (name k v) < 18446744073709551616
 
 -- what the function has at one number is another, elsewhere it is the same

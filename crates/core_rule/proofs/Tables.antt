@@ -4,7 +4,7 @@ use Rattle.std.proofs.lemmas.List.{set-get_or}
 use Rattle.atomic_table.specs.Table.{Me, keeps, Allows, Splits, Joins, opening}
 use Rattle.atomic_table.proofs.Lists.{set_else}
 use Rattle.atomic_table.specs.Seated.{TableId}
-use Rattle.replay_model.specs.State.{State, empty_state}
+use Rattle.plain_data.specs.State.{State, empty_state}
 use Rattle.word_layout.specs.Size.{Size, IsSize, words}
 use Rattle.word_layout.specs.Name.{Name, IsNamed, is_named, name_eq, word_of}
 use Rattle.word_layout.proofs.Names.{Decides-is_named, Decides-name_eq}
@@ -14,7 +14,9 @@ use Rattle.core_rule.specs.Memory.{Memory, memory, put, starts_with}
 use Rattle.core_rule.specs.World.{first_world}
 use Rattle.core_rule.specs.Ways.{Way, loads, stores, raises_to, exchanges, swaps, effect, told, written, seen_after}
 use Rattle.core_rule.specs.Offers.{HasOfferedBoth, IsSettled}
-use Rattle.core_rule.specs.Kinds.{Kind, name, way, next, after, splitting_after, turned, changed, Allowed, Told, Learnt}
+use Rattle.core_rule.specs.Searching.{Ends}
+use Rattle.core_rule.specs.Kinds.{Kind, name, way, next, after, splitting_after, turned, changed, Allowed}
+use Rattle.core_rule.specs.Learnt.{Told, Learnt}
 use Rattle.core_rule.specs.Hands.{Shared, split_left, split_right, joined_view, IsRetired}
 use Rattle.core_rule.specs.Rule.{Rule, Holds}
 use Rattle.core_rule.proofs.Step.{Step}
@@ -70,8 +72,8 @@ after-told k v n =
 
 module _ (kept : State → Type 0) (z : Size) where
   -- whatever the table is, this seat may make a step of this kind
-  pub allows : {S : Type 0} (slots id : ℕ) (v : View) (k : Kind) → Allowed k v → IsNamed z (name k v)
-      → Allows (Holds kept z {S = S}) slots id (v, []) (word_of z (name k v)) (effect (way k v)) (λ n me. (me.1 ≡ []) × Told k v (told (way k v) n) me.0)
+  pub allows : {S : Type 0} (slots id : ℕ) (v : View) (k : Kind) → Allowed kept k v → IsNamed z (name k v)
+      → Allows (Holds kept z {S = S}) slots id (v, []) (word_of z (name k v)) (effect (way k v)) (λ n me. (me.1 ≡ []) × Told kept k v (told (way k v) n) me.0)
   allows slots id v k allowed named s holds counted at fits =
       let n = name k v in
       let found = memory-found z s.words n 0 holds.sized named in
@@ -87,31 +89,31 @@ module _ (kept : State → Type 0) (z : Size) where
           rule = subst (λ (w : Memory). Rule kept z (turned k v (get_or s.words (word_of z n) 0) holds.world) w (set s.views id (after k v (get_or s.words (word_of z n) 0)))) (sym (memory-written z s.words (way k v) n holds.sized named))
               (subst (λ (x : ℕ). Rule kept z (turned k v x holds.world) (changed k v m) (set s.views id (after k v x))) found rule');
         },
-        (refl, record { view = after-told k v _; learnt = subst (λ (x : ℕ). Learnt k v (told (way k v) x)) found (learnt kept z holds.world m s.views id v k step) }),
+        (refl, record { view = after-told k v _; learnt = subst (λ (x : ℕ). Learnt kept k v (told (way k v) x)) found (learnt kept z holds.world m s.views id v k step) }),
       )
 
   -- the same for a seat as the table has it, at a word and a way that are those of the kind
-  pub allows_as : {S : Type 0} (slots id : ℕ) (me : Me S View) (k : Kind) (w : Way) (word : ℕ) → Allowed k me.0 → IsNamed z (name k me.0) → me.1 ≡ [] → word ≡ word_of z (name k me.0)
-      → way k me.0 ≡ w → Allows (Holds kept z {S = S}) slots id me word (effect w) (λ n after'. (after'.1 ≡ []) × Told k me.0 (told w n) after'.0)
+  pub allows_as : {S : Type 0} (slots id : ℕ) (me : Me S View) (k : Kind) (w : Way) (word : ℕ) → Allowed kept k me.0 → IsNamed z (name k me.0) → me.1 ≡ [] → word ≡ word_of z (name k me.0)
+      → way k me.0 ≡ w → Allows (Holds kept z {S = S}) slots id me word (effect w) (λ n after'. (after'.1 ≡ []) × Told kept k me.0 (told w n) after'.0)
   allows_as {S} slots id me k w word allowed named bare at is =
-      let P : List (ℕ × S) → Type 0 = λ xs. Allows (Holds kept z {S = S}) slots id (me.0, xs) word (effect w) (λ n after'. (after'.1 ≡ []) × Told k me.0 (told w n) after'.0) in
+      let P : List (ℕ × S) → Type 0 = λ xs. Allows (Holds kept z {S = S}) slots id (me.0, xs) word (effect w) (λ n after'. (after'.1 ≡ []) × Told kept k me.0 (told w n) after'.0) in
       subst P (sym bare)
-      (subst (λ (i : ℕ). Allows (Holds kept z {S = S}) slots id (me.0, []) i (effect w) (λ n after'. (after'.1 ≡ []) × Told k me.0 (told w n) after'.0)) (sym at)
-      (subst (λ (x : Way). Allows (Holds kept z {S = S}) slots id (me.0, []) (word_of z (name k me.0)) (effect x) (λ n after'. (after'.1 ≡ []) × Told k me.0 (told x n) after'.0)) is
+      (subst (λ (i : ℕ). Allows (Holds kept z {S = S}) slots id (me.0, []) i (effect w) (λ n after'. (after'.1 ≡ []) × Told kept k me.0 (told w n) after'.0)) (sym at)
+      (subst (λ (x : Way). Allows (Holds kept z {S = S}) slots id (me.0, []) (word_of z (name k me.0)) (effect x) (λ n after'. (after'.1 ≡ []) × Told kept k me.0 (told x n) after'.0)) is
       (allows slots id me.0 k allowed named)))
 
   -- the seat that makes seats may make the next one
-  pub splits : {S : Type 0} (id : ℕ) (v : View) → v.spent ≡ false → HasOfferedBoth v.splitting → Splits (Holds kept z {S = S}) id v (split_left v) (split_right v)
-  splits id v is_open offered s holds at = record {
+  pub splits : {S : Type 0} (id : ℕ) (v : View) → v.spent ≡ false → HasOfferedBoth v.splitting → Ends v.work → Splits (Holds kept z {S = S}) id v (split_left v) (split_right v)
+  splits id v is_open offered ends s holds at = record {
     sized = holds.sized;
     world = holds.world;
-    rule = rule_split kept z holds.world (memory z s.words) s.views id v record { rule = holds.rule; at = at; is_open = is_open; offered = offered };
+    rule = rule_split kept z holds.world (memory z s.words) s.views id v record { rule = holds.rule; at = at; is_open = is_open; offered = offered; ends = ends };
   }
 
   -- a seat may take in one that is retired
-  pub joins : {S : Type 0} (id other : ℕ) (v w : View) → v.spent ≡ false → w.spent ≡ false → IsSettled v.splitting → IsSettled w.splitting → IsRetired w → w.places.held ≡ []
+  pub joins : {S : Type 0} (id other : ℕ) (v w : View) → v.spent ≡ false → w.spent ≡ false → IsSettled v.splitting → IsSettled w.splitting → IsRetired w → w.places.held ≡ [] → Ends v.work → Ends w.work
       → Joins (Holds kept z {S = S}) id v other w (joined_view v w) spent_view
-  joins id other v w is_open other_open settled other_settled retired holds_none s holds at apart at_other = record {
+  joins id other v w is_open other_open settled other_settled retired holds_none ends other_ends s holds at apart at_other = record {
     sized = holds.sized;
     world = holds.world;
     rule = rule_joined kept z holds.world (memory z s.words) s.views id v other w record {
@@ -125,6 +127,8 @@ module _ (kept : State → Type 0) (z : Size) where
       other_settled = other_settled;
       retired = retired;
       holds_none = holds_none;
+      ends = ends;
+      other_ends = other_ends;
     };
   }
 
@@ -142,9 +146,9 @@ module _ (kept : State → Type 0) (z : Size) where
 
 -- what a call of one of the table's operations asks, from what the shared table and the seat are
 pub asks : (kept : State → Type 0) {S : Type 0} (table : TableId) (layout key : Size) (seen : Shared) (seat_table : TableId) (id : ℕ) (me : Me S View) (k : Kind) (w : Way) (word : ℕ)
-    → record { table = table; size = layout } ≡ seen → (key ≡ layout) × (table.words ≡ words layout) → seat_table ≡ seen.table → Allowed k me.0 → IsNamed seen.size (name k me.0) → me.1 ≡ []
+    → record { table = table; size = layout } ≡ seen → (key ≡ layout) × (table.words ≡ words layout) → seat_table ≡ seen.table → Allowed kept k me.0 → IsNamed seen.size (name k me.0) → me.1 ≡ []
     → word ≡ word_of seen.size (name k me.0) → way k me.0 ≡ w
-    → (seat_table ≡ table) × (word < table.words) × Allows (Holds kept key {S = S}) table.slots id me word (effect w) (λ n after'. (after'.1 ≡ []) × Told k me.0 (told w n) after'.0)
+    → (seat_table ≡ table) × (word < table.words) × Allows (Holds kept key {S = S}) table.slots id me word (effect w) (λ n after'. (after'.1 ≡ []) × Told kept k me.0 (told w n) after'.0)
 asks kept {S} table layout key seen seat_table id me k w word view_is invariant same allowed named bare at is =
     let here : seen.size ≡ key = sym (ap (λ (x : Shared). x.size) view_is) ∙ sym invariant.0 in
     let named' : IsNamed key (name k me.0) = subst (λ (x : Size). IsNamed x (name k me.0)) here named in
@@ -159,19 +163,19 @@ asks kept {S} table layout key seen seat_table id me k w word view_is invariant 
 module _ (kept : State → Type 0) {S : Type 0} (table : TableId) (layout key : Size) (seen : Shared)
     (view_is : record { table = table; size = layout } ≡ seen) (invariant : (key ≡ layout) × (table.words ≡ words layout)) where
   -- a seat that has stored both words of the next seat
-  pub splits_asks : (seat_table : TableId) (id : ℕ) (v : View) → seat_table ≡ seen.table → v.spent ≡ false → HasOfferedBoth v.splitting
+  pub splits_asks : (seat_table : TableId) (id : ℕ) (v : View) → seat_table ≡ seen.table → v.spent ≡ false → HasOfferedBoth v.splitting → Ends v.work
       → (seat_table ≡ table) × (0 < table.words) × Splits (Holds kept key {S = S}) id v (split_left v) (split_right v)
-  splits_asks seat_table id v same is_open offered =
-      let all = invariant.1 in (same ∙ sym (ap (λ (x : Shared). x.table) view_is), omega arith, splits kept key id v is_open offered)
+  splits_asks seat_table id v same is_open offered ends =
+      let all = invariant.1 in (same ∙ sym (ap (λ (x : Shared). x.table) view_is), omega arith, splits kept key id v is_open offered ends)
 
   pub joins_asks : (seat_table other_table : TableId) (id other : ℕ) (v w : View) (carried : List (ℕ × S)) → seat_table ≡ seen.table → other_table ≡ seen.table → carried ≡ []
-      → v.spent ≡ false → w.spent ≡ false → IsSettled v.splitting → IsSettled w.splitting → IsRetired w → w.places.held ≡ []
+      → v.spent ≡ false → w.spent ≡ false → IsSettled v.splitting → IsSettled w.splitting → IsRetired w → w.places.held ≡ [] → Ends v.work → Ends w.work
       → (seat_table ≡ table) × (other_table ≡ table) × (carried ≡ []) × (0 < table.words) × Joins (Holds kept key {S = S}) id v other w (joined_view v w) spent_view
-  joins_asks seat_table other_table id other v w carried same other_same bare is_open other_open settled other_settled retired holds_none =
+  joins_asks seat_table other_table id other v w carried same other_same bare is_open other_open settled other_settled retired holds_none ends other_ends =
       let all = invariant.1 in (
         same ∙ sym (ap (λ (x : Shared). x.table) view_is),
         other_same ∙ sym (ap (λ (x : Shared). x.table) view_is),
         bare,
         omega arith,
-        joins kept key id other v w is_open other_open settled other_settled retired holds_none,
+        joins kept key id other v w is_open other_open settled other_settled retired holds_none ends other_ends,
       )

@@ -3,10 +3,12 @@ use Rattle.std.specs.Prelude.{◌≡◌, ℕ, ◌+◌, ◌<◌, ◌≤◌, Bool,
 use Rattle.atomic_table.specs.Seated.{TableId}
 use Rattle.word_layout.specs.Size.{Size, IsSize, IsUsable, places}
 use Rattle.core_rule.specs.Views.{AllOf}
-use Rattle.stamp_base.specs.declared.TheConstants.{END, GREATEST_CLOCK}
-use Rattle.core_rule.specs.View.{View, Clock, sharing, shared, resting, no_raises, no_places, nothing_seen}
-use Rattle.core_rule.specs.Offers.{made_of, rested, MayOffer, IsSettled}
-use Rattle.core_rule.specs.Kinds.{Kind, take, after, Learnt}
+use Rattle.stamp_base.specs.Limits.{end_of_stamps, greatest_clock}
+use Rattle.core_rule.specs.View.{View, Clock, sharing, shared, resting, no_raises, no_places, no_work, nothing_known, no_front, nothing_gone, nothing_seen}
+use Rattle.core_rule.specs.Offers.{made_of, MayOffer, IsSettled}
+use Rattle.plain_data.specs.State.{State}
+use Rattle.core_rule.specs.Kinds.{Kind, take, after}
+use Rattle.core_rule.specs.Learnt.{Learnt}
 
 -- a table: which one it is, and its size
 pub record Shared : Type 0 where
@@ -27,12 +29,12 @@ pub record IsHandOf (shared_table : Shared) (hand : Seated) : Type 0 where
 
 -- both published words are open
 pub record IsOpen (v : View) : Type 0 where
-  pub write : v.published.write < END
-  pub read : v.published.read < END
+  pub write : v.published.write < end_of_stamps
+  pub read : v.published.read < end_of_stamps
 
 pub record IsRetired (v : View) : Type 0 where
-  pub write : v.published.write ≡ END
-  pub read : v.published.read ≡ END
+  pub write : v.published.write ≡ end_of_stamps
+  pub read : v.published.read ≡ end_of_stamps
 
 -- the hand may make its calls: it is of this table, and is not retired
 pub record IsReady (shared_table : Shared) (hand : Seated) : Type 0 where
@@ -49,19 +51,15 @@ pub record StaysReady (shared_table : Shared) (before after' : Seated) : Type 0 
   pub seat : IsSameSeat before after'
   pub ready : IsReady shared_table after'
 
--- the view after steps that leave all but what was seen: once it has shared, a seat makes no more seats
-abbrev pub stepped : View → View
-stepped v = record v { splitting = rested v.splitting }
-
 -- one step of this kind was made, which found this number, or stored it
-pub record Steps (k : Kind) (before : Seated) (n : ℕ) (after' : Seated) : Type 0 where
+pub record Steps (kept : State → Type 0) (k : Kind) (before : Seated) (n : ℕ) (after' : Seated) : Type 0 where
   pub seat : IsSameSeat before after'
   pub view : after'.view ≡ after k before.view n
-  pub learnt : Learnt k before.view n
+  pub learnt : Learnt kept k before.view n
 
 -- the view that splits, after another seat was made
 abbrev pub split_left : View → View
-split_left v = record v { splitting = sharing (made_of v.splitting + 1); flight = resting }
+split_left v = record v { splitting = sharing (made_of v.splitting + 1); flight = resting; work = no_work; counts = nothing_known; front = no_front }
 
 -- the view of the seat that was made
 abbrev pub split_right : View → View
@@ -70,10 +68,14 @@ split_right v = record v {
   splitting = shared;
   clock = record v.clock { drawn = 0; taken_in = [] };
   flight = resting;
+  work = no_work;
+  counts = nothing_known;
+  front = no_front;
   raises = no_raises;
   loaded_bound = None;
   places = no_places;
   log = [];
+  gone = nothing_gone;
   seen = nothing_seen;
 }
 
@@ -88,9 +90,11 @@ joined_clock c d number = record c {
 
 abbrev pub joined_view : View → View → View
 joined_view v w = record v {
-  splitting = shared;
   clock = joined_clock v.clock w.clock w.number;
   flight = resting;
+  work = no_work;
+  counts = nothing_known;
+  front = no_front;
   log = v.log ++ w.log;
 }
 
@@ -98,7 +102,7 @@ joined_view v w = record v {
 pub record HandOk (number clock published bound made : ℕ) (last_pool : Option ℕ) (v : View) : Type 0 where
   pub number_is : number ≡ v.number
   pub clock_is : clock ≡ v.clock.clock
-  pub clock_in_range : clock ≤ GREATEST_CLOCK
+  pub clock_in_range : clock ≤ greatest_clock
   pub published_is : published ≡ v.published.write
   pub bound_is : bound ≡ v.published.read
   pub made_is : MayOffer v.splitting → made ≡ made_of v.splitting
@@ -109,7 +113,7 @@ pub record HandOk (number clock published bound made : ℕ) (last_pool : Option 
   pub last_pool_is : last_pool ≡ v.places.last_pool
   pub last_pool_usable : IfSome last_pool (IsUsable v.size)
   pub places_in_range : AllOf (λ p. p < places v.size) v.places.held
-  pub retired_holds_none : v.published.write ≡ END → v.places.held ≡ []
+  pub retired_holds_none : v.published.write ≡ end_of_stamps → v.places.held ≡ []
 
 -- the hand `before` made the seat of `made`
 pub record IsSplit (before after' made : Seated) : Type 0 where
@@ -124,7 +128,7 @@ pub record IsJoined (before other after' : Seated) : Type 0 where
   pub view : after'.view ≡ joined_view before.view other.view
 
 -- one exchange on the status of a place was made, which won where this number, the status found, is that of a free place
-pub record Takes (place : ℕ) (before : Seated) (won : Bool) (after' : Seated) : Type 0 where
+pub record Takes (kept : State → Type 0) (place : ℕ) (before : Seated) (won : Bool) (after' : Seated) : Type 0 where
   pub found : ℕ
   pub won_is : IsTrue won ↔ (found ≡ 0)
-  pub step : Steps (take place) before found after'
+  pub step : Steps kept (take place) before found after'

@@ -16,10 +16,13 @@ offered_write s = offers_write (made_of s)
 abbrev pub offered_read : Splitting → Splitting
 offered_read s = offers_both (made_of s)
 
--- after any other step: once it has shared, a seat makes no more seats
-abbrev pub rested : Splitting → Splitting
-rested single = single
-rested s = shared
+-- how many seats are made at most: a seat that makes none knows no more than how many the table has
+abbrev pub made_within : (seats : ℕ) → Splitting → ℕ
+made_within seats single = 1
+made_within seats (sharing made) = made
+made_within seats (offers_write made) = made
+made_within seats (offers_both made) = made
+made_within seats shared = seats
 
 abbrev pub MayOffer : Splitting → Type 0
 MayOffer single = Unit {0}

@@ -1,9 +1,8 @@
 -- What a seat knows: plain data that exists in proofs alone. Only the seat's own steps change its view, splitting and joining aside.
-use Rattle.std.specs.Prelude.{ℕ, Bool, true, false, List, [], Option, None}
-use Rattle.replay_model.specs.declared.entry.Entry.{Entry}
+use Rattle.std.specs.Prelude.{ℕ, Bool, true, false, List, [], Option, Some, None}
 use Rattle.word_layout.specs.Name.{Name}
 use Rattle.word_layout.specs.Size.{Size, size_of}
-use Rattle.stamp_base.specs.declared.TheConstants.{END}
+use Rattle.stamp_base.specs.Limits.{end_of_stamps}
 
 -- the clock, the last stamp drawn (0 before the first), all stamps drawn or heard, the greatest `min_wts` met, and the seats
 -- that were taken in
@@ -38,13 +37,13 @@ pub record Raises : Type 0 where
 pub data Splitting : Type 0 where
   -- no other seat was made
   single : Splitting
-  -- the seats below `made` were made, and nothing else was done since
+  -- the seats below `made` were made
   sharing : (made : ℕ) → Splitting
   -- the same, and the published write word of seat `made` was stored
   offers_write : (made : ℕ) → Splitting
   -- the same, and its published read word too
   offers_both : (made : ℕ) → Splitting
-  -- it makes no more seats
+  -- it was made itself, and makes none
   shared : Splitting
 
 -- what was stored of a version in a place: its write stamp, whether the read stamp was set to 0, the link to the next older
@@ -62,10 +61,119 @@ pub record Places : Type 0 where
   pub fills : List Fill
   pub last_pool : Option ℕ
 
--- an entry of the log, with the stamps of the versions that it read
+-- a version that is marked pending: its record, its place, its write stamp, and its cells
+pub record Write : Type 0 where
+  pub record_number : ℕ
+  pub place : ℕ
+  pub stamp : ℕ
+  pub cells : List ℕ
+
+-- a version that a search found: its record, its place, its write stamp, its status, and the first cells that were loaded
+pub record Read : Type 0 where
+  pub record_number : ℕ
+  pub place : ℕ
+  pub version : ℕ
+  pub status : ℕ
+  pub cells : List ℕ
+
+-- the linking of a version: the place above it (`None` while that is the head of the list), a number that the stamp of the
+-- place below is not under, and whether its own link names the place below
+pub record Joint : Type 0 where
+  pub write : Write
+  pub above : Option ℕ
+  pub least : ℕ
+  pub stored : Bool
+
+-- what a search is for
+pub data Aim : Type 0 where
+  -- a first read of a record
+  reads : Aim
+  -- to link a version
+  links : (joint : Joint) → Aim
+  -- a read once more, after its read stamp was raised
+  again : (read : Read) → Aim
+  -- the version that a linked one overwrites
+  checks : (write : Write) → Aim
+
+-- where a search stands: in which record's list, at which place, and a number above the write stamp there
+pub record Stand : Type 0 where
+  pub aim : Aim
+  pub record_number : ℕ
+  pub place : ℕ
+  pub under : ℕ
+
+-- what was loaded at the place that a search stands on: nothing, the write stamp, or that and the status
+pub data Look : Type 0 where
+  blank : Look
+  stamped : (stamp : ℕ) → Look
+  shown : (stamp status : ℕ) → Look
+
+-- the search in flight. A version is first marked, then the list is searched for its place
+pub data Search : Type 0 where
+  still : Search
+  marks : (write : Write) → Search
+  stands : (stand : Stand) (look : Look) → Search
+
+-- how far the collection of a version has come
+pub data Stage : Type 0 where
+  -- the record is locked; its floor was loaded and is not above the version
+  locked : Stage
+  above_floor : Stage
+  -- the search for the version stands at a place, under this stamp; the place's stamp was loaded and is above the version's
+  seeks : (place under : ℕ) → Stage
+  passes : (place stamp : ℕ) → Stage
+  -- it stands in this place; the floor was raised to its stamp
+  found : (place : ℕ) → Stage
+  floored : (place : ℕ) → Stage
+  -- what is older was cut off and begins at this link, the record still locked; unlocked, with the place whose link was read last
+  cut_off : (to : ℕ) → Stage
+  freeing : (to : ℕ) (left : Option ℕ) → Stage
+
+-- the version of a commit entry below which the seat collects: its record and its stamp
+pub data Item : Type 0 where
+  no_item : Item
+  collects : (record_number stamp : ℕ) (stage : Stage) → Item
+
+-- what is in flight of a transaction, or while none is in flight of a snapshot at the published read word: the search, and the
+-- versions that it found (the one whose cells are loaded first). Of the reads of the entry those whose read stamp is raised, and
+-- those whose second search has ended. The versions that it has linked; of their records those that passed the check, and those
+-- whose last status is stored; and whether it was decided to commit. And the version that is collected
+pub record Work : Type 0 where
+  pub search : Search
+  pub reads : List Read
+  pub raised : List Read
+  pub finished : List Read
+  pub linked : List Write
+  pub passed : List ℕ
+  pub settled : List ℕ
+  pub decided : Bool
+  pub item : Item
+
+-- the look at the first version of a record's list, by a seat that is alone
+pub data Front : Type 0 where
+  no_front : Front
+  at_front : (record_number place : ℕ) (look : Look) → Front
+
+-- bounds on the number of a record's linked versions, and of those outside its inline place
+pub record Bound : Type 0 where
+  pub linked : ℕ
+  pub outside : ℕ
+
+-- what is known of one record's list, and of all that are not listed
+pub record Count : Type 0 where
+  pub record_number : ℕ
+  pub bound : Option Bound
+
+pub record Counted : Type 0 where
+  pub rest : Option Bound
+  pub listed : List Count
+
+-- an entry of the log, with the places and the stamps of the versions that it read and wrote
 pub record Logged : Type 0 where
-  pub entry : Entry
-  pub versions : List ℕ
+  pub stamp : ℕ
+  pub snapshot : Bool
+  pub reads : List Read
+  pub writes : List Write
 
 -- a word, and the number that a step found there
 pub record Load : Type 0 where
@@ -77,6 +185,19 @@ pub record Seen : Type 0 where
   pub loads : List Load
   pub lost : List Load
 
+-- the versions at which the seat cut a record's list, with the links to what it cut off; the places that it freed; and a number that
+-- the places that it cut off last and has not yet freed are no more than
+pub record Cut : Type 0 where
+  pub record_number : ℕ
+  pub stamp : ℕ
+  pub place : ℕ
+  pub to : ℕ
+
+pub record Gone : Type 0 where
+  pub cuts : List Cut
+  pub freed : List ℕ
+  pub left : ℕ
+
 pub record View : Type 0 where
   pub number : ℕ
   pub size : Size
@@ -86,21 +207,40 @@ pub record View : Type 0 where
   pub clock : Clock
   pub published : Published
   pub flight : Flight
+  pub work : Work
   pub raises : Raises
+  -- the `min_rts` that the last raise reached
+  pub reached : ℕ
   -- the `min_wts` that was loaded for the own published read word, and is not yet published
   pub loaded_bound : Option ℕ
   pub places : Places
+  -- what it knows of each record's list, while no other seat is open
+  pub counts : Counted
+  pub front : Front
   pub log : List Logged
+  pub gone : Gone
   pub seen : Seen
 
 abbrev pub no_scan : Scan
-no_scan = record { next = 0; least = END }
+no_scan = record { next = 0; least = end_of_stamps }
 
 abbrev pub no_raises : Raises
 no_raises = record { writes = no_scan; reads = no_scan }
 
 abbrev pub no_places : Places
 no_places = record { held = []; fills = []; last_pool = None }
+
+abbrev pub no_work : Work
+no_work = record { search = still; reads = []; raised = []; finished = []; linked = []; passed = []; settled = []; decided = false; item = no_item }
+
+abbrev pub nothing_known : Counted
+nothing_known = record { rest = None; listed = [] }
+
+abbrev pub one_each : Counted
+one_each = record { rest = Some record { linked = 1; outside = 0 }; listed = [] }
+
+abbrev pub nothing_gone : Gone
+nothing_gone = record { cuts = []; freed = []; left = 0 }
 
 abbrev pub nothing_seen : Seen
 nothing_seen = record { loads = []; lost = [] }
@@ -115,10 +255,15 @@ first_view z = record {
   clock = record { clock = 0; drawn = 0; known = []; met = 0; taken_in = [] };
   published = record { write = 1; read = 0 };
   flight = resting;
+  work = no_work;
   raises = no_raises;
+  reached = 0;
   loaded_bound = None;
   places = no_places;
+  counts = one_each;
+  front = no_front;
   log = [];
+  gone = nothing_gone;
   seen = nothing_seen;
 }
 

@@ -5,19 +5,21 @@
 #![tactic(auto)]
 
 mod begin;
+mod collects;
 mod hand;
-mod keeps;
 mod looks;
 mod places;
 mod publish;
 mod rule;
+mod searches;
 mod seats;
 mod shared;
 mod steps;
-#[cfg(test)]
-mod tests;
+mod validate;
+mod versions;
 mod view;
 
 pub use hand::Hand;
-pub use keeps::{AnyState, Keeps};
+pub use histories::{AnyState, Keeps};
 pub use shared::Core;
+pub use versions::{ReadVersion, WrittenVersion};

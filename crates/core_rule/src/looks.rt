@@ -5,8 +5,8 @@ ghost use Rattle.core_rule.specs.Hands.{IsHandOf, IsReady, Steps};
 ghost use Rattle.core_rule.specs.Kinds.{adopt_clock, hear, scan_writes, scan_reads, load_min_write, load_min_read, raise_min_write, raise_min_read, scan_from};
 
 use crate::hand::Hand;
-use crate::keeps::Keeps;
 use crate::shared::Core;
+use histories::Keeps;
 use stamp_base::{END, GREATEST_ADOPTED_CLOCK, Stamp};
 use std::marker::Brand;
 
@@ -26,7 +26,7 @@ impl<J: Keeps> Core<J> {
     pub fn adopt_clock(&self, hand: &mut Hand<J>, other: u32) -> u64
         requires ready { IsReady self.now hand.old }
         requires seat { other < self.now.size.seats }
-        ensures { Steps (adopt_clock other) hand.old result hand.new }
+        ensures { Steps J.kept (adopt_clock other) hand.old result hand.new }
     {
         let write_word = self.layout.published_write(other);
         let found = self.load::<Brand>(&mut hand.seat, write_word, other.into());
@@ -37,7 +37,7 @@ impl<J: Keeps> Core<J> {
     /// Hears a stamp, at a load of the own published write word: the clock advances to that of the stamp.
     pub fn hear(&self, hand: &mut Hand<J>, stamp: Stamp) -> u64
         requires { IsReady self.now hand.old }
-        ensures { Steps (hear stamp) hand.old result hand.new }
+        ensures { Steps J.kept (hear stamp) hand.old result hand.new }
     {
         let write_word = self.layout.published_write(hand.number);
         let found = self.load::<Brand>(&mut hand.seat, write_word, stamp.number());
@@ -50,7 +50,7 @@ impl<J: Keeps> Core<J> {
         requires ready { IsReady self.now hand.old }
         requires next { (scan_from seat hand.old.view.raises.writes).next ≡ seat }
         requires seat { seat < self.now.size.seats }
-        ensures { Steps (scan_writes seat) hand.old result hand.new }
+        ensures { Steps J.kept (scan_writes seat) hand.old result hand.new }
     {
         let write_word = self.layout.published_write(seat);
         self.load::<Brand>(&mut hand.seat, write_word, seat.into())
@@ -61,7 +61,7 @@ impl<J: Keeps> Core<J> {
         requires ready { IsReady self.now hand.old }
         requires next { (scan_from seat hand.old.view.raises.reads).next ≡ seat }
         requires seat { seat < self.now.size.seats }
-        ensures { Steps (scan_reads seat) hand.old result hand.new }
+        ensures { Steps J.kept (scan_reads seat) hand.old result hand.new }
     {
         let read_word = self.layout.published_read(seat);
         self.load::<Brand>(&mut hand.seat, read_word, seat.into())
@@ -70,7 +70,7 @@ impl<J: Keeps> Core<J> {
     /// Loads `min_wts`, for the own published read word.
     pub fn load_min_write(&self, hand: &mut Hand<J>) -> u64
         requires { IsReady self.now hand.old }
-        ensures { Steps load_min_write hand.old result hand.new }
+        ensures { Steps J.kept load_min_write hand.old result hand.new }
     {
         let min_write = self.layout.min_write();
         self.load::<Brand>(&mut hand.seat, min_write, 0)
@@ -79,7 +79,7 @@ impl<J: Keeps> Core<J> {
     /// Loads `min_rts`, which is at most the own published read word. A retired seat may load it too.
     pub fn load_min_read(&self, hand: &mut Hand<J>) -> u64
         requires { IsHandOf self.now hand.old }
-        ensures { Steps load_min_read hand.old result hand.new }
+        ensures { Steps J.kept load_min_read hand.old result hand.new }
     {
         let min_read = self.layout.min_read();
         self.load::<Brand>(&mut hand.seat, min_read, 0)
@@ -90,7 +90,7 @@ impl<J: Keeps> Core<J> {
         requires ready { IsReady self.now hand.old }
         requires whole { hand.old.view.raises.writes.next ≡ self.now.size.seats }
         requires least { least ≡ hand.old.view.raises.writes.least }
-        ensures { Steps raise_min_write hand.old result hand.new }
+        ensures { Steps J.kept raise_min_write hand.old result hand.new }
     {
         let min_write = self.layout.min_write();
         self.fetch_max::<Brand>(&mut hand.seat, min_write, least)
@@ -101,7 +101,7 @@ impl<J: Keeps> Core<J> {
         requires ready { IsReady self.now hand.old }
         requires whole { hand.old.view.raises.reads.next ≡ self.now.size.seats }
         requires least { least ≡ hand.old.view.raises.reads.least }
-        ensures { Steps raise_min_read hand.old result hand.new }
+        ensures { Steps J.kept raise_min_read hand.old result hand.new }
     {
         let min_read = self.layout.min_read();
         self.fetch_max::<Brand>(&mut hand.seat, min_read, least)

@@ -6,10 +6,11 @@ ghost use Rattle.core_rule.specs.Views.{Has};
 ghost use Rattle.core_rule.specs.Hands.{IsReady, Takes, Steps};
 ghost use Rattle.core_rule.specs.Holding.{filled_place, filled_cells, IsFilling};
 ghost use Rattle.core_rule.specs.Kinds.{take, fill_stamp, fill_reset, fill_next, fill_cell, give};
+ghost use Rattle.word_layout.specs.Limits.{cells_of_value};
 
 use crate::hand::Hand;
-use crate::keeps::Keeps;
 use crate::shared::Core;
+use histories::Keeps;
 use stamp_base::Stamp;
 use std::marker::Brand;
 use word_layout::CELLS;
@@ -34,10 +35,17 @@ impl<J: Keeps> Core<J> {
     pub fn take(&self, hand: &mut Hand<J>, place: u32) -> bool
         requires ready { IsReady self.now hand.old }
         requires place { place < places self.now.size }
-        ensures { Takes place hand.old result hand.new }
+        ensures { Takes J.kept place hand.old result hand.new }
     {
         let word = self.layout.status(place);
-        let found = self.compare_exchange::<Brand>(&mut hand.seat, word, FREE, HELD, place.into());
+        let found = self.compare_exchange::<Brand>(
+            &mut hand.seat,
+            word,
+            FREE,
+            HELD,
+            place.into(),
+            0,
+        );
         let taken = found == FREE;
         if taken && place >= self.layout.records() && place + 1 < self.layout.places() {
             hand.last_pool = Some(place);
@@ -49,7 +57,7 @@ impl<J: Keeps> Core<J> {
     pub fn fill_stamp(&self, hand: &mut Hand<J>, place: u32, stamp: Stamp)
         requires ready { IsReady self.now hand.old }
         requires holds { Has place hand.old.view.places.held }
-        ensures { Steps (fill_stamp place stamp) hand.old stamp hand.new }
+        ensures { Steps J.kept (fill_stamp place stamp) hand.old stamp hand.new }
     {
         let seat = &mut hand.seat;
         let word = self.layout.wts(place);
@@ -62,7 +70,7 @@ impl<J: Keeps> Core<J> {
         requires in_work { IsFilling hand.old.view.places.fills }
         requires place { place ≡ filled_place hand.old.view.places.fills }
         requires holds { Has place hand.old.view.places.held }
-        ensures { Steps fill_reset hand.old 0 hand.new }
+        ensures { Steps J.kept fill_reset hand.old 0 hand.new }
     {
         let seat = &mut hand.seat;
         let word = self.layout.rts(place);
@@ -76,8 +84,8 @@ impl<J: Keeps> Core<J> {
         requires place { place ≡ filled_place hand.old.view.places.fills }
         requires holds { Has place hand.old.view.places.held }
         requires cell { cell ≡ filled_cells hand.old.view.places.fills }
-        requires room { cell < CELLS }
-        ensures { Steps (fill_cell value) hand.old value hand.new }
+        requires room { cell < cells_of_value }
+        ensures { Steps J.kept (fill_cell value) hand.old value hand.new }
     {
         let seat = &mut hand.seat;
         let word = self.layout.cell(place, cell);
@@ -89,7 +97,7 @@ impl<J: Keeps> Core<J> {
     pub fn fill_next(&self, hand: &mut Hand<J>, place: u32, older: Option<u32>)
         requires ready { IsReady self.now hand.old }
         requires holds { Has place hand.old.view.places.held }
-        ensures { Steps (fill_next place (link_of older)) hand.old (link_of older) hand.new }
+        ensures { Steps J.kept (fill_next place (link_of older)) hand.old (link_of older) hand.new }
     {
         let seat = &mut hand.seat;
         let word = self.layout.next(place);
@@ -100,7 +108,7 @@ impl<J: Keeps> Core<J> {
     pub fn give(&self, hand: &mut Hand<J>, place: u32)
         requires ready { IsReady self.now hand.old }
         requires holds { Has place hand.old.view.places.held }
-        ensures { Steps (give place) hand.old 0 hand.new }
+        ensures { Steps J.kept (give place) hand.old 0 hand.new }
     {
         let seat = &mut hand.seat;
         let word = self.layout.status(place);

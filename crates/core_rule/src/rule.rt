@@ -1,9 +1,9 @@
 //! The rule of the table, and what its steps tell.
 ghost use Rattle.std.specs.Prelude.{◌≡◌, []};
 
-use crate::keeps::Keeps;
 use crate::view::View;
 use atomic_table::{Join, Play, Split, TableRule};
+use histories::Keeps;
 use std::marker::{Brand, PhantomData};
 use word_layout::Layout;
 
@@ -35,14 +35,15 @@ impl Deed for Brand {
 }
 
 /// What a step of this kind tells.
-pub(crate) struct Does<M> {
+pub(crate) struct Does<J, M> {
+    keeps: PhantomData<J>,
     deed: PhantomData<M>,
 }
 
-impl<M: Deed> Play<(), View> for Does<M> {
-    ghost use Rattle.core_rule.specs.Kinds.{Told};
+impl<J: Keeps, M: Deed> Play<(), View> for Does<J, M> {
+    ghost use Rattle.core_rule.specs.Learnt.{Told};
 
-    ghost then = { λ _ me n after'. (after'.1 ≡ []) × Told M.kind me.0 n after'.0 };
+    ghost then = { λ _ me n after'. (after'.1 ≡ []) × Told J.kept M.kind me.0 n after'.0 };
 }
 
 /// How a seat's view splits.

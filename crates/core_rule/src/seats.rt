@@ -2,17 +2,19 @@
 ghost use Rattle.std.specs.Prelude.{◌≡◌, ◌<◌, [], IfOk};
 ghost use Rattle.core_rule.specs.Hands.{IsHandOf, IsReady, StaysReady, IsRetired, IsSplit, IsJoined};
 ghost use Rattle.core_rule.specs.Offers.{MayOffer, made_of};
-ghost use Rattle.core_rule.specs.Kinds.{offer_write_word, offer_read_word, Allowed, Told};
+ghost use Rattle.core_rule.specs.Searching.{Ends};
+ghost use Rattle.core_rule.specs.Kinds.{offer_write_word, offer_read_word, Allowed};
+ghost use Rattle.core_rule.specs.Learnt.{Told};
 ghost use Rattle.core_rule.specs.View.{first_view};
 
 use crate::begin::first_words;
 use crate::hand::Hand;
-use crate::keeps::Keeps;
 use crate::rule::{Shares, TakesIn};
 use crate::shared::Core;
 use crate::view::View;
 use atomic_table::{Seat, Table};
-use replay_model::NoMemory;
+use histories::Keeps;
+use plain_data::NoMemory;
 use std::alloc::Global;
 use std::marker::{Brand, PhantomData};
 use word_layout::Layout;
@@ -57,6 +59,7 @@ impl<J: Keeps> Core<J> {
         requires ready { IsReady self.now hand.old }
         requires makes { MayOffer hand.old.view.splitting }
         requires room { made_of hand.old.view.splitting < self.now.size.seats }
+        requires ends { Ends hand.old.view.work }
         ensures split { IsSplit hand.old hand.new result }
         ensures stays { StaysReady self.now hand.old hand.new }
         ensures made { IsReady self.now result }
@@ -83,10 +86,11 @@ impl<J: Keeps> Core<J> {
         requires hand_of { IsHandOf self.now hand.old }
         requires other_of { IsHandOf self.now other }
         requires retired { IsRetired other.view }
+        requires ends { Ends hand.old.view.work }
+        requires other_ends { Ends other.view.work }
         ensures { IsJoined hand.old other hand.new }
     {
         hand.clock = hand.clock.max(other.clock);
-        hand.made = 0;
         let Hand {
             seat,
             number: _,
@@ -104,14 +108,14 @@ impl<J: Keeps> Core<J> {
     fn offer_write(&self, seat: &mut Seat<(), View>, made: u32, published: u64)
         requires table { seat.old.table_id ≡ self.now.table }
         requires bare { seat.old.me.1 ≡ [] }
-        requires allowed { Allowed offer_write_word seat.old.me.0 }
+        requires allowed { Allowed J.kept offer_write_word seat.old.me.0 }
         requires made { made ≡ made_of seat.old.me.0.splitting }
         requires room { made < self.now.size.seats }
         requires published { published ≡ seat.old.me.0.published.write }
         ensures table { seat.new.table_id ≡ seat.old.table_id }
         ensures id { seat.new.id ≡ seat.old.id }
         ensures bare { seat.new.me.1 ≡ [] }
-        ensures told { Told offer_write_word seat.old.me.0 published seat.new.me.0 }
+        ensures told { Told J.kept offer_write_word seat.old.me.0 published seat.new.me.0 }
     {
         let word = self.layout.published_write(made);
         self.store::<Brand>(seat, word, published, 0);
@@ -121,14 +125,14 @@ impl<J: Keeps> Core<J> {
     fn offer_read(&self, seat: &mut Seat<(), View>, made: u32, published: u64)
         requires table { seat.old.table_id ≡ self.now.table }
         requires bare { seat.old.me.1 ≡ [] }
-        requires allowed { Allowed offer_read_word seat.old.me.0 }
+        requires allowed { Allowed J.kept offer_read_word seat.old.me.0 }
         requires made { made ≡ made_of seat.old.me.0.splitting }
         requires room { made < self.now.size.seats }
         requires published { published ≡ seat.old.me.0.published.read }
         ensures table { seat.new.table_id ≡ seat.old.table_id }
         ensures id { seat.new.id ≡ seat.old.id }
         ensures bare { seat.new.me.1 ≡ [] }
-        ensures told { Told offer_read_word seat.old.me.0 published seat.new.me.0 }
+        ensures told { Told J.kept offer_read_word seat.old.me.0 published seat.new.me.0 }
     {
         let word = self.layout.published_read(made);
         self.store::<Brand>(seat, word, published, 0);

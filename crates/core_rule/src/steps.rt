@@ -1,14 +1,15 @@
 //! The operations of the table, each for every kind of step that has this way.
 ghost use Rattle.std.specs.Prelude.{◌≡◌, []};
 ghost use Rattle.word_layout.specs.Name.{IsNamed, word_of};
-ghost use Rattle.core_rule.specs.Ways.{loads, stores, raises_to, exchanges};
-ghost use Rattle.core_rule.specs.Kinds.{name, way, Allowed, Told};
+ghost use Rattle.core_rule.specs.Ways.{loads, stores, raises_to, exchanges, swaps};
+ghost use Rattle.core_rule.specs.Kinds.{name, way, Allowed};
+ghost use Rattle.core_rule.specs.Learnt.{Told};
 
-use crate::keeps::Keeps;
 use crate::rule::{Deed, Does};
 use crate::shared::Core;
 use crate::view::View;
 use atomic_table::Seat;
+use histories::Keeps;
 
 impl<J: Keeps> Core<J> {
     /// `operand` is for the choice of the kind alone.
@@ -17,14 +18,14 @@ impl<J: Keeps> Core<J> {
         requires bare { seat.old.me.1 ≡ [] }
         requires named { IsNamed self.now.size (name M.kind seat.old.me.0) }
         requires word { word ≡ word_of self.now.size (name M.kind seat.old.me.0) }
-        requires allowed { Allowed M.kind seat.old.me.0 }
+        requires allowed { Allowed J.kept M.kind seat.old.me.0 }
         requires way { way M.kind seat.old.me.0 ≡ loads }
         ensures table { seat.new.table_id ≡ seat.old.table_id }
         ensures id { seat.new.id ≡ seat.old.id }
         ensures bare { seat.new.me.1 ≡ [] }
-        ensures told { Told M.kind seat.old.me.0 result seat.new.me.0 }
+        ensures told { Told J.kept M.kind seat.old.me.0 result seat.new.me.0 }
     {
-        self.table.shared.load::<Does<M>>(seat, word as usize)
+        self.table.shared.load::<Does<J, M>>(seat, word as usize)
     }
 
     /// `operand` is for the choice of the kind alone.
@@ -39,14 +40,16 @@ impl<J: Keeps> Core<J> {
         requires bare { seat.old.me.1 ≡ [] }
         requires named { IsNamed self.now.size (name M.kind seat.old.me.0) }
         requires word { word ≡ word_of self.now.size (name M.kind seat.old.me.0) }
-        requires allowed { Allowed M.kind seat.old.me.0 }
+        requires allowed { Allowed J.kept M.kind seat.old.me.0 }
         requires way { way M.kind seat.old.me.0 ≡ stores new }
         ensures table { seat.new.table_id ≡ seat.old.table_id }
         ensures id { seat.new.id ≡ seat.old.id }
         ensures bare { seat.new.me.1 ≡ [] }
-        ensures told { Told M.kind seat.old.me.0 new seat.new.me.0 }
+        ensures told { Told J.kept M.kind seat.old.me.0 new seat.new.me.0 }
     {
-        self.table.shared.store::<Does<M>>(seat, word as usize, new);
+        self.table
+            .shared
+            .store::<Does<J, M>>(seat, word as usize, new);
     }
 
     pub(crate) fn fetch_max<M: Deed>(&self, seat: &mut Seat<(), View>, word: u32, bound: u64) -> u64
@@ -54,19 +57,77 @@ impl<J: Keeps> Core<J> {
         requires bare { seat.old.me.1 ≡ [] }
         requires named { IsNamed self.now.size (name M.kind seat.old.me.0) }
         requires word { word ≡ word_of self.now.size (name M.kind seat.old.me.0) }
-        requires allowed { Allowed M.kind seat.old.me.0 }
+        requires allowed { Allowed J.kept M.kind seat.old.me.0 }
         requires way { way M.kind seat.old.me.0 ≡ raises_to bound }
         ensures table { seat.new.table_id ≡ seat.old.table_id }
         ensures id { seat.new.id ≡ seat.old.id }
         ensures bare { seat.new.me.1 ≡ [] }
-        ensures told { Told M.kind seat.old.me.0 result seat.new.me.0 }
+        ensures told { Told J.kept M.kind seat.old.me.0 result seat.new.me.0 }
     {
         self.table
             .shared
-            .fetch_max::<Does<M>>(seat, word as usize, bound)
+            .fetch_max::<Does<J, M>>(seat, word as usize, bound)
     }
 
-    /// Gives the number found, which has become `new` where it was `old`.
+    /// The next three are for kinds that the value behind `_of` tells.
+    pub(crate) fn load_of<M: Deed, O>(&self, seat: &mut Seat<(), View>, word: u32, _of: &O) -> u64
+        requires table { seat.old.table_id ≡ self.now.table }
+        requires bare { seat.old.me.1 ≡ [] }
+        requires named { IsNamed self.now.size (name M.kind seat.old.me.0) }
+        requires word { word ≡ word_of self.now.size (name M.kind seat.old.me.0) }
+        requires allowed { Allowed J.kept M.kind seat.old.me.0 }
+        requires way { way M.kind seat.old.me.0 ≡ loads }
+        ensures table { seat.new.table_id ≡ seat.old.table_id }
+        ensures id { seat.new.id ≡ seat.old.id }
+        ensures bare { seat.new.me.1 ≡ [] }
+        ensures told { Told J.kept M.kind seat.old.me.0 result seat.new.me.0 }
+    {
+        self.load::<M>(seat, word, 0)
+    }
+
+    pub(crate) fn store_of<M: Deed, O>(
+        &self,
+        seat: &mut Seat<(), View>,
+        word: u32,
+        new: u64,
+        _of: &O,
+    )
+        requires table { seat.old.table_id ≡ self.now.table }
+        requires bare { seat.old.me.1 ≡ [] }
+        requires named { IsNamed self.now.size (name M.kind seat.old.me.0) }
+        requires word { word ≡ word_of self.now.size (name M.kind seat.old.me.0) }
+        requires allowed { Allowed J.kept M.kind seat.old.me.0 }
+        requires way { way M.kind seat.old.me.0 ≡ stores new }
+        ensures table { seat.new.table_id ≡ seat.old.table_id }
+        ensures id { seat.new.id ≡ seat.old.id }
+        ensures bare { seat.new.me.1 ≡ [] }
+        ensures told { Told J.kept M.kind seat.old.me.0 new seat.new.me.0 }
+    {
+        self.store::<M>(seat, word, new, 0);
+    }
+
+    pub(crate) fn fetch_max_of<M: Deed, O>(
+        &self,
+        seat: &mut Seat<(), View>,
+        word: u32,
+        bound: u64,
+        _of: &O,
+    ) -> u64
+        requires table { seat.old.table_id ≡ self.now.table }
+        requires bare { seat.old.me.1 ≡ [] }
+        requires named { IsNamed self.now.size (name M.kind seat.old.me.0) }
+        requires word { word ≡ word_of self.now.size (name M.kind seat.old.me.0) }
+        requires allowed { Allowed J.kept M.kind seat.old.me.0 }
+        requires way { way M.kind seat.old.me.0 ≡ raises_to bound }
+        ensures table { seat.new.table_id ≡ seat.old.table_id }
+        ensures id { seat.new.id ≡ seat.old.id }
+        ensures bare { seat.new.me.1 ≡ [] }
+        ensures told { Told J.kept M.kind seat.old.me.0 result seat.new.me.0 }
+    {
+        self.fetch_max::<M>(seat, word, bound)
+    }
+
+    /// Gives the number found, which has become `new` where it was `old`. The operands are for the choice of the kind alone.
     pub(crate) fn compare_exchange<M: Deed>(
         &self,
         seat: &mut Seat<(), View>,
@@ -74,20 +135,39 @@ impl<J: Keeps> Core<J> {
         old: u64,
         new: u64,
         _operand: u64,
+        _other: u64,
     ) -> u64
         requires table { seat.old.table_id ≡ self.now.table }
         requires bare { seat.old.me.1 ≡ [] }
         requires named { IsNamed self.now.size (name M.kind seat.old.me.0) }
         requires word { word ≡ word_of self.now.size (name M.kind seat.old.me.0) }
-        requires allowed { Allowed M.kind seat.old.me.0 }
+        requires allowed { Allowed J.kept M.kind seat.old.me.0 }
         requires way { way M.kind seat.old.me.0 ≡ exchanges old new }
         ensures table { seat.new.table_id ≡ seat.old.table_id }
         ensures id { seat.new.id ≡ seat.old.id }
         ensures bare { seat.new.me.1 ≡ [] }
-        ensures told { Told M.kind seat.old.me.0 result seat.new.me.0 }
+        ensures told { Told J.kept M.kind seat.old.me.0 result seat.new.me.0 }
     {
         self.table
             .shared
-            .compare_exchange::<Does<M>>(seat, word as usize, old, new)
+            .compare_exchange::<Does<J, M>>(seat, word as usize, old, new)
+    }
+
+    /// Gives the number found, which has become `new`.
+    pub(crate) fn swap<M: Deed>(&self, seat: &mut Seat<(), View>, word: u32, new: u64) -> u64
+        requires table { seat.old.table_id ≡ self.now.table }
+        requires bare { seat.old.me.1 ≡ [] }
+        requires named { IsNamed self.now.size (name M.kind seat.old.me.0) }
+        requires word { word ≡ word_of self.now.size (name M.kind seat.old.me.0) }
+        requires allowed { Allowed J.kept M.kind seat.old.me.0 }
+        requires way { way M.kind seat.old.me.0 ≡ swaps new }
+        ensures table { seat.new.table_id ≡ seat.old.table_id }
+        ensures id { seat.new.id ≡ seat.old.id }
+        ensures bare { seat.new.me.1 ≡ [] }
+        ensures told { Told J.kept M.kind seat.old.me.0 result seat.new.me.0 }
+    {
+        self.table
+            .shared
+            .swap::<Does<J, M>>(seat, word as usize, new)
     }
 }

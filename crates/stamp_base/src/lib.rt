@@ -1,7 +1,8 @@
 //! Stamps, which order the transactions of an engine.
 #![tactic(auto)]
 
-ghost use Rattle.std.specs.Prelude.{◌≡◌, ℕ, ◌<◌, ◌≤◌, ◌↔◌};
+ghost use Rattle.std.specs.Prelude.{◌≡◌, ℕ, ◌<◌, ◌≤◌, ◌↔◌, IsTrue, min};
+ghost use Rattle.stamp_base.specs.Limits.{most_seats, greatest_clock, greatest_adopted_clock, end_of_stamps};
 ghost use Rattle.stamp_base.specs.Stamp.{stamp_of, clock_of, seat_of, IsStamp, PairIsBefore};
 
 use std::marker::Model;
@@ -17,6 +18,34 @@ pub const GREATEST_ADOPTED_CLOCK: u64 = 1 << 55;
 
 /// A number above that of every stamp. The published word of a seat that is not open holds it.
 pub const END: u64 = u64::MAX;
+
+/// Whether a seat has this number.
+pub fn is_seat(seat: u32) -> bool
+    ensures { IsTrue result ↔ (seat < most_seats) }
+{
+    seat < SEATS
+}
+
+/// Whether a stamp may have this clock.
+pub fn is_clock(clock: u64) -> bool
+    ensures { IsTrue result ↔ (clock ≤ greatest_clock) }
+{
+    clock <= GREATEST_CLOCK
+}
+
+/// What a seat adopts of a clock that it reads, or that another seat shows.
+pub fn adopted_clock(clock: u64) -> u64
+    ensures { result ≡ min clock greatest_adopted_clock }
+{
+    clock.min(GREATEST_ADOPTED_CLOCK)
+}
+
+/// Whether a published word says that its seat is not open.
+pub fn is_end(number: u64) -> bool
+    ensures { IsTrue result ↔ (number ≡ end_of_stamps) }
+{
+    number == END
+}
 
 /// The timestamp of a transaction: a clock and the number of the seat that drew it.
 ///
@@ -41,13 +70,13 @@ impl Model for Stamp {
 impl Stamp {
     /// The stamp of a clock and a seat.
     pub fn make(clock: u64, seat: u32) -> Stamp
-        requires clock_in_range { clock ≤ GREATEST_CLOCK }
-        requires seat_in_range { seat < SEATS }
+        requires clock_in_range { clock ≤ greatest_clock }
+        requires seat_in_range { seat < most_seats }
         ensures number { result ≡ stamp_of clock seat }
         ensures clock { clock_of result ≡ clock }
         ensures seat { seat_of result ≡ seat }
         ensures order { (other : ℕ) → (result < other) ↔ PairIsBefore clock seat other }
-        ensures below_end { result < END }
+        ensures below_end { result < end_of_stamps }
     {
         Stamp {
             number: clock * 256 + seat as u64,
@@ -65,7 +94,7 @@ impl Stamp {
     /// The clock at which the stamp was drawn.
     pub fn clock(&self) -> u64
         ensures value { result ≡ clock_of self.now }
-        ensures in_range { result ≤ GREATEST_CLOCK }
+        ensures in_range { result ≤ greatest_clock }
     {
         self.number / 256
     }
@@ -73,7 +102,7 @@ impl Stamp {
     /// The seat that drew the stamp.
     pub fn seat(&self) -> u32
         ensures value { result ≡ seat_of self.now }
-        ensures in_range { result < SEATS }
+        ensures in_range { result < most_seats }
     {
         (self.number % 256) as u32
     }
@@ -82,11 +111,8 @@ impl Stamp {
     pub fn number(&self) -> u64
         ensures value { result ≡ self.now }
         ensures stamp { IsStamp result }
-        ensures below_end { result < END }
+        ensures below_end { result < end_of_stamps }
     {
         self.number
     }
 }
-
-#[cfg(test)]
-mod tests;

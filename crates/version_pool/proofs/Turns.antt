@@ -5,14 +5,13 @@ use Rattle.std.proofs.lemmas.Bool.Decides.{leb_tells, nat_tests}
 use Rattle.std.specs.List.{range_with_len}
 use Rattle.word_layout.specs.Name.{status}
 use Rattle.word_layout.specs.Size.{Size, IsUsable, places, kept_place}
-use Rattle.core_rule.specs.View.{View, Splitting, Load}
+use Rattle.core_rule.specs.View.{View, Load}
 use Rattle.core_rule.specs.Views.{Has}
 use Rattle.core_rule.specs.Holding.{is_usable}
 use Rattle.core_rule.specs.Kinds.{take, after}
+use Rattle.plain_data.specs.State.{State}
 use Rattle.core_rule.specs.Hands.{Seated, Takes}
-use Rattle.core_rule.specs.Hands.{stepped}
 use Rattle.version_pool.specs.Takes.{first_in_turn, usable_from, usable_in_turn, IsLostOn, AreLostOn, after_losing, after_taking, TakesFree, TakesFirst, FindsNone, WasMet}
-use Rattle.version_pool.proofs.Calls.{rested-rested}
 
 pub range_with_len-split : (a m n k b : ℕ) → b ≡ a + m → k ≡ m + n → range_with_len a k ≡ range_with_len a m ++ range_with_len b n
 range_with_len-split a zero n k b at all =
@@ -69,15 +68,14 @@ AreLostOn-append (p ∷ ps) qs (l ∷ ls) ms h k = (h.0, AreLostOn-append ps qs 
 
 pub after_losing-after_losing : (v : View) (ls ms : List Load) → after_losing (after_losing v ls) ms ≡ after_losing v (ls ++ ms)
 after_losing-after_losing v ls ms =
-    ap (λ (s : Splitting). record v { splitting = s; seen = record v.seen { lost = (v.seen.lost ++ ls) ++ ms } }) (rested-rested v.splitting)
-    ∙ ap (λ (all : List Load). record (stepped v) { seen = record v.seen { lost = all } }) (append_assoc v.seen.lost ls ms)
+    ap (λ (all : List Load). record v { seen = record v.seen { lost = all } }) (append_assoc v.seen.lost ls ms)
 
-pub after_losing-nil : (v : View) → after_losing v [] ≡ stepped v
-after_losing-nil v = ap (λ (all : List Load). record (stepped v) { seen = record v.seen { lost = all } }) (append-nil v.seen.lost)
+pub after_losing-nil : (v : View) → after_losing v [] ≡ v
+after_losing-nil v = ap (λ (all : List Load). record v { seen = record v.seen { lost = all } }) (append-nil v.seen.lost)
 
 -- one exchange, by whether it found a free place
 abbrev after_test : View → (place n : ℕ) → Bool → View
-after_test v place n b = record (stepped v) {
+after_test v place n b = record v {
   places = record v.places {
     held = cond b (place ∷ v.places.held) v.places.held;
     last_pool = cond (b && is_usable v.size place) (Some place) v.places.last_pool;
@@ -91,14 +89,14 @@ ne_from_zero n h = grind (arith, nat_tests)
 pub after-lost : (v : View) (place n : ℕ) → n ≢ 0 → after (take place) v n ≡ after_losing v (record { word = status place; number = n } ∷ [])
 after-lost v place n h = ap (after_test v place n) (ne_from_zero n h)
 
-pub after-won : (v : View) (place n : ℕ) → n ≡ 0 → after (take place) v n ≡ after_taking (stepped v) place
+pub after-won : (v : View) (place n : ℕ) → n ≡ 0 → after (take place) v n ≡ after_taking v place
 after-won v place n h =
     ap (after_test v place n) (ap (λ (k : ℕ). eqb k 0) h)
-    ∙ ap (λ (all : List Load). record (after_taking (stepped v) place) { seen = record v.seen { lost = all } }) (append-nil v.seen.lost)
+    ∙ ap (λ (all : List Load). record (after_taking v place) { seen = record v.seen { lost = all } }) (append-nil v.seen.lost)
 
 -- an exchange that was lost, and one that was won
-pub FindsNone-one : (place : ℕ) (before : Seated) (won : Bool) (after' : Seated) → Takes place before won after' → won ≡ false → FindsNone (place ∷ []) before.view after'.view
-FindsNone-one place before won after' t is = record {
+pub FindsNone-one : {kept : State → Type 0} (place : ℕ) (before : Seated) (won : Bool) (after' : Seated) → Takes kept place before won after' → won ≡ false → FindsNone (place ∷ []) before.view after'.view
+FindsNone-one {kept} place before won after' t is = record {
   lost = record { word = status place; number = t.found } ∷ [];
   not_free = (record { word = refl; not_free = not_free }, tt);
   view = t.step.view ∙ after-lost before.view place t.found not_free;
@@ -106,15 +104,15 @@ FindsNone-one place before won after' t is = record {
   not_free : t.found ≢ 0
   not_free = λ e. let w = t.won_is.1 e in let f = is in search rules
 
-pub TakesFree-one : (place : ℕ) (before : Seated) (won : Bool) (after' : Seated) → Takes place before won after' → won ≡ true → TakesFree place (stepped before.view) after'.view
-TakesFree-one place before won after' t is = record {
+pub TakesFree-one : {kept : State → Type 0} (place : ℕ) (before : Seated) (won : Bool) (after' : Seated) → Takes kept place before won after' → won ≡ true → TakesFree place before.view after'.view
+TakesFree-one {kept} place before won after' t is = record {
   view = t.step.view ∙ after-won before.view place t.found free;
   not_held = t.step.learnt free;
 } where
   free : t.found ≡ 0
   free = t.won_is.0 (search rules)
 
-pub TakesFirst-one : (place : ℕ) (v w : View) → TakesFree place (stepped v) w → TakesFirst (place ∷ []) v place w
+pub TakesFirst-one : (place : ℕ) (v w : View) → TakesFree place v w → TakesFirst (place ∷ []) v place w
 TakesFirst-one place v w t = record {
   earlier = [];
   later = [];

@@ -2,7 +2,7 @@
 use Rattle.std.proofs.Common.{◌≡◌, ◌≢◌, true, false, ◌==◌, nat_lt, refl, ap, eqb-true, eq-eqb}
 use Rattle.std.specs.Bool.{Decides}
 use Rattle.std.proofs.lemmas.Bool.Decides.{Decides-ltb, Decides-and, same_from_decides}
-use Rattle.word_layout.specs.declared.TheConstants.{CELLS}
+use Rattle.word_layout.specs.Limits.{cells_of_value}
 use Rattle.std.proofs.lemmas.Bool.{and_parts, and_from, false_from_ne_true}
 use Rattle.word_layout.specs.Size.{Size, places}
 use Rattle.word_layout.specs.Name.{Name, published_write, published_read, min_write, min_read, head, lock, floor, status, wts, rts, next, cell, IsNamed, word_of, name_eq, is_named}
@@ -51,7 +51,7 @@ Decides-is_named z (published_write s) = Decides-ltb s z.seats
 Decides-is_named z min_write = (λ _. tt, λ _. refl)
 Decides-is_named z min_read = (λ _. tt, λ _. refl)
 Decides-is_named z (cell p i) =
-    Decides-and (nat_lt p (places z)) (nat_lt i CELLS) (Decides-ltb p (places z)) (Decides-ltb i CELLS)
+    Decides-and (nat_lt p (places z)) (nat_lt i cells_of_value) (Decides-ltb p (places z)) (Decides-ltb i cells_of_value)
 Decides-is_named z _ = Decides-ltb _ _
 
 -- words of a table have one number exactly where they have one name

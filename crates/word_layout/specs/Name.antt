@@ -1,6 +1,6 @@
 -- The names of the words of an engine's table, and the number of each word.
 use Rattle.std.specs.Prelude.{◌≡◌, ℕ, ◌+◌, ◌*◌, ◌<◌, Bool, true, false, ◌&&◌, ◌==◌, nat_lt}
-use Rattle.word_layout.specs.declared.TheConstants.{CELLS}
+use Rattle.word_layout.specs.Limits.{cells_of_value}
 use Rattle.word_layout.specs.Size.{Size, places, words}
 
 -- a word of a seat s, of the table as a whole, of a record r, or of a place p
@@ -36,7 +36,7 @@ IsNamed z (status p) = p < places z
 IsNamed z (wts p) = p < places z
 IsNamed z (rts p) = p < places z
 IsNamed z (next p) = p < places z
-IsNamed z (cell p i) = (p < places z) × (i < CELLS)
+IsNamed z (cell p i) = (p < places z) × (i < cells_of_value)
 
 -- the first word of the records, and that of the places
 abbrev pub first_of_records : Size → ℕ
@@ -58,7 +58,7 @@ word_of z (status p) = first_of_places z + p
 word_of z (wts p) = first_of_places z + places z + p
 word_of z (rts p) = first_of_places z + 2 * places z + p
 word_of z (next p) = first_of_places z + 3 * places z + p
-word_of z (cell p i) = first_of_places z + 4 * places z + CELLS * p + i
+word_of z (cell p i) = first_of_places z + 4 * places z + cells_of_value * p + i
 
 -- each word of a table lies in it
 abbrev pub LiesWithin : Size → Type 0
@@ -97,4 +97,4 @@ is_named z (status p) = nat_lt p (places z)
 is_named z (wts p) = nat_lt p (places z)
 is_named z (rts p) = nat_lt p (places z)
 is_named z (next p) = nat_lt p (places z)
-is_named z (cell p i) = nat_lt p (places z) && nat_lt i CELLS
+is_named z (cell p i) = nat_lt p (places z) && nat_lt i cells_of_value

@@ -1,6 +1,6 @@
 -- The size of an engine's table: how many seats, records and places it has.
 use Rattle.std.specs.Prelude.{ℕ, ◌+◌, ◌-◌, ◌*◌, ◌<◌, ◌≤◌}
-use Rattle.word_layout.specs.declared.TheConstants.{MAX_SEATS, MAX_RECORDS, MAX_SPARE}
+use Rattle.word_layout.specs.Limits.{most_seats, most_records, most_spare}
 
 -- how many seats and records there are, and how many places beside the inline ones
 pub record Size : Type 0 where
@@ -14,11 +14,11 @@ size_of seats records spare = record { seats = seats; records = records; spare =
 -- each number is in its range
 pub record IsSize (z : Size) : Type 0 where
   pub has_seat : 1 ≤ z.seats
-  pub seats_in_range : z.seats ≤ MAX_SEATS
+  pub seats_in_range : z.seats ≤ most_seats
   pub has_record : 1 ≤ z.records
-  pub records_in_range : z.records ≤ MAX_RECORDS
+  pub records_in_range : z.records ≤ most_records
   pub has_spare : 1 ≤ z.spare
-  pub spare_in_range : z.spare ≤ MAX_SPARE
+  pub spare_in_range : z.spare ≤ most_spare
 
 -- how many places there are for versions: an inline one for each record, and the pool places
 abbrev pub places : Size → ℕ

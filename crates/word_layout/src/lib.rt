@@ -3,6 +3,7 @@
 
 ghost use Rattle.std.specs.Prelude.{◌≡◌, ◌<◌, ◌↔◌, IsOk, IsErr, IfOk};
 ghost use Rattle.word_layout.specs.Name.{published_write, published_read, min_write, min_read, head, lock, floor, status, wts, rts, next, cell, first_of_records, first_of_places, word_of, LiesWithin, AreApart};
+ghost use Rattle.word_layout.specs.Limits.{cells_of_value};
 ghost use Rattle.word_layout.specs.Size.{size_of, IsSize, places, words};
 
 use std::error::Error;
@@ -208,7 +209,7 @@ impl Layout {
     /// The word of cell `i` of the value in place `p`.
     pub fn cell(&self, p: u32, i: u32) -> u32
         requires place { p < places self.now }
-        requires cell { i < CELLS }
+        requires cell { i < cells_of_value }
         ensures { result ≡ word_of self.now (cell p i) }
     {
         self.first_of_places() + 4 * self.places() + CELLS * p + i
@@ -228,6 +229,3 @@ impl Layout {
         self.first_of_records() + 3 * self.records
     }
 }
-
-#[cfg(test)]
-mod tests;

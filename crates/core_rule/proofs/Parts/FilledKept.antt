@@ -1,21 +1,30 @@
 -- Filled places: nobody but its holder stores in a place that is held.
-use Rattle.std.proofs.Common.{◌≡◌, ◌≢◌, ℕ, suc, ◌+◌, ◌<◌, true, false, Bool, cond, eqb, ◌&&◌, List, [], ◌∷◌, ◌++◌, length, set, refl, sym, ◌∙◌, subst, arith, eq-eqb, eqb-true, ne_eqb, inr, add-zero, zero-add, None, Some}
-use Rattle.replay_model.specs.State.{State}
+use Rattle.std.proofs.Common.{◌≡◌, ◌≢◌, ℕ, suc, ◌+◌, ◌<◌, max, true, false, Bool, cond, eqb, ◌&&◌, List, [], ◌∷◌, ◌++◌, length, set, refl, sym, ◌∙◌, subst, arith, eq-eqb, eqb-true, ne_eqb, inr, add-zero, zero-add, None, Some}
+use Rattle.plain_data.specs.State.{State}
 use Rattle.word_layout.specs.Size.{Size}
 use Rattle.core_rule.specs.Memory.{Memory, Stored, stored, start}
-use Rattle.core_rule.specs.World.{World, at_number}
+use Rattle.core_rule.specs.World.{World, marked, linked, at_number}
 use Rattle.core_rule.specs.Views.{AllOf, Has}
 use Rattle.core_rule.specs.View.{View, Fill, first_view}
 use Rattle.core_rule.specs.Hands.{split_left, split_right, joined_view}
 use Rattle.core_rule.proofs.Step.{Step, at_number-other, at_number-same}
 use Rattle.core_rule.proofs.Making.{Split, Join}
-use Rattle.word_layout.specs.Name.{status}
+use Rattle.word_layout.specs.Name.{status, rts}
 use Rattle.core_rule.specs.Holding.{filled_place, filled_cells, reset_fill, link_fill, more_cells, without, without_fill, IsFilling}
-use Rattle.core_rule.specs.Kinds.{Kind, take, fill_stamp, fill_reset, fill_next, fill_cell, give, name, after, changed}
+use Rattle.core_rule.specs.Kinds.{Kind, take, fill_stamp, fill_reset, fill_next, fill_cell, give, mark, point, link_next, raise_read_stamp, cut, name, after, changed}
 use Rattle.core_rule.specs.Parts.Filled.{CellsAre, Stands, Others, FillsOk, FilledOk, Filled}
 use Rattle.core_rule.proofs.EachView.{Each-set, Each-own, Each-push, Each-join, Each-one, AllOf-Has, joined}
 use Rattle.core_rule.proofs.Without.{ne_from_test, Has-without, Others-without, FillsOk-without}
-use Rattle.core_rule.proofs.Parts.PlacesKept.{others_hold_not}
+use Rattle.core_rule.proofs.Parts.PlacesKept.{others_hold_not, not_held}
+use Rattle.core_rule.specs.View.{Places, stamped}
+use Rattle.core_rule.specs.Parts.Linking.{IsAbove}
+use Rattle.core_rule.specs.View.{floored}
+use Rattle.core_rule.proofs.Collected.{work_of}
+use Rattle.core_rule.proofs.Working.{joint_of, stand_of, raised_of}
+use Rattle.core_rule.specs.Deciding.{stamp_in}
+use Rattle.core_rule.specs.Views.{At}
+use Rattle.word_layout.specs.Name.{next as next_word}
+use prog.Atomic.{either}
 
 -- ---- cells
 
@@ -32,11 +41,11 @@ at_cell-other cells p i x j ne = rw (eq-eqb p p refl, ne_eqb i j ne)
 at_cell-same : (cells : ℕ → ℕ → ℕ) (p i x : ℕ) → at_cell cells p i x p i ≡ x
 at_cell-same cells p i x = rw (eq-eqb p p refl, eq-eqb i i refl)
 
-CellsAre-same : (c d : ℕ → ℕ) (i : ℕ) (xs : List ℕ) → ((j : ℕ) → d j ≡ c j) → CellsAre c i xs → CellsAre d i xs
+pub CellsAre-same : (c d : ℕ → ℕ) (i : ℕ) (xs : List ℕ) → ((j : ℕ) → d j ≡ c j) → CellsAre c i xs → CellsAre d i xs
 CellsAre-same c d i [] same h = tt
 CellsAre-same c d i (x ∷ xs) same h = (same i ∙ h.0, CellsAre-same c d (suc i) xs same h.1)
 
-CellsAre-more : (c d : ℕ → ℕ) (x i : ℕ) (xs : List ℕ) → ((j : ℕ) → j < i + length xs → d j ≡ c j) → d (i + length xs) ≡ x → CellsAre c i xs → CellsAre d i (xs ++ x ∷ [])
+pub CellsAre-more : (c d : ℕ → ℕ) (x i : ℕ) (xs : List ℕ) → ((j : ℕ) → j < i + length xs → d j ≡ c j) → d (i + length xs) ≡ x → CellsAre c i xs → CellsAre d i (xs ++ x ∷ [])
 CellsAre-more c d x i [] same new h = (subst (λ (k : ℕ). d k ≡ x) (add-zero i) new, tt)
 CellsAre-more c d x i (y ∷ ys) same new h =
     (same i (omega arith) ∙ h.0, CellsAre-more c d x (suc i) ys (λ j lt. same j (omega arith)) (subst (λ (k : ℕ). d k ≡ x) (shift i (length ys)) new) h.1) where
@@ -105,7 +114,7 @@ FillsOk-held w xs ys more (f ∷ fs) h = (more f.place h.0, h.1, h.2, FillsOk-he
 
 module _ (w : Stored) (xs : List ℕ) where
   -- the place of the fill in work is held
-  front_has : (fs : List Fill) → IsFilling fs → FillsOk w xs fs → Has (filled_place fs) xs
+  pub front_has : (fs : List Fill) → IsFilling fs → FillsOk w xs fs → Has (filled_place fs) xs
   front_has [] in_work h = absurd in_work
   front_has (f ∷ fs) in_work h = h.0
 
@@ -186,6 +195,15 @@ module _ (kept : State → Type 0) (z : Size) (g : World) (m : Memory) (vs : Lis
   in_front : (k : Kind) → Step kept z g m vs id v k → IsFilling v.places.fills → (w : Stored) → DiffersAt (filled_place v.places.fills) (stored m) w → (u : View) → FilledOk w u → Filled w (set vs id u)
   in_front k s in_work = own k s (filled_place v.places.fills) (front_has (stored m) v.places.held v.places.fills in_work (s.rule.filled id v s.at s.allowed.is_open))
 
+  -- the words of a place that no view holds have changed
+  unheld : (k : Kind) → Step kept z g m vs id v k → (p : ℕ) → ((i : ℕ) (u : View) → At vs i u → u.spent ≡ false → AllOf (λ q. q ≢ p) u.places.held) → (w : Stored) → DiffersAt p (stored m) w → (u : View)
+      → u.spent ≡ v.spent → u.places ≡ v.places → Filled w (set vs id u)
+  unheld k s p free w differs u spent same_places =
+      let still : (x : View) → AllOf (λ q. q ≢ p) x.places.held → FilledOk (stored m) x → FilledOk w x = λ x away h.
+      FillsOk-elsewhere p (stored m) w differs x.places.held x.places.held (λ q ne has. has) x.places.fills (Others-from_held (stored m) x.places.held p x.places.fills away h) h in
+      Each-set (FilledOk (stored m)) (FilledOk w) vs u id (λ i x ne at live h. still x (free i x at live) h)
+      (λ live. subst (λ (y : Places). FillsOk w y.held y.fills) (sym same_places) (still v (free id v s.at s.allowed.is_open) (s.rule.filled id v s.at s.allowed.is_open))) s.rule.filled
+
   more_held : (p : ℕ) (b : Bool) (xs : List ℕ) (q : ℕ) → Has q xs → Has q (cond b (p ∷ xs) xs)
   more_held p true xs q h = inr h
   more_held p false xs q h = h
@@ -206,6 +224,28 @@ module _ (kept : State → Type 0) (z : Size) (g : World) (m : Memory) (vs : Lis
   filled_kept (give p) s = Each-own (FilledOk (stored m)) vs id v _ s.rule.filled s.at s.allowed.is_open
       (λ h. FillsOk-elsewhere p (stored m) (stored m) (same (stored m) p) v.places.held (without p v.places.held) (λ q ne has. Has-without p q v.places.held ne has) (without_fill p v.places.fills)
       (Others-without p v.places.fills) (FillsOk-without p (stored m) v.places.held v.places.fills h))
+  filled_kept (mark r f) s = Each-own (FilledOk (stored m)) vs id v _ s.rule.filled s.at s.allowed.is_open
+      (λ h. FillsOk-elsewhere f.place (stored m) (stored m) (same (stored m) f.place) v.places.held (without f.place v.places.held) (λ q ne has. Has-without f.place q v.places.held ne has) (without_fill f.place v.places.fills)
+      (Others-without f.place v.places.fills) (FillsOk-without f.place (stored m) v.places.held v.places.fills h))
+  filled_kept (point p j w) s =
+      unheld _ s j.write.place (not_held kept z g m vs id v _ s j.write.place (marked v.number) (joint_of kept z g m vs id v _ s p j w s.allowed.can.0 s.allowed.can.1).mark.owned (λ seat e. cc))
+      (with_link (stored m) j.write.place (suc p.place)) (link_differs (stored m) j.write.place (suc p.place)) _ refl refl
+  filled_kept (link_next p j a w) s =
+      let h = joint_of kept z g m vs id v _ s p j w s.allowed.can.0 s.allowed.can.1 in
+      let x = either (eqb (m (next_word a)) (suc p.place)) (suc j.write.place) (m (next_word a)) in
+      let there = (subst (IsAbove (g.lists p.record_number) (stored m).stamps j.write.stamp p.under) s.allowed.can.3 h.above).0 in
+      let is = (s.rule.lists.each p.record_number (stand_of kept z g m vs id v _ s p (stamped w) s.allowed.can.0).kept.on_record).owned a there in
+      unheld _ s a (not_held kept z g m vs id v _ s a (linked p.record_number) is.1 (λ seat e. cc)) (with_link (stored m) a x) (link_differs (stored m) a x) _ refl refl
+  filled_kept (raise_read_stamp d) s =
+      let o = raised_of kept z g m vs id v d s in
+      let is = (s.rule.lists.each d.record_number o.kept.on_record).owned d.place o.kept.there in
+      let x = max (m (rts d.place)) (stamp_in v.flight) in
+      unheld _ s d.place (not_held kept z g m vs id v _ s d.place (linked d.record_number) is.1 (λ seat e. cc)) (record (stored m) { reads = at_number (stored m).reads d.place x })
+      (record { stamps = λ q ne. refl; reads = λ q ne. at_number-other (stored m).reads d.place q x (λ e. ne (sym e)); links = λ q ne. refl; cells = λ q i ne. refl }) _ refl refl
+  filled_kept (cut r c p) s =
+      let o = work_of kept z g m vs s.rule id v s.at s.allowed.is_open r c (floored p) s.allowed.can in
+      let is = (s.rule.lists.each r o.on_record).owned p o.at.1.there in
+      unheld _ s p (not_held kept z g m vs id v _ s p (linked r) is.1 (λ seat e. cc)) (with_link (stored m) p 0) (link_differs (stored m) p 0) _ refl refl
   filled_kept k s = Each-own (FilledOk (stored m)) vs id v _ s.rule.filled s.at s.allowed.is_open (λ p. p)
 
 module _ (kept : State → Type 0) (z : Size) (g : World) (m : Memory) (vs : List View) (id : ℕ) (v : View) (s : Split kept z g m vs id v) where

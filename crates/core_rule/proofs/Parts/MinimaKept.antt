@@ -1,6 +1,6 @@
 -- Minima: a minimum is raised to the least of the words loaded, each of which only rises; a published read word is below what was loaded.
 use Rattle.std.proofs.Common.{ℕ, ◌<◌, ◌≤◌, max, List, set, arith, Option, Some, None, IsSome, [], ◌∷◌, ◌++◌}
-use Rattle.replay_model.specs.State.{State}
+use Rattle.plain_data.specs.State.{State}
 use Rattle.word_layout.specs.Size.{Size}
 use Rattle.core_rule.specs.Memory.{Memory, start}
 use Rattle.core_rule.specs.World.{World}
@@ -33,13 +33,13 @@ module _ (kept : State → Type 0) (z : Size) (g : World) (m : Memory) (vs : Lis
       let b = (s.rule.clocks id v s.at s.allowed.is_open).below_next s.allowed.can.2 in let c = s.allowed.can.0 in
       own _ s _ (λ p. let w = p.writes in record { writes = omega arith; reads = p.reads; met = p.met; settled = p.settled })
   minima_kept publish_idle s =
-      let c : v.published.write < bound_of_clock v.clock.clock = s.allowed.can in
+      let c : v.published.write < bound_of_clock v.clock.clock = s.allowed.can.0 in
       own _ s _ (λ p. let w = p.writes in record { writes = omega arith; reads = p.reads; met = p.met; settled = p.settled })
   minima_kept retire_write s =
       let e = (s.rule.published id v s.at s.allowed.is_open).write in let f = s.fits in
       own _ s _ (λ p. let w = p.writes in record { writes = omega arith; reads = p.reads; met = p.met; settled = p.settled })
   minima_kept publish_bound s =
-      let b = bound_of-between v.loaded_bound (m min_write) v.published.read s.allowed.can (s.rule.bounds id v s.at s.allowed.is_open) in
+      let b = bound_of-between v.loaded_bound (m min_write) v.published.read s.allowed.can.0 (s.rule.bounds id v s.at s.allowed.is_open) in
       own _ s _ (λ p. let r = p.reads in record { writes = p.writes; reads = omega arith; met = p.met; settled = λ h. b.1 })
   minima_kept retire_read s =
       let e = (s.rule.published id v s.at s.allowed.is_open).read in let f = s.fits in

@@ -2,7 +2,7 @@
 use Rattle.std.proofs.Common.{◌≡◌, ℕ, suc, ◌<◌, ◌≤◌, min, true, Bool, cond, eqb, List, set, refl, arith, [], ◌∷◌, ◌++◌, false}
 use native.Mathlib.Decide.{ℕ_discrete}
 use mathlib.Core.Logic.{dite}
-use Rattle.replay_model.specs.State.{State}
+use Rattle.plain_data.specs.State.{State}
 use Rattle.word_layout.specs.Size.{Size}
 use Rattle.core_rule.specs.Memory.{Memory}
 use Rattle.core_rule.specs.World.{World}
@@ -39,10 +39,10 @@ module _ (kept : State → Type 0) (z : Size) (g : World) (m : Memory) (vs : Lis
   pub scans_kept : (k : Kind) → Step kept z g m vs id v k → Scans (set vs id (after k v (m (name k v))))
   scans_kept (publish_stamp clock) s =
       let b = (s.rule.clocks id v s.at s.allowed.is_open).below_next s.allowed.can.2 in let c = s.allowed.can.0 in rises _ s _ refl refl (omega arith) (omega arith)
-  scans_kept publish_idle s = let c : v.published.write < bound_of_clock v.clock.clock = s.allowed.can in rises _ s _ refl refl (omega arith) (omega arith)
+  scans_kept publish_idle s = let c : v.published.write < bound_of_clock v.clock.clock = s.allowed.can.0 in rises _ s _ refl refl (omega arith) (omega arith)
   scans_kept retire_write s = let e = (s.rule.published id v s.at s.allowed.is_open).write in let f = s.fits in rises _ s _ refl refl (omega arith) (omega arith)
   scans_kept publish_bound s =
-      let b = bound_of-between v.loaded_bound (m min_write) v.published.read s.allowed.can (s.rule.bounds id v s.at s.allowed.is_open) in rises _ s _ refl refl (omega arith) b.0
+      let b = bound_of-between v.loaded_bound (m min_write) v.published.read s.allowed.can.0 (s.rule.bounds id v s.at s.allowed.is_open) in rises _ s _ refl refl (omega arith) b.0
   scans_kept retire_read s = let e = (s.rule.published id v s.at s.allowed.is_open).read in let f = s.fits in rises _ s _ refl refl (omega arith) (omega arith)
   scans_kept (scan_writes seat) s = Pairs-set ScanOk ScanOk vs _ id s.rule.scans record {
     others = λ i j u x h k ou ox r. r;

@@ -1,13 +1,13 @@
 -- Splitting: a seat that is made by no one but seat 0, whose words nobody else stores.
 use Rattle.std.proofs.Common.{◌≡◌, ℕ, ◌<◌, ◌≤◌, false, List, set, refl, sym, ◌∙◌, subst, arith, [], ◌∷◌, ◌++◌}
-use Rattle.replay_model.specs.State.{State}
+use Rattle.plain_data.specs.State.{State}
 use Rattle.word_layout.specs.Size.{Size}
 use Rattle.core_rule.specs.Memory.{Memory, start}
 use Rattle.core_rule.specs.World.{World, at_number, nothing_drawn}
 use Rattle.core_rule.specs.Views.{At}
 use Rattle.core_rule.proofs.Step.{Step, differs, at_number-other, at_number-same}
 use Rattle.core_rule.specs.View.{View, Published, Splitting, single, sharing, offers_write, offers_both, shared, first_view}
-use Rattle.core_rule.specs.Offers.{made_of, rested, MayOffer, HasOffered, HasOfferedBoth, IsSettled}
+use Rattle.core_rule.specs.Offers.{made_of, MayOffer, HasOffered, HasOfferedBoth, IsSettled}
 use Rattle.core_rule.specs.Kinds.{Kind, offer_write_word, offer_read_word, publish_stamp, publish_idle, retire_write, publish_bound, retire_read, name, after, turned, changed}
 use Rattle.core_rule.specs.Rule.{write_words, read_words}
 use Rattle.core_rule.specs.Parts.Splitting.{Makes, Offered, SplittingOk, IsBelow, IsMade, Splittings}
@@ -36,13 +36,6 @@ Makes-of_both (sharing made) h = absurd h
 Makes-of_both (offers_write made) h = absurd h
 Makes-of_both shared h = absurd h
 
-pub Makes-rested : (s : Splitting) (made : ℕ) → IsSettled s → Makes (rested s) made → Makes s made
-Makes-rested single made f h = h
-Makes-rested (sharing k) made f h = absurd h
-Makes-rested (offers_write k) made f h = absurd f
-Makes-rested (offers_both k) made f h = absurd f
-Makes-rested shared made f h = h
-
 -- a seat that makes others knows how many there are
 Makes-one : (s : Splitting) (a b : ℕ) → Makes s a → Makes s b → a ≡ b
 Makes-one single a b h k = h ∙ sym k
@@ -51,12 +44,13 @@ Makes-one (offers_write n) a b h k = h ∙ sym k
 Makes-one (offers_both n) a b h k = h ∙ sym k
 Makes-one shared a b h k = absurd h
 
-Offered-rested : (z : Size) (writes reads : ℕ → ℕ) (p : Published) (s : Splitting) → IsSettled s → Offered z writes reads p (rested s)
-Offered-rested z writes reads p single f = tt
-Offered-rested z writes reads p (sharing k) f = tt
-Offered-rested z writes reads p (offers_write k) f = absurd f
-Offered-rested z writes reads p (offers_both k) f = absurd f
-Offered-rested z writes reads p shared f = tt
+-- nothing was stored for a next seat
+Offered-settled : (z : Size) (writes reads : ℕ → ℕ) (p : Published) (s : Splitting) → IsSettled s → Offered z writes reads p s
+Offered-settled z writes reads p single f = tt
+Offered-settled z writes reads p (sharing k) f = tt
+Offered-settled z writes reads p (offers_write k) f = absurd f
+Offered-settled z writes reads p (offers_both k) f = absurd f
+Offered-settled z writes reads p shared f = tt
 
 -- what was stored for a seat still stands
 Offered-stays : (z : Size) (writes reads writes' reads' : ℕ → ℕ) (p : Published) (s : Splitting)
@@ -100,11 +94,11 @@ IsBelow-more a b w le h = let lt = h.seat in record {
 
 module _ (kept : State → Type 0) (z : Size) (g : World) (m : Memory) (vs : List View) (id : ℕ) (v : View) where
   -- after a step that leaves the words and the last stamps of the seats that are not made
-  stays : (k : Kind) → Step kept z g m vs id v k → IsSettled v.splitting → (drawn' writes' reads' : ℕ → ℕ) (w : View) → w.splitting ≡ rested v.splitting → w.number ≡ v.number
+  stays : (k : Kind) → Step kept z g m vs id v k → IsSettled v.splitting → (drawn' writes' reads' : ℕ → ℕ) (w : View) → w.splitting ≡ v.splitting → w.number ≡ v.number
       → w.clock.taken_in ≡ v.clock.taken_in
       → ((i : ℕ) → v.number < i → (drawn' i ≡ g.drawn i) × (writes' i ≡ write_words m i) × (reads' i ≡ read_words m i)) → Splittings z drawn' writes' reads' (set vs id w)
   stays k s settled drawn' writes' reads' w splitting number taken same =
-      let makes = λ (made : ℕ) (h : Makes w.splitting made). Makes-rested v.splitting made settled (subst (λ (t : Splitting). Makes t made) splitting h) in record {
+      let makes = λ (made : ℕ) (h : Makes w.splitting made). subst (λ (t : Splitting). Makes t made) splitting h in record {
         each = Each-set (SplittingOk z g.drawn (write_words m) (read_words m)) (SplittingOk z drawn' writes' reads') vs w id
             (λ i u ne at live p.
             let below = λ (made : ℕ) (h : Makes u.splitting made). (s.rule.splittings.made i id u v at s.at live s.allowed.is_open made h).seat in record {
@@ -115,7 +109,7 @@ module _ (kept : State → Type 0) (z : Size) (g : World) (m : Memory) (vs : Lis
             (λ live.
             let p = s.rule.splittings.each id v s.at s.allowed.is_open in record {
               first = λ made h. (number ∙ (p.first made (makes made h)).0, (p.first made (makes made h)).1);
-              offered = subst (Offered z writes' reads' w.published) (sym splitting) (Offered-rested z writes' reads' w.published v.splitting settled);
+              offered = subst (Offered z writes' reads' w.published) (sym splitting) (Offered-settled z writes' reads' w.published v.splitting settled);
               fresh = λ made j h le.
                   (same j (let b : v.number < made = (s.rule.splittings.made id id v v s.at s.at s.allowed.is_open s.allowed.is_open made (makes made h)).seat in omega arith)).0
                   ∙ p.fresh made j (makes made h) le;
@@ -208,15 +202,18 @@ module _ (kept : State → Type 0) (z : Size) (g : World) (m : Memory) (vs : Lis
   pub splittings_joined : Splittings z g.drawn (write_words m) (read_words m) (joined vs (joined_view v w) id other)
   splittings_joined = record {
     each = Each-join vs _ id other (SplittingOk z g.drawn (write_words m) (read_words m)) (SplittingOk z g.drawn (write_words m) (read_words m)) (λ i u h live p. p)
-        (λ live. record { first = λ n h. absurd h; offered = tt; fresh = λ n k h le. absurd h }) s.rule.splittings.each;
+        (λ live. let p = s.rule.splittings.each id v s.at s.is_open in record { first = p.first; offered = p.offered; fresh = p.fresh }) s.rule.splittings.each;
     made = Pairs-join vs _ id other IsMade IsMade s.rule.splittings.made record {
       others = λ i j u x h k ou ox r. r;
-      left = λ j x h ox o n e. absurd e;
+      left = λ j x h ox o n e. s.rule.splittings.made id j v x s.at h.2 s.is_open ox n e;
       right = λ i u h ou o n e.
           let a = s.rule.splittings.made i id u v h.2 s.at ou s.is_open n e in
           let b = s.rule.splittings.made i other u w h.2 s.at_other ou s.other_open n e in
           record { seat = a.seat; taken_in = AllOf-append (λ j. j < n) v.clock.taken_in (w.number ∷ w.clock.taken_in) a.taken_in (b.seat, b.taken_in) };
-      self = λ o n e. absurd e;
+      self = λ o n e.
+          let a = s.rule.splittings.made id id v v s.at s.at s.is_open s.is_open n e in
+          let b = s.rule.splittings.made id other v w s.at s.at_other s.is_open s.other_open n e in
+          record { seat = a.seat; taken_in = AllOf-append (λ j. j < n) v.clock.taken_in (w.number ∷ w.clock.taken_in) a.taken_in (b.seat, b.taken_in) };
     };
   }
 

@@ -1,0 +1,48 @@
+//! Stamps and their numbers.
+use stamp_base::{
+    END, GREATEST_ADOPTED_CLOCK, GREATEST_CLOCK, SEATS, Stamp, adopted_clock, is_clock, is_end,
+    is_seat,
+};
+use std::test::*;
+
+#[test]
+fn stamps_give_their_numbers(rt: HostRuntime) {
+    let table = [
+        (0, 0, 0),
+        (10, 0, 2_560),
+        (20, 1, 5_121),
+        (36_028_797_018_963_968, 0, 9_223_372_036_854_775_808),
+        (72_057_594_037_927_934, 63, 18_446_744_073_709_551_167),
+    ];
+    for (clock, seat, number) in table {
+        assert!(rt; is_clock(clock) && is_seat(seat));
+        let stamp = Stamp::make(clock, seat);
+        assert_eq!(rt; stamp.number(), number);
+        assert_eq!(rt; stamp.clock(), clock);
+        assert_eq!(rt; stamp.seat(), seat);
+        assert_eq!(rt; Stamp::from_number(stamp.number()), stamp);
+    }
+}
+
+#[test]
+fn stamps_are_ordered_by_clock_then_seat(rt: HostRuntime) {
+    assert!(rt; Stamp::make(10, 63) < Stamp::make(11, 0));
+    assert!(rt; Stamp::make(10, 1) > Stamp::make(10, 0));
+    assert_eq!(rt; Stamp::make(7, 3).max(Stamp::make(7, 2)), Stamp::make(7, 3));
+}
+
+#[test]
+fn limits_of_stamps_have_their_values(rt: HostRuntime) {
+    assert_eq!(rt; GREATEST_CLOCK, 72_057_594_037_927_934);
+    assert_eq!(rt; GREATEST_ADOPTED_CLOCK, 36_028_797_018_963_968);
+    assert_eq!(rt; END, 18_446_744_073_709_551_615);
+    assert_eq!(rt; SEATS, 64);
+    assert!(rt; is_seat(63) && !is_seat(64));
+    assert!(rt; is_clock(72_057_594_037_927_934) && !is_clock(72_057_594_037_927_935));
+    assert!(rt; is_end(END) && !is_end(18_446_744_073_709_551_614));
+    assert_eq!(rt;
+        adopted_clock(36_028_797_018_963_969),
+        36_028_797_018_963_968
+    );
+    assert_eq!(rt; adopted_clock(7), 7);
+}

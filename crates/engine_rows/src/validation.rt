@@ -1,0 +1,176 @@
+//! Validation of whole transactions, by hands that step in turns.
+ghost use Rattle.std.specs.Prelude.{◌≡◌, ◌<◌, [], ◌∷◌, ◌++◌, IfOk, OnOk};
+ghost use Rattle.core_rule.specs.View.{writing};
+ghost use Rattle.core_rule.specs.Collecting.{HasEntry};
+ghost use Rattle.core_rule.specs.Deciding.{commit_of};
+ghost use Rattle.core_rule.specs.Hands.{IsReady};
+ghost use Rattle.core_rule.specs.Searching.{Ends};
+ghost use Rattle.validate_core.specs.Installing.{IsBegun, SameSets};
+
+use crate::clocks::two_seats;
+use clock_stamps::draw;
+use core_rule::{AnyState, Core, Hand};
+use plain_data::Cells;
+use stamp_base::Stamp;
+use std::alloc::Global;
+use std::test::*;
+use validate_core::{Conflict, Sets, install};
+use version_pool::{PlacesOut, take, take_kept};
+use version_search::{Found, find};
+use word_layout::Layout;
+
+/// Draws the stamp of a transaction, whose sets are empty.
+pub fn begin(
+    alloc: Global,
+    core: &Core<AnyState>,
+    hand: &mut Hand<AnyState>,
+    reading: u64,
+) -> Result<(Sets, Stamp), Fail>
+    requires ready { IsReady core.now hand.old }
+    requires ends { Ends hand.old.view.work }
+    ensures ready { IsReady core.now hand.new }
+    ensures begun { IfOk result (λ begun. IsBegun core.now.size begun.0 hand.new.view) }
+    ensures stamp { IfOk result (λ begun. hand.new.view.published.write ≡ begun.1) }
+    ensures reads { IfOk result (λ begun. begun.0.reads ≡ []) }
+    ensures writes { IfOk result (λ begun. begun.0.writes ≡ []) }
+{
+    let stamp = draw(core, hand, reading)?;
+    Ok((Sets::new(alloc), stamp))
+}
+
+// Reads record 5, which has to be absent from the start.
+fn read_absent(
+    core: &Core<AnyState>,
+    hand: &mut Hand<AnyState>,
+    sets: &mut Sets,
+    stamp: Stamp,
+) -> Result<(), Fail>
+    requires ready { IsReady core.now hand.old }
+    requires record { 5 < core.now.size.records }
+    requires begun { IsBegun core.now.size sets.old hand.old.view }
+    requires stamp { hand.old.view.published.write ≡ stamp }
+    requires first { sets.old.reads ≡ [] }
+    ensures ready { IsReady core.now hand.new }
+    ensures begun { OnOk result (IsBegun core.now.size sets.new hand.new.view) }
+    ensures writes { sets.new.writes ≡ sets.old.writes }
+{
+    sets.reserve(1, 0)?;
+    match find(core, hand, 5, stamp.number(), false) {
+        Found::Version {
+            place,
+            wts: 0,
+            absent: true,
+        } => {
+            sets.read(5, place, 0, None);
+            Ok(())
+        }
+        _ => Err("it is absent from the start".into()),
+    }
+}
+
+/// Installs the sets of a transaction, decides it and publishes it.
+pub fn run(
+    core: &Core<AnyState>,
+    hand: &mut Hand<AnyState>,
+    sets: &mut Sets,
+) -> Result<Result<(), Conflict>, PlacesOut>
+    requires ready { IsReady core.now hand.old }
+    requires begun { IsBegun core.now.size sets.old hand.old.view }
+    ensures ready { IsReady core.now hand.new }
+    ensures ends { Ends hand.new.view.work }
+    ensures same { SameSets sets.old sets.new }
+    ensures log { IfOk result (λ decided. OnOk decided (hand.new.view.log ≡ hand.old.view.log ++ commit_of (writing hand.old.view.published.write) sets.new.reads sets.new.writes ∷ [])) }
+{
+    let installed = install(core, hand, sets)?;
+    match installed.decide(core, hand, sets) {
+        Ok(decided) => {
+            decided.publish(core, hand, sets);
+            Ok(Ok(()))
+        }
+        Err(conflict) => Ok(Err(conflict)),
+    }
+}
+
+/// Runs a transaction with a write of this record beside what it has read.
+pub fn write_one(
+    core: &Core<AnyState>,
+    hand: &mut Hand<AnyState>,
+    mut sets: Sets,
+    rid: u32,
+) -> Result<Result<(), Conflict>, Fail>
+    requires ready { IsReady core.now hand.old }
+    requires record { rid < core.now.size.records }
+    requires begun { IsBegun core.now.size sets hand.old.view }
+    requires first { sets.writes ≡ [] }
+    ensures ready { IsReady core.now hand.new }
+    ensures ends { OnOk result (Ends hand.new.view.work) }
+    ensures entered { IfOk result (λ decided. OnOk decided (HasEntry rid hand.old.view.published.write hand.new.view.log)) }
+{
+    sets.reserve(0, 1)?;
+    sets.write(rid, Some(Cells::new([7; 32])));
+    Ok(run(core, hand, &mut sets)?)
+}
+
+// Runs a transaction that writes records 0 and 1, for one of which there has to be no place.
+fn write_two(
+    core: &Core<AnyState>,
+    hand: &mut Hand<AnyState>,
+    mut sets: Sets,
+) -> Result<PlacesOut, Fail>
+    requires ready { IsReady core.now hand.old }
+    requires records { 1 < core.now.size.records }
+    requires begun { IsBegun core.now.size sets hand.old.view }
+    requires first { sets.writes ≡ [] }
+    ensures ready { IsReady core.now hand.new }
+{
+    sets.reserve(0, 2)?;
+    sets.write(0, Some(Cells::new([1; 32])));
+    sets.write(1, Some(Cells::new([2; 32])));
+    match run(core, hand, &mut sets) {
+        Err(places_out) => Ok(places_out),
+        Ok(_) => Err("there is one usable place".into()),
+    }
+}
+
+#[test]
+fn a_read_at_a_later_stamp_stops_an_earlier_writer(rt: HostRuntime) -> Result<(), Fail> {
+    let layout = Layout::new(2, 6, 4)?;
+    let (core, mut first, mut second) = two_seats(rt.alloc(), &layout)?;
+    let (writes, early) = begin(rt.alloc(), &core, &mut first, 10)?;
+    let (mut reads, late) = begin(rt.alloc(), &core, &mut second, 20)?;
+    assert_eq!(rt; (early.number(), late.number()), (2_560, 5_121));
+    read_absent(&core, &mut second, &mut reads, late)?;
+    assert_eq!(rt; run(&core, &mut second, &mut reads)?, Ok(()));
+    let stopped = Conflict::ReadLater {
+        rid: 5,
+        wts: 0,
+        rts: 5_121,
+    };
+    assert_eq!(rt; write_one(&core, &mut first, writes, 5)?, Err(stopped));
+    let (mut reads, later) = begin(rt.alloc(), &core, &mut second, 20)?;
+    assert_eq!(rt; later.number(), 5_377);
+    read_absent(&core, &mut second, &mut reads, later)?;
+    Ok(())
+}
+
+#[test]
+fn a_seat_that_is_alone_reads_and_writes_a_record(rt: HostRuntime) -> Result<(), Fail> {
+    let layout = Layout::new(1, 6, 4)?;
+    let (core, mut hand) = Core::<AnyState>::new(rt.alloc(), &layout)?;
+    let (mut sets, stamp) = begin(rt.alloc(), &core, &mut hand, 10)?;
+    read_absent(&core, &mut hand, &mut sets, stamp)?;
+    assert_eq!(rt; write_one(&core, &mut hand, sets, 5)?, Ok(()));
+    Ok(())
+}
+
+#[test]
+fn without_a_place_for_a_write_nothing_stays_installed(rt: HostRuntime) -> Result<(), Fail> {
+    let layout = Layout::new(1, 2, 2)?;
+    let (core, mut hand) = Core::<AnyState>::new(rt.alloc(), &layout)?;
+    let (sets, stamp) = begin(rt.alloc(), &core, &mut hand, 1)?;
+    assert_eq!(rt; stamp.number(), 256);
+    assert_eq!(rt; write_two(&core, &mut hand, sets)?, PlacesOut);
+    assert_eq!(rt; take(&core, &mut hand, 0), Err(PlacesOut));
+    assert_eq!(rt; take_kept(&core, &mut hand), Some(3));
+    Ok(())
+}

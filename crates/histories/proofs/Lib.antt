@@ -1,0 +1,5 @@
+pub mod Lists
+pub mod States
+pub mod Lawful
+mod Growing
+mod Examples

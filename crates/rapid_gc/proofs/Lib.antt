@@ -1,0 +1,6 @@
+pub mod Alone
+pub mod Freed
+pub mod Going
+pub mod Prepared
+pub mod Seeks
+pub mod Steps

@@ -1,0 +1,6 @@
+pub mod Checks
+pub mod Placing
+pub mod Settling
+pub mod Staging
+pub mod Works
+pub mod Writes

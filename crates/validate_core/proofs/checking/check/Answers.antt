@@ -1,0 +1,46 @@
+use Rattle.std.proofs.Common.{◌≡◌, ◌≤◌, ℕ, refl, sym, ap, subst, arith, inr}
+use Rattle.core_rule.specs.View.{View, checks}
+use Rattle.core_rule.specs.Deciding.{stamp_in}
+use Rattle.validate_core.specs.Validating.{IsShown}
+use Rattle.validate_core.specs.declared.conflict.Conflict.TheVariants.{Pending, ReadLater}
+use Rattle.validate_core.proofs.Checks.{check_begins, passes_works, passes_stage, found_stage, later_shown}
+use Rattle.validate_core.proofs.Staging.{pending_shown}
+use Rattle.validate_core.proofs.Works.{among_turn, works_step}
+use Rattle.validate_core.proofs.checking.check.Goals as goal
+
+pub find_to_check-shown-requires-clause-rid : goal.find_to_check-shown-requires-clause-rid
+find_to_check-shown-requires-clause-rid g c = (c.requires.inside.writes c.write_at-write.result (among_turn c.args.i c.args.sets.now.writes c.write_at-write.result c.write_at-write.ensures)).0
+
+pub find_to_check-shown-requires-clause-begins : goal.find_to_check-shown-requires-clause-begins
+find_to_check-shown-requires-clause-begins g c = check_begins c.args.stamp c.args.sets.now _ _ _ c.args.i c.write_at-write.result c.args.hand.now.view c.write_at-write.ensures c.requires.stage
+
+pub returns-then-shown-eq-PENDING-clause-conflict : goal.returns-then-shown-eq-PENDING-clause-conflict
+returns-then-shown-eq-PENDING-clause-conflict g c =
+    let u = c.write_at-write.result in let f = c.find_to_check-shown.result in
+    let t = pending_shown c.args.stamp c.args.sets.now (checks u) u.record_number f.place f.wts f.status c.args.hand.now.view c.find_to_check-shown.new.hand.view c.if-shown-eq-PENDING.true c.find_to_check-shown.ensures.finds in
+    subst (λ (r : ℕ). IsShown c.args.stamp c.args.sets.now c.args.hand.now.view c.find_to_check-shown.new.hand.view (Pending r f.wts)) (sym c.rid.ensures)
+    (t.0, t.1, inr record { write = u; among = among_turn c.args.i c.args.sets.now.writes u c.write_at-write.ensures; of_record = refl }, t.2)
+
+pub returns-then-rts-stamp-clause-works : goal.returns-then-rts-stamp-clause-works
+returns-then-rts-stamp-clause-works g c =
+    let u = c.write_at-write.result in let f = c.find_to_check-shown.result in let x = c.find_to_check-shown.new.hand in
+    passes_works c.args.stamp c.args.sets.now c.args.i u f.place f.wts f.status c.args.hand.now.view x.view c.find_to_check-shown.ensures.finds g.J.Keeps.kept x c.load_read_stamp-rts.new.hand c.load_read_stamp-rts.result refl c.load_read_stamp-rts.ensures
+
+pub returns-then-rts-stamp-clause-conflict : goal.returns-then-rts-stamp-clause-conflict
+returns-then-rts-stamp-clause-conflict g c =
+    let u = c.write_at-write.result in let f = c.find_to_check-shown.result in let x = c.find_to_check-shown.new.hand in let y = c.load_read_stamp-rts.new.hand in let r = c.load_read_stamp-rts.result in
+    let e = c.load_read_stamp-rts.ensures.view in let found = c.find_to_check-shown.ensures.finds in
+    let sx = found_stage c.args.stamp c.args.sets.now c.args.i u f.place f.wts f.status c.args.hand.now.view x.view found c.requires.stage in
+    let in_flight : stamp_in x.view.flight ≡ c.args.stamp = ap stamp_in sx.in_flight in
+    let later = c.if-rts-stamp.true in
+    let loads = ap (λ (v : View). v.seen.loads) e in
+    let works = works_step x.view y.view _ _ _ e refl in
+    subst (λ (n : ℕ). IsShown c.args.stamp c.args.sets.now c.args.hand.now.view y.view (ReadLater n f.wts r)) (sym c.rid-then-rts-stamp.ensures)
+    (later_shown c.args.stamp c.args.sets.now c.args.i u f.place f.wts f.status r c.args.hand.now.view x.view y.view c.write_at-write.ensures found c.if-shown-eq-PENDING.false later works loads (c.load_read_stamp-rts.ensures.learnt (omega arith)))
+
+pub returns-clause-stage : goal.returns-clause-stage
+returns-clause-stage g c =
+    let u = c.write_at-write.result in let f = c.find_to_check-shown.result in let x = c.find_to_check-shown.new.hand in
+    let le : c.load_read_stamp-rts.result ≤ c.args.stamp = omega arith in
+    passes_stage c.args.stamp c.args.sets.now c.args.i u f.place f.wts f.status c.args.hand.now.view x.view c.find_to_check-shown.ensures.finds g.J.Keeps.kept x c.load_read_stamp-rts.new.hand c.load_read_stamp-rts.result refl c.load_read_stamp-rts.ensures
+    c.write_at-write.ensures c.requires.stage le

@@ -1,0 +1,38 @@
+use Rattle.std.proofs.Common.{◌≡◌, ◌≢◌, ℕ, refl, sym, ◌∙◌, subst, inl}
+use Rattle.core_rule.specs.View.{again}
+use Rattle.validate_core.specs.Validating.{IsShown}
+use Rattle.validate_core.specs.declared.conflict.Conflict.TheVariants.{Pending, Overtaken}
+use Rattle.validate_core.proofs.Staging.{again_begins, again_next, overtaken_shown, pending_shown, shown_earlier}
+use Rattle.validate_core.proofs.Works.{among_turn}
+use Rattle.validate_core.proofs.checking.search_again.Goals as goal
+
+pub find_again-shown-requires-clause-rid : goal.find_again-shown-requires-clause-rid
+find_again-shown-requires-clause-rid g c = (c.requires.inside.reads c.read_at-read.result.now (among_turn c.loop-i.i c.args.sets.now.reads c.read_at-read.result.now c.read_at-read.ensures)).0
+
+pub find_again-shown-requires-clause-begins : goal.find_again-shown-requires-clause-begins
+find_again-shown-requires-clause-begins g c = again_begins c.args.stamp c.args.sets.now c.loop-i.i c.read_at-read.result.now c.loop-i.hand.view c.read_at-read.ensures c.loop-i.invariant.stage
+
+pub returns-then-shown-wts-clause-conflict : goal.returns-then-shown-wts-clause-conflict
+returns-then-shown-wts-clause-conflict g c =
+    let d = c.read_at-read.result.now in let f = c.find_again-shown.result in let seen = c.wts-then-shown-wts.ensures in
+    let x = c.find_again-shown.new.hand.view in
+    let apart : f.wts ≢ d.version = λ e. c.if-shown-wts.true (e ∙ sym c.wts.ensures) in
+    let t : IsShown c.args.stamp c.args.sets.now c.loop-i.hand.view x (Overtaken d.record_number d.version f.wts) = overtaken_shown c.args.stamp c.args.sets.now c.loop-i.i d f.place f.wts f.status c.loop-i.hand.view c.find_again-shown.new.hand.view c.read_at-read.ensures c.find_again-shown.ensures.finds c.if-shown-eq-PENDING.false apart in
+    shown_earlier c.args.stamp c.args.sets.now c.args.hand.now.view c.loop-i.hand.view x (Overtaken c.rid-then-shown-wts.result c.wts-then-shown-wts.result f.wts) c.loop-i.invariant.works
+    (subst (λ (n : ℕ). IsShown c.args.stamp c.args.sets.now c.loop-i.hand.view x (Overtaken n c.wts-then-shown-wts.result f.wts)) (sym c.rid-then-shown-wts.ensures)
+    (subst (λ (n : ℕ). IsShown c.args.stamp c.args.sets.now c.loop-i.hand.view x (Overtaken d.record_number n f.wts)) (sym seen) t))
+
+pub returns-then-shown-eq-PENDING-clause-conflict : goal.returns-then-shown-eq-PENDING-clause-conflict
+returns-then-shown-eq-PENDING-clause-conflict g c =
+    let d = c.read_at-read.result.now in let f = c.find_again-shown.result in let x = c.find_again-shown.new.hand.view in
+    let t = pending_shown c.args.stamp c.args.sets.now (again d) d.record_number f.place f.wts f.status c.loop-i.hand.view x c.if-shown-eq-PENDING.true c.find_again-shown.ensures.finds in
+    let h : IsShown c.args.stamp c.args.sets.now c.loop-i.hand.view x (Pending d.record_number f.wts) = (t.0, t.1, inl (d.version, record { read = d; among = among_turn c.loop-i.i c.args.sets.now.reads d c.read_at-read.ensures; of_record = refl; at = refl }), t.2) in
+    shown_earlier c.args.stamp c.args.sets.now c.args.hand.now.view c.loop-i.hand.view x (Pending c.rid.result f.wts) c.loop-i.invariant.works
+    (subst (λ (r : ℕ). IsShown c.args.stamp c.args.sets.now c.loop-i.hand.view x (Pending r f.wts)) (sym c.rid.ensures) h)
+
+pub loop-i-preserved : goal.loop-i-preserved
+loop-i-preserved g c =
+    let d = c.read_at-read.result.now in let f = c.find_again-shown.result in let at = c.find_again-shown.new.hand in
+    let is : f.wts ≡ d.version = c.if-shown-wts.false ∙ c.wts.ensures in
+    again_next c.args.core.now c.args.hand.now c.args.stamp c.args.sets.now c.loop-i.i d f.place f.wts f.status c.loop-i.hand at c.read_at-read.ensures c.loop-i.invariant c.find_again-shown.ensures.stays
+    c.find_again-shown.ensures.finds c.if-shown-eq-PENDING.false is

@@ -1,0 +1,22 @@
+use Rattle.std.proofs.Common.{◌≡◌, ◌∷◌, ℕ, ap, ◌∙◌, subst}
+use Rattle.core_rule.specs.View.{View, Write}
+use Rattle.core_rule.specs.Views.{Among}
+use Rattle.version_pool.specs.Takes.{usable_in_turn, TakesFirst}
+use Rattle.validate_core.proofs.Writes.{turn_same}
+use Rattle.validate_core.proofs.installing.install_one.Goals as goal
+
+pub put-requires-clause-only : goal.put-requires-clause-only
+put-requires-clause-only g c = λ u turn u' h.
+    let linked = ap (λ (v : View). v.work.linked) c.in-Ok.ensures.first.takes.view in c.requires.only u turn u' (subst (Among u') linked h)
+
+pub returns-in-Ok-clause-ok : goal.returns-in-Ok-clause-ok
+returns-in-Ok-clause-ok g c =
+    let puts = c.put.ensures.puts in let before = c.args.hand.now.view in
+    let same : c.rid-rid.result ≡ puts.write.record_number =
+    c.rid-rid.ensures ∙ ap (λ (u : Write). u.record_number) (turn_same c.args.i c.args.sets.now.writes c.staged_at.result.now puts.write c.staged_at.ensures puts.turn) in
+    record {
+      place = c.in-Ok.place;
+      taken = c.take.new.hand.view;
+      puts = puts;
+      takes = subst (λ (r : ℕ). TakesFirst (r ∷ usable_in_turn c.args.core.now.size before.places.last_pool) before c.in-Ok.place c.take.new.hand.view) same c.in-Ok.ensures.first;
+    }

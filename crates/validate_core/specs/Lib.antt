@@ -1,0 +1,3 @@
+pub mod Installing
+pub mod Sets
+pub mod Validating

@@ -1,0 +1,41 @@
+-- What a transaction has read and what it writes.
+use Rattle.std.specs.Prelude.{◌≡◌, ◌≢◌, ℕ, suc, ◌<◌, List, [], ◌∷◌, ◌++◌, take, drop}
+use Rattle.word_layout.specs.Size.{Size, places}
+use Rattle.core_rule.specs.View.{Read, Write}
+use Rattle.core_rule.specs.Views.{Among}
+
+-- the reads and the writes in the order of adding, and room for so many
+pub record SetsView : Type 0 where
+  pub reads : List Read
+  pub writes : List Write
+  pub read_room : ℕ
+  pub write_room : ℕ
+
+-- the element of this number
+pub record Turn {A : Type 0} (i : ℕ) (xs : List A) (x : A) : Type 0 where
+  pub splits : xs ≡ take i xs ++ x ∷ drop (suc i) xs
+  pub next : take (suc i) xs ≡ take i xs ++ x ∷ []
+
+-- no number twice
+abbrev pub Once : {A : Type 0} → (A → ℕ) → List A → Type 0
+Once number [] = Unit {0}
+Once number (x ∷ xs) = ((y : _) → Among y xs → number y ≢ number x) × Once number xs
+
+-- the same writes, at places and stamps of their own
+abbrev pub SameWrites : List Write → List Write → Type 0
+SameWrites [] [] = Unit {0}
+SameWrites [] (w ∷ ws) = ⊥
+SameWrites (u ∷ us) [] = ⊥
+SameWrites (u ∷ us) (w ∷ ws) = (w.record_number ≡ u.record_number) × (w.cells ≡ u.cells) × SameWrites us ws
+
+-- records and places are those of a table of this size
+pub record IsInside (z : Size) (s : SetsView) : Type 0 where
+  pub reads : (d : Read) → Among d s.reads → (d.record_number < z.records) × (d.place < places z)
+  pub writes : (u : Write) → Among u s.writes → (u.record_number < z.records) × (u.place < places z)
+  pub once : Once (λ (u : Write). u.record_number) s.writes
+
+-- the same before the writes have their places
+pub record MayInstall (z : Size) (s : SetsView) : Type 0 where
+  pub reads : (d : Read) → Among d s.reads → (d.record_number < z.records) × (d.place < places z)
+  pub writes : (u : Write) → Among u s.writes → u.record_number < z.records
+  pub once : Once (λ (u : Write). u.record_number) s.writes

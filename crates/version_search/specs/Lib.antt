@@ -1,0 +1,4 @@
+pub mod Finding
+pub mod Links
+pub mod Loading
+pub mod Looking

@@ -1,0 +1,34 @@
+//! The first version of a list, while no other seat is open.
+ghost use Rattle.std.specs.Prelude.{◌≡◌, ◌<◌, true, false, Some, nat_lt, if◌then◌else◌};
+ghost use Rattle.core_rule.specs.Views.{IsAlone};
+ghost use Rattle.core_rule.specs.Searching.{known_of};
+ghost use Rattle.core_rule.specs.Hands.{IsReady, StaysReady};
+ghost use Rattle.version_search.specs.Looking.{Looked};
+
+use crate::fronts::First;
+use crate::walking::link_place;
+use core_rule::{Core, Hand, Keeps};
+
+/// Loads the first version of a record's list, while no other seat is open.
+pub fn first<J: Keeps>(core: &Core<J>, hand: &mut Hand<J>, rid: u32) -> First
+    requires ready { IsReady core.now hand.old }
+    requires rid { rid < core.now.size.records }
+    requires alone { IsAlone hand.old.view }
+    ensures looked { Looked rid result.place result.wts result.decided result.single hand.old.view.seen.loads hand.new.view.seen.loads }
+    ensures single { result.single ≡ true → known_of hand.new.view.counts rid ≡ Some record { linked = 1; outside = if nat_lt result.place core.now.size.records then 0 else 1 } }
+    ensures known { result.single ≡ false → hand.new.view.counts ≡ hand.old.view.counts }
+    ensures stays { StaysReady core.now hand.old hand.new }
+{
+    let layout = core.layout();
+    let head = core.front_head(hand, rid);
+    let place = link_place(&layout, head);
+    let wts = core.front_stamp(hand, rid, place);
+    let status = core.front_status(hand, rid, place, wts);
+    let next = core.front_next(hand, rid, place, wts, status);
+    First {
+        place,
+        wts,
+        decided: status == 3 || status == 4,
+        single: next == 0,
+    }
+}

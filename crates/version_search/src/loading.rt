@@ -1,0 +1,28 @@
+//! Loading the value of the version that a search found.
+ghost use Rattle.std.specs.Prelude.{◌≡◌, ◌<◌};
+ghost use Rattle.word_layout.specs.Size.{places};
+ghost use Rattle.core_rule.specs.Searching.{IsLoading, read_place, read_cells};
+ghost use Rattle.core_rule.specs.Hands.{IsReady, StaysReady};
+ghost use Rattle.version_search.specs.Loading.{with_value, IsLeftIn};
+
+use core_rule::{Core, Hand, Keeps};
+use plain_data::Cells;
+use word_layout::CELLS;
+
+/// Loads the value of the version that the last search for a read found, which is committed.
+pub fn load_value<J: Keeps>(core: &Core<J>, hand: &mut Hand<J>, place: u32) -> Cells
+    requires ready { IsReady core.now hand.old }
+    requires loading { IsLoading hand.old.view.work.reads }
+    requires place { place ≡ read_place hand.old.view.work.reads }
+    requires inside { place < places core.now.size }
+    requires begins { read_cells hand.old.view.work.reads ≡ 0 }
+    ensures view { hand.new.view ≡ with_value hand.old.view result hand.new.view.seen }
+    ensures left { IsLeftIn hand.new.view result }
+    ensures stays { StaysReady core.now hand.old hand.new }
+{
+    let mut words = [0; 32];
+    for i in 0..CELLS {
+        words[i as usize] = core.load_cell(hand, place, i);
+    }
+    Cells::new(words)
+}

@@ -1,0 +1,5 @@
+mod Mapped
+mod Precedence
+mod Replays
+mod SortedResults
+mod Examples

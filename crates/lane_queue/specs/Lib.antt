@@ -1,0 +1,5 @@
+pub mod View
+pub mod Subsequences
+pub mod Rule
+pub mod Passes
+pub mod Gathering

@@ -17,7 +17,31 @@ fn main(rt: HostRuntime) -> ExitCode {
         Ok(args) => run_with(&rt, rt.alloc(), args, &mut source, &mut sink),
         Err(error) => refuse_words(&rt, &error),
     };
+    if let Some(sentence) = sentence_on(status) {
+        let _ = eprintln!(rt; "cicada: {sentence}");
+    }
     ExitCode::from(status.number())
+}
+
+/// What the user is told on standard error of an ending of which standard output may not say enough.
+fn sentence_on(status: Status) -> Option<&'static str> {
+    match status {
+        Status::Done | Status::Usage | Status::Differs => None,
+        Status::Input => Some(
+            "the input is refused at the line and for the kind that standard output names; each line ends with a line feed alone, \
+             and the last one has one too (README.md: refusals)",
+        ),
+        Status::TooLong => Some(
+            "the input is too long: it may have 4,194,304 bytes, and 71,303,168 with the report that is to be checked behind it",
+        ),
+        Status::ReadFault => Some("standard input can't be read; nothing was written"),
+        Status::WriteFault => {
+            Some("standard output can't be written; what it took is not all that was due")
+        }
+        Status::NoMemory => {
+            Some("there is not enough memory; what was written is not all that was due")
+        }
+    }
 }
 
 /// Hands the words behind the program's name to the top call, and tells the user why they are refused.

@@ -1,5 +1,5 @@
-pub mod Stopping
-pub mod EndingLemmas
 pub mod PlainOrder
-pub mod PlainRun
 pub mod Streams
+pub mod PartLaws
+pub mod DueLaws
+pub mod WordLaws

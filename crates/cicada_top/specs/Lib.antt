@@ -1,6 +1,7 @@
 pub mod Status
+pub mod Words
 pub mod Received
+pub mod Parts
 pub mod Due
 pub mod Delivery
-pub mod Stop
 pub mod Plain

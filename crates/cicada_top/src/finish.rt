@@ -10,18 +10,23 @@ use txn_script::InputFault;
 /// What a run came to.
 #[derive(Clone, Copy, PartialEq, Eq, Debug)]
 pub enum Status {
-    /// The source was read to its end, and all bytes due were written.
+    /// All bytes due were written; where there is a source to read, it was read to its end. Of a report that was to be checked, it
+    /// is the right one.
     Done,
-    /// The words are refused; nothing was read or written.
+    /// The words are refused, or ask for help; nothing was read or written.
     Usage,
     /// The bytes read are no input, and the refusal was written.
     Input,
+    /// The source gave more bytes than an input may have, and the refusal was written.
+    TooLong,
     /// The source failed; nothing was written.
     ReadFault,
     /// The sink failed; the bytes written are a part of the text due.
     WriteFault,
     /// There was no memory; the bytes written are a part of the text due.
     NoMemory,
+    /// The report that was to be checked is not that of its input, and the verdict was written.
+    Differs,
 }
 
 impl Status {
@@ -33,9 +38,11 @@ impl Status {
             Status::Done => 0,
             Status::Usage => 2,
             Status::Input => 3,
+            Status::TooLong => 3,
             Status::ReadFault => 4,
             Status::WriteFault => 5,
             Status::NoMemory => 6,
+            Status::Differs => 8,
         }
     }
 }
@@ -44,11 +51,12 @@ impl Status {
 #[derive(Drop)]
 pub struct Finish {
     pub status: Status,
-    /// The order that the report is made of; empty where no report is due or none of it was written.
+    /// The order that a report or a summary is made of, or that a right report prints. It is empty where no such text is due, where
+    /// memory ran out before a byte of it was written, and where a verdict is not written whole.
     pub order: Vec<Placed>,
-    /// The first faulty line of a refused input, where it is told.
+    /// The first faulty line of a refused input; there exactly at `Input`.
     pub fault: Option<InputFault>,
-    /// Why the words are refused: a text for the user.
+    /// Why the words are refused, or the help: a text for the user. It is there exactly at `Usage`.
     pub usage: Option<String>,
 }
 

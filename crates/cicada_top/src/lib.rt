@@ -1,12 +1,18 @@
-//! The top call: from the bytes of a source to the bytes of a sink.
+//! The top call: from the words of a command and the bytes of a source to the bytes of a sink.
+//!
+//! The words say what to do ([`words`]), the source is read ([`reading`]), the text that is due is made ([`reply`]) and written
+//! ([`delivery`]).
 #![tactic(auto)]
 
-mod answer;
+mod checking;
+mod delivery;
 mod finish;
+mod mode;
+mod parts;
 mod plain;
 mod reading;
-#[cfg(test)]
-mod tests;
+mod refusal;
+mod reply;
 mod top;
 mod words;
 mod writing;
@@ -16,3 +22,6 @@ pub use top::run;
 
 /// The greatest length of an input text, in bytes.
 pub const MAX_INPUT: usize = 4_194_304;
+
+/// The greatest length of an input text with a report behind it, in bytes.
+pub const MAX_CHECKED: usize = 71_303_168;

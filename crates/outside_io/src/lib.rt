@@ -16,6 +16,3 @@ pub use memory::{MemSink, MemSource};
 pub use sink::{Sink, SinkFault};
 pub use source::{Failed, Source};
 pub use standard::{ReaderSource, StdSink, StdSource, WriterSink};
-
-#[cfg(test)]
-mod tests;

@@ -1,11 +1,14 @@
 pub mod TableMap
 pub mod Effect
+pub mod RowsIn
 pub mod Running
 pub mod Undo
+pub mod Ran
 pub mod Step
+pub mod Replay
+pub mod Report
+pub mod Answered
 pub mod Input
 pub mod Lane
 pub mod Order
-pub mod Replay
-pub mod Report
-pub mod State
+pub mod Seen

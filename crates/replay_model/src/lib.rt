@@ -4,33 +4,30 @@
 //! `specs/`; beside each stands a program here whose contract is that definition.
 #![tactic(auto)]
 
+mod columns;
 mod command;
-mod entry;
 mod input;
-mod memory;
 mod orders;
 mod outcome;
 mod replaying;
 mod reporting;
+mod row_map;
 mod running;
-mod sequence;
 mod tables;
 mod texts;
 mod well_formed;
 
+pub use columns::Columns;
 pub use command::{Command, Commands};
-pub use entry::{Cells, Entry, Reads, Writes};
-pub use input::{Block, Blocks, Input, Lanes, Names, Rows};
-pub use memory::NoMemory;
-pub use orders::is_order;
+pub use input::{Block, Blocks, Indexes, Input, Lanes, Names, Rows};
+pub use orders::{
+    are_complete, is_order, lanes_are_kept, snaps_are_placed, stand_once, writers_rise,
+};
 pub use outcome::{Answer, Answers, Cause, Outcome, Outcomes, Pairs, Placed, Results};
-pub use replaying::{Replayed, are_named, is_named, replay};
+pub use plain_data::{Cells, Entry, NoMemory, Reads, Sequence, Writes};
+pub use replaying::{Replayed, are_named, block_at, is_named, replay};
 pub use reporting::report;
 pub use running::run_one;
-pub use sequence::Sequence;
 pub use tables::Tables;
 pub use texts::{text_of_block, text_of_table};
 pub use well_formed::is_well_formed;
-
-#[cfg(test)]
-mod tests;

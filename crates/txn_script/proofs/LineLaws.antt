@@ -1,22 +1,29 @@
 -- A line that is read is spelled so, and a line that is spelled so is read.
-use Rattle.std.proofs.Common.{◌≡◌, ℕ, ◌^◌, ◌<◌, ◌≤◌, Bool, true, false, cond, leb, eqb, List, [], ◌∷◌, length, get_or, All, Option, Some, None, refl, sym, ap, subst, ◌∙◌, inl, inr, ⊎_elim, ◌⊎◌, arith}
-use Rattle.std.specs.Prelude.{◌&&◌, not, codes, decimal}
+use Rattle.std.proofs.Common.{◌≡◌, ℕ, ◌^◌, ◌<◌, ◌≤◌, Bool, true, false, cond, leb, eqb, List, [], ◌∷◌, length, map, get_or, All, Option, Some, None, refl, sym, ap, subst, ◌∙◌, inl, inr, ⊎_elim, ◌⊎◌, arith}
+use Rattle.std.specs.Prelude.{◌&&◌, not, codes, decimal, slice_index}
 use Rattle.std.specs.List.{slice_split, join_with_byte, list_all, AllByRecursion}
 use Rattle.std.specs.Char.{is_ascii_lowercase}
 use Rattle.std.specs.Str.{bytes_eq}
-use Rattle.std.proofs.lemmas.Bool.{leb-true, le-leb, eq-eqb}
+use Rattle.std.proofs.lemmas.Bool.{leb-true, le-leb, eq-eqb, eqb-true}
 use Rattle.std.proofs.lemmas.Bool.Decides.{eqb_tells}
 use Rattle.std.proofs.lemmas.Fmt.{decimal_is_IsNumeral}
 use Rattle.std.proofs.lemmas.Str.Parse.{digit_at}
-use Rattle.std.proofs.lemmas.List.{get_or_default}
-use Rattle.std.proofs.lemmas.List.Elements.{All-nil, All-cons, All-append}
+use Rattle.std.proofs.lemmas.List.{get_or_default, nil_from_length}
+use Rattle.std.proofs.lemmas.List.Elements.{All-nil, All-cons, All-append, All-head, All-tail}
 use Rattle.std.proofs.lemmas.Option.{cond_some, none-some}
 use Rattle.std.proofs.lemmas.List.Sums.{AllPass-from_list_all, list_all-from_AllPass}
 use Rattle.std.proofs.lemmas.List.Splits.{slice_split_at, slice_split_none, join_with_byte-slice_split}
 use Rattle.std.proofs.lemmas.Slice.Eq.{bytes_eq-Decides}
-use Rattle.txn_script.specs.Line.{Line, head_line, table_line, row_line, lane_line, txn_line, get_line, put_line, end_line, done_line, words, text, IsName, IsNumber, IsSpelled}
-use Rattle.txn_script.specs.Reading.{◌>>=◌, next_word, is_name, name_at, number_of, number_at, ended, head_of, table_of, row_of, get_of, put_of, line_named, line_of}
-use Rattle.txn_script.proofs.WordLaws.{and_parts, number_of-decimal, number_of-some}
+use Rattle.txn_script.specs.declared.keyword.Keyword.{Keyword}
+use Rattle.txn_script.specs.declared.keyword.Keyword.TheVariants.{Table, Index, Row, Get, Put, Ins, Del, Add, Sub, Scan, Find}
+use Rattle.txn_script.specs.declared.keyword.Mark.{Mark}
+use Rattle.txn_script.specs.declared.keyword.Mark.TheVariants.{Lane, Txn, Snap, End, Done}
+use Rattle.txn_script.specs.declared.keyword.Version.{Version}
+use Rattle.txn_script.specs.declared.keyword.Version.TheVariants.{One, Two}
+use Rattle.txn_script.specs.Line.{Line, head_line, mark_line, named_line, version_text, mark_text, keyword_text, words, text, IsName, IsNumber, has_numbers, HasForm}
+use Rattle.txn_script.specs.LineReading.{◌>>=◌, next_word, is_name, name_at, more_numbers, version_of, mark_of, keyword_of, marked, named_of, version_in, head_of, same_version, head_again, line_with, line_of}
+use Rattle.txn_script.proofs.WordLaws.{and_parts}
+use Rattle.txn_script.proofs.NumberLaws.{more_numbers-some, more_numbers-decimal}
 
 -- ---- steps
 
@@ -29,7 +36,7 @@ pub choice : {A : Type 0} (b : Bool) (x y z : A) → cond b x y ≡ z → ((b �
 choice true x y z e = inl (refl, e)
 choice false x y z e = inr (refl, e)
 
-some_is : {A : Type 0} (x y : A) → Some x ≡ Some y → x ≡ y
+pub some_is : {A : Type 0} (x y : A) → Some x ≡ Some y → x ≡ y
 some_is x y e = cc
 
 -- ---- names
@@ -55,6 +62,39 @@ is_name-from word name =
     let letters = list_all-from_AllPass is_ascii_lowercase word (λ k d lt. is_lowercase _ (name.letters k d lt)) in
     rw (le-leb 1 (length word) name.not_empty, le-leb (length word) 16 name.short, letters) refl
 
+-- ---- words that lines begin with
+
+module _ {X : Type 0} (written : X → List ℕ) where
+  -- one test of several
+  branch : (w : List ℕ) (x found : X) (other : Option X) → (other ≡ Some found → w ≡ written found) → cond (bytes_eq w (written x)) (Some x) other ≡ Some found → w ≡ written found
+  branch w x found other rest e =
+      ⊎_elim (λ t. (bytes_eq-Decides w (written x)).0 t.0 ∙ ap written (some_is x found t.1)) (λ f. rest f.1) (choice (bytes_eq w (written x)) (Some x) other (Some found) e)
+
+version_of-some : (w : List ℕ) (v : Version) → version_of w ≡ Some v → w ≡ version_text v
+version_of-some w v = branch version_text w One v _ (branch version_text w Two v None (λ e. absurd cc))
+
+mark_of-some : (w : List ℕ) (m : Mark) → mark_of w ≡ Some m → w ≡ mark_text m
+mark_of-some w m =
+    branch mark_text w Lane m _ (branch mark_text w Txn m _ (branch mark_text w Snap m _ (branch mark_text w End m _ (branch mark_text w Done m None (λ e. absurd cc)))))
+
+keyword_of-some : (w : List ℕ) (k : Keyword) → keyword_of w ≡ Some k → w ≡ keyword_text k
+keyword_of-some w k =
+    branch keyword_text w Table k _ (branch keyword_text w Index k _ (branch keyword_text w Row k _ (branch keyword_text w Get k _ (branch keyword_text w Put k _ (branch keyword_text w Ins k _
+    (branch keyword_text w Del k _ (branch keyword_text w Add k _ (branch keyword_text w Sub k _ (branch keyword_text w Scan k _ (branch keyword_text w Find k None (λ e. absurd cc)))))))))))
+
+keyword_of-text : (k : Keyword) → keyword_of (keyword_text k) ≡ Some k
+keyword_of-text Table = refl
+keyword_of-text Index = refl
+keyword_of-text Row = refl
+keyword_of-text Get = refl
+keyword_of-text Put = refl
+keyword_of-text Ins = refl
+keyword_of-text Del = refl
+keyword_of-text Add = refl
+keyword_of-text Sub = refl
+keyword_of-text Scan = refl
+keyword_of-text Find = refl
+
 -- ---- from words to a line
 
 name_at-some : (ws : List (List ℕ)) (r : List ℕ × List (List ℕ)) → name_at ws ≡ Some r → (ws ≡ r.0 ∷ r.1) × IsName r.0
@@ -64,120 +104,80 @@ name_at-some (w ∷ ws) r e =
     let given = cond_some (is_name w) (w, ws) r e in
     subst (λ (x : List ℕ × List (List ℕ)). (w ∷ ws ≡ x.0 ∷ x.1) × IsName x.0) given.1 (refl, IsName-from w given.0)
 
-number_at-some : (ws : List (List ℕ)) (r : ℕ × List (List ℕ)) → number_at ws ≡ Some r → (ws ≡ decimal r.0 ∷ r.1) × IsNumber r.0
-unfolding number_at
-number_at-some [] r e = absurd cc
-number_at-some (w ∷ ws) r e =
-    let b = bind_some (number_of w) (λ n. Some (n, ws)) r e in
-    let given = number_of-some w b.0 b.1 in
-    let same : ◌≡◌ {A = ℕ × List (List ℕ)} (b.0, ws) r = some_is (b.0, ws) r b.2 in
-    subst (λ (x : ℕ × List (List ℕ)). (w ∷ ws ≡ decimal x.0 ∷ x.1) × IsNumber x.0) same (ap (λ (x : List ℕ). x ∷ ws) given.0, given.1)
-
-ended-some : (line found : Line) (ws : List (List ℕ)) → ended line ws ≡ Some found → (ws ≡ []) × (line ≡ found)
-ended-some line found [] e = (refl, some_is line found e)
-ended-some line found (w ∷ ws) e = absurd cc
-
 -- the words are those of the line, which has a form
-abbrev Reads : List (List ℕ) → Line → Type 0
-Reads ws line = (ws ≡ words line) × IsSpelled line
+abbrev Reads : Version → List (List ℕ) → Line → Type 0
+Reads version ws line = (ws ≡ words line) × HasForm version line
 
-ended_reads : (keyword : List ℕ) (ws : List (List ℕ)) (line found : Line) → keyword ∷ [] ≡ words line → IsSpelled line → ended line ws ≡ Some found → Reads (keyword ∷ ws) found
-ended_reads keyword ws line found spelled form e =
-    let given = ended-some line found ws e in
-    subst (Reads (keyword ∷ ws)) given.1 (ap (λ (x : List (List ℕ)). keyword ∷ x) given.0 ∙ spelled, form)
-
-head_reads : (ws : List (List ℕ)) (found : Line) → head_of ws ≡ Some found → Reads (codes "cicada" ∷ ws) found
-unfolding head_of
-head_reads [] found e = absurd cc
-head_reads (w ∷ ws) found e =
-    ⊎_elim (λ same.
-    let given = ended-some head_line found ws same.1 in
-    let version = (bytes_eq-Decides w (codes "1")).0 same.0 in
-    subst (Reads (codes "cicada" ∷ w ∷ ws)) given.1 (rw (version, given.0) refl, tt)) (λ other. absurd (none-some found other.1)) (choice (bytes_eq w (codes "1")) (ended head_line ws) None (Some found) e)
-
-table_reads : (ws : List (List ℕ)) (found : Line) → table_of ws ≡ Some found → Reads (codes "table" ∷ ws) found
-unfolding table_of
-table_reads ws found e =
-    let a = bind_some (name_at ws) (λ name. ended (table_line name.0) name.1) found e in
+named_reads : (version : Version) (k : Keyword) (ws : List (List ℕ)) (line : Line) → named_of version k ws ≡ Some line → Reads version (keyword_text k ∷ ws) line
+unfolding named_of
+named_reads version k ws line e =
+    let a = bind_some (name_at ws) (λ name. more_numbers [] name.1 >>= λ numbers. cond (has_numbers version k numbers) (Some (named_line k name.0 numbers)) None) line e in
+    let b = bind_some (more_numbers [] a.0.1) (λ numbers. cond (has_numbers version k numbers) (Some (named_line k a.0.0 numbers)) None) line a.2 in
     let name = name_at-some ws a.0 a.1 in
-    let end = ended-some (table_line a.0.0) found a.0.1 a.2 in
-    subst (Reads (codes "table" ∷ ws)) end.1 (ap (λ (x : List (List ℕ)). codes "table" ∷ x) (name.0 ∙ ap (λ (x : List (List ℕ)). a.0.0 ∷ x) end.0), name.1)
+    let numbers = more_numbers-some a.0.1 [] b.0 b.1 in
+    let given = cond_some (has_numbers version k b.0) (named_line k a.0.0 b.0) line b.2 in
+    let all = sym numbers.3 in
+    subst (Reads version (keyword_text k ∷ ws)) given.1 (
+      ap (λ (x : List (List ℕ)). keyword_text k ∷ x) (name.0 ∙ ap (λ (x : List (List ℕ)). a.0.0 ∷ x) (numbers.1 ∙ ap (map decimal) all)),
+      (name.1, subst (All IsNumber) all numbers.2, given.0),
+    )
 
--- a name, a key and a value are all the words
-keyed : (ws : List (List ℕ)) (name : List ℕ) (after_name : List (List ℕ)) (key : ℕ) (after_key : List (List ℕ)) → ws ≡ name ∷ after_name → after_name ≡ decimal key ∷ after_key → after_key ≡ [] → ws ≡ name ∷ decimal key ∷ []
-keyed ws name after_name key after_key a b c = rw (a, b, c) refl
-
-valued : (ws : List (List ℕ)) (name : List ℕ) (after_name : List (List ℕ)) (key : ℕ) (after_key : List (List ℕ)) (value : ℕ) (after_value : List (List ℕ)) → ws ≡ name ∷ after_name → after_name ≡ decimal key ∷ after_key → after_key ≡ decimal value ∷ after_value → after_value ≡ [] → ws ≡ name ∷ decimal key ∷ decimal value ∷ []
-valued ws name after_name key after_key value after_value a b c d = rw (a, b, c, d) refl
-
-row_reads : (ws : List (List ℕ)) (found : Line) → row_of ws ≡ Some found → Reads (codes "row" ∷ ws) found
-unfolding row_of
-row_reads ws found e =
-    let a = bind_some (name_at ws) (λ name. number_at name.1 >>= λ key. number_at key.1 >>= λ value. ended (row_line name.0 key.0 value.0) value.1) found e in
-    let b = bind_some (number_at a.0.1) (λ key. number_at key.1 >>= λ value. ended (row_line a.0.0 key.0 value.0) value.1) found a.2 in
-    let c = bind_some (number_at b.0.1) (λ value. ended (row_line a.0.0 b.0.0 value.0) value.1) found b.2 in
-    let name = name_at-some ws a.0 a.1 in
-    let key = number_at-some a.0.1 b.0 b.1 in
-    let value = number_at-some b.0.1 c.0 c.1 in
-    let end = ended-some (row_line a.0.0 b.0.0 c.0.0) found c.0.1 c.2 in
-    subst (Reads (codes "row" ∷ ws)) end.1 (ap (λ (x : List (List ℕ)). codes "row" ∷ x) (valued ws a.0.0 a.0.1 b.0.0 b.0.1 c.0.0 c.0.1 name.0 key.0 value.0 end.0), (name.1, key.1, value.1))
-
-put_reads : (ws : List (List ℕ)) (found : Line) → put_of ws ≡ Some found → Reads (codes "put" ∷ ws) found
-unfolding put_of
-put_reads ws found e =
-    let a = bind_some (name_at ws) (λ name. number_at name.1 >>= λ key. number_at key.1 >>= λ value. ended (put_line name.0 key.0 value.0) value.1) found e in
-    let b = bind_some (number_at a.0.1) (λ key. number_at key.1 >>= λ value. ended (put_line a.0.0 key.0 value.0) value.1) found a.2 in
-    let c = bind_some (number_at b.0.1) (λ value. ended (put_line a.0.0 b.0.0 value.0) value.1) found b.2 in
-    let name = name_at-some ws a.0 a.1 in
-    let key = number_at-some a.0.1 b.0 b.1 in
-    let value = number_at-some b.0.1 c.0 c.1 in
-    let end = ended-some (put_line a.0.0 b.0.0 c.0.0) found c.0.1 c.2 in
-    subst (Reads (codes "put" ∷ ws)) end.1 (ap (λ (x : List (List ℕ)). codes "put" ∷ x) (valued ws a.0.0 a.0.1 b.0.0 b.0.1 c.0.0 c.0.1 name.0 key.0 value.0 end.0), (name.1, key.1, value.1))
-
-get_reads : (ws : List (List ℕ)) (found : Line) → get_of ws ≡ Some found → Reads (codes "get" ∷ ws) found
-unfolding get_of
-get_reads ws found e =
-    let a = bind_some (name_at ws) (λ name. number_at name.1 >>= λ key. ended (get_line name.0 key.0) key.1) found e in
-    let b = bind_some (number_at a.0.1) (λ key. ended (get_line a.0.0 key.0) key.1) found a.2 in
-    let name = name_at-some ws a.0 a.1 in
-    let key = number_at-some a.0.1 b.0 b.1 in
-    let end = ended-some (get_line a.0.0 b.0.0) found b.0.1 b.2 in
-    subst (Reads (codes "get" ∷ ws)) end.1 (ap (λ (x : List (List ℕ)). codes "get" ∷ x) (keyed ws a.0.0 a.0.1 b.0.0 b.0.1 name.0 key.0 end.0), (name.1, key.1))
+marked_reads : (version : Version) (m : Mark) (ws : List (List ℕ)) (line : Line) → marked m ws ≡ Some line → Reads version (mark_text m ∷ ws) line
+marked_reads version m [] line e = subst (Reads version (mark_text m ∷ [])) (some_is (mark_line m) line e) (refl, tt)
+marked_reads version m (w ∷ ws) line e = absurd cc
 
 next_word-some : (ws : List (List ℕ)) (r : List ℕ × List (List ℕ)) → next_word ws ≡ Some r → ws ≡ r.0 ∷ r.1
 next_word-some [] r e = absurd cc
-next_word-some (w ∷ ws) r e = ap (λ (x : List ℕ × List (List ℕ)). x.0 ∷ x.1) (some_is (w, ws) r e)
+next_word-some (w ∷ ws) r e = let same : ◌≡◌ {A = List ℕ × List (List ℕ)} (w, ws) r = some_is (w, ws) r e in λ j. (same j).0 ∷ (same j).1
 
--- a keyword that passed its test is that word
-keyword_is : (keyword word : List ℕ) (ws : List (List ℕ)) (found : Line) → bytes_eq keyword word ≡ true → Reads (word ∷ ws) found → Reads (keyword ∷ ws) found
-keyword_is keyword word ws found test reads =
-    let same = (bytes_eq-Decides keyword word).0 test in subst (λ (w : List ℕ). Reads (w ∷ ws) found) (sym same) reads
+joined : (bytes : List ℕ) (ws : List (List ℕ)) → slice_split (λ b. eqb b 32) bytes ≡ ws → bytes ≡ join_with_byte 32 ws
+joined bytes ws e = sym (join_with_byte-slice_split 32 bytes) ∙ ap (join_with_byte 32) e
 
--- one branch of the test for a keyword
-branch : (keyword word : List ℕ) (ws : List (List ℕ)) (found : Line) (this other : Option Line) → (this ≡ Some found → Reads (word ∷ ws) found) → (other ≡ Some found → Reads (keyword ∷ ws) found) → cond (bytes_eq keyword word) this other ≡ Some found → Reads (keyword ∷ ws) found
-branch keyword word ws found this other here elsewhere e =
-    ⊎_elim (λ t. keyword_is keyword word ws found t.0 (here t.1)) (λ f. elsewhere f.1) (choice (bytes_eq keyword word) this other (Some found) e)
+version_in-some : (ws : List (List ℕ)) (v : Version) → version_in ws ≡ Some v → ws ≡ version_text v ∷ []
+unfolding version_in
+version_in-some [] v e = absurd cc
+version_in-some (w ∷ ws) v e =
+    ⊎_elim (λ t. let none : ws ≡ [] = nil_from_length ws (eqb-true (length ws) 0 t.0) in λ j. version_of-some w v t.1 j ∷ none j)
+    (λ f. absurd (none-some v f.1)) (choice (eqb (length ws) 0) (version_of w) None (Some v) e)
 
-line_named-reads : (keyword : List ℕ) (ws : List (List ℕ)) (found : Line) → line_named keyword ws ≡ Some found → Reads (keyword ∷ ws) found
-unfolding line_named
-line_named-reads keyword ws found =
-    branch keyword (codes "get") ws found _ _ (get_reads ws found)
-    (branch keyword (codes "put") ws found _ _ (put_reads ws found)
-    (branch keyword (codes "txn") ws found _ _ (ended_reads (codes "txn") ws txn_line found refl tt)
-    (branch keyword (codes "end") ws found _ _ (ended_reads (codes "end") ws end_line found refl tt)
-    (branch keyword (codes "row") ws found _ _ (row_reads ws found)
-    (branch keyword (codes "lane") ws found _ _ (ended_reads (codes "lane") ws lane_line found refl tt)
-    (branch keyword (codes "table") ws found _ _ (table_reads ws found)
-    (branch keyword (codes "done") ws found _ _ (ended_reads (codes "done") ws done_line found refl tt)
-    (branch keyword (codes "cicada") ws found (head_of ws) None (head_reads ws found) (λ e. absurd cc)))))))))
-
-pub line_of-reads : (bytes : List ℕ) (line : Line) → line_of bytes ≡ Some line → (bytes ≡ text line) × IsSpelled line
-unfolding line_of
-line_of-reads bytes line e =
-    let b = bind_some (next_word (slice_split (λ b. eqb b 32) bytes)) (λ word. line_named word.0 word.1) line e in
+pub head_of-some : (bytes : List ℕ) (v : Version) → head_of bytes ≡ Some v → bytes ≡ text (head_line v)
+unfolding head_of
+head_of-some bytes v e =
+    let b = bind_some (next_word (slice_split (λ b. eqb b 32) bytes)) (λ word. cond (bytes_eq word.0 (codes "cicada")) (version_in word.1) None) v e in
     let split = next_word-some (slice_split (λ b. eqb b 32) bytes) b.0 b.1 in
-    let reads = line_named-reads b.0.0 b.0.1 line b.2 in
-    (sym (join_with_byte-slice_split 32 bytes) ∙ ap (join_with_byte 32) (split ∙ reads.0), reads.1)
+    ⊎_elim (λ t.
+    let word = (bytes_eq-Decides b.0.0 (codes "cicada")).0 t.0 in
+    let rest = version_in-some b.0.1 v t.1 in
+    joined bytes (words (head_line v)) (split ∙ (λ j. word j ∷ rest j)))
+    (λ f. absurd (none-some v f.1)) (choice (bytes_eq b.0.0 (codes "cicada")) (version_in b.0.1) None (Some v) b.2)
+
+same_version-is : (a b : Version) → same_version a b ≡ true → a ≡ b
+same_version-is One One e = refl
+same_version-is One Two e = absurd cc
+same_version-is Two One e = absurd cc
+same_version-is Two Two e = refl
+
+head_again-some : (version : Version) (bytes : List ℕ) (o : Option Version) (line : Line) → head_of bytes ≡ o → head_again version o ≡ Some line → (bytes ≡ text line) × HasForm version line
+head_again-some version bytes None line is e = absurd cc
+head_again-some version bytes (Some other) line is e =
+    let given = cond_some (same_version other version) (head_line version) line e in
+    let same = same_version-is other version given.0 in
+    subst (λ (l : Line). (bytes ≡ text l) × HasForm version l) given.1 (head_of-some bytes other is ∙ ap (λ (v : Version). text (head_line v)) same, refl)
+
+line_with-reads : (version : Version) (bytes w : List ℕ) (ws : List (List ℕ)) (line : Line) (k : Option Keyword) (m : Option Mark) → slice_split (λ b. eqb b 32) bytes ≡ w ∷ ws → keyword_of w ≡ k → mark_of w ≡ m → line_with version bytes ws k m ≡ Some line → (bytes ≡ text line) × HasForm version line
+line_with-reads version bytes w ws line (Some k) m split is_k is_m e =
+    let reads = named_reads version k ws line e in
+    (joined bytes (words line) (split ∙ ap (λ (x : List ℕ). x ∷ ws) (keyword_of-some w k is_k) ∙ reads.0), reads.1)
+line_with-reads version bytes w ws line None (Some m) split is_k is_m e =
+    let reads = marked_reads version m ws line e in
+    (joined bytes (words line) (split ∙ ap (λ (x : List ℕ). x ∷ ws) (mark_of-some w m is_m) ∙ reads.0), reads.1)
+line_with-reads version bytes w ws line None None split is_k is_m e = head_again-some version bytes (head_of bytes) line refl e
+
+pub line_of-reads : (version : Version) (bytes : List ℕ) (line : Line) → line_of version bytes ≡ Some line → (bytes ≡ text line) × HasForm version line
+unfolding line_of
+line_of-reads version bytes line e =
+    let b = bind_some (next_word (slice_split (λ b. eqb b 32) bytes)) (λ word. line_with version bytes word.1 (keyword_of word.0) (mark_of word.0)) line e in
+    line_with-reads version bytes b.0.0 b.0.1 line (keyword_of b.0.0) (mark_of b.0.0) (next_word-some (slice_split (λ b. eqb b 32) bytes) b.0 b.1) refl refl b.2
 
 -- ---- from a line to its words
 
@@ -219,16 +219,38 @@ small : (c : ℕ) → (c ≡ 32) ⊎ (c ≡ 10) → c < 97
 small c h = ⊎_elim (λ e. omega arith) (λ e. omega arith) h
 
 -- the words of a line have no space and no line feed
-words-avoid : (c : ℕ) (line : Line) → (c ≡ 32) ⊎ (c ≡ 10) → IsSpelled line → AllAvoid c (words line)
-words-avoid c head_line h form = (literal c (codes "cicada") h refl refl, (literal c (codes "1") h refl refl, tt))
-words-avoid c (table_line name) h form = (literal c (codes "table") h refl refl, (Avoids-name c name (small c h) form, tt))
-words-avoid c (row_line name key value) h form = (literal c (codes "row") h refl refl, (Avoids-name c name (small c h) form.0, (Avoids-number c key (tiny c h) form.1, (Avoids-number c value (tiny c h) form.2, tt))))
-words-avoid c lane_line h form = (literal c (codes "lane") h refl refl, tt)
-words-avoid c txn_line h form = (literal c (codes "txn") h refl refl, tt)
-words-avoid c (get_line name key) h form = (literal c (codes "get") h refl refl, (Avoids-name c name (small c h) form.0, (Avoids-number c key (tiny c h) form.1, tt)))
-words-avoid c (put_line name key value) h form = (literal c (codes "put") h refl refl, (Avoids-name c name (small c h) form.0, (Avoids-number c key (tiny c h) form.1, (Avoids-number c value (tiny c h) form.2, tt))))
-words-avoid c end_line h form = (literal c (codes "end") h refl refl, tt)
-words-avoid c done_line h form = (literal c (codes "done") h refl refl, tt)
+numbers-avoid : (c : ℕ) (numbers : List ℕ) → (c ≡ 32) ⊎ (c ≡ 10) → All IsNumber numbers → AllAvoid c (map decimal numbers)
+numbers-avoid c [] h are = tt
+numbers-avoid c (n ∷ numbers) h are = (Avoids-number c n (tiny c h) (All-head IsNumber n numbers are), numbers-avoid c numbers h (All-tail IsNumber n numbers are))
+
+keyword-avoids : (c : ℕ) (k : Keyword) → (c ≡ 32) ⊎ (c ≡ 10) → Avoids c (keyword_text k)
+keyword-avoids c Table h = literal c (codes "table") h refl refl
+keyword-avoids c Index h = literal c (codes "index") h refl refl
+keyword-avoids c Row h = literal c (codes "row") h refl refl
+keyword-avoids c Get h = literal c (codes "get") h refl refl
+keyword-avoids c Put h = literal c (codes "put") h refl refl
+keyword-avoids c Ins h = literal c (codes "ins") h refl refl
+keyword-avoids c Del h = literal c (codes "del") h refl refl
+keyword-avoids c Add h = literal c (codes "add") h refl refl
+keyword-avoids c Sub h = literal c (codes "sub") h refl refl
+keyword-avoids c Scan h = literal c (codes "scan") h refl refl
+keyword-avoids c Find h = literal c (codes "find") h refl refl
+
+mark-avoids : (c : ℕ) (m : Mark) → (c ≡ 32) ⊎ (c ≡ 10) → Avoids c (mark_text m)
+mark-avoids c Lane h = literal c (codes "lane") h refl refl
+mark-avoids c Txn h = literal c (codes "txn") h refl refl
+mark-avoids c Snap h = literal c (codes "snap") h refl refl
+mark-avoids c End h = literal c (codes "end") h refl refl
+mark-avoids c Done h = literal c (codes "done") h refl refl
+
+version-avoids : (c : ℕ) (v : Version) → (c ≡ 32) ⊎ (c ≡ 10) → Avoids c (version_text v)
+version-avoids c One h = literal c (codes "1") h refl refl
+version-avoids c Two h = literal c (codes "2") h refl refl
+
+words-avoid : (c : ℕ) (version : Version) (line : Line) → (c ≡ 32) ⊎ (c ≡ 10) → HasForm version line → AllAvoid c (words line)
+words-avoid c version (head_line v) h form = (literal c (codes "cicada") h refl refl, (version-avoids c v h, tt))
+words-avoid c version (mark_line m) h form = (mark-avoids c m h, tt)
+words-avoid c version (named_line k name numbers) h form = (keyword-avoids c k h, (Avoids-name c name (small c h) form.0, numbers-avoid c numbers h form.1))
 
 slice_split-join : (c : ℕ) (w : List ℕ) (ws : List (List ℕ)) → AllAvoid c (w ∷ ws) → slice_split (λ b. eqb b c) (join_with_byte c (w ∷ ws)) ≡ w ∷ ws
 slice_split-join c w [] h = slice_split_none (λ b. eqb b c) w h.0
@@ -241,44 +263,81 @@ join-avoids c d (w ∷ []) apart h = h.0
 join-avoids c d (w ∷ v ∷ ws) apart h =
     All-append (λ b. eqb b c ≡ false) w (d ∷ join_with_byte d (v ∷ ws)) h.0 (All-cons (λ b. eqb b c ≡ false) d (join_with_byte d (v ∷ ws)) apart (join-avoids c d (v ∷ ws) apart h.1))
 
-pub text-avoids : (line : Line) → IsSpelled line → Avoids 10 (text line)
-text-avoids line form = join-avoids 10 32 (words line) refl (words-avoid 10 line (inr refl) form)
+pub text-avoids : (version : Version) (line : Line) → HasForm version line → Avoids 10 (text line)
+text-avoids version line form = join-avoids 10 32 (words line) refl (words-avoid 10 version line (inr refl) form)
 
 split_words : (line : Line) → AllAvoid 32 (words line) → slice_split (λ b. eqb b 32) (text line) ≡ words line
-split_words head_line h = slice_split-join 32 _ _ h
-split_words (table_line name) h = slice_split-join 32 _ _ h
-split_words (row_line name key value) h = slice_split-join 32 _ _ h
-split_words lane_line h = slice_split-join 32 _ _ h
-split_words txn_line h = slice_split-join 32 _ _ h
-split_words (get_line name key) h = slice_split-join 32 _ _ h
-split_words (put_line name key value) h = slice_split-join 32 _ _ h
-split_words end_line h = slice_split-join 32 _ _ h
-split_words done_line h = slice_split-join 32 _ _ h
-
-slice_split-text : (line : Line) → IsSpelled line → slice_split (λ b. eqb b 32) (text line) ≡ words line
-slice_split-text line form = split_words line (words-avoid 32 line (inl refl) form)
+split_words (head_line v) h = slice_split-join 32 _ _ h
+split_words (mark_line m) h = slice_split-join 32 _ _ h
+split_words (named_line k name numbers) h = slice_split-join 32 _ _ h
 
 -- ---- from words to the line again
 
-abbrev line_from : List (List ℕ) → Option Line
-line_from ws = next_word ws >>= λ word. line_named word.0 word.1
+eq_few : (n m : ℕ) → m ≤ 7 → eqb n m ≡ true → n ≤ 7
+eq_few n m few e = omega (arith, eqb-true n m e)
 
-line_from-words : (line : Line) → IsSpelled line → line_from (words line) ≡ Some line
-unfolding line_named head_of table_of row_of get_of put_of name_at number_at
-line_from-words head_line form = refl
-line_from-words (table_line name) form = rw (is_name-from name form) refl
-line_from-words (row_line name key value) form = rw (is_name-from name form.0, number_of-decimal key form.1, number_of-decimal value form.2) refl
-line_from-words lane_line form = refl
-line_from-words txn_line form = refl
-line_from-words (get_line name key) form = rw (is_name-from name form.0, number_of-decimal key form.1) refl
-line_from-words (put_line name key value) form = rw (is_name-from name form.0, number_of-decimal key form.1, number_of-decimal value form.2) refl
-line_from-words end_line form = refl
-line_from-words done_line form = refl
+few_numbers : (version : Version) (k : Keyword) (numbers : List ℕ) → has_numbers version k numbers ≡ true → length numbers ≤ 7
+few_numbers One Table numbers h = eq_few (length numbers) 0 (omega arith) h
+few_numbers One Index numbers h = absurd cc
+few_numbers One Row numbers h = eq_few (length numbers) 2 (omega arith) h
+few_numbers One Get numbers h = eq_few (length numbers) 1 (omega arith) h
+few_numbers One Put numbers h = eq_few (length numbers) 2 (omega arith) h
+few_numbers One Ins numbers h = eq_few (length numbers) 2 (omega arith) h
+few_numbers One Del numbers h = eq_few (length numbers) 1 (omega arith) h
+few_numbers One Add numbers h = eq_few (length numbers) 2 (omega arith) h
+few_numbers One Sub numbers h = eq_few (length numbers) 2 (omega arith) h
+few_numbers One Scan numbers h = eq_few (length numbers) 3 (omega arith) h
+few_numbers One Find numbers h = absurd cc
+few_numbers Two Table numbers h = eq_few (length numbers) 1 (omega arith) (and_parts (eqb (length numbers) 1) (leb 1 (slice_index numbers 0) && leb (slice_index numbers 0) 6) h).0
+few_numbers Two Index numbers h = eq_few (length numbers) 1 (omega arith) h
+few_numbers Two Row numbers h = leb-true (length numbers) 7 (and_parts (leb 2 (length numbers)) (leb (length numbers) 7) h).1
+few_numbers Two Get numbers h = eq_few (length numbers) 2 (omega arith) h
+few_numbers Two Put numbers h = leb-true (length numbers) 7 (and_parts (leb 2 (length numbers)) (leb (length numbers) 7) h).1
+few_numbers Two Ins numbers h = leb-true (length numbers) 7 (and_parts (leb 2 (length numbers)) (leb (length numbers) 7) h).1
+few_numbers Two Del numbers h = eq_few (length numbers) 1 (omega arith) h
+few_numbers Two Add numbers h = eq_few (length numbers) 3 (omega arith) h
+few_numbers Two Sub numbers h = eq_few (length numbers) 3 (omega arith) h
+few_numbers Two Scan numbers h = eq_few (length numbers) 3 (omega arith) h
+few_numbers Two Find numbers h = eq_few (length numbers) 4 (omega arith) h
 
-pub line_of-text : (line : Line) → IsSpelled line → line_of (text line) ≡ Some line
+named_of-words : (version : Version) (k : Keyword) (name numbers : List ℕ) → HasForm version (named_line k name numbers) → named_of version k (name ∷ map decimal numbers) ≡ Some (named_line k name numbers)
+unfolding named_of name_at
+named_of-words version k name numbers form =
+    rw (is_name-from name form.0, more_numbers-decimal numbers [] form.1 (omega (arith, few_numbers version k numbers form.2)), form.2) refl
+
+abbrev line_from : Version → List ℕ → List (List ℕ) → Option Line
+line_from version bytes ws = next_word ws >>= λ word. line_with version bytes word.1 (keyword_of word.0) (mark_of word.0)
+
+head_is : (version : Version) → line_from version (text (head_line version)) (words (head_line version)) ≡ Some (head_line version)
+unfolding head_of version_in
+head_is One = refl
+head_is Two = refl
+
+mark_is : (version : Version) (m : Mark) → line_from version (text (mark_line m)) (words (mark_line m)) ≡ Some (mark_line m)
+mark_is version Lane = refl
+mark_is version Txn = refl
+mark_is version Snap = refl
+mark_is version End = refl
+mark_is version Done = refl
+
+line_from-words : (version : Version) (line : Line) → HasForm version line → line_from version (text line) (words line) ≡ Some line
+line_from-words version (head_line v) form = subst (λ (x : Version). line_from version (text (head_line x)) (words (head_line x)) ≡ Some (head_line x)) (sym form) (head_is version)
+line_from-words version (mark_line m) form = mark_is version m
+line_from-words version (named_line k name numbers) form = rw (keyword_of-text k) (named_of-words version k name numbers form)
+
+pub line_of-text : (version : Version) (line : Line) → HasForm version line → line_of version (text line) ≡ Some line
 unfolding line_of
-line_of-text line form = ap line_from (slice_split-text line form) ∙ line_from-words line form
+line_of-text version line form =
+    ap (line_from version (text line)) (split_words line (words-avoid 32 version line (inl refl) form)) ∙ line_from-words version line form
+
+pub head_of-text : (version : Version) → head_of (text (head_line version)) ≡ Some version
+unfolding head_of version_in
+head_of-text One = refl
+head_of-text Two = refl
 
 -- two lines with one text are one line
-pub text-injective : (a b : Line) → IsSpelled a → IsSpelled b → text a ≡ text b → a ≡ b
-text-injective a b form_a form_b same = some_is a b (sym (line_of-text a form_a) ∙ ap line_of same ∙ line_of-text b form_b)
+pub text-injective : (version : Version) (a b : Line) → HasForm version a → HasForm version b → text a ≡ text b → a ≡ b
+text-injective version a b form_a form_b same = some_is a b (sym (line_of-text version a form_a) ∙ ap (line_of version) same ∙ line_of-text version b form_b)
+
+pub head-injective : (a b : Version) → text (head_line a) ≡ text (head_line b) → a ≡ b
+head-injective a b same = some_is a b (sym (head_of-text a) ∙ ap head_of same ∙ head_of-text b)

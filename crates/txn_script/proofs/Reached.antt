@@ -1,70 +1,148 @@
--- How far the bytes are read.
-use Rattle.std.proofs.Common.{◌≡◌, ℕ, List, [], ◌∷◌, ◌++◌, length, cond, Option, Some, None, Ok, Err, refl, sym, ap, subst, ◌∙◌}
-use Rattle.std.specs.Prelude.{◌==◌, option_map, ok_or}
-use Rattle.std.specs.List.{slice_split}
-use Rattle.std.proofs.lemmas.Option.{MatchOption-at_some}
+-- How far the bytes behind the head are read, and what stops the reading.
+use Rattle.std.proofs.Common.{◌≡◌, ℕ, ◌+◌, ◌<◌, ◌≤◌, List, [], ◌∷◌, ◌++◌, length, Some, None, Result, Ok, Err, refl, sym, ap, subst, ◌∙◌, append_assoc, arith}
+use Rattle.std.proofs.lemmas.List.{append-nil, length-append, nil_from_length}
+use Rattle.std.proofs.lemmas.List.Concat.{flat_map-append}
+use Rattle.std.proofs.lemmas.Option.{none-some, same_Some}
+use Rattle.replay_model.specs.declared.input.Input.{Input}
+use Rattle.txn_script.specs.declared.fault.Kind.{Kind}
+use Rattle.txn_script.specs.declared.fault.Kind.TheVariants as kinds
 use Rattle.txn_script.specs.declared.fault.ParseFault.{ParseFault}
-use Rattle.txn_script.specs.declared.fault.ParseFault.TheVariants.{Form, NoMemory}
-use Rattle.txn_script.specs.declared.line.Line.{Line as ReadLine}
-use Rattle.txn_script.specs.Line.{Line}
-use Rattle.txn_script.specs.Grammar.{Fits}
-use Rattle.txn_script.specs.Reading.{◌>>=◌, Progress, cut, seen, Fails, line_of, step, finished, read_parts, input_of, started}
-use Rattle.txn_script.proofs.PartLaws.{read_parts-line, read_parts-end}
-use Rattle.txn_script.proofs.LineLaws.{line_of-reads}
-use Rattle.txn_script.proofs.StepLaws.{Reads, step-law, Reads-started}
+use Rattle.txn_script.specs.declared.fault.ParseFault.TheVariants as faults
+use Rattle.txn_script.specs.declared.fault.Stop.{Stop}
+use Rattle.txn_script.specs.declared.fault.Stop.TheVariants as stops
+use Rattle.txn_script.specs.declared.keyword.Version.{Version}
+use Rattle.txn_script.specs.declared.place.Place.{Place}
+use Rattle.txn_script.specs.declared.place.Place.TheVariants.{Finished}
+use Rattle.txn_script.specs.Line.{Line, head_line, text, spelled, HasForm}
+use Rattle.txn_script.specs.Places.{place_behind}
+use Rattle.txn_script.specs.Gathered.{gathered}
+use Rattle.txn_script.specs.Grammar.{Fits, FitBehind, FirstFailing, Passes, checks, no_form, failing, FaultyRest, behind_done, faulty_line, no_line, no_head_line, no_head, behind_head}
+use Rattle.txn_script.specs.Kinds.{input_fault, is_refusal}
+use Rattle.txn_script.specs.Answer.{IsAnswer, IsAnswerBehind, Leads, SpellsBehind}
+use Rattle.txn_script.specs.LineReading.{cut, head_of, line_of}
+use Rattle.txn_script.specs.Reading.{Progress, step, started, input_at_end, Fails}
+use Rattle.txn_script.proofs.LineLaws.{line_of-reads, line_of-text, head_of-some, head_of-text}
+use Rattle.txn_script.proofs.TextLaws.{cut-some, cut-none}
+use Rattle.txn_script.proofs.ProgressLaws.{input_at, gathered-is}
+use Rattle.txn_script.proofs.ReadLines.{Reads}
+use Rattle.txn_script.proofs.StepLaws.{Comes, step-law, Reads-started}
 
--- some lines lead here, and what is left decides the answer
-pub record Reached (bytes rest : List ℕ) (p : Progress) : Type 0 where
+-- some lines lead here
+pub record Reached (version : Version) (bytes rest : List ℕ) (number : ℕ) (p : Progress) : Type 0 where
   pub before : List Line
   pub reads : Reads before p
-  pub left : read_parts p (slice_split (λ b. b == 10) rest) ≡ input_of bytes
+  pub same : p.version ≡ version
+  pub leads : Leads version before rest bytes
+  pub count : number ≡ length before + 2
+  pub few : number + length rest ≤ length bytes + 2
 
-pub Reached-started : (bytes : List ℕ) → Reached bytes bytes started
-unfolding input_of
-Reached-started bytes = record { before = []; reads = Reads-started; left = refl }
+pub Reached-started : (version : Version) (bytes : List ℕ) → Reached version bytes bytes 2 (started version)
+Reached-started version bytes =
+    record { before = []; reads = Reads-started version; same = refl; leads = record { spelling = refl; fit = tt }; count = refl; few = omega arith }
 
--- a line is read, and taken in
-pub Reached-line : (bytes rest text behind : List ℕ) (p : Progress) (line : Line) (q : Progress) → Reached bytes rest p → cut 10 rest ≡ Some (text, behind) → line_of text ≡ Some line → step p line ≡ Some q → Reached bytes behind q
-Reached-line bytes rest text behind p line q reached parts read taken =
-    let form = (line_of-reads text line read).1 in
-    let stands = MatchOption-at_some (Fits reached.before line → ⊥) (λ x. Fits reached.before line × Reads (reached.before ++ line ∷ []) x) q taken (step-law reached.before p reached.reads line form) in
-    let here = read_parts-line p rest text behind parts ∙ ap (λ (o : Option Line). o >>= λ l. step p l >>= λ x. read_parts x (slice_split (λ b. b == 10) behind)) read
-    ∙ ap (λ (o : Option Progress). o >>= λ x. read_parts x (slice_split (λ b. b == 10) behind)) taken in
-    record { before = reached.before ++ line ∷ []; reads = stands.1; left = sym here ∙ reached.left }
+fit_push : (version : Version) (before lines : List Line) (line : Line) → FitBehind version before lines → Fits version (before ++ lines) line → FitBehind version before (lines ++ line ∷ [])
+fit_push version before [] line fit fits = (subst (λ (b : List Line). Fits version b line) (append-nil before) fits, tt)
+fit_push version before (first ∷ lines) line fit fits =
+    (fit.0, fit_push version (before ++ first ∷ []) lines line fit.1 (subst (λ (b : List Line). Fits version b line) (sym (append_assoc before (first ∷ []) lines)) fits))
 
--- the bytes are none where a line is not read, or not taken in
-pub Reached-no_line : (bytes rest text behind : List ℕ) (p : Progress) → Reached bytes rest p → cut 10 rest ≡ Some (text, behind) → line_of text ≡ None → input_of bytes ≡ None
-Reached-no_line bytes rest text behind p reached parts read =
-    sym reached.left ∙ read_parts-line p rest text behind parts ∙ ap (λ (o : Option Line). o >>= λ l. step p l >>= λ x. read_parts x (slice_split (λ b. b == 10) behind)) read
+spelled-push : (before : List Line) (line : Line) (rest : List ℕ) → spelled (before ++ line ∷ []) ++ rest ≡ spelled before ++ (text line ++ 10 ∷ rest)
+spelled-push before line rest =
+    let one : spelled (line ∷ []) ≡ text line ++ 10 ∷ [] = append-nil (text line ++ 10 ∷ []) in
+    ap (λ (t : List ℕ). t ++ rest) (flat_map-append (λ l. text l ++ 10 ∷ []) before (line ∷ []) ∙ ap (λ (t : List ℕ). spelled before ++ t) one)
+    ∙ append_assoc (spelled before) (text line ++ 10 ∷ []) rest ∙ ap (λ (t : List ℕ). spelled before ++ t) (append_assoc (text line) (10 ∷ []) rest)
 
-pub Reached-no_step : (bytes rest text behind : List ℕ) (p : Progress) (line : Line) → Reached bytes rest p → cut 10 rest ≡ Some (text, behind) → line_of text ≡ Some line → step p line ≡ None → input_of bytes ≡ None
-Reached-no_step bytes rest text behind p line reached parts read refused =
-    sym reached.left ∙ read_parts-line p rest text behind parts ∙ ap (λ (o : Option Line). o >>= λ l. step p l >>= λ x. read_parts x (slice_split (λ b. b == 10) behind)) read
-    ∙ ap (λ (o : Option Progress). o >>= λ x. read_parts x (slice_split (λ b. b == 10) behind)) refused
+-- ---- what a line that is read comes to
 
--- ---- in the words of the code
+module _ (version : Version) (bytes rest : List ℕ) (number : ℕ) (p : Progress) (reached : Reached version bytes rest number p) where
+  abbrev before : List Line
+  before = reached.before
 
-ok_or-err : {A : Type 0} (o : Option A) (fault other : ParseFault) → Err fault ≡ ok_or o other → (o ≡ None) × (fault ≡ other)
-ok_or-err None fault other e = (refl, cc)
-ok_or-err (Some x) fault other e = absurd cc
+  comes : (line : Line) → HasForm version line → Comes before p reached.reads line (step p line)
+  comes line form = step-law before p reached.reads line (subst (λ (v : Version). HasForm v line) (sym reached.same) form)
 
-ok_or-ok : {A : Type 0} (o : Option A) (x : A) (other : ParseFault) → Ok x ≡ ok_or o other → o ≡ Some x
-ok_or-ok None x other e = absurd cc
-ok_or-ok (Some y) x other e = let same : x ≡ y = cc in ap (λ (z : _). Some z) (sym same)
+  unfinished_is : (p.place ≡ Finished → ⊥) → place_behind before ≡ Some Finished → ⊥
+  unfinished_is unfinished e = unfinished (same_Some p.place Finished (sym reached.reads.gathers.place ∙ e))
 
-pub Reached-not_read : (bytes rest text behind : List ℕ) (p : Progress) (o : Option ReadLine) (fault : ParseFault) → Reached bytes rest p → Some (text, behind) ≡ cut 10 rest → option_map seen o ≡ line_of text → Err fault ≡ ok_or o Form → Fails fault (input_of bytes)
-Reached-not_read bytes rest text behind p o fault reached parts read e =
-    let given = ok_or-err o fault Form e in
-    let none = sym read ∙ ap (option_map seen) given.0 in
-    subst (λ f. Fails f (input_of bytes)) (sym given.1) (Reached-no_line bytes rest text behind p reached (sym parts) none)
+  pub Reached-line : (written behind : List ℕ) (line : Line) (q : Progress) → cut 10 rest ≡ Some (written, behind) → line_of version written ≡ Some line → step p line ≡ Ok q → Reached version bytes behind (number + 1) q
+  Reached-line written behind line q parts read taken =
+      let split = cut-some rest written behind parts in
+      let is = line_of-reads version written line read in
+      let stands = subst (Comes before p reached.reads line) taken (comes line is.1) in
+      let fits = subst (λ (v : Version). Fits v before line) reached.same stands.0 in
+      record {
+        before = before ++ line ∷ [];
+        reads = stands.1;
+        same = stands.2 ∙ reached.same;
+        leads = record {
+          spelling = reached.leads.spelling ∙ ap (λ (t : List ℕ). spelled before ++ t) (split.0 ∙ ap (λ (t : List ℕ). t ++ 10 ∷ behind) is.0) ∙ sym (spelled-push before line behind);
+          fit = fit_push version [] before line reached.leads.fit fits;
+        };
+        count = omega (arith, reached.count, length-append before (line ∷ []));
+        few = omega (arith, reached.few, split.2);
+      }
 
-pub line_read : (text : List ℕ) (o : Option ReadLine) (line : ReadLine) → option_map seen o ≡ line_of text → Ok line ≡ ok_or o Form → line_of text ≡ Some (seen line)
-line_read text o line read e = sym read ∙ ap (option_map seen) (ok_or-ok o line Form e)
+  -- a fault of this kind at the line that is read
+  abbrev pub Refuses : Kind → Type 0
+  Refuses kind = (fault : ParseFault) → fault ≡ faults.Refused (input_fault number kind) → IsAnswerBehind version bytes (Err fault)
 
-pub Reached-not_taken : (bytes rest text behind : List ℕ) (p : Progress) (line : Line) (fault : ParseFault) → Reached bytes rest p → Some (text, behind) ≡ cut 10 rest → line_of text ≡ Some line → Fails fault (step p line) → Fails fault (input_of bytes)
-Reached-not_taken bytes rest text behind p line Form reached parts read refused = Reached-no_step bytes rest text behind p line reached (sym parts) read refused
-Reached-not_taken bytes rest text behind p line NoMemory reached parts read refused = tt
+  refuses : (kind : Kind) → FaultyRest version before rest kind → Refuses kind
+  refuses kind faulty fault e =
+      let there : (l : List Line) × (r : List ℕ) × (k : Kind) × (input_fault number kind ≡ input_fault (length l + 2) k) × Leads version l r bytes × FaultyRest version l r k =
+      (before, rest, kind, ap (λ (n : ℕ). input_fault n kind) reached.count, reached.leads, faulty) in
+      subst (λ (f : ParseFault). IsAnswerBehind version bytes (Err f)) (sym e) there
 
--- nothing is left that ends in a line feed
-pub Reached-end : (bytes rest : List ℕ) (p : Progress) → Reached bytes rest p → None ≡ cut 10 rest → input_of bytes ≡ cond (length rest == 0) (finished p) None
-Reached-end bytes rest p reached none = sym reached.left ∙ read_parts-end p rest (sym none)
+  pub refused-end : (p.place ≡ Finished → ⊥) → cut 10 rest ≡ None → Refuses kinds.End
+  refused-end unfinished none = refuses kinds.End (no_line (unfinished_is unfinished) (cut-none rest none))
+
+  pub refused-form : (written behind : List ℕ) → (p.place ≡ Finished → ⊥) → cut 10 rest ≡ Some (written, behind) → line_of version written ≡ None → Refuses kinds.Form
+  refused-form written behind unfinished parts none =
+      let split = cut-some rest written behind parts in
+      refuses kinds.Form (faulty_line written behind kinds.Form (unfinished_is unfinished) split.0 split.1 (no_form (λ line form is. none-some line (sym none ∙ ap (line_of version) is ∙ line_of-text version line form))))
+
+  pub refused-line : (written behind : List ℕ) (line : Line) (kind : Kind) → (p.place ≡ Finished → ⊥) → cut 10 rest ≡ Some (written, behind) → line_of version written ≡ Some line → step p line ≡ Err kind → Refuses kind
+  refused-line written behind line kind unfinished parts read refused =
+      let split = cut-some rest written behind parts in
+      let is = line_of-reads version written line read in
+      let first = subst (λ (v : Version). FirstFailing (Passes v before line) checks kind) reached.same (subst (Comes before p reached.reads line) refused (comes line is.1)) in
+      refuses kind (faulty_line written behind kind (unfinished_is unfinished) split.0 split.1 (failing line kind is.1 is.0 first))
+
+  -- why a line is not taken in, as the answer
+  pub stopped : (written behind : List ℕ) (line : Line) (stop : Stop) (fault : ParseFault) → (p.place ≡ Finished → ⊥) → cut 10 rest ≡ Some (written, behind) → line_of version written ≡ Some line → Fails stop (step p line) → is_refusal stop number fault → IsAnswerBehind version bytes (Err fault)
+  stopped written behind line (stops.Refused kind) fault unfinished parts read fails is = refused-line written behind line kind unfinished parts read fails fault is
+  stopped written behind line stops.NoMemory fault unfinished parts read fails is = subst (λ (f : ParseFault). IsAnswerBehind version bytes (Err f)) (sym is) tt
+
+  pub refused-behind : p.place ≡ Finished → 0 < length rest → Refuses kinds.Place
+  refused-behind at some = refuses kinds.Place (behind_done (reached.reads.gathers.place ∙ ap (λ (x : Place). Some x) at) some)
+
+  pub finished-is : p.place ≡ Finished → length rest ≡ 0 → (lines : List Line) × SpellsBehind version bytes (input_at_end p) lines
+  finished-is at none = (
+    before,
+    record {
+      leads = subst (λ (r : List ℕ). Leads version before r bytes) (nil_from_length rest none) reached.leads;
+      finished = reached.reads.gathers.place ∙ ap (λ (x : Place). Some x) at;
+      input_is = sym (ap (λ (v : Version). gathered v before) (sym reached.same) ∙ gathered-is p.version before p reached.reads.gathers ∙ ap (λ (x : Place). input_at x p) at);
+    },
+  )
+
+-- ---- a text with its head
+
+pub head_end : (bytes : List ℕ) (fault : ParseFault) → cut 10 bytes ≡ None → fault ≡ faults.Refused (input_fault 1 kinds.End) → IsAnswer bytes (Err fault)
+head_end bytes fault none e = subst (λ (f : ParseFault). IsAnswer bytes (Err f)) (sym e) (1, kinds.End, refl, no_head_line (cut-none bytes none))
+
+pub head_form : (bytes written behind : List ℕ) (fault : ParseFault) → cut 10 bytes ≡ Some (written, behind) → head_of written ≡ None → fault ≡ faults.Refused (input_fault 1 kinds.Form) → IsAnswer bytes (Err fault)
+head_form bytes written behind fault parts none e =
+    let split = cut-some bytes written behind parts in
+    subst (λ (f : ParseFault). IsAnswer bytes (Err f)) (sym e)
+    (1, kinds.Form, refl, no_head written behind split.0 split.1 (λ version is. none-some version (sym none ∙ ap head_of is ∙ head_of-text version)))
+
+behind_is : (version : Version) (bytes rest : List ℕ) (answer : Result Input ParseFault) → bytes ≡ text (head_line version) ++ 10 ∷ rest → IsAnswerBehind version rest answer → IsAnswer bytes answer
+behind_is version bytes rest (Ok input) e is =
+    (version, is.0, record { begins = record { spelling = e ∙ ap (λ (r : List ℕ). text (head_line version) ++ 10 ∷ r) is.1.leads.spelling; fit = is.1.leads.fit }; finished = is.1.finished; input_is = is.1.input_is })
+behind_is version bytes rest (Err (faults.Refused fault)) e is =
+    (length is.0 + 2, is.2, is.3, behind_head version is.0 is.1 is.2 (record { spelling = e ∙ ap (λ (r : List ℕ). text (head_line version) ++ 10 ∷ r) is.4.spelling; fit = is.4.fit }) is.5)
+behind_is version bytes rest (Err faults.NoMemory) e is = tt
+
+pub with_head : (bytes written rest : List ℕ) (version : Version) (answer : Result Input ParseFault) → cut 10 bytes ≡ Some (written, rest) → head_of written ≡ Some version → IsAnswerBehind version rest answer → IsAnswer bytes answer
+with_head bytes written rest version answer parts head is =
+    let split = cut-some bytes written rest parts in
+    behind_is version bytes rest answer (split.0 ∙ ap (λ (t : List ℕ). t ++ 10 ∷ rest) (head_of-some written version head)) is

@@ -2,5 +2,9 @@ pub mod Line
 pub mod Places
 pub mod Gathered
 pub mod Grammar
+pub mod Kinds
+pub mod LineReading
 pub mod Reading
+pub mod Narrow
+pub mod Answer
 pub mod RowPlaces

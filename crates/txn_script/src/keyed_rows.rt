@@ -2,8 +2,8 @@
 
 ghost use Rattle.std.specs.Prelude.{◌≡◌, [], length};
 
-use crate::fault::ParseFault;
-use replay_model::Rows;
+use crate::fault::{Kind, Stop};
+use replay_model::{Columns, Rows};
 use std::alloc::Global;
 use std::collections::BTreeSet;
 use std::marker::Model;
@@ -19,7 +19,7 @@ impl Model for KeyedRows {
     ghost use Rattle.std.specs.Prelude.{ℕ, List};
     ghost use Rattle.txn_script.specs.RowPlaces.{AreTheirPlaces};
 
-    ghost Value = { List (ℕ × ℕ × ℕ) };
+    ghost Value = { List (ℕ × ℕ × List ℕ) };
 
     ghost view = { λ a. a.rows };
 
@@ -40,20 +40,21 @@ impl KeyedRows {
     }
 
     /// The rows with one more, which is refused where there is one at its place.
-    pub fn with(self, table: u32, key: u64, value: u64) -> Result<Self, ParseFault>
-        ensures { Gives (λ rows. rows) result (row_added self table key value) }
+    pub fn with(self, table: u32, key: u64, row: Columns) -> Result<Self, Stop>
+        ensures { Gives (λ rows. rows) result (row_added self table key row) }
     {
         let KeyedRows {
             mut rows,
             mut places,
         } = self;
         if !places.insert((table, key))? {
-            return Err(ParseFault::Form);
+            return Err(Stop::Refused(Kind::Twice));
         }
-        rows.push((table, key, value))?;
+        rows.push((table, key, row))?;
         Ok(KeyedRows { rows, places })
     }
 
+    /// How many there are.
     pub fn len(&self) -> usize
         ensures { result ≡ length self.now }
     {

@@ -5,18 +5,20 @@
 #![tactic(auto)]
 
 mod bytes;
+mod digits;
 mod fault;
 mod keyed_rows;
+mod keyword;
 mod line;
+mod lookup;
+mod meaning;
+mod numbers;
 mod parsing;
 mod place;
 mod printing;
 mod reader;
 mod words;
 
-pub use fault::{InputFault, ParseFault};
+pub use fault::{InputFault, Kind, ParseFault};
 pub use parsing::parse;
 pub use printing::{print_block, print_table};
-
-#[cfg(test)]
-mod tests;

@@ -1,126 +1,121 @@
 //! Lines of an input text, one after another.
 
-ghost use Rattle.std.specs.Prelude.{◌≡◌, option_map};
-ghost use Rattle.txn_script.specs.Reading.{left, seen, ended, head_of, table_of, row_of, get_of, put_of, line_named, line_of};
+ghost use Rattle.std.specs.Prelude.{◌≡◌, ◌&&◌, nat_le, option_map};
+ghost use Rattle.txn_script.specs.Line.{has_numbers};
+ghost use Rattle.txn_script.specs.LineReading.{left, seen, head_of, version_in, marked, named_of, line_of};
 
+use crate::keyword::{Keyword, Mark, Version};
+use crate::numbers::Numbers;
 use crate::words::Words;
 
 /// One line; a table is given by its name.
-#[derive(Clone, Copy)]
+#[derive(Drop)]
 pub enum Line<'a> {
-    Head,
-    Table(&'a [u8]),
-    Row {
-        table: &'a [u8],
-        key: u64,
-        value: u64,
+    Head(Version),
+    Mark(Mark),
+    Named {
+        keyword: Keyword,
+        name: &'a [u8],
+        numbers: Numbers,
     },
-    Lane,
-    Txn,
-    Get {
-        table: &'a [u8],
-        key: u64,
-    },
-    Put {
-        table: &'a [u8],
-        key: u64,
-        value: u64,
-    },
-    End,
-    Done,
+}
+
+/// The version that a first line tells, without its line feed.
+#[tactic(auto, unfolding(crate::specs::LineReading::head_of))]
+pub fn head(text: &[u8]) -> Option<Version>
+    ensures { result ≡ head_of text.now }
+{
+    let (keyword, words) = Words::new(text).next()?;
+    if keyword == b"cicada".as_slice() {
+        version(words)
+    } else {
+        None
+    }
+}
+
+#[tactic(auto, unfolding(crate::specs::LineReading::version_in))]
+fn version(words: Words) -> Option<Version>
+    ensures { result ≡ version_in (left words.entry) }
+{
+    let (word, words) = words.next()?;
+    if words.is_empty() {
+        Version::read(word)
+    } else {
+        None
+    }
 }
 
 impl<'a> Line<'a> {
-    /// The line that a text without its line feed spells.
-    #[tactic(auto, unfolding(crate::specs::Reading::line_of))]
-    pub fn read(text: &'a [u8]) -> Option<Line<'a>>
-        ensures { option_map seen result ≡ line_of text.now }
+    /// The line that a text without its line feed spells, behind the head of a text of this version.
+    #[tactic(auto, unfolding(crate::specs::LineReading::line_of))]
+    pub fn read(version: Version, text: &'a [u8]) -> Option<Line<'a>>
+        ensures { option_map seen result ≡ line_of version text.now }
     {
-        let (keyword, words) = Words::new(text).next()?;
-        named(keyword, words)
+        let (word, words) = Words::new(text).next()?;
+        if let Some(keyword) = Keyword::read(word) {
+            return named(version, keyword, words);
+        }
+        if let Some(mark) = Mark::read(word) {
+            return marked(mark, words);
+        }
+        if head(text)? == version {
+            Some(Line::Head(version))
+        } else {
+            None
+        }
     }
 }
 
-/// The line with this first word and these further ones.
-#[tactic(auto, unfolding(crate::specs::Reading::line_named))]
-fn named<'a>(keyword: &[u8], words: Words<'a>) -> Option<Line<'a>>
-    ensures { option_map seen result ≡ line_named keyword.now (left words.entry) }
+/// A line of one word, where no other is left.
+fn marked<'a>(mark: Mark, words: Words<'a>) -> Option<Line<'a>>
+    ensures { option_map seen result ≡ marked mark (left words.entry) }
 {
-    if keyword == b"get".as_slice() {
-        get(words)
-    } else if keyword == b"put".as_slice() {
-        put(words)
-    } else if keyword == b"txn".as_slice() {
-        ended(Line::Txn, words)
-    } else if keyword == b"end".as_slice() {
-        ended(Line::End, words)
-    } else if keyword == b"row".as_slice() {
-        row(words)
-    } else if keyword == b"lane".as_slice() {
-        ended(Line::Lane, words)
-    } else if keyword == b"table".as_slice() {
-        table(words)
-    } else if keyword == b"done".as_slice() {
-        ended(Line::Done, words)
-    } else if keyword == b"cicada".as_slice() {
-        head(words)
+    if words.is_empty() {
+        Some(Line::Mark(mark))
     } else {
         None
     }
 }
 
-/// The line, where no word is left.
-fn ended<'a>(line: Line<'a>, words: Words<'a>) -> Option<Line<'a>>
-    ensures { option_map seen result ≡ ended (seen line.entry) (left words.entry) }
-{
-    if words.is_empty() { Some(line) } else { None }
-}
-
-#[tactic(auto, unfolding(crate::specs::Reading::head_of))]
-fn head<'a>(words: Words<'a>) -> Option<Line<'a>>
-    ensures { option_map seen result ≡ head_of (left words.entry) }
-{
-    let (version, words) = words.next()?;
-    if version == b"1".as_slice() {
-        ended(Line::Head, words)
-    } else {
-        None
-    }
-}
-
-#[tactic(auto, unfolding(crate::specs::Reading::table_of))]
-fn table<'a>(words: Words<'a>) -> Option<Line<'a>>
-    ensures { option_map seen result ≡ table_of (left words.entry) }
+/// A line of a keyword, a name and as many numbers as that keyword has.
+#[tactic(auto, unfolding(crate::specs::LineReading::named_of))]
+fn named<'a>(version: Version, keyword: Keyword, words: Words<'a>) -> Option<Line<'a>>
+    ensures { option_map seen result ≡ named_of version keyword (left words.entry) }
 {
     let (name, words) = words.name()?;
-    ended(Line::Table(name), words)
+    let numbers = Numbers::read(words)?;
+    if has_numbers(version, keyword, &numbers) {
+        Some(Line::Named {
+            keyword,
+            name,
+            numbers,
+        })
+    } else {
+        None
+    }
 }
 
-#[tactic(auto, unfolding(crate::specs::Reading::row_of))]
-fn row<'a>(words: Words<'a>) -> Option<Line<'a>>
-    ensures { option_map seen result ≡ row_of (left words.entry) }
+fn has_numbers(version: Version, keyword: Keyword, numbers: &Numbers) -> bool
+    ensures { result ≡ has_numbers version keyword numbers.now }
 {
-    let (table, words) = words.name()?;
-    let (key, words) = words.number()?;
-    let (value, words) = words.number()?;
-    ended(Line::Row { table, key, value }, words)
+    let count = numbers.len();
+    match (version, keyword) {
+        (Version::One, Keyword::Table) => count == 0,
+        (Version::One, Keyword::Index | Keyword::Find) => false,
+        (Version::One, Keyword::Get | Keyword::Del) => count == 1,
+        (Version::One, Keyword::Scan) => count == 3,
+        (Version::One, _) => count == 2,
+        (Version::Two, Keyword::Table) => count == 1 && is_digit(numbers.get(0)),
+        (Version::Two, Keyword::Index | Keyword::Del) => count == 1,
+        (Version::Two, Keyword::Row | Keyword::Put | Keyword::Ins) => 2 <= count && count <= 7,
+        (Version::Two, Keyword::Get) => count == 2,
+        (Version::Two, Keyword::Add | Keyword::Sub | Keyword::Scan) => count == 3,
+        (Version::Two, Keyword::Find) => count == 4,
+    }
 }
 
-#[tactic(auto, unfolding(crate::specs::Reading::get_of))]
-fn get<'a>(words: Words<'a>) -> Option<Line<'a>>
-    ensures { option_map seen result ≡ get_of (left words.entry) }
+fn is_digit(number: u64) -> bool
+    ensures { result ≡ (nat_le 1 number && nat_le number 6) }
 {
-    let (table, words) = words.name()?;
-    let (key, words) = words.number()?;
-    ended(Line::Get { table, key }, words)
-}
-
-#[tactic(auto, unfolding(crate::specs::Reading::put_of))]
-fn put<'a>(words: Words<'a>) -> Option<Line<'a>>
-    ensures { option_map seen result ≡ put_of (left words.entry) }
-{
-    let (table, words) = words.name()?;
-    let (key, words) = words.number()?;
-    let (value, words) = words.number()?;
-    ended(Line::Put { table, key, value }, words)
+    1 <= number && number <= 6
 }

@@ -1,59 +1,68 @@
 //! Reading an input.
 
-ghost use Rattle.std.specs.Prelude.{◌≡◌, ℕ, List, IfOk, IsErrOf};
+ghost use Rattle.std.specs.Prelude.{◌≡◌, ◌≤◌, ℕ, length, IfOk};
 ghost use Rattle.replay_model.specs.Input.{IsWellFormed};
-ghost use Rattle.txn_script.specs.Grammar.{IsInput, IsAccepted, IsRefused, IsWithinLimits, IsPlain};
-ghost use Rattle.txn_script.specs.Reading.{Gives, input_of};
+ghost use Rattle.txn_script.specs.Grammar.{IsInput, IsFault, IsWithinLimits};
+ghost use Rattle.txn_script.specs.Answer.{IsAnswer, IsAnswerBehind};
 
-use crate::bytes::cut;
-use crate::fault::ParseFault;
-use crate::line::Line;
+use crate::bytes::cut_line;
+use crate::fault::{Kind, ParseFault, Stop};
+use crate::keyword::Version;
+use crate::line::{Line, head};
 use crate::reader::Reader;
 use replay_model::Input;
 use std::alloc::Global;
 
-/// The most bytes of an input.
-const MOST_BYTES: usize = 4_194_304;
-
-/// The input that the bytes spell, if it is accepted: of one table and one lane, with transaction blocks that get and put.
+/// The input that the bytes spell, or the first faulty line and its kind.
 ///
 /// The bytes are read once, from the first line to the last; the room taken is in proportion to them.
 pub fn parse(alloc: Global, bytes: &[u8]) -> Result<Input, ParseFault>
-    // At `Ok` the bytes are this input, which is accepted.
-    ensures accepted { IfOk result (IsAccepted bytes.now) }
-    // Whatever is answered, bytes spell one input at most, accepted or not.
-    ensures alone { (a b : Input) → IsInput bytes.now a → IsInput bytes.now b → a ≡ b }
-    // At `Form` no input is accepted for these bytes.
-    ensures refused { IsErrOf result ParseFault.Form → IsRefused bytes.now }
+    requires { length bytes.now ≤ 4194304 }
+    // At `Ok` the bytes are this input; at `Refused` this is their first faulty line.
+    ensures answer { IsAnswer bytes.now result }
+    // Whatever is answered: bytes are one input at most, have one first faulty line at most, and never both.
+    ensures one_input { (a b : Input) → IsInput bytes.now a → IsInput bytes.now b → a ≡ b }
+    ensures one_fault { (l m : ℕ) (a b : Kind) → IsFault bytes.now l a → IsFault bytes.now m b → (l ≡ m) × (a ≡ b) }
+    ensures never_both { (input : Input) (line : ℕ) (kind : Kind) → IsInput bytes.now input → IsFault bytes.now line kind → ⊥ }
 
-    // What holds of each accepted input.
+    // What holds of each input.
     ensures well_formed { IfOk result IsWellFormed }
     ensures within { IfOk result IsWithinLimits }
-    ensures plain { IfOk result IsPlain }
 {
-    if bytes.len() > MOST_BYTES {
-        return Err(ParseFault::Form);
-    }
-    let input = read(alloc, bytes)?;
-    if input.tables.len() != 1 || input.lanes.len() != 1 {
-        return Err(ParseFault::Form);
-    }
-    Ok(input)
+    let Some((text, rest)) = cut_line(bytes) else {
+        return Err(Stop::Refused(Kind::End).at(1));
+    };
+    let Some(version) = head(text) else {
+        return Err(Stop::Refused(Kind::Form).at(1));
+    };
+    read(alloc, version, rest)
 }
 
-/// The input that the bytes spell, of any number of tables and lanes.
-fn read(alloc: Global, bytes: &[u8]) -> Result<Input, ParseFault>
-    ensures { Gives (λ input. input) result (input_of bytes.now) }
+/// What stands behind the head of a text of this version, from its second line on.
+fn read(alloc: Global, version: Version, bytes: &[u8]) -> Result<Input, ParseFault>
+    requires { length bytes.now ≤ 4194304 }
+    ensures answer { IsAnswerBehind version bytes.now result }
+    ensures well_formed { IfOk result IsWellFormed }
+    ensures within { IfOk result IsWithinLimits }
 {
-    let mut reader = Reader::new(alloc);
+    let mut reader = Reader::new(alloc, version);
+    let mut number = 2;
     let mut rest = bytes;
-    while let Some((text, behind)) = cut(rest, b'\n') {
-        let line = Line::read(text).ok_or(ParseFault::Form)?;
-        reader = reader.step(&line)?;
+    while !reader.is_finished() {
+        let Some((text, behind)) = cut_line(rest) else {
+            return Err(Stop::Refused(Kind::End).at(number));
+        };
+        let Some(line) = Line::read(version, text) else {
+            return Err(Stop::Refused(Kind::Form).at(number));
+        };
+        if let Err(stop) = reader.step(&line) {
+            return Err(stop.at(number));
+        }
+        number += 1;
         rest = behind;
     }
     if !rest.is_empty() {
-        return Err(ParseFault::Form);
+        return Err(Stop::Refused(Kind::Place).at(number));
     }
-    reader.finish()
+    Ok(reader.finish())
 }

@@ -1,20 +1,23 @@
 //! Where a line may stand.
 
 ghost use Rattle.std.specs.Prelude.{◌≡◌};
-ghost use Rattle.txn_script.specs.Reading.{seen};
-ghost use Rattle.txn_script.specs.Places.{after};
+ghost use Rattle.txn_script.specs.LineReading.{seen};
+ghost use Rattle.txn_script.specs.Places.{after, after_mark, after_named};
 
+use crate::keyword::{Keyword, Mark};
 use crate::line::Line;
 
-/// The place between two lines of a text.
+/// The place between two lines of a text, behind its head.
 #[derive(Clone, Copy, PartialEq, Eq, Debug)]
 pub enum Place {
-    BeforeHead,
-    /// Behind the head, before the first lane.
+    /// Before the first lane.
     Declarations,
     /// In a lane, outside of its blocks.
     InLane,
-    InBlock,
+    /// In a transaction.
+    InTxn,
+    /// In a snapshot.
+    InSnap,
     /// Behind the last line.
     Finished,
 }
@@ -24,14 +27,39 @@ impl Place {
     pub fn after(self, line: &Line) -> Option<Place>
         ensures { result ≡ after self (seen line.now) }
     {
-        match (self, line) {
-            (Place::BeforeHead, Line::Head) => Some(Place::Declarations),
-            (Place::Declarations, Line::Table(_) | Line::Row { .. }) => Some(Place::Declarations),
-            (Place::Declarations | Place::InLane, Line::Lane) => Some(Place::InLane),
-            (Place::Declarations | Place::InLane, Line::Done) => Some(Place::Finished),
-            (Place::InLane, Line::Txn) => Some(Place::InBlock),
-            (Place::InBlock, Line::Get { .. } | Line::Put { .. }) => Some(Place::InBlock),
-            (Place::InBlock, Line::End) => Some(Place::InLane),
+        match line {
+            Line::Head(_) => None,
+            Line::Mark(mark) => self.after_mark(*mark),
+            Line::Named { keyword, .. } => self.after_named(*keyword),
+        }
+    }
+
+    fn after_mark(self, mark: Mark) -> Option<Place>
+        ensures { result ≡ after_mark mark self }
+    {
+        match (mark, self) {
+            (Mark::Lane, Place::Declarations | Place::InLane) => Some(Place::InLane),
+            (Mark::Txn, Place::InLane) => Some(Place::InTxn),
+            (Mark::Snap, Place::InLane) => Some(Place::InSnap),
+            (Mark::End, Place::InTxn | Place::InSnap) => Some(Place::InLane),
+            (Mark::Done, Place::Declarations | Place::InLane) => Some(Place::Finished),
+            _ => None,
+        }
+    }
+
+    fn after_named(self, keyword: Keyword) -> Option<Place>
+        ensures { result ≡ after_named keyword self }
+    {
+        match (keyword, self) {
+            (Keyword::Table | Keyword::Index | Keyword::Row, Place::Declarations) => {
+                Some(Place::Declarations)
+            }
+            (Keyword::Get | Keyword::Scan | Keyword::Find, Place::InTxn) => Some(Place::InTxn),
+            (Keyword::Get | Keyword::Scan | Keyword::Find, Place::InSnap) => Some(Place::InSnap),
+            (
+                Keyword::Put | Keyword::Ins | Keyword::Del | Keyword::Add | Keyword::Sub,
+                Place::InTxn,
+            ) => Some(Place::InTxn),
             _ => None,
         }
     }

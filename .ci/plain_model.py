@@ -1,0 +1,111 @@
+#!/usr/bin/env python3
+"""A plain model of the program, to compute what is due for an input that is well formed: blocks one after another over dictionaries.
+
+    plain_model.py < INPUT > REPORT
+
+It knows nothing of limits and refusals, and trusts its input. It is written from the description of the language alone.
+"""
+import sys
+
+TOP = 2**64 - 1
+
+
+def main():
+    lines = sys.stdin.read().split("\n")
+    second = lines[0] == "cicada 2"
+    names, out = [], []
+    loaded = blocks = lane = number = 0
+    block, snap, tables = None, False, {}
+
+    def column_of(words):
+        return int(words[3]) - 1 if second else 0
+
+    def run(commands):
+        """The answers of a block and the tables that it leaves, or the refusal."""
+        undo, answers = [], []
+
+        def put(table, key, value):
+            undo.append((table, key, tables[table].get(key)))
+            if value is None:
+                del tables[table][key]
+            else:
+                tables[table][key] = value
+
+        def refuse(place, cause):
+            for table, key, old in reversed(undo):
+                if old is None:
+                    tables[table].pop(key, None)
+                else:
+                    tables[table][key] = old
+            return None, f"no {place} {cause}"
+
+        for place, words in enumerate(commands, 1):
+            verb, table = words[0], words[1]
+            if verb == "get":
+                row = tables[table].get(int(words[2]))
+                answers.append("= none" if row is None else f"= {row[column_of(words)]}")
+            elif verb in ("put", "ins"):
+                key = int(words[2])
+                if verb == "ins" and key in tables[table]:
+                    return refuse(place, "exists")
+                put(table, key, [int(word) for word in words[3:]])
+            elif verb == "del":
+                key = int(words[2])
+                if key not in tables[table]:
+                    return refuse(place, "missing")
+                put(table, key, None)
+            elif verb in ("add", "sub"):
+                key, column, by = int(words[2]), column_of(words), int(words[-1])
+                if key not in tables[table]:
+                    return refuse(place, "missing")
+                row = list(tables[table][key])
+                row[column] += by if verb == "add" else -by
+                if row[column] > TOP:
+                    return refuse(place, "over")
+                if row[column] < 0:
+                    return refuse(place, "short")
+                put(table, key, row)
+            elif verb == "scan":
+                low, high, most = map(int, words[2:5])
+                keys = sorted(key for key in tables[table] if low <= key <= high)[:most]
+                answers += [line(": ", key, tables[table][key]) for key in keys]
+            elif verb == "find":
+                column, low, high, most = map(int, words[2:6])
+                found = sorted((row[column - 1], key) for key, row in tables[table].items() if low <= row[column - 1] <= high)[:most]
+                answers += [line(": ", key, tables[table][key]) for _, key in found]
+        return answers, None
+
+    def line(start, key, row):
+        return start + " ".join(map(str, [key] + row))
+
+    for text in lines[1:]:
+        words = text.split(" ")
+        if words[0] == "table":
+            names.append(words[1])
+            tables[words[1]] = {}
+        elif words[0] == "row":
+            tables[words[1]][int(words[2])] = [int(word) for word in words[3:]]
+            loaded += 1
+        elif words[0] == "lane":
+            lane, number = lane + 1, 0
+        elif words[0] in ("txn", "snap"):
+            block, snap = [], words[0] == "snap"
+        elif words[0] == "end":
+            blocks, number = blocks + 1, number + 1
+            answers, refusal = run(block)
+            head = f"{256 * (loaded + blocks)} {lane}.{number} "
+            out.append(head + (refusal or ("snap" if snap else "ok")))
+            out += answers or []
+            block = None
+        elif words[0] == "done":
+            break
+        elif block is not None:
+            block.append(words)
+    for name in names:
+        out.append(f"table {name}")
+        out += [line("", key, tables[name][key]) for key in sorted(tables[name])]
+    out.append("done")
+    sys.stdout.write("\n".join(out) + "\n")
+
+
+main()

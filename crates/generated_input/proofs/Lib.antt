@@ -1,0 +1,4 @@
+mod Written
+mod Gathering
+mod Fitting
+mod Accepted

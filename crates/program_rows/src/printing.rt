@@ -1,0 +1,84 @@
+//! A table and a block that are printed behind what a text has already.
+
+ghost use Rattle.std.specs.Prelude.{IsTrue};
+ghost use Rattle.replay_model.specs.Answered.{HasAnswers};
+ghost use Rattle.replay_model.specs.Input.{IsWellFormed};
+
+use crate::texts::{bytes_of, input_of};
+use replay_model::{
+    Answer, Answers, Block, Cause, Columns, Input, Outcome, Placed, block_at, is_named,
+};
+use std::alloc::Global;
+use std::test::Fail;
+use txn_script::{print_block, print_table};
+
+#[test]
+fn a_table_is_appended_with_its_columns(rt: HostRuntime) -> Result<(), Fail> {
+    let pairs = [
+        (1, Columns::new([100, 7, 9, 0, 0, 0])),
+        (18_446_744_073_709_551_615, Columns::new([0, 5, 9, 0, 0, 0])),
+    ];
+    let mut text = bytes_of(rt.alloc(), "done/")?;
+    print_table(rt.alloc(), b"a".as_slice(), 2, pairs.as_slice(), &mut text)?;
+    let due = bytes_of(rt.alloc(), "done/table a/1 100 7/18446744073709551615 0 5/")?;
+    assert_eq!(rt; text, due);
+    Ok(())
+}
+
+/// Whether the outcome has an answer for each command of the block, or is a refusal.
+fn fits(block: &Block, outcome: &Outcome) -> bool
+    ensures { IsTrue result → HasAnswers block.now.commands outcome.now }
+{
+    match outcome {
+        Outcome::Done(answers) => block.commands.len() == answers.len(),
+        Outcome::Refused { .. } => true,
+    }
+}
+
+/// The lines of the first block of the first lane, a transaction, behind a first line.
+fn lines_of(alloc: Global, input: &Input, outcome: &Outcome) -> Result<Vec<u8>, Fail>
+    requires { IsWellFormed input.now }
+{
+    let placed = Placed {
+        stamp: 512,
+        snap: false,
+        lane: 1,
+        number: 1,
+    };
+    let Some(block) = block_at(&input.lanes, 1, 1) else {
+        return Err("there is no such block".into());
+    };
+    if !is_named(input, &placed) || !fits(block, outcome) {
+        return Err("it is another block".into());
+    }
+    let mut text = bytes_of(alloc, "done/")?;
+    print_block(alloc, input, &placed, outcome, &mut text)?;
+    Ok(text)
+}
+
+#[test]
+fn a_block_is_appended_with_its_answers(rt: HostRuntime) -> Result<(), Fail> {
+    let alloc = rt.alloc();
+    let text = bytes_of(
+        alloc,
+        "cicada 1/table a/lane/txn/get a 1/put a 1 2/get a 3/end/done/",
+    )?;
+    let input = input_of(alloc, &text)?;
+    let mut answers = Answers::new(alloc);
+    answers.push(Answer::Value(7))?;
+    answers.push(Answer::Nothing)?;
+    answers.push(Answer::Absent)?;
+    let cause = Cause::Short;
+    let cases = [
+        (Outcome::Done(answers), "done/512 1.1 ok/= 7/= none/"),
+        (
+            Outcome::Refused { command: 2, cause },
+            "done/512 1.1 no 2 short/",
+        ),
+    ];
+    for (outcome, due) in cases.iter() {
+        let lines = lines_of(alloc, &input, outcome)?;
+        assert_eq!(rt; lines, bytes_of(alloc, due)?, "{due}");
+    }
+    Ok(())
+}

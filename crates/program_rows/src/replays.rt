@@ -1,0 +1,162 @@
+//! Replays and runs of one block.
+
+ghost use Rattle.replay_model.specs.Input.{IsWellFormed};
+
+use crate::orders::try_order;
+use crate::reports::report_of;
+use crate::texts::{bytes_of, input_of};
+use replay_model::{
+    Answer, Block, Blocks, Cause, Columns, Command, Commands, Input, Lanes, NoMemory, Outcome,
+    Placed, Tables, are_named, block_at, is_well_formed, replay, run_one,
+};
+use report_check::printed;
+use std::alloc::Global;
+use std::test::Fail;
+
+/// Whether the outcome is Done with these answers of reads, and nothing at the writes.
+fn answers(outcome: &Outcome, wanted: &[Option<u64>]) -> bool {
+    match outcome {
+        Outcome::Done(answers) => {
+            let got = answers.as_slice();
+            got.len() == wanted.len()
+                && got.iter().zip(wanted).all(|(answer, value)| match answer {
+                    Answer::Value(found) => Some(*found) == *value,
+                    Answer::Nothing => value.is_none(),
+                    Answer::Absent => false,
+                    Answer::Pairs(_) => false,
+                })
+        }
+        Outcome::Refused { .. } => false,
+    }
+}
+
+fn row_of(value: u64) -> Columns {
+    Columns::new([value, 0, 0, 0, 0, 0])
+}
+
+/// Runs the block of this number of the first lane.
+fn run_at(alloc: Global, input: &Input, number: u32, tables: &mut Tables) -> Result<Outcome, Fail>
+    requires { IsWellFormed input.now }
+{
+    let Some(block) = block_at(&input.lanes, 1, number) else {
+        return Err("there is no such block".into());
+    };
+    let outcome = run_one(alloc, block, tables)?;
+    Ok(outcome)
+}
+
+#[test]
+fn replay_and_run_of_one_block_agree(rt: HostRuntime) -> Result<(), Fail> {
+    let alloc = rt.alloc();
+    let bytes = bytes_of(
+        alloc,
+        "cicada 1/table a/row a 1 100/lane/txn/get a 1/sub a 1 30/get a 1/end/done/",
+    )?;
+    let input = input_of(alloc, &bytes)?;
+    let order = [Placed {
+        stamp: 512,
+        snap: false,
+        lane: 1,
+        number: 1,
+    }];
+    let wanted = [Some(100), None, Some(70)];
+    assert!(rt; are_named(&input, &order));
+    let fine = is_well_formed(alloc, &input)?;
+    assert!(rt; fine);
+
+    let replayed = replay(alloc, &input, &order)?;
+    assert_eq!(rt; replayed.outcomes.len(), 1);
+    assert!(rt; answers(replayed.outcomes.get(0), &wanted));
+    let rest = replayed.last.pairs(alloc, 0)?;
+    assert_eq!(rt; rest.as_slice(), [(1, row_of(70))].as_slice());
+
+    let mut tables = Tables::loaded(alloc, &input)?;
+    assert_eq!(rt; tables.get(0, 1), Some(row_of(100)));
+    let outcome = run_at(alloc, &input, 1, &mut tables)?;
+    assert!(rt; answers(&outcome, &wanted));
+    assert_eq!(rt; tables.get(0, 1), Some(row_of(70)));
+    try_order(&rt, &input, &[], 3, "the empty order")
+}
+
+fn block_of(
+    alloc: Global,
+    snap: bool,
+    number: u32,
+    commands: &[Command],
+) -> Result<Block, NoMemory> {
+    let mut list = Commands::new(alloc);
+    for command in commands {
+        list.push(*command)?;
+    }
+    Ok(Block {
+        snap,
+        lane: 1,
+        number,
+        commands: list,
+    })
+}
+
+/// A snapshot that writes, a block whose last command is refused, and a search on a column without an index.
+fn changing_nothing(alloc: Global) -> Result<Lanes, NoMemory> {
+    let table = 0;
+    let key = 1;
+    let column = 1;
+    let values = Columns::new([5, 5, 0, 0, 0, 0]);
+    let put = Command::Put { table, key, values };
+    let get = Command::Get { table, key, column };
+    let del = Command::Del { table, key };
+    let by = 1;
+    let add = Command::Add {
+        table,
+        key,
+        column,
+        by,
+    };
+    let find = Command::Find {
+        table,
+        column,
+        lo: 0,
+        hi: 9,
+        limit: 5,
+    };
+    let mut blocks = Blocks::new(alloc);
+    blocks.push(block_of(alloc, true, 1, &[put, get])?)?;
+    blocks.push(block_of(alloc, false, 2, &[put, del, add])?)?;
+    blocks.push(block_of(alloc, false, 3, &[find])?)?;
+    let mut lanes = Lanes::new(alloc);
+    lanes.push(blocks)?;
+    Ok(lanes)
+}
+
+#[test]
+fn snapshots_and_refused_blocks_change_nothing(rt: HostRuntime) -> Result<(), Fail> {
+    let alloc = rt.alloc();
+    let bytes = bytes_of(alloc, "cicada 2/table a 2/index a 2/row a 1 100 7/done/")?;
+    let mut input = input_of(alloc, &bytes)?;
+    input.lanes = changing_nothing(alloc)?;
+    let due = bytes_of(
+        alloc,
+        "256 1.1 snap/= 5/512 1.2 no 3 missing/768 1.3 no 1 unindexed/table a/1 100 7/done/",
+    )?;
+    let order = printed(alloc, &input, &due)?;
+    try_order(&rt, &input, &order, 0, "by number")?;
+    match report_of(alloc, &input, &order)? {
+        Some(text) => assert_eq!(rt; text.as_slice(), due.as_slice()),
+        None => return Err("the order names what is not there".into()),
+    }
+
+    let fine = is_well_formed(alloc, &input)?;
+    assert!(rt; fine);
+    let mut tables = Tables::loaded(alloc, &input)?;
+    let outcome = run_at(alloc, &input, 2, &mut tables)?;
+    let refused = matches!(
+        &outcome,
+        Outcome::Refused {
+            command: 3,
+            cause: Cause::Missing
+        }
+    );
+    assert!(rt; refused);
+    assert_eq!(rt; tables.get(0, 1), Some(Columns::new([100, 7, 0, 0, 0, 0])));
+    Ok(())
+}

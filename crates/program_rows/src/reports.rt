@@ -1,0 +1,188 @@
+//! Reports of worked inputs, each in the order that the report prints.
+
+use crate::texts::{append, append_times, bytes_of, input_of};
+use replay_model::{Input, NoMemory, Placed, are_named, is_order, is_well_formed, report};
+use report_check::printed;
+use std::alloc::Global;
+use std::process::Abort;
+use std::test::Fail;
+
+/// The text of an input, and its report in the order of the report's head lines.
+type Case = (&'static str, &'static str);
+
+/// The report of an input in an order; none where the order names what is not there.
+pub fn report_of(
+    alloc: Global,
+    input: &Input,
+    order: &[Placed],
+) -> Result<Option<Vec<u8>>, NoMemory> {
+    if !is_well_formed(alloc, input)? {
+        return Ok(None);
+    }
+    if !are_named(input, order) {
+        return Ok(None);
+    }
+    let text = report(alloc, input, order)?;
+    Ok(Some(text))
+}
+
+/// Compares the report of these bytes, in the order that the one due prints, with it.
+pub fn try_report<R: Abort + AllocGlobal>(rt: &R, bytes: &[u8], due: &[u8]) -> Result<(), Fail> {
+    let alloc = rt.alloc();
+    let input = input_of(alloc, bytes)?;
+    let order = printed(alloc, &input, due)?;
+    let fits = is_order(alloc, &input, &order)?;
+    assert!(rt; fits);
+    match report_of(alloc, &input, &order)? {
+        Some(text) => assert_eq!(rt; text.as_slice(), due),
+        None => return Err("the order names what is not there".into()),
+    }
+    Ok(())
+}
+
+fn try_cases<R: Abort + AllocGlobal>(rt: &R, cases: &[Case]) -> Result<(), Fail> {
+    for (text, due) in cases {
+        let bytes = bytes_of(rt.alloc(), text)?;
+        let report = bytes_of(rt.alloc(), due)?;
+        try_report(rt, &bytes, &report)?;
+    }
+    Ok(())
+}
+
+const ONE_COLUMN: [Case; 9] = [
+    ("cicada 1/done/", "done/"),
+    (
+        "cicada 1/table a/row a 1 100/lane/txn/get a 1/sub a 1 30/get a 1/end/done/",
+        "512 1.1 ok/= 100/= 70/table a/1 70/done/",
+    ),
+    (
+        "cicada 1/table a/row a 1 100/lane/txn/sub a 1 101/end/done/",
+        "512 1.1 no 1 short/table a/1 100/done/",
+    ),
+    (
+        "cicada 1/table a/row a 1 18446744073709551615/lane/txn/add a 1 1/end/done/",
+        "512 1.1 no 1 over/table a/1 18446744073709551615/done/",
+    ),
+    (
+        "cicada 1/table a/row a 1 100/lane/txn/put a 2 9/ins a 1 5/end/done/",
+        "512 1.1 no 2 exists/table a/1 100/done/",
+    ),
+    (
+        "cicada 1/table a/row a 1 100/lane/txn/sub a 1 30/end/snap/get a 1/end/done/",
+        "512 1.1 ok/767 1.2 snap/= 70/table a/1 70/done/",
+    ),
+    (
+        "cicada 1/table a/row a 1 100/lane/txn/del a 1/end/txn/ins a 1 7/end/done/",
+        "512 1.1 ok/768 1.2 ok/table a/1 7/done/",
+    ),
+    (
+        "cicada 1/table a/row a 1 100/lane/txn/scan a 9 3 5/end/done/",
+        "512 1.1 ok/table a/1 100/done/",
+    ),
+    (
+        "cicada 1/table a/row a 1 100/lane/txn/add a 1 1/end/lane/txn/get a 1/end/done/",
+        "512 1.1 ok/768 2.1 ok/= 101/table a/1 101/done/",
+    ),
+];
+
+#[test]
+fn blocks_over_one_column_are_reported(rt: HostRuntime) -> Result<(), Fail> {
+    try_cases(&rt, &ONE_COLUMN)
+}
+
+const COLUMNS: [Case; 2] = [
+    (
+        "cicada 2/table a 2/row a 1 100 7/lane/txn/get a 1 2/add a 1 2 3/get a 1 2/scan a 0 9 5/end/done/",
+        "512 1.1 ok/= 7/= 10/: 1 100 10/table a/1 100 10/done/",
+    ),
+    (
+        "cicada 2/table a 2/index a 2/row a 1 10 7/row a 2 20 5/row a 3 30 7/lane/txn/find a 2 5 7 2/add a 2 2 4/find a 2 7 9 9/end/done/",
+        "1280 1.1 ok/: 2 20 5/: 1 10 7/: 1 10 7/: 3 30 7/: 2 20 9/table a/1 10 7/2 20 9/3 30 7/done/",
+    ),
+];
+
+#[test]
+fn rows_of_columns_are_reported_and_found(rt: HostRuntime) -> Result<(), Fail> {
+    try_cases(&rt, &COLUMNS)
+}
+
+/// Rows with the keys from 1 on, each with ten times its key, and a scan that lists those from `lo` to `last`.
+fn try_scan<R: Abort + AllocGlobal>(
+    rt: &R,
+    rows: u64,
+    lo: u64,
+    hi: u64,
+    limit: u64,
+    last: u64,
+) -> Result<(), Fail> {
+    let alloc = rt.alloc();
+    let mut bytes = Vec::new(alloc);
+    append(&mut bytes, "cicada 1/table a/")?;
+    let mut due = Vec::new(alloc);
+    append(&mut due, "51456 1.1 ok/")?;
+    for key in lo..=last {
+        append(&mut due, &format!(in alloc; ": {key} {key}0/")?)?;
+    }
+    append(&mut due, "table a/")?;
+    for key in 1..=rows {
+        append(&mut bytes, &format!(in alloc; "row a {key} {key}0/")?)?;
+        append(&mut due, &format!(in alloc; "{key} {key}0/")?)?;
+    }
+    append(
+        &mut bytes,
+        &format!(in alloc; "lane/txn/scan a {lo} {hi} {limit}/end/done/")?,
+    )?;
+    append(&mut due, "done/")?;
+    try_report(rt, &bytes, &due)
+}
+
+#[test]
+fn a_scan_lists_what_it_asks_for(rt: HostRuntime) -> Result<(), Fail> {
+    try_scan(&rt, 200, 5, 7, 2, 6)?;
+    try_scan(&rt, 200, 198, 18446744073709551615, 256, 200)?;
+    try_scan(&rt, 16384, 1, 16384, 256, 256)
+}
+
+#[test]
+fn a_block_may_have_64_commands(rt: HostRuntime) -> Result<(), Fail> {
+    let alloc = rt.alloc();
+    let mut bytes = Vec::new(alloc);
+    append(&mut bytes, "cicada 1/table a/lane/txn/")?;
+    append_times(&mut bytes, "get a 1/", 64)?;
+    append(&mut bytes, "end/done/")?;
+    let mut due = Vec::new(alloc);
+    append(&mut due, "256 1.1 ok/")?;
+    append_times(&mut due, "= none/", 64)?;
+    append(&mut due, "table a/done/")?;
+    try_report(&rt, &bytes, &due)
+}
+
+/// Rows, blocks and lanes at the limits of an input: each block adds 1 to the row of its own number.
+#[test]
+fn an_input_at_its_limits_is_reported(rt: HostRuntime) -> Result<(), Fail> {
+    let alloc = rt.alloc();
+    let mut bytes = Vec::new(alloc);
+    append(&mut bytes, "cicada 1/table a/")?;
+    for key in 1..=16384u64 {
+        append(&mut bytes, &format!(in alloc; "row a {key} 6/")?)?;
+    }
+    let mut due = Vec::new(alloc);
+    for lane in 1..=64u32 {
+        append(&mut bytes, "lane/")?;
+        for number in 1..=256u32 {
+            let block = 256 * (lane as u64 - 1) + number as u64;
+            append(&mut bytes, &format!(in alloc; "txn/add a {block} 1/end/")?)?;
+            append(
+                &mut due,
+                &format!(in alloc; "{} {lane}.{number} ok/", 256 * block)?,
+            )?;
+        }
+    }
+    append(&mut bytes, "done/")?;
+    append(&mut due, "table a/")?;
+    for key in 1..=16384u64 {
+        append(&mut due, &format!(in alloc; "{key} 7/")?)?;
+    }
+    append(&mut due, "done/")?;
+    try_report(&rt, &bytes, &due)
+}

@@ -1,0 +1,103 @@
+//! What an input declares, the calls of tables, and the values of rows and cells.
+
+use crate::texts::{bytes_of, input_of};
+use replay_model::{Cells, Columns, Tables, is_well_formed};
+use std::alloc::Global;
+use std::test::Fail;
+
+#[test]
+fn an_input_keeps_what_it_declares(rt: HostRuntime) -> Result<(), Fail> {
+    let alloc = rt.alloc();
+    let bytes = bytes_of(
+        alloc,
+        "cicada 2/table one 1/table two 3/index two 3/row two 4 1 2 3/done/",
+    )?;
+    let input = input_of(alloc, &bytes)?;
+    assert_eq!(rt; input.tables.len(), 2);
+    assert_eq!(rt; input.tables.get(1), b"two".as_slice());
+    assert_eq!(rt; input.tables.columns(1), 3);
+    assert_eq!(rt; input.rows.len(), 1);
+    assert_eq!(rt;
+        *input.rows.get(0),
+        (1, 4, Columns::new([1, 2, 3, 0, 0, 0]))
+    );
+    assert_eq!(rt; input.indexes.len(), 1);
+    assert_eq!(rt; *input.indexes.get(0), (1, 3));
+    assert_eq!(rt; input.lanes.len(), 0);
+    Ok(())
+}
+
+/// Three tables, of which the second has an index on its second column.
+fn loaded(alloc: Global) -> Result<Tables, Fail> {
+    let bytes = bytes_of(
+        alloc,
+        "cicada 2/table a 1/table b 2/index b 2/table c 1/row a 5 1/row b 3 1 9/row b 4 2 8/row b 6 3 9/row b 8 4 7/row c 5 1/done/",
+    )?;
+    let input = input_of(alloc, &bytes)?;
+    let fine = is_well_formed(alloc, &input)?;
+    if !fine {
+        return Err("the input is well formed".into());
+    }
+    Ok(Tables::loaded(alloc, &input)?)
+}
+
+/// Puts a row at key 5 of the second table and takes out that at key 6; whether both went as they should.
+fn change(tables: &mut Tables) -> Result<bool, Fail> {
+    tables.put(1, 5, Columns::new([5, 9, 0, 0, 0, 0]))?;
+    let was_there = tables.remove(1, 6).is_some();
+    let is_there = tables.remove(1, 6).is_some();
+    Ok(was_there && !is_there)
+}
+
+/// The keys that a scan lists.
+fn scanned(alloc: Global, tables: &Tables) -> Result<Vec<u64>, Fail> {
+    let pairs = tables.scan(alloc, 1, 4, 8, 2)?;
+    Ok(pairs.as_slice().iter().map(|(key, _)| *key).collect(alloc)?)
+}
+
+/// The keys that a search by the second column finds.
+fn found(alloc: Global, tables: &Tables) -> Result<Vec<u64>, Fail> {
+    let pairs = tables.find(alloc, 1, 2, 8, 9, 3)?;
+    Ok(pairs.as_slice().iter().map(|(key, _)| *key).collect(alloc)?)
+}
+
+#[test]
+fn tables_have_their_indexes(rt: HostRuntime) -> Result<(), Fail> {
+    let tables = loaded(rt.alloc())?;
+    assert_eq!(rt; tables.index_of(1), Some(2));
+    assert_eq!(rt; tables.index_of(0), None);
+    Ok(())
+}
+
+#[test]
+fn tables_are_changed(rt: HostRuntime) -> Result<(), Fail> {
+    let mut tables = loaded(rt.alloc())?;
+    assert!(rt; change(&mut tables)?);
+    assert_eq!(rt; tables.get(1, 5), Some(Columns::new([5, 9, 0, 0, 0, 0])));
+    let all = tables.pairs(rt.alloc(), 1)?;
+    assert_eq!(rt; all.len(), 4);
+    Ok(())
+}
+
+#[test]
+fn tables_are_scanned_and_searched(rt: HostRuntime) -> Result<(), Fail> {
+    let mut tables = loaded(rt.alloc())?;
+    assert!(rt; change(&mut tables)?);
+    assert_eq!(rt; scanned(rt.alloc(), &tables)?.as_slice(), [4, 5].as_slice());
+    assert_eq!(rt;
+        found(rt.alloc(), &tables)?.as_slice(),
+        [4, 3, 5].as_slice()
+    );
+    Ok(())
+}
+
+#[test]
+fn values_keep_their_words(rt: HostRuntime) {
+    let row = Columns::new([1, 2, 3, 4, 5, 6]);
+    assert_eq!(rt; row.with(6, 9).column(6), 9);
+    assert_eq!(rt; row.first(2), [1, 2].as_slice());
+    assert_eq!(rt; row.values(), [1, 2, 3, 4, 5, 6]);
+    let cells = Cells::new([7; 32]);
+    assert_eq!(rt; cells.word(31), 7);
+    assert_eq!(rt; cells.words()[0], 7);
+}

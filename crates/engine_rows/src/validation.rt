@@ -1,5 +1,5 @@
-//! Validation of whole transactions, by hands that step in turns.
-ghost use Rattle.std.specs.Prelude.{◌≡◌, ◌<◌, [], ◌∷◌, ◌++◌, IfOk, OnOk};
+//! Validation of whole transactions, by hands that step in turns and in two threads.
+ghost use Rattle.std.specs.Prelude.{◌≡◌, ◌<◌, [], ◌∷◌, ◌++◌, IfOk, OnOk, true, IfSome};
 ghost use Rattle.core_rule.specs.View.{writing};
 ghost use Rattle.core_rule.specs.Collecting.{HasEntry};
 ghost use Rattle.core_rule.specs.Deciding.{commit_of};
@@ -13,7 +13,9 @@ use core_rule::{AnyState, Core, Hand};
 use plain_data::Cells;
 use stamp_base::Stamp;
 use std::alloc::Global;
+use std::sync::{Condvar, Mutex, Wait};
 use std::test::*;
+use std::thread::join;
 use validate_core::{Conflict, Sets, install};
 use version_pool::{PlacesOut, take, take_kept};
 use version_search::{Found, find};
@@ -38,6 +40,36 @@ pub fn begin(
     Ok((Sets::new(alloc), stamp))
 }
 
+// Reads record 5, for which there is room, and tells whether it is absent from the start.
+fn finds_absent(
+    core: &Core<AnyState>,
+    hand: &mut Hand<AnyState>,
+    sets: &mut Sets,
+    stamp: Stamp,
+) -> bool
+    requires ready { IsReady core.now hand.old }
+    requires record { 5 < core.now.size.records }
+    requires begun { IsBegun core.now.size sets.old hand.old.view }
+    requires stamp { hand.old.view.published.write ≡ stamp }
+    requires first { sets.old.reads ≡ [] }
+    requires room { 0 < sets.old.read_room }
+    ensures ready { IsReady core.now hand.new }
+    ensures begun { result ≡ true → IsBegun core.now.size sets.new hand.new.view }
+    ensures writes { sets.new.writes ≡ sets.old.writes }
+{
+    match find(core, hand, 5, stamp.number(), false) {
+        Found::Version {
+            place,
+            wts: 0,
+            absent: true,
+        } => {
+            sets.read(5, place, 0, None);
+            true
+        }
+        _ => false,
+    }
+}
+
 // Reads record 5, which has to be absent from the start.
 fn read_absent(
     core: &Core<AnyState>,
@@ -55,16 +87,10 @@ fn read_absent(
     ensures writes { sets.new.writes ≡ sets.old.writes }
 {
     sets.reserve(1, 0)?;
-    match find(core, hand, 5, stamp.number(), false) {
-        Found::Version {
-            place,
-            wts: 0,
-            absent: true,
-        } => {
-            sets.read(5, place, 0, None);
-            Ok(())
-        }
-        _ => Err("it is absent from the start".into()),
+    if finds_absent(core, hand, sets, stamp) {
+        Ok(())
+    } else {
+        Err("it is absent from the start".into())
     }
 }
 
@@ -132,21 +158,111 @@ fn write_two(
     }
 }
 
+// Tells one thread that the other has come so far.
+#[derive(Drop)]
+struct Signal {
+    given: Mutex<bool>,
+    told: Condvar,
+}
+
+impl Signal {
+    fn new() -> Self {
+        Signal {
+            given: Mutex::new(false),
+            told: Condvar::new(),
+        }
+    }
+
+    fn give<R: Wait>(&self, rt: &R) {
+        *self.given.lock(rt) = true;
+        self.told.notify_all();
+    }
+
+    fn wait<R: Wait>(&self, rt: &R) {
+        let _given = self
+            .told
+            .wait_while(rt, self.given.lock(rt), |given| !*given);
+    }
+}
+
+// Runs a transaction that reads record 5, and gives the signal. It answers nothing where the record is not absent from the start, or
+// where a place is wanted.
+fn read_first<R: Wait>(
+    rt: &R,
+    core: &Core<AnyState>,
+    mut hand: Hand<AnyState>,
+    mut sets: Sets,
+    stamp: Stamp,
+    decided: &Signal,
+) -> Option<(Hand<AnyState>, Result<(), Conflict>)>
+    requires ready { IsReady core.now hand }
+    requires record { 5 < core.now.size.records }
+    requires begun { IsBegun core.now.size sets hand.view }
+    requires stamp { hand.view.published.write ≡ stamp }
+    requires first { sets.reads ≡ [] }
+    requires room { 0 < sets.read_room }
+    ensures ready { IfSome result (λ ran. IsReady core.now ran.0) }
+    ensures ends { IfSome result (λ ran. Ends ran.0.view.work) }
+{
+    if !finds_absent(core, &mut hand, &mut sets, stamp) {
+        decided.give(rt);
+        return None;
+    }
+    let answer = run(core, &mut hand, &mut sets);
+    decided.give(rt);
+    match answer {
+        Ok(answer) => Some((hand, answer)),
+        Err(PlacesOut) => None,
+    }
+}
+
+// Runs a transaction that writes record 5 once the signal was given.
+fn write_then<R: Wait>(
+    rt: &R,
+    core: &Core<AnyState>,
+    mut hand: Hand<AnyState>,
+    mut sets: Sets,
+    decided: &Signal,
+) -> Option<Result<(), Conflict>>
+    requires ready { IsReady core.now hand }
+    requires record { 5 < core.now.size.records }
+    requires begun { IsBegun core.now.size sets hand.view }
+    requires first { sets.writes ≡ [] }
+    requires room { 0 < sets.write_room }
+{
+    decided.wait(rt);
+    sets.write(5, Some(Cells::new([7; 32])));
+    run(core, &mut hand, &mut sets).ok()
+}
+
 #[test]
-fn a_read_at_a_later_stamp_stops_an_earlier_writer(rt: HostRuntime) -> Result<(), Fail> {
+fn a_read_at_a_later_stamp_stops_an_earlier_writer_in_another_thread(
+    rt: HostRuntime,
+) -> Result<(), Fail> {
     let layout = Layout::new(2, 6, 4)?;
     let (core, mut first, mut second) = two_seats(rt.alloc(), &layout)?;
-    let (writes, early) = begin(rt.alloc(), &core, &mut first, 10)?;
+    let (mut writes, early) = begin(rt.alloc(), &core, &mut first, 10)?;
     let (mut reads, late) = begin(rt.alloc(), &core, &mut second, 20)?;
     assert_eq!(rt; (early.number(), late.number()), (2_560, 5_121));
-    read_absent(&core, &mut second, &mut reads, late)?;
-    assert_eq!(rt; run(&core, &mut second, &mut reads)?, Ok(()));
+    reads.reserve(1, 0)?;
+    writes.reserve(0, 1)?;
+    let decided = Signal::new();
+    let (shared, signal, host) = (&core, &decided, &rt);
+    let (read, written) = join(
+        &rt,
+        move || read_first(host, shared, second, reads, late, signal),
+        move || write_then(host, shared, first, writes, signal),
+    );
+    let Some((mut second, answer)) = read else {
+        return Err("it is absent from the start".into());
+    };
+    assert_eq!(rt; answer, Ok(()));
     let stopped = Conflict::ReadLater {
         rid: 5,
         wts: 0,
         rts: 5_121,
     };
-    assert_eq!(rt; write_one(&core, &mut first, writes, 5)?, Err(stopped));
+    assert_eq!(rt; written, Some(Err(stopped)));
     let (mut reads, later) = begin(rt.alloc(), &core, &mut second, 20)?;
     assert_eq!(rt; later.number(), 5_377);
     read_absent(&core, &mut second, &mut reads, later)?;

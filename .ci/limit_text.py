@@ -74,5 +74,22 @@ def changes(count):
     yield "done\n"
 
 
-texts = {"blocks": blocks, "rows": rows, "bytes": bytes_, "lanes": lanes, "tables": tables, "commands": commands, "scans": scans, "changes": changes}
+def finds(count):
+    """At most so many bytes: 8,000 rows with an index, and blocks in which each second command is a search by it."""
+    yield "cicada 2\ntable a 2\nindex a 2\n" + "".join(f"row a {key} {key % 7} {key * 7919 % 10007}\n" for key in range(8000)) + "lane\n"
+    left = count - 5 - len("cicada 2\ntable a 2\nindex a 2\nlane\n") - sum(len(f"row a {key} {key % 7} {key * 7919 % 10007}\n") for key in range(8000))
+    for block in range(16384):
+        text = "txn\n" + f"add a {block * 31 % 8000} 2 {block % 5}\n"
+        for place in range(31):
+            low = (block * 97 + place * 331) % 10007
+            text += f"find a 2 {low} {low + 20} 8\nget a {low % 8000} 2\n"
+        text += "end\n"
+        left -= len(text)
+        if left < 0:
+            break
+        yield text
+    yield "done\n"
+
+
+texts = {"blocks": blocks, "rows": rows, "bytes": bytes_, "lanes": lanes, "tables": tables, "commands": commands, "scans": scans, "changes": changes, "finds": finds}
 sys.stdout.writelines(texts[sys.argv[1]](int(sys.argv[2])))

@@ -5,6 +5,7 @@
 
 It knows nothing of limits and refusals, and trusts its input. It is written from the description of the language alone.
 """
+import bisect
 import sys
 
 TOP = 2**64 - 1
@@ -16,9 +17,28 @@ def main():
     names, out = [], []
     loaded = blocks = lane = number = 0
     block, snap, tables = None, False, {}
+    # the values of a column with their keys, sorted, for each table and column that was searched
+    sorted_by = {}
 
     def column_of(words):
         return int(words[3]) - 1 if second else 0
+
+    def store(table, key, row):
+        """Sets a row, or takes it out."""
+        old = tables[table].pop(key, None)
+        if row is not None:
+            tables[table][key] = row
+        for (name, column), pairs in sorted_by.items():
+            if name == table:
+                if old is not None:
+                    pairs.pop(bisect.bisect_left(pairs, (old[column - 1], key)))
+                if row is not None:
+                    bisect.insort(pairs, (row[column - 1], key))
+
+    def searched(table, column):
+        if (table, column) not in sorted_by:
+            sorted_by[table, column] = sorted((row[column - 1], key) for key, row in tables[table].items())
+        return sorted_by[table, column]
 
     def run(commands):
         """The answers of a block and the tables that it leaves, or the refusal."""
@@ -26,17 +46,11 @@ def main():
 
         def put(table, key, value):
             undo.append((table, key, tables[table].get(key)))
-            if value is None:
-                del tables[table][key]
-            else:
-                tables[table][key] = value
+            store(table, key, value)
 
         def refuse(place, cause):
             for table, key, old in reversed(undo):
-                if old is None:
-                    tables[table].pop(key, None)
-                else:
-                    tables[table][key] = old
+                store(table, key, old)
             return None, f"no {place} {cause}"
 
         for place, words in enumerate(commands, 1):
@@ -71,8 +85,9 @@ def main():
                 answers += [line(": ", key, tables[table][key]) for key in keys]
             elif verb == "find":
                 column, low, high, most = map(int, words[2:6])
-                found = sorted((row[column - 1], key) for key, row in tables[table].items() if low <= row[column - 1] <= high)[:most]
-                answers += [line(": ", key, tables[table][key]) for _, key in found]
+                pairs = searched(table, column)
+                first, past = bisect.bisect_left(pairs, (low, -1)), bisect.bisect_left(pairs, (high + 1, -1))
+                answers += [line(": ", key, tables[table][key]) for _, key in pairs[first:max(first, min(past, first + most))]]
         return answers, None
 
     def line(start, key, row):

@@ -1,6 +1,7 @@
 pub mod TableMap
 pub mod Effect
 pub mod RowsIn
+pub mod Listed
 pub mod Running
 pub mod Undo
 pub mod Ran

@@ -7,6 +7,7 @@
 mod columns;
 mod command;
 mod input;
+mod listed;
 mod orders;
 mod outcome;
 mod replaying;

@@ -1,12 +1,12 @@
 //! A sorted map from pairs of numbers to rows.
 
-ghost use Rattle.std.specs.Prelude.{◌≡◌, IfOk, OnOk, OnErr, map, take};
+ghost use Rattle.std.specs.Prelude.{◌≡◌, IfOk, OnOk, OnErr, None, IsSome, map, take};
 ghost use Rattle.std.specs.FinMap as finite;
 ghost use Rattle.std.specs.BTreeMap.{IsOrdered};
 ghost use Rattle.std.specs.BTreeMap.Range.{IsLeBy, entries_between};
 ghost use Rattle.std.specs.declared.ops.Bound.TheVariants.{Included};
 ghost use Rattle.replay_model.specs.TableMap.{pair_cmp, pair_at};
-ghost use Rattle.replay_model.specs.RowsIn.{rows_in, rows_between, first_rows};
+ghost use Rattle.replay_model.specs.RowsIn.{put_at, rows_in, rows_between, first_spanning};
 
 use crate::columns::Columns;
 use plain_data::NoMemory;
@@ -52,10 +52,11 @@ impl SortedRows {
         self.rows.get(&(first, second)).copied()
     }
 
-    /// Sets a row, whether it is there or not.
+    /// Sets a row, whether it is there or not. Only a new one may want memory.
     pub fn put(&mut self, first: u64, second: u64, row: Columns) -> Result<(), NoMemory>
         ensures ok { OnOk result (self.new ≡ finite.insert self.old (first, second) row) }
         ensures err { OnErr result (self.new ≡ self.old) }
+        ensures absent { OnErr result (finite.get self.old (first, second) ≡ None) }
     {
         self.rows.insert((first, second), row)?;
         Ok(())
@@ -67,6 +68,23 @@ impl SortedRows {
         ensures rest { self.new ≡ finite.remove self.old (first, second) }
     {
         self.rows.remove(&(first, second))
+    }
+
+    /// Sets a row that is there to what it was before, or takes it out where there was none.
+    pub fn restore(&mut self, first: u64, second: u64, was: Option<Columns>)
+        requires { IsSome (finite.get self.old (first, second)) }
+        ensures { self.new ≡ put_at self.old (first, second) was }
+    {
+        match was {
+            Some(row) => {
+                let Ok(()) = self.put(first, second, row) else {
+                    unreachable!();
+                };
+            }
+            None => {
+                let _ = self.remove(first, second);
+            }
+        }
     }
 
     /// The first `limit` rows under one number whose second numbers lie from `lo` to `hi`, each with its second number. The time
@@ -96,11 +114,22 @@ impl SortedRows {
         Ok(pairs)
     }
 
-    /// The first `limit` of all rows, each with its second number.
-    pub fn first(&self, alloc: Global, limit: u64) -> Result<Vec<(u64, Columns)>, NoMemory>
-        ensures { IfOk result (λ pairs. pairs.items ≡ first_rows limit self.now) }
+    /// The first `limit` rows whose first numbers lie from `lo` to `hi`, each with its second number. The time grows with what is
+    /// found, and with the logarithm of the number of rows.
+    pub fn spanning(
+        &self,
+        alloc: Global,
+        lo: u64,
+        hi: u64,
+        limit: u64,
+    ) -> Result<Vec<(u64, Columns)>, NoMemory>
+        ensures { IfOk result (λ pairs. pairs.items ≡ first_spanning lo hi limit self.now) }
     {
-        let pairs = first_of(&self.rows, alloc, limit as usize)?;
+        if lo > hi {
+            return Ok(Vec::new(alloc));
+        }
+        let (first, last) = ((lo, 0), (hi, u64::MAX));
+        let pairs = first_between(&self.rows, alloc, first, last, limit as usize)?;
         Ok(pairs)
     }
 }
@@ -138,17 +167,6 @@ fn first_between(
         in pairs.items ≡ map pair_at (take limit between)) }
 {
     rows.range(lo..=hi)
-        .take(limit)
-        .map(|(place, row)| (place.1, *row))
-        .collect(alloc)
-}
-
-// The first `limit` of all.
-fn first_of(rows: &Rows, alloc: Global, limit: usize) -> Result<Vec<(u64, Columns)>, AllocError>
-    ensures ordered { IsOrdered pair_cmp rows.now }
-    ensures pairs { IfOk result (λ pairs. pairs.items ≡ map pair_at (take limit rows.now.entries)) }
-{
-    rows.iter()
         .take(limit)
         .map(|(place, row)| (place.1, *row))
         .collect(alloc)

@@ -9,7 +9,7 @@ use Rattle.core_rule.specs.Memory.{Memory, stored}
 use Rattle.core_rule.specs.World.{World}
 use Rattle.core_rule.specs.View.{View, Splitting, single, sharing, offers_write, offers_both, shared, writing}
 use Rattle.core_rule.specs.Views.{At, Has, OthersTaken, IsAlone}
-use Rattle.core_rule.specs.Offers.{made_within, HasOffered, offered_read}
+use Rattle.core_rule.specs.Offers.{made_within, MayOffer, HasOffered, offered_write, offered_read}
 use Rattle.core_rule.specs.Rule.{Rule}
 use Rattle.core_rule.specs.Parts.Splitting.{Makes}
 use Rattle.core_rule.specs.Parts.Clocks.{InFlight}
@@ -22,6 +22,22 @@ OthersTaken-offered seats number (sharing made) taken_in offered h = absurd offe
 OthersTaken-offered seats number (offers_write made) taken_in offered h = h
 OthersTaken-offered seats number (offers_both made) taken_in offered h = absurd offered
 OthersTaken-offered seats number shared taken_in offered h = absurd offered
+
+-- and the first
+pub OthersTaken-begun : (seats number : ℕ) (s : Splitting) (taken_in : List ℕ) → MayOffer s → OthersTaken seats number (offered_write s) taken_in → OthersTaken seats number s taken_in
+OthersTaken-begun seats number single taken_in offered h = h
+OthersTaken-begun seats number (sharing made) taken_in offered h = h
+OthersTaken-begun seats number (offers_write made) taken_in offered h = absurd offered
+OthersTaken-begun seats number (offers_both made) taken_in offered h = absurd offered
+OthersTaken-begun seats number shared taken_in offered h = absurd offered
+
+-- a seat that is alone after them was so before
+pub OthersTaken-before : (seats number : ℕ) (s : Splitting) (taken_in : List ℕ) → HasOffered s → OthersTaken seats number (offered_read s) taken_in → OthersTaken seats number s taken_in
+OthersTaken-before seats number single taken_in offered h = absurd offered
+OthersTaken-before seats number (sharing made) taken_in offered h = absurd offered
+OthersTaken-before seats number (offers_write made) taken_in offered h = h
+OthersTaken-before seats number (offers_both made) taken_in offered h = absurd offered
+OthersTaken-before seats number shared taken_in offered h = absurd offered
 
 module _ (kept : State → Type 0) (z : Size) (g : World) (m : Memory) (vs : List View) (rule : Rule kept z g m vs) (id : ℕ) (v : View) (at : At vs id v) (live : v.spent ≡ false) where
   -- each view is of a seat that was made

@@ -2,7 +2,7 @@
 use Rattle.std.proofs.Common.{◌≡◌, List, ℕ, ◌<◌, [], sym, ap, ◌∙◌, subst, Option}
 use Rattle.atomic_table.specs.Seated.{TableId}
 use Rattle.word_layout.specs.Size.{Size, places}
-use Rattle.core_rule.specs.View.{View, Places, Work, Front, Seen, Logged, Gone}
+use Rattle.core_rule.specs.View.{View, Places, Work, Counted, Front, Seen, Logged, Gone}
 use Rattle.core_rule.specs.Views.{AllOf, Has}
 use Rattle.core_rule.specs.Holding.{without}
 use Rattle.core_rule.specs.Hands.{Shared, Seated, HandOk}
@@ -64,9 +64,9 @@ module _ (number clock published bound made : ℕ) (last_pool : Option ℕ) (v :
     retired_holds_none = ok.retired_holds_none;
   }
 
-  -- what is collected, and what became of it, alone have changed
-  pub after_collecting : (y : Work) (x : Gone) (t : Seen) (w : View) → w ≡ record v { work = y; gone = x; seen = t } → HandOk number clock published bound made last_pool w
-  after_collecting y x t w e = subst (HandOk number clock published bound made last_pool) (sym e) record {
+  -- what is collected, what became of it, and what is known of lists, alone have changed
+  pub after_collecting : (y : Work) (n : Counted) (x : Gone) (t : Seen) (w : View) → w ≡ record v { work = y; counts = n; gone = x; seen = t } → HandOk number clock published bound made last_pool w
+  after_collecting y n x t w e = subst (HandOk number clock published bound made last_pool) (sym e) record {
     number_is = ok.number_is;
     clock_is = ok.clock_is;
     clock_in_range = ok.clock_in_range;

@@ -15,6 +15,7 @@ pub mod Logs
 pub mod Making
 pub mod Parts
 pub mod Proper
+pub mod Reckoning
 pub mod RuleKept
 pub mod Standing
 pub mod Sources

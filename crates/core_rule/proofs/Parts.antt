@@ -31,3 +31,4 @@ pub mod VersionsKept
 pub mod CountsKept
 pub mod TopsKept
 pub mod MarkedKept
+pub mod MetKept

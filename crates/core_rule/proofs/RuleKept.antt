@@ -43,6 +43,7 @@ use Rattle.core_rule.proofs.Parts.FrontsKept.{fronts_kept, fronts_split, fronts_
 use Rattle.core_rule.proofs.Parts.LeftsKept.{lefts_kept, lefts_split, lefts_joined, lefts_start}
 use Rattle.core_rule.proofs.Parts.TopsKept.{tops_kept, tops_split, tops_joined, tops_start}
 use Rattle.core_rule.proofs.Parts.MarkedKept.{marked_kept, marked_split, marked_joined, marked_start}
+use Rattle.core_rule.proofs.Parts.MetKept.{met_kept, met_split, met_joined, met_start}
 
 module _ (kept : State → Type 0) (z : Size) (g : World) (m : Memory) (vs : List View) (id : ℕ) (v : View) where
   pub rule_kept : (k : Kind) → Step kept z g m vs id v k → Rule kept z (turned k v (m (name k v)) g) (changed k v m) (set vs id (after k v (m (name k v))))
@@ -80,6 +81,7 @@ module _ (kept : State → Type 0) (z : Size) (g : World) (m : Memory) (vs : Lis
     fronts = fronts_kept kept z g m vs id v k s;
     lefts = lefts_kept kept z g m vs id v k s;
     marked = marked_kept kept z g m vs id v k s;
+    met = met_kept kept z g m vs id v k s;
     tops = tops_kept kept z g m vs id v k s;
   }
 
@@ -118,6 +120,7 @@ module _ (kept : State → Type 0) (z : Size) (g : World) (m : Memory) (vs : Lis
     fronts = fronts_split kept z g m vs id v s;
     lefts = lefts_split kept z g m vs id v s;
     marked = marked_split kept z g m vs id v s;
+    met = met_split kept z g m vs id v s;
     tops = tops_split kept z g m vs id v s;
   }
 
@@ -156,6 +159,7 @@ module _ (kept : State → Type 0) (z : Size) (g : World) (m : Memory) (vs : Lis
     fronts = fronts_joined kept z g m vs id other v w s;
     lefts = lefts_joined kept z g m vs id other v w s;
     marked = marked_joined kept z g m vs id other v w s;
+    met = met_joined kept z g m vs id other v w s;
     tops = tops_joined kept z g m vs id other v w s;
   }
 
@@ -194,5 +198,6 @@ rule_start kept z h k = record {
   fronts = fronts_start z h;
   lefts = lefts_start z h;
   marked = marked_start z h;
+  met = met_start z h;
   tops = tops_start z h;
 }

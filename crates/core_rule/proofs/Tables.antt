@@ -68,7 +68,7 @@ told_again (swaps x) n = refl
 -- the view after follows from the number told
 pub after-told : (k : Kind) (v : View) (n : ℕ) → after k v n ≡ after k v (told (way k v) n)
 after-told k v n =
-    ap (λ (t : ℕ). record (next k v t) { splitting = splitting_after k v.splitting; seen = seen_after (way k v) (name k v) t v.seen }) (sym (told_again (way k v) n))
+    ap (λ (t : ℕ). record (next k v t) { splitting = splitting_after k v.splitting; seen = seen_after (way k v) (name k v) t (next k v t).seen }) (sym (told_again (way k v) n))
 
 module _ (kept : State → Type 0) (z : Size) where
   -- whatever the table is, this seat may make a step of this kind

@@ -1,5 +1,5 @@
 -- What callers see of the shared table and of a seat's hand.
-use Rattle.std.specs.Prelude.{◌≡◌, ℕ, ◌+◌, ◌<◌, ◌≤◌, Bool, false, ◌↔◌, IsTrue, max, [], ◌∷◌, ◌++◌, Option, None, IfSome}
+use Rattle.std.specs.Prelude.{◌≡◌, ℕ, ◌+◌, ◌<◌, ◌≤◌, Bool, false, ◌↔◌, IsTrue, max, [], ◌∷◌, ◌++◌, length, Option, None, IfSome}
 use Rattle.atomic_table.specs.Seated.{TableId}
 use Rattle.word_layout.specs.Size.{Size, IsSize, IsUsable, places}
 use Rattle.core_rule.specs.Views.{AllOf}
@@ -59,7 +59,7 @@ pub record Steps (kept : State → Type 0) (k : Kind) (before : Seated) (n : ℕ
 
 -- the view that splits, after another seat was made
 abbrev pub split_left : View → View
-split_left v = record v { splitting = sharing (made_of v.splitting + 1); flight = resting; work = no_work; counts = nothing_known; front = no_front }
+split_left v = record v { splitting = sharing (made_of v.splitting + 1); flight = resting; work = no_work; counts = nothing_known; tops = []; front = no_front; seen = record v.seen { since = length v.seen.lost } }
 
 -- the view of the seat that was made
 abbrev pub split_right : View → View
@@ -70,6 +70,7 @@ split_right v = record v {
   flight = resting;
   work = no_work;
   counts = nothing_known;
+  tops = [];
   front = no_front;
   raises = no_raises;
   loaded_bound = None;
@@ -94,8 +95,10 @@ joined_view v w = record v {
   flight = resting;
   work = no_work;
   counts = nothing_known;
+  tops = [];
   front = no_front;
   log = v.log ++ w.log;
+  seen = record v.seen { since = length v.seen.lost };
 }
 
 -- what a hand's own numbers say of its view

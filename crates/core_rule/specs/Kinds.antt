@@ -1,5 +1,5 @@
 -- The kinds of step. A kind is data: its word, what it does there, when it is allowed, and the view and the world after it.
-use Rattle.std.specs.Prelude.{◌≡◌, ℕ, suc, ◌-◌, ◌<◌, ◌≤◌, min, max, true, false, ◌==◌, ◌&&◌, nat_le, if◌then◌else◌, List, [], ◌∷◌, ◌++◌, Option, Some, None, IsSome}
+use Rattle.std.specs.Prelude.{◌≡◌, ℕ, suc, ◌-◌, ◌<◌, ◌≤◌, min, max, true, false, ◌==◌, ◌&&◌, nat_le, if◌then◌else◌, List, [], ◌∷◌, ◌++◌, length, Option, Some, None, IsSome}
 use Rattle.word_layout.specs.Name.{Name, published_write, published_read, min_write, min_read, head, lock, floor, status, wts, rts, next as next_word, cell}
 use Rattle.word_layout.specs.Size.{places}
 use Rattle.word_layout.specs.Limits.{cells_of_value}
@@ -13,7 +13,7 @@ use Rattle.core_rule.specs.Memory.{Memory}
 use Rattle.core_rule.specs.World.{World, free, held, marked, linked, at_number, behind, up_to, from_behind, cut_from, all_but_first}
 use Rattle.core_rule.specs.Ways.{Way, loads, stores, raises_to, exchanges, swaps, told, written, seen_after}
 use Rattle.core_rule.specs.Offers.{made_of, offered_write, offered_read, MayOffer, HasOffered, IsSettled}
-use Rattle.core_rule.specs.Searching.{limit_of, IsPassed, IsLate, stamp_seen, ends, AsksStatus, moved, Rests, Ends, read_place, read_cells, more_read, IsLoading, write_of, FitsPlace, IsNotLinked, Begins, IsFinal, is_final, reads_with, finished_with, IsWhole, IsNotRead, IsWholeFill, shown_at, OthersPassed, OthersFinished, counted_more, counted_one}
+use Rattle.core_rule.specs.Searching.{limit_of, IsPassed, IsLate, stamp_seen, ends, AsksStatus, moved, Rests, Ends, read_place, read_cells, more_read, IsLoading, write_of, FitsPlace, IsNotLinked, Begins, IsFinal, is_final, reads_with, finished_with, IsWhole, IsNotRead, IsWholeFill, shown_at, OthersPassed, OthersFinished, counted_more, counted_one, counted_cut}
 use Rattle.core_rule.specs.Deciding.{stamp_in, commit_of, snapshot_of, AreReads, IsFitting, IsUndecided}
 use Rattle.core_rule.specs.Collecting.{HasEntry, rests_at}
 use Rattle.core_rule.specs.Holding.{filled_place, filled_cells, reset_fill, link_fill, more_cells, without, without_fill, is_usable, IsFilling}
@@ -201,7 +201,7 @@ linked_after s j w n work = record work {
 
 -- the view after, but for what is the same for all kinds, from the number told
 abbrev pub next : Kind → View → ℕ → View
-next offer_write_word v n = record v { counts = nothing_known; front = no_front }
+next offer_write_word v n = record v { counts = nothing_known; tops = []; front = no_front }
 next (publish_stamp clock) v n = record v {
   clock = record v.clock {
     clock = clock;
@@ -258,6 +258,7 @@ next (fill_cell word) v n = record v { places = record v.places { fills = more_c
 next (fill_next place link) v n = record v { places = record v.places { fills = link_fill place link v.places.fills } }
 next (give place) v n = record v {
   places = record v.places { held = without place v.places.held; fills = without_fill place v.places.fills };
+  seen = record v.seen { since = length v.seen.lost };
 }
 next (load_head aim r) v n = record v {
   work = record v.work { search = stands record { aim = aim; record_number = r; place = n - 1; under = end_of_stamps } blank };
@@ -285,11 +286,13 @@ next (link_head s j w) v n = record v {
   front = (if n == suc s.place then no_front else v.front);
   work = linked_after s j w n v.work;
   counts = (if n == suc s.place then counted_more v.size s.record_number j.write.place v.counts else v.counts);
+  tops = (if n == suc s.place then record { record_number = s.record_number; stamp = j.write.stamp } ∷ v.tops else v.tops);
 }
 next (link_next s j above w) v n = record v {
   front = (if n == suc s.place then no_front else v.front);
   work = linked_after s j w n v.work;
   counts = (if n == suc s.place then counted_more v.size s.record_number j.write.place v.counts else v.counts);
+  tops = (if n == suc s.place then record { record_number = s.record_number; stamp = j.write.stamp } ∷ v.tops else v.tops);
 }
 next (raise_read_stamp d) v n = record v { work = record v.work { raised = v.work.raised ++ d ∷ [] } }
 next (load_read_stamp s u w state) v n = record v {
@@ -328,6 +331,7 @@ next (seek_next r c p w) v n = record v { work = record v.work { item = collects
 next (raise_floor r c p) v n = record v { work = record v.work { item = collects r c (floored p) } }
 next (cut r c p) v n = record v {
   work = record v.work { item = collects r c (cut_off n) };
+  counts = counted_cut v.size r c p v.tops v.counts;
   gone = record v.gone { cuts = v.gone.cuts ++ record { record_number = r; stamp = c; place = p; to = n } ∷ []; left = c };
 }
 next (unlock r c to) v n = record v { work = record v.work { item = rests_at r c to } }
@@ -336,9 +340,10 @@ next (follow r c to) v n = record v { work = record v.work { item = collects r c
 next (free_place r c to p) v n = record v {
   work = record v.work { item = rests_at r c to };
   gone = record v.gone { freed = v.gone.freed ++ p ∷ []; left = v.gone.left - 1 };
+  seen = record v.seen { since = length v.seen.lost };
 }
 next (front_head r) v n = record v { front = at_front r (n - 1) blank }
-next (front_stamp r p) v n = record v { front = at_front r p (stamped n) }
+next (front_stamp r p) v n = record v { tops = record { record_number = r; stamp = n } ∷ v.tops; front = at_front r p (stamped n) }
 next (front_status r p w) v n = record v { front = at_front r p (shown w n) }
 next (front_next r p w x) v n = record v { counts = (if n == 0 then counted_one v.size r p v.counts else v.counts); front = no_front }
 next _ v n = v
@@ -352,7 +357,7 @@ splitting_after _ s = s
 abbrev pub after : Kind → View → ℕ → View
 after k v n = record (next k v (told (way k v) n)) {
   splitting = splitting_after k v.splitting;
-  seen = seen_after (way k v) (name k v) (told (way k v) n) v.seen;
+  seen = seen_after (way k v) (name k v) (told (way k v) n) (next k v (told (way k v) n)).seen;
 }
 
 -- the world after, from the number found

@@ -1,5 +1,5 @@
 -- What a step tells its seat: the view after it, and what the rule says of the number that it found.
-use Rattle.std.specs.Prelude.{◌≡◌, ◌≢◌, ℕ, suc, ◌<◌, ◌≤◌, true, false, [], ◌∷◌, ◌++◌}
+use Rattle.std.specs.Prelude.{◌≡◌, ◌≢◌, ℕ, suc, ◌<◌, ◌≤◌, true, false, [], ◌∷◌, ◌++◌, length, Some}
 use Rattle.word_layout.specs.Size.{places}
 use Rattle.word_layout.specs.Limits.{cells_of_value}
 use Rattle.stamp_base.specs.Limits.{end_of_stamps}
@@ -7,10 +7,11 @@ use Rattle.stamp_base.specs.Stamp.{stamp_of, clock_of, seat_of}
 use Rattle.plain_data.specs.State.{State}
 use Rattle.core_rule.specs.View.{View, resting, Aim, links, again, Logged}
 use Rattle.core_rule.specs.Views.{AllOf, Has, Among, IsAlone}
-use Rattle.core_rule.specs.Searching.{limit_of, IsFinal, read_cells, newest}
+use Rattle.core_rule.specs.Searching.{limit_of, IsFinal, read_cells, newest, newest_stamp}
 use Rattle.core_rule.specs.Deciding.{stamp_in, commit_of, snapshot_of, StoodAt, IsLawfulLog}
+use Rattle.core_rule.specs.Reckoning.{Reckons}
 use Rattle.core_rule.specs.Left.{IsLeft, LeavesCells}
-use Rattle.core_rule.specs.Kinds.{Kind, publish_stamp, hear, scan_writes, scan_reads, load_min_write, load_min_read, raise_min_write, raise_min_read, take, load_head, load_next, load_stamp, load_status, load_cell, link_head, link_next, load_read_stamp, decide_by_check, decide_by_read, decide_bare, finish, take_lock, seek_head, seek_stamp, seek_next, cut, follow, front_head, after}
+use Rattle.core_rule.specs.Kinds.{Kind, publish_stamp, hear, scan_writes, scan_reads, load_min_write, load_min_read, raise_min_write, raise_min_read, take, load_head, load_next, load_stamp, load_status, load_cell, link_head, link_next, load_read_stamp, decide_by_check, decide_by_read, decide_bare, finish, take_lock, load_floor, seek_head, seek_stamp, seek_next, cut, follow, front_head, after}
 
 -- a number that a stamp at the place that is searched for is not under
 abbrev pub least_of : Aim → ℕ
@@ -55,7 +56,8 @@ Learnt kept raise_min_write v n = (v.clock.met ≤ n) × (n ≤ v.published.writ
 -- no entry of the log is above the own clock
 Learnt kept raise_min_read v n =
     (n ≤ v.published.read) × (v.raises.reads.least ≤ v.published.read) × ((e : Logged) → Among e v.log → e.snapshot ≡ false → clock_of e.stamp ≤ v.clock.clock)
-Learnt kept (take place) v n = n ≡ 0 → AllOf (λ p. p ≢ place) v.places.held
+-- a place that is taken was not held; and where each usable pool place was met not free, they are counted
+Learnt kept (take place) v n = (n ≡ 0 → AllOf (λ p. p ≢ place) v.places.held) × (v.seen.since ≤ length v.seen.lost) × Reckons (after (take place) v n)
 Learnt kept (load_head aim r) v n = IsLink (places v.size) n
 Learnt kept (load_next s look) v n = IsLink (places v.size) n
 Learnt kept (load_stamp s) v n = (least_of s.aim ≤ n) × (n < s.under)
@@ -84,6 +86,8 @@ Learnt kept decide_bare v n = StoodAt kept v.size.records v.log (commit_of v.fli
 Learnt kept (finish ds) v n = StoodAt kept v.size.records v.log (snapshot_of v.published.read ds)
 -- a lock that is taken names another seat
 Learnt kept (take_lock r c) v n = (n ≢ suc v.number) × (n ≤ v.size.seats) × (IsAlone v → n ≡ 0)
+-- the version at the floor is linked
+Learnt kept (load_floor r c) v n = IsAlone v → (t : ℕ) → newest_stamp v.tops r ≡ Some t → n ≤ t
 -- the search for a version that is collected never comes to an end of its list
 Learnt kept (seek_head r c) v n = IsLink (places v.size) n
 Learnt kept (seek_stamp r c p u) v n = (c ≤ n) × (n < u)

@@ -9,6 +9,7 @@ pub mod Learnt
 pub mod Left
 pub mod Memory
 pub mod Parts
+pub mod Reckoning
 pub mod Rule
 pub mod Searching
 pub mod Stamps

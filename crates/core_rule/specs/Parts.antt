@@ -30,3 +30,4 @@ pub mod Versions
 pub mod Counts
 pub mod Tops
 pub mod Marked
+pub mod Met

@@ -39,6 +39,7 @@ use Rattle.core_rule.specs.Parts.Fronts.{Fronts}
 use Rattle.core_rule.specs.Parts.Lefts.{Lefts}
 use Rattle.core_rule.specs.Parts.Tops.{Tops}
 use Rattle.core_rule.specs.Parts.Marked.{Marked}
+use Rattle.core_rule.specs.Parts.Met.{Met}
 
 -- the words of one family, by their index
 abbrev pub write_words : Memory → ℕ → ℕ
@@ -77,7 +78,7 @@ pub record Rule (kept : State → Type 0) (z : Size) (g : World) (m : Memory) (v
   pub reads : Reads z g.lists (stored m).stamps (stored m).cells (status_words m) vs
   pub linking : Linking z g.owner g.lists (stored m) vs
   pub versions : Versions z g.drawn g.lists (stored m).stamps (stored m).cells (status_words m) vs
-  pub counts : Counts z g.lists vs
+  pub counts : Counts z g.lists (stored m).stamps vs
   pub txns : Txns vs
   pub word_cells : Cells vs
   pub joined : Joined g.drawn vs
@@ -93,6 +94,7 @@ pub record Rule (kept : State → Type 0) (z : Size) (g : World) (m : Memory) (v
   pub fronts : Fronts z (head_words m) vs
   pub lefts : Lefts g.chains vs
   pub marked : Marked z g.owner vs
+  pub met : Met z g.owner vs
   pub tops : Tops z (head_words m) vs
 
 -- the rule of a table of this size

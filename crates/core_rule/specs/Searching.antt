@@ -3,7 +3,7 @@ use Rattle.std.specs.Prelude.{◌≡◌, ◌≢◌, ◌⊎◌, ℕ, suc, ◌-◌
 use Rattle.word_layout.specs.Size.{Size}
 use Rattle.word_layout.specs.Limits.{cells_of_value}
 use Rattle.core_rule.specs.Views.{Among, Has}
-use Rattle.core_rule.specs.View.{Flight, resting, writing, Fill, Write, Read, Joint, Aim, reads, links, again, checks, Stand, Look, blank, stamped, shown, Search, still, marks, stands, no_item, Work, Bound, Count, Counted, Front, no_front, at_front}
+use Rattle.core_rule.specs.View.{Flight, resting, writing, Fill, Write, Read, Joint, Aim, reads, links, again, checks, Stand, Look, blank, stamped, shown, Search, still, marks, stands, no_item, Work, Bound, Count, Counted, Top, Front, no_front, at_front}
 
 -- versions from this stamp on are too late for a transaction at its stamp, and for a snapshot at the read stamp
 abbrev pub limit_of : Flight → ℕ → ℕ
@@ -212,6 +212,20 @@ counted_more z r p c = record c { listed = record { record_number = r; bound = o
 abbrev pub counted_one : Size → (r p : ℕ) → Counted → Counted
 counted_one z r p c =
     record c { listed = record { record_number = r; bound = Some record { linked = 1; outside = (if nat_lt p z.records then 0 else 1) } } ∷ c.listed }
+
+-- the number that no write stamp in the list of record r is above, as far as known
+abbrev pub newest_stamp : List Top → ℕ → Option ℕ
+newest_stamp [] r = None
+newest_stamp (t ∷ ts) r = if t.record_number == r then Some t.stamp else newest_stamp ts r
+
+-- no version above the stamp c is linked, as it is known
+abbrev pub is_newest : ℕ → Option ℕ → Bool
+is_newest c None = false
+is_newest c (Some t) = nat_le t c
+
+-- what is known after what is older than the version of record r in place p, at the stamp c, was cut off
+abbrev pub counted_cut : Size → (r c p : ℕ) → List Top → Counted → Counted
+counted_cut z r c p tops known = if is_newest c (newest_stamp tops r) then counted_one z r p known else known
 
 -- where the look at a first version stands
 abbrev pub front_record : Front → ℕ

@@ -168,6 +168,11 @@ pub record Counted : Type 0 where
   pub rest : Option Bound
   pub listed : List Count
 
+-- a number that no write stamp in a record's list is above
+pub record Top : Type 0 where
+  pub record_number : ℕ
+  pub stamp : ℕ
+
 -- an entry of the log, with the places and the stamps of the versions that it read and wrote
 pub record Logged : Type 0 where
   pub stamp : ℕ
@@ -180,10 +185,12 @@ pub record Load : Type 0 where
   pub word : Name
   pub number : ℕ
 
--- what the seat's loads and raises found, and the exchanges that it lost
+-- what the seat's loads and raises found, and the exchanges that it lost; and how many of these it had lost when it last gave a
+-- place back
 pub record Seen : Type 0 where
   pub loads : List Load
   pub lost : List Load
+  pub since : ℕ
 
 -- the versions at which the seat cut a record's list, with the links to what it cut off; the places that it freed; and a number that
 -- the places that it cut off last and has not yet freed are no more than
@@ -216,6 +223,7 @@ pub record View : Type 0 where
   pub places : Places
   -- what it knows of each record's list, while no other seat is open
   pub counts : Counted
+  pub tops : List Top
   pub front : Front
   pub log : List Logged
   pub gone : Gone
@@ -243,7 +251,7 @@ abbrev pub nothing_gone : Gone
 nothing_gone = record { cuts = []; freed = []; left = 0 }
 
 abbrev pub nothing_seen : Seen
-nothing_seen = record { loads = []; lost = [] }
+nothing_seen = record { loads = []; lost = []; since = 0 }
 
 -- the view of seat 0 of a new table
 abbrev pub first_view : Size → View
@@ -261,6 +269,7 @@ first_view z = record {
   loaded_bound = None;
   places = no_places;
   counts = one_each;
+  tops = [];
   front = no_front;
   log = [];
   gone = nothing_gone;

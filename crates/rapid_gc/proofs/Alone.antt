@@ -22,7 +22,7 @@ became_alone reached i Locked v w b alone = subst IsAlone (sym b.1.view) alone
 became_alone reached i Dropped v w b alone = subst IsAlone (sym b.1.view) alone
 became_alone reached i CutBelow v w b alone = subst IsAlone (sym b.1.cuts.view) (subst IsAlone (sym b.1.view) alone)
 
-goes_alone : (reached : ℕ) (es : List Ended) (v w : View) → Goes reached es v w → IsAlone v → IsAlone w
+pub goes_alone : (reached : ℕ) (es : List Ended) (v w : View) → Goes reached es v w → IsAlone v → IsAlone w
 goes_alone reached _ _ _ (not_begun v) alone = alone
 goes_alone reached _ _ _ (goes_on es e v w x g b) alone = became_alone reached e.item e.end w x b (goes_alone reached es v w g alone)
 
@@ -33,12 +33,12 @@ leaves_alone reached i Locked v w b alone low = absurd (b.1.not_alone alone)
 leaves_alone reached i Dropped v w b alone low = refl
 leaves_alone reached i CutBelow v w b alone low = refl
 
-among_first : (i : Queued) (xs : List Queued) (y : Queued) → Among i xs → Among i (xs ++ y ∷ [])
+pub among_first : (i : Queued) (xs : List Queued) (y : Queued) → Among i xs → Among i (xs ++ y ∷ [])
 among_first i [] y h = absurd h
 among_first i (x ∷ xs) y (inl e) = inl e
 among_first i (x ∷ xs) y (inr h) = inr (among_first i xs y h)
 
-among_end : (xs : List Queued) (y : Queued) → Among y (xs ++ y ∷ [])
+pub among_end : (xs : List Queued) (y : Queued) → Among y (xs ++ y ∷ [])
 among_end [] y = inl refl
 among_end (x ∷ xs) y = inr (among_end xs y)
 
@@ -66,7 +66,7 @@ idled_above : (v : View) → bound_of_clock v.clock.clock ≤ (idled v).publishe
 idled_above v = idled_above_by v (nat_lt v.published.write (bound_of_clock v.clock.clock)) refl
 
 -- the minimum that is reached is not below the stamps of the own clocks
-reaches : (before : View) (reached : ℕ) (prepared : View) → Prepares before reached prepared → IsAlone before → bound_of_clock before.clock.clock ≤ reached + 1
+pub reaches : (before : View) (reached : ℕ) (prepared : View) → Prepares before reached prepared → IsAlone before → bound_of_clock before.clock.clock ≤ reached + 1
 reaches before reached prepared p alone =
     let w = p.raises_writes in let r = p.raises_reads in let above = idled_above before in let met = p.met in
     let own = w.alone (idled_alone before alone) in
@@ -75,7 +75,7 @@ reaches before reached prepared p alone =
     let read_own = r.alone raised_alone in
     let a = w.value in let b = r.value in omega arith
 
-prepared_alone : (before : View) (reached : ℕ) (prepared : View) → Prepares before reached prepared → IsAlone before → IsAlone prepared
+pub prepared_alone : (before : View) (reached : ℕ) (prepared : View) → Prepares before reached prepared → IsAlone before → IsAlone prepared
 prepared_alone before reached prepared p alone = subst IsAlone (sym p.after_is) (subst IsAlone (sym p.raised_is) (idled_alone before alone))
 
 pub nothing_stays : (before : View) (items items' : List Queued) (after' : View) (tally : Collected) → Collects before items items' after' tally → IsAlone before → AllBelow (bound_of_clock before.clock.clock) items → items' ≡ []

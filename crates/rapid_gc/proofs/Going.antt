@@ -11,11 +11,12 @@ use Rattle.rapid_gc.specs.declared.fate.Fate.{Fate}
 use Rattle.rapid_gc.specs.declared.fate.Fate.TheVariants.{Late, Locked, Dropped, Cut as CutBelow}
 use Rattle.rapid_gc.specs.declared.collecting.Collected.{Collected}
 use Rattle.rapid_gc.specs.Queues.{AreCommitted}
-use Rattle.rapid_gc.specs.Views.{Comes}
+use Rattle.rapid_gc.specs.Views.{at_item, Passes}
 use Rattle.rapid_gc.specs.Chains.{counted}
-use Rattle.rapid_gc.specs.Ends.{stays, Ended, Goes, not_begun, goes_on, Became, FreesCounted, items_of, remaining, how_many, late_one, locked_one, dropped_one, cut_one}
+use Rattle.rapid_gc.specs.Ends.{stays, Ended, Goes, not_begun, goes_on, knowing_cut, Became, FreesCounted, items_of, remaining, how_many, late_one, locked_one, dropped_one, cut_one}
 use Rattle.rapid_gc.specs.Collections.{GoesThrough}
-use Rattle.rapid_gc.proofs.Steps.{comes-on, both-ready, starts-ready, same_view}
+use Rattle.core_rule.specs.Searching.{counted_cut}
+use Rattle.rapid_gc.proofs.Steps.{passes-on, both-ready, starts-ready}
 
 pub items-snoc : (es : List Ended) (e : Ended) → items_of (es ++ e ∷ []) ≡ items_of es ++ e.item ∷ []
 items-snoc [] e = refl
@@ -47,11 +48,14 @@ committed_at records log (x ∷ xs) zero d h lt = (h.0, h.1)
 committed_at records log (x ∷ xs) (suc i) d h lt = committed_at records log xs i d h.2 (omega arith)
 
 -- an item leaves nothing in work
-pub became_comes : (reached : ℕ) (i : Queued) (f : Fate) (u v w : View) → Comes u no_item v → Became reached i f v w → Comes u no_item w
-became_comes reached i Late u v w e h = subst (λ (x : View). Comes u no_item x) (sym h.1) e
-became_comes reached i Locked u v w e h = comes-on u v w _ _ e h.1.view
-became_comes reached i Dropped u v w e h = comes-on u v w _ _ e h.1.view
-became_comes reached i CutBelow u v w e h = comes-on u v w _ _ e (comes-on v h.1.under_lock w _ _ h.1.view h.1.cuts.view)
+pub became_passes : (reached : ℕ) (i : Queued) (f : Fate) (u v w : View) → Passes u v → Became reached i f v w → Passes u w
+became_passes reached i Late u v w e h = subst (Passes u) (sym h.1) e
+became_passes reached i Locked u v w e h = passes-on u v w v.counts e h.1.view
+became_passes reached i Dropped u v w e h = passes-on u v w v.counts e h.1.view
+became_passes reached i CutBelow u v w e h =
+    let l = h.1.under_lock in
+    let known = counted_cut v.size i.rid i.stamp h.1.cuts.place v.tops v.counts in
+    passes-on u v w known e (h.1.cuts.view ∙ ap (λ (x : View). at_item (knowing_cut i h.1.cuts.place x) no_item w.gone w.seen) h.1.view)
 
 pub frees_more : (a b c : ℕ) (u v w : View) → FreesCounted a u v → FreesCounted b v w → c ≡ counted (a + b) → FreesCounted c u w
 frees_more a b c u v w e f is =
@@ -67,7 +71,7 @@ nothing_freed v = record { freed = []; gone = sym (append-nil v.gone.freed); cou
 -- the first items of a queue, and what was done with them
 pub record Through (core : Shared) (before now : Seated) (reached : ℕ) (old items : List Queued) (index kept : ℕ) (tally : Collected) : Type 0 where
   pub stays_ready : StaysReady core before now
-  pub view : Comes before.view no_item now.view
+  pub view : Passes before.view now.view
   pub ended : List Ended
   pub each : items_of ended ≡ take index old
   pub goes : Goes reached ended before.view now.view
@@ -99,7 +103,7 @@ pub through_more : (core : Shared) (before now next' : Seated) (reached : ℕ) (
     → Through core before next' reached old items' (suc index) kept' tally'
 through_more core before now next' reached old items items' index kept kept' places tally tally' e h ready became freed one_taken one_kept' low long others t = record {
   stays_ready = both-ready core before now next' h.stays_ready ready;
-  view = became_comes reached e.item e.end before.view now.view next'.view h.view became;
+  view = became_passes reached e.item e.end before.view now.view next'.view h.view became;
   ended = h.ended ++ e ∷ [];
   each = items-snoc h.ended e ∙ ap (λ (x : List Queued). x ++ e.item ∷ []) h.each ∙ sym one_taken;
   goes = goes_on h.ended e before.view now.view next'.view h.goes became;
@@ -118,7 +122,7 @@ pub starts : (core : Shared) (before : Seated) (reached : ℕ) (old : List Queue
     → Through core before before reached old old 0 0 record { cut = 0; dropped = 0; late = 0; locked = 0; places = 0 }
 starts core before reached old ready none = record {
   stays_ready = starts-ready core before ready;
-  view = subst (λ (i : Item). Comes before.view i before.view) none (same_view before.view);
+  view = subst (λ (i : Item). before.view ≡ record before.view { work = record before.view.work { item = i } }) none refl;
   ended = [];
   each = refl;
   goes = not_begun before.view;

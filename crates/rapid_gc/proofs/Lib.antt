@@ -1,4 +1,6 @@
 pub mod Alone
+pub mod Bounds
+pub mod Floors
 pub mod Freed
 pub mod Going
 pub mod Prepared

@@ -1,9 +1,9 @@
 -- The view of a collection from step to step.
 use Rattle.std.proofs.Common.{◌≡◌, ◌<◌, refl, sym, ap, ◌∙◌, subst}
 use Rattle.stamp_base.specs.Limits.{end_of_stamps}
-use Rattle.core_rule.specs.View.{View, Published, Item, Gone, Seen}
+use Rattle.core_rule.specs.View.{View, Published, Item, Counted, Gone, Seen}
 use Rattle.core_rule.specs.Hands.{Shared, Seated, IsReady, IsSameSeat, StaysReady}
-use Rattle.rapid_gc.specs.Views.{at_item, Comes}
+use Rattle.rapid_gc.specs.Views.{at_item, Comes, through_items, Passes}
 
 -- what the view says is read from it
 pub comes : (v w : View) (item : Item) (a : Gone) (x : Seen) → w ≡ at_item v item a x → Comes v item w
@@ -14,6 +14,11 @@ comes v w item a x e =
 pub comes-on : (u v w : View) (i j : Item) → Comes u i v → Comes v j w → Comes u j w
 comes-on u v w i j e f =
     f ∙ ap (λ (x : View). at_item x j w.gone w.seen) e
+
+-- or one with what is known of lists
+pub passes-on : (u v w : View) (c : Counted) → Passes u v → w ≡ through_items v c w.gone w.seen → Passes u w
+passes-on u v w c e f =
+    f ∙ ap (λ (x : View). through_items x c w.gone w.seen) e ∙ (λ i. through_items u (sym (ap (λ (x : View). x.counts) f) i) w.gone w.seen)
 
 -- from another name of what is collected
 pub comes-as : (v w : View) (i j : Item) → i ≡ j → Comes v i w → Comes v j w

@@ -2,7 +2,7 @@
 use Rattle.std.specs.Prelude.{◌≡◌, ℕ, ◌+◌, ◌≤◌, max, nat_lt, if◌then◌else◌, List, None}
 use Rattle.word_layout.specs.Name.{published_write, published_read, min_write, min_read}
 use Rattle.stamp_base.specs.Stamp.{bound_of_clock}
-use Rattle.core_rule.specs.View.{View, resting, no_work, no_raises, Gone, Seen}
+use Rattle.core_rule.specs.View.{View, resting, no_work, no_raises, Counted, Gone, Seen}
 use Rattle.clock_stamps.specs.Clocks.{rests}
 use Rattle.clock_stamps.specs.Minima.{Raises, raised_write, raised_read, bounded}
 use Rattle.rapid_gc.specs.declared.queue.Queued.{Queued}
@@ -45,8 +45,8 @@ pub record Collects (before : View) (items items' : List Queued) (after' : View)
   pub goes_through : GoesThrough after'.reached items items' prepared after' tally
 
 -- the view after a collection that published this read stamp and reached this `min_rts`: nothing is in flight, and nothing is collected
-abbrev pub after_collecting : View → (bound reached : ℕ) → Gone → Seen → View
-after_collecting v bound reached gone seen = record v {
+abbrev pub after_collecting : View → (bound reached : ℕ) → Counted → Gone → Seen → View
+after_collecting v bound reached counts gone seen = record v {
   clock = record v.clock { met = bound + 1 };
   published = record { write = max v.published.write (bound_of_clock v.clock.clock); read = bound };
   flight = resting;
@@ -54,6 +54,7 @@ after_collecting v bound reached gone seen = record v {
   raises = no_raises;
   reached = reached;
   loaded_bound = None;
+  counts = counts;
   gone = gone;
   seen = seen;
 }

@@ -1,9 +1,10 @@
 -- What becomes of an item in a collection.
-use Rattle.std.specs.Prelude.{◌≡◌, ◌≢◌, ℕ, suc, ◌+◌, ◌<◌, ◌≤◌, Bool, true, false, if◌then◌else◌, List, [], ◌∷◌, ◌++◌, length}
+use Rattle.std.specs.Prelude.{◌≡◌, ◌≢◌, ℕ, suc, ◌+◌, ◌<◌, ◌≤◌, Bool, true, false, if◌then◌else◌, List, [], ◌∷◌, ◌++◌, length, Some}
 use Rattle.word_layout.specs.Name.{lock, floor}
 use Rattle.core_rule.specs.View.{View, Load, no_item, collects, above_floor}
 use Rattle.core_rule.specs.Views.{IsAlone}
 use Rattle.core_rule.specs.Paths.{load}
+use Rattle.core_rule.specs.Searching.{newest_stamp, counted_cut}
 use Rattle.rapid_gc.specs.declared.queue.Queued.{Queued}
 use Rattle.rapid_gc.specs.declared.fate.Fate.{Fate}
 use Rattle.rapid_gc.specs.declared.fate.Fate.TheVariants.{Late, Locked, Dropped, Cut as CutBelow}
@@ -32,10 +33,16 @@ pub record MeetsLock (i : Queued) (v w : View) : Type 0 where
 pub record IsBelowFloor (i : Queued) (v w : View) : Type 0 where
   pub floor_read : ℕ
   pub below : i.stamp < floor_read
+  -- while no other seat is open, the floor is not above the newest version
+  pub known : IsAlone v → (t : ℕ) → newest_stamp v.tops i.rid ≡ Some t → floor_read ≤ t
   pub view : Comes v no_item w
   pub loads : w.seen.loads ≡ v.seen.loads ++ load (floor i.rid) floor_read ∷ []
   pub lost : w.seen.lost ≡ v.seen.lost
   pub gone : w.gone ≡ v.gone
+
+-- the view after what is older than the item's version, in this place, was cut off, as to what is known of lists
+abbrev pub knowing_cut : Queued → (place : ℕ) → View → View
+knowing_cut i place v = record v { counts = counted_cut v.size i.rid i.stamp place v.tops v.counts }
 
 -- from where the floor was read on: its version was found, what is older was cut off, and each place of that was freed
 pub record CutsBelow (i : Queued) (v w : View) : Type 0 where
@@ -46,7 +53,7 @@ pub record CutsBelow (i : Queued) (v w : View) : Type 0 where
   pub follows : Follows to freed links 0
   pub cuts : w.gone.cuts ≡ v.gone.cuts ++ record { record_number = i.rid; stamp = i.stamp; place = place; to = to } ∷ []
   pub gone : w.gone.freed ≡ v.gone.freed ++ freed
-  pub view : Comes v no_item w
+  pub view : Comes (knowing_cut i place v) no_item w
   pub sought : List Load
   pub loads : w.seen.loads ≡ v.seen.loads ++ (sought ++ links)
   pub lost : w.seen.lost ≡ v.seen.lost

@@ -7,7 +7,8 @@ ghost use Rattle.core_rule.specs.Searching.{Ends};
 ghost use Rattle.core_rule.specs.Collecting.{HasEntry};
 ghost use Rattle.core_rule.specs.Hands.{IsReady, StaysReady};
 ghost use Rattle.rapid_gc.specs.Queues.{AreCommitted, AllBelow};
-ghost use Rattle.rapid_gc.specs.Views.{Comes};
+ghost use Rattle.rapid_gc.specs.Views.{Passes};
+ghost use Rattle.rapid_gc.specs.Bounds.{AreKept, LeavesOne};
 ghost use Rattle.rapid_gc.specs.Chains.{counted};
 ghost use Rattle.rapid_gc.specs.Ends.{Became, CutsBelow, FreesCounted, late_one, locked_one, dropped_one, cut_one};
 ghost use Rattle.rapid_gc.specs.Collections.{GoesThrough, Collects, after_collecting};
@@ -82,9 +83,12 @@ pub fn collect<J: Keeps>(core: &Core<J>, hand: &mut Hand<J>, queue: &mut Queue) 
     requires ends { Ends hand.old.view.work }
     requires committed { AreCommitted core.now.size.records hand.old.view.log queue.old.items }
     ensures collects { Collects hand.old.view queue.old.items queue.new.items hand.new.view result }
-    ensures view { hand.new.view ≡ after_collecting hand.old.view hand.new.view.published.read hand.new.view.reached hand.new.view.gone hand.new.view.seen }
+    ensures view { hand.new.view ≡ after_collecting hand.old.view hand.new.view.published.read hand.new.view.reached hand.new.view.counts hand.new.view.gone hand.new.view.seen }
     // A seat that is alone keeps no item of its clocks.
     ensures alone { IsAlone hand.old.view → AllBelow (bound_of_clock hand.old.view.clock.clock) queue.old.items → queue.new.items ≡ [] }
+    // What it knows of a list is as before, or that one version is left; that, where the item's version is the newest.
+    ensures known { AreKept queue.old.items hand.old.view.counts hand.new.view.counts }
+    ensures one_left { IsAlone hand.old.view → AllBelow (bound_of_clock hand.old.view.clock.clock) queue.old.items → LeavesOne queue.old.items hand.old.view.tops hand.new.view.counts }
     ensures met { hand.old.view.clock.met ≤ hand.new.view.clock.met }
     ensures log { hand.new.view.log ≡ hand.old.view.log }
     ensures held { hand.new.view.places ≡ hand.old.view.places }
@@ -111,7 +115,7 @@ fn go_through<J: Keeps>(
     requires reached { hand.old.view.reached ≡ reached }
     requires committed { AreCommitted core.now.size.records hand.old.view.log items.old.items }
     ensures goes { GoesThrough reached items.old.items items.new.items hand.old.view hand.new.view result }
-    ensures view { Comes hand.old.view no_item hand.new.view }
+    ensures view { Passes hand.old.view hand.new.view }
     ensures stays { StaysReady core.now hand.old hand.new }
 {
     let mut tally = Collected {

@@ -26,17 +26,18 @@ without_here place ps h = ap (λ (b : Bool). cond b (without place ps) (place �
 
 -- ---- one version
 
-abbrev linked_view : Write → View → Seen → View
+abbrev pub linked_view : Write → View → Seen → View
 linked_view u v seen = record v {
   places = record v.places { held = without u.place v.places.held; fills = without_fill u.place v.places.fills };
   work = record v.work { search = still; linked = v.work.linked ++ u ∷ [] };
   counts = counted_more v.size u.record_number u.place v.counts;
+  tops = record { record_number = u.record_number; stamp = u.stamp } ∷ v.tops;
   front = no_front;
   seen = seen;
 }
 
 module _ (z : Size) (stamp : ℕ) (u : Write) (v w : View) (l : LinksOne z stamp u v w) where
-  one_view : w ≡ linked_view u (after_filling (after_taking (after_losing v l.takes.lost) u.place) u.place u.stamp l.value) w.seen
+  pub one_view : w ≡ linked_view u (after_filling (after_taking (after_losing v l.takes.lost) u.place) u.place u.stamp l.value) w.seen
   one_view = l.linked.view ∙ ap (λ (t : View). linked_view u (after_filling t u.place u.stamp l.value) w.seen) l.takes.takes.view
 
   one_only : w ≡ installed_in v w
@@ -147,7 +148,7 @@ module _ (core : Shared) (before : Seated) (s0 : SetsView) (i : ℕ) (s : SetsVi
     clock = ap (λ (x : View). x.clock) p.only;
     published = ap (λ (x : View). x.published) p.only;
     held = p.held;
-    others = subst (λ (y : View). y ≡ record before.view { places = y.places; work = y.work; counts = y.counts; front = y.front; log = y.log; seen = y.seen }) (sym p.only) refl;
+    others = subst (λ (y : View). y ≡ record before.view { places = y.places; work = y.work; counts = y.counts; tops = y.tops; front = y.front; log = y.log; seen = y.seen }) (sym p.only) refl;
   }
 
   -- all of them

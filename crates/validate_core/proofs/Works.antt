@@ -29,7 +29,7 @@ works_stands v w a = record {
   clock = ap (λ (y : View). y.clock) a.only;
   published = ap (λ (y : View). y.published) a.only;
   held = ap (λ (y : View). y.places.held) a.only;
-  others = subst (λ (y : View). y ≡ record v { places = y.places; work = y.work; counts = y.counts; front = y.front; log = y.log; seen = y.seen }) (sym a.only) refl;
+  others = subst (λ (y : View). y ≡ record v { places = y.places; work = y.work; counts = y.counts; tops = y.tops; front = y.front; log = y.log; seen = y.seen }) (sym a.only) refl;
 }
 
 pub stands_both : (u v w : View) → Stands u v → Stands v w → Stands u w
@@ -37,7 +37,7 @@ stands_both u v w a b = record {
   clock = b.clock ∙ a.clock;
   published = b.published ∙ a.published;
   held = b.held ∙ a.held;
-  others = b.others ∙ ap (λ (y : View). record y { places = w.places; work = w.work; counts = w.counts; front = w.front; log = w.log; seen = w.seen }) a.others;
+  others = b.others ∙ ap (λ (y : View). record y { places = w.places; work = w.work; counts = w.counts; tops = w.tops; front = w.front; log = w.log; seen = w.seen }) a.others;
 }
 
 -- where the log has more as well
@@ -46,7 +46,7 @@ logs_stand v w e = record {
   clock = ap (λ (y : View). y.clock) e;
   published = ap (λ (y : View). y.published) e;
   held = ap (λ (y : View). y.places.held) e;
-  others = subst (λ (y : View). y ≡ record v { places = y.places; work = y.work; counts = y.counts; front = y.front; log = y.log; seen = y.seen }) (sym e) refl;
+  others = subst (λ (y : View). y ≡ record v { places = y.places; work = y.work; counts = y.counts; tops = y.tops; front = y.front; log = y.log; seen = y.seen }) (sym e) refl;
 }
 
 -- a hand stays ready over a step that changes none of its published words

@@ -1,9 +1,11 @@
 -- What installing the writes of a transaction comes to.
-use Rattle.std.specs.Prelude.{◌≡◌, ℕ, ◌<◌, false, List, [], ◌∷◌, ◌++◌, take, slice_set, Option}
+use Rattle.std.specs.Prelude.{◌≡◌, ℕ, ◌+◌, ◌<◌, false, List, [], ◌∷◌, ◌++◌, length, take, slice_set, Option}
 use Rattle.stamp_base.specs.Stamp.{IsStamp}
-use Rattle.word_layout.specs.Size.{Size, places, IsUsable}
+use Rattle.word_layout.specs.Size.{Size, places, IsUsable, usable_places}
 use Rattle.core_rule.specs.View.{View, writing, Write, no_item}
-use Rattle.core_rule.specs.Searching.{Rests, Ends}
+use Rattle.core_rule.specs.Views.{IsAlone}
+use Rattle.core_rule.specs.Searching.{Rests, Ends, known_of}
+use Rattle.core_rule.specs.Reckoning.{AtMost}
 use Rattle.core_rule.specs.Deciding.{AreReads, IsUndecided}
 use Rattle.core_rule.specs.Holding.{without}
 use Rattle.core_rule.specs.Versions.{cells_of}
@@ -38,6 +40,7 @@ installed_in v w = record v {
   places = w.places;
   work = record v.work { search = w.work.search; linked = w.work.linked };
   counts = w.counts;
+  tops = w.tops;
   front = w.front;
   seen = w.seen;
 }
@@ -113,3 +116,8 @@ pub record FindsNoPlace (z : Size) (s : SetsView) (v w : View) : Type 0 where
   pub linked : w.work.linked ≡ take number s.writes
   pub undecided : w.work.decided ≡ false
   pub ends : Ends w.work
+
+-- a seat that is alone finds no place for one of so many writes only where there are fewer usable pool places than linked versions
+-- outside inline places, by the bounds that it knew before, writes, and places that it holds
+abbrev pub IsFullFor : Size → (writes : ℕ) → View → Type 0
+IsFullFor z writes v = IsAlone v → (n : ℕ) → AtMost z.records (known_of v.counts) n → usable_places z < n + writes + length v.places.held

@@ -18,7 +18,7 @@ pub record Stands (v w : View) : Type 0 where
   pub clock : w.clock ≡ v.clock
   pub published : w.published ≡ v.published
   pub held : w.places.held ≡ v.places.held
-  pub others : w ≡ record v { places = w.places; work = w.work; counts = w.counts; front = w.front; log = w.log; seen = w.seen }
+  pub others : w ≡ record v { places = w.places; work = w.work; counts = w.counts; tops = w.tops; front = w.front; log = w.log; seen = w.seen }
 
 -- the view with this in flight, and these loads
 abbrev pub worked : View → Work → Seen → View

@@ -8,7 +8,8 @@ ghost use Rattle.core_rule.specs.Searching.{FitsPlace, IsNotLinked, Rests};
 ghost use Rattle.core_rule.specs.Hands.{IsReady, StaysReady};
 ghost use Rattle.validate_core.specs.Sets.{Turn};
 ghost use Rattle.validate_core.specs.Validating.{Stands};
-ghost use Rattle.validate_core.specs.Installing.{IsBegun, SameSets, Puts, InstallsOne, FindsNoneFor, Installs, InstallsHeld, FindsNoPlace};
+ghost use Rattle.validate_core.specs.Installing.{IsBegun, SameSets, Puts, InstallsOne, FindsNoneFor, Installs, InstallsHeld, FindsNoPlace, IsFullFor};
+ghost use Rattle.version_pool.specs.Takes.{IsFull};
 
 use crate::deciding::Installed;
 use crate::sets::Sets;
@@ -33,6 +34,7 @@ pub fn install<J: Keeps>(
     ensures stamp { IfOk result (λ installed. installed.stamp ≡ hand.old.view.published.write) }
     ensures ok { OnOk result (Installs core.now.size sets.new hand.old.view hand.new.view) }
     ensures err { OnErr result (FindsNoPlace core.now.size sets.new hand.old.view hand.new.view) }
+    ensures full { OnErr result (IsFullFor core.now.size (length sets.old.writes) hand.old.view) }
     ensures stays { StaysReady core.now hand.old hand.new }
 {
     let stamp = hand.published_write();
@@ -86,6 +88,7 @@ fn install_one<J: Keeps>(
     requires undecided { hand.old.view.work.decided ≡ false }
     ensures ok { OnOk result (InstallsOne core.now.size stamp i sets.old sets.new hand.old.view hand.new.view) }
     ensures err { OnErr result (FindsNoneFor core.now.size i sets.old hand.old.view hand.new.view) }
+    ensures full { OnErr result (IsFull core.now.size hand.old.view) }
     ensures same { OnErr result (sets.new ≡ sets.old) }
     ensures stays { StaysReady core.now hand.old hand.new }
 {

@@ -1,5 +1,5 @@
 -- Places tried in turn, one after another.
-use Rattle.std.proofs.Common.{◌≡◌, ◌≢◌, ℕ, zero, suc, ◌+◌, ◌-◌, ◌<◌, ◌≤◌, ◌⊎◌, Bool, true, false, ◌&&◌, cond, eqb, Option, Some, None, IfSome, IfNone, List, [], ◌∷◌, ◌++◌, refl, sym, ap, ◌∙◌, subst, inl, inr, arith, eqb-true, eq-eqb, append_assoc, rules}
+use Rattle.std.proofs.Common.{◌≡◌, ◌≢◌, ℕ, zero, suc, ◌+◌, ◌-◌, ◌<◌, ◌≤◌, ◌⊎◌, Bool, true, false, ◌&&◌, cond, eqb, Option, Some, None, IfSome, IfNone, List, [], ◌∷◌, ◌++◌, refl, sym, ap, ◌∙◌, subst, inl, inr, arith, eqb-true, eq-eqb, append_assoc, length, rules}
 use Rattle.std.proofs.lemmas.List.{append-nil}
 use Rattle.std.proofs.lemmas.Bool.Decides.{leb_tells, nat_tests}
 use Rattle.std.specs.List.{range_with_len}
@@ -11,6 +11,7 @@ use Rattle.core_rule.specs.Holding.{is_usable}
 use Rattle.core_rule.specs.Kinds.{take, after}
 use Rattle.plain_data.specs.State.{State}
 use Rattle.core_rule.specs.Hands.{Seated, Takes}
+use Rattle.core_rule.specs.Reckoning.{Reckons}
 use Rattle.version_pool.specs.Takes.{first_in_turn, usable_from, usable_in_turn, IsLostOn, AreLostOn, after_losing, after_taking, TakesFree, TakesFirst, FindsNone, WasMet}
 
 pub range_with_len-split : (a m n k b : ℕ) → b ≡ a + m → k ≡ m + n → range_with_len a k ≡ range_with_len a m ++ range_with_len b n
@@ -107,10 +108,17 @@ FindsNone-one {kept} place before won after' t is = record {
 pub TakesFree-one : {kept : State → Type 0} (place : ℕ) (before : Seated) (won : Bool) (after' : Seated) → Takes kept place before won after' → won ≡ true → TakesFree place before.view after'.view
 TakesFree-one {kept} place before won after' t is = record {
   view = t.step.view ∙ after-won before.view place t.found free;
-  not_held = t.step.learnt free;
+  not_held = t.step.learnt.0 free;
 } where
   free : t.found ≡ 0
   free = t.won_is.0 (search rules)
+
+-- what the exchange tells of the number of places, whether it was won or lost
+pub takes_since : {kept : State → Type 0} (place : ℕ) (before : Seated) (won : Bool) (after' : Seated) → Takes kept place before won after' → before.view.seen.since ≤ length before.view.seen.lost
+takes_since {kept} place before won after' t = t.step.learnt.1
+
+pub takes_counted : {kept : State → Type 0} (place : ℕ) (before : Seated) (won : Bool) (after' : Seated) → Takes kept place before won after' → Reckons after'.view
+takes_counted {kept} place before won after' t = subst Reckons (sym t.step.view) t.step.learnt.2
 
 pub TakesFirst-one : (place : ℕ) (v w : View) → TakesFree place v w → TakesFirst (place ∷ []) v place w
 TakesFirst-one place v w t = record {

@@ -137,13 +137,18 @@ module _ (core : Shared) (layout : Size) (layout_is : layout ≡ core.size) (bef
         λ p q is. ap (λ (x : Stand). cond (eqb n (suc x.place)) (counted_more po.view.size p.record_number q.write.place po.view.counts) po.view.counts) is
         ∙ ap (λ (x : Bool). cond x (counted_more po.view.size p.record_number q.write.place po.view.counts) po.view.counts) no in
         let same_counts : jo.view.counts ≡ po.view.counts = ap (λ (v : View). v.counts) joined ∙ known (stand_in po.view.work.search) (joint_in po.view.work.search) ps in
+        let no_top : (p : Stand) (q : Joint) → p ≡ between u above below b.under b.least true → cond (eqb n (suc p.place)) (record { record_number = p.record_number; stamp = q.write.stamp } ∷ po.view.tops) po.view.tops ≡ po.view.tops =
+        λ p q is. ap (λ (x : Stand). cond (eqb n (suc x.place)) (record { record_number = p.record_number; stamp = q.write.stamp } ∷ po.view.tops) po.view.tops) is
+        ∙ ap (λ (x : Bool). cond x (record { record_number = p.record_number; stamp = q.write.stamp } ∷ po.view.tops) po.view.tops) no in
+        let same_tops : jo.view.tops ≡ po.view.tops = ap (λ (v : View). v.tops) joined ∙ no_top (stand_in po.view.work.search) (joint_in po.view.work.search) ps in
         let no_look : (p : Stand) → p ≡ between u above below b.under b.least true → cond (eqb n (suc p.place)) no_front po.view.front ≡ po.view.front =
         λ p is. ap (λ (x : Stand). cond (eqb n (suc x.place)) no_front po.view.front) is ∙ ap (λ (x : Bool). cond x no_front po.view.front) no in
         let same_front : jo.view.front ≡ po.view.front = ap (λ (v : View). v.front) joined ∙ no_look (stand_in po.view.work.search) ps in
         let front_path = sym (ap (λ (v : View). v.front) joined) ∙ same_front in
         let work_path = sym (ap (λ (v : View). v.work) joined) ∙ lost_work in
+        let tops_path = sym (ap (λ (v : View). v.tops) joined) ∙ same_tops in
         let counts_path = sym (ap (λ (v : View). v.counts) joined) ∙ same_counts in
-        let jo_view : jo.view ≡ with_work po.view lost jo.view.seen = joined ∙ (λ i. record po.view { work = work_path i; counts = counts_path i; front = front_path i; seen = jo.view.seen }) in
+        let jo_view : jo.view ≡ with_work po.view lost jo.view.seen = joined ∙ (λ i. record po.view { work = work_path i; counts = counts_path i; tops = tops_path i; front = front_path i; seen = jo.view.seen }) in
         let po_ready = keeps_ready at po at_ready pointed.seat _ _ e in
         record {
           layout_is = layout_is;
@@ -178,6 +183,7 @@ module _ (core : Shared) (layout : Size) (layout_is : layout ≡ core.size) (bef
               joined ∙ (λ i. record po.view {
                 work = linked_after (ps i) (pj i) (pl i) n po.view.work;
                 counts = cond (eqb n (suc (ps i).place)) (counted_more po.view.size (ps i).record_number (pj i).write.place po.view.counts) po.view.counts;
+                tops = cond (eqb n (suc (ps i).place)) (record { record_number = (ps i).record_number; stamp = (pj i).write.stamp } ∷ po.view.tops) po.view.tops;
                 front = cond (eqb n (suc (ps i).place)) no_front po.view.front;
                 seen = jo.view.seen;
               }) ∙ (λ i. record po.view {
@@ -186,11 +192,13 @@ module _ (core : Shared) (layout : Size) (layout_is : layout ≡ core.size) (bef
                   linked = cond (won i) (po.view.work.linked ++ u ∷ []) po.view.work.linked;
                 };
                 counts = cond (won i) (counted_more po.view.size u.record_number u.place po.view.counts) po.view.counts;
+                tops = cond (won i) (record { record_number = u.record_number; stamp = u.stamp } ∷ po.view.tops) po.view.tops;
                 front = cond (won i) no_front po.view.front;
                 seen = jo.view.seen;
               }) ∙ ap (λ (v : View). record v {
                 work = record v.work { search = still; linked = v.work.linked ++ u ∷ [] };
                 counts = counted_more v.size u.record_number u.place v.counts;
+                tops = record { record_number = u.record_number; stamp = u.stamp } ∷ v.tops;
                 front = no_front;
                 seen = jo.view.seen;
               }) po_view;

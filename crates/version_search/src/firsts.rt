@@ -1,7 +1,7 @@
 //! The first version of a list, while no other seat is open.
 ghost use Rattle.std.specs.Prelude.{◌≡◌, ◌<◌, true, false, Some, nat_lt, if◌then◌else◌};
 ghost use Rattle.core_rule.specs.Views.{IsAlone};
-ghost use Rattle.core_rule.specs.Searching.{known_of};
+ghost use Rattle.core_rule.specs.Searching.{known_of, newest_stamp};
 ghost use Rattle.core_rule.specs.Hands.{IsReady, StaysReady};
 ghost use Rattle.version_search.specs.Looking.{Looked};
 
@@ -17,6 +17,7 @@ pub fn first<J: Keeps>(core: &Core<J>, hand: &mut Hand<J>, rid: u32) -> First
     ensures looked { Looked rid result.place result.wts result.decided result.single hand.old.view.seen.loads hand.new.view.seen.loads }
     ensures single { result.single ≡ true → known_of hand.new.view.counts rid ≡ Some record { linked = 1; outside = if nat_lt result.place core.now.size.records then 0 else 1 } }
     ensures known { result.single ≡ false → hand.new.view.counts ≡ hand.old.view.counts }
+    ensures newest { newest_stamp hand.new.view.tops rid ≡ Some result.wts }
     ensures stays { StaysReady core.now hand.old hand.new }
 {
     let layout = core.layout();

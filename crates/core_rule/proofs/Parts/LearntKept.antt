@@ -1,5 +1,5 @@
 -- What a step tells of the number that it found.
-use Rattle.std.proofs.Common.{◌≡◌, ◌≢◌, ℕ, suc, ◌-◌, ◌<◌, ◌≤◌, Bool, true, false, cond, List, [], ◌∷◌, ◌++◌, length, set, refl, ⊎_elim, sym, ap, ◌∙◌, subst, arith, inl, inr, None}
+use Rattle.std.proofs.Common.{◌≡◌, ◌≢◌, ℕ, suc, ◌-◌, ◌<◌, ◌≤◌, Bool, true, false, cond, List, [], ◌∷◌, ◌++◌, length, set, refl, ⊎_elim, sym, ap, ◌∙◌, subst, arith, inl, inr, Option, None}
 use mathlib.Core.Logic.{dite}
 use native.Mathlib.Decide.{ℕ_discrete}
 use Rattle.std.specs.Prelude.{nat_le}
@@ -12,7 +12,7 @@ use Rattle.stamp_base.specs.Stamp.{stamp_of, clock_of, seat_of}
 use Rattle.stamp_base.specs.Limits.{most_seats}
 use Rattle.core_rule.specs.Memory.{Memory, stored}
 use Rattle.core_rule.specs.World.{World, from_behind}
-use Rattle.core_rule.specs.View.{View, Flight, resting, writing, Read, Aim, reads, links, again, checks, Stand, Write, Logged, Look, blank, stamped, shown, stands, Splitting, single, sharing, offers_write, offers_both, shared, above_floor, seeks, passes, freeing}
+use Rattle.core_rule.specs.View.{View, Flight, resting, writing, Read, Aim, reads, links, again, checks, Stand, Write, Logged, Look, blank, stamped, shown, stands, Splitting, single, sharing, offers_write, offers_both, shared, locked, above_floor, seeks, passes, freeing}
 use Rattle.core_rule.specs.Views.{Has, At, Among, SomeView, IsAlone}
 use Rattle.core_rule.specs.Offers.{IsSettled}
 use Rattle.core_rule.specs.Searching.{limit_of, IsFinal, is_final}
@@ -21,10 +21,11 @@ use Rattle.core_rule.specs.Claims.{AimClaims, SearchClaims}
 use Rattle.core_rule.specs.Collecting.{Locking, Frees}
 use Rattle.core_rule.specs.Ways.{told}
 use Rattle.core_rule.specs.Rule.{write_words, read_words, status_words, head_words, lock_words}
-use Rattle.core_rule.specs.Kinds.{Kind, publish_stamp, hear, scan_writes, scan_reads, load_min_write, load_min_read, raise_min_write, raise_min_read, name, way, take, load_head, load_next, load_stamp, load_status, load_cell, link_head, link_next, load_read_stamp, decide_by_check, decide_by_read, decide_bare, finish, take_lock, seek_head, seek_stamp, seek_next, cut, follow, front_head, after}
+use Rattle.core_rule.specs.Kinds.{Kind, publish_stamp, hear, scan_writes, scan_reads, load_min_write, load_min_read, raise_min_write, raise_min_read, name, way, take, load_head, load_next, load_stamp, load_status, load_cell, link_head, link_next, load_read_stamp, decide_by_check, decide_by_read, decide_bare, finish, take_lock, load_floor, seek_head, seek_stamp, seek_next, cut, follow, front_head, after, turned, changed}
 use Rattle.core_rule.specs.Learnt.{Learnt, IsOvertaken, IsOfAnother, least_of, IsLink}
 use Rattle.core_rule.specs.Parts.Closed.{OffersNot, ClosedAt}
 use Rattle.core_rule.specs.Parts.Splitting.{Makes}
+use Rattle.core_rule.specs.Parts.Counts.{IsTop}
 use Rattle.core_rule.specs.Parts.Lists.{Spells}
 use Rattle.core_rule.specs.Parts.Linking.{AimOk, IsAbove}
 use Rattle.core_rule.specs.Parts.Reach.{InReach}
@@ -47,6 +48,8 @@ use Rattle.core_rule.proofs.Parts.VersionsKept.{flight_seat}
 use Rattle.core_rule.proofs.Parts.HistoryKept.{history_kept}
 use Rattle.core_rule.proofs.Parts.EnteredKept.{entered_kept}
 use Rattle.core_rule.proofs.Parts.TopsKept.{top_of}
+use Rattle.core_rule.proofs.RuleKept.{rule_kept}
+use Rattle.core_rule.proofs.Reckoning.{reckons}
 
 is_final_from : (n : ℕ) → IsFinal n → is_final n ≡ true
 is_final_from n h = rw (le-leb 3 n h.0, le-leb n 4 h.1) refl
@@ -263,7 +266,12 @@ module _ (kept : State → Type 0) (z : Size) (g : World) (m : Memory) (vs : Lis
         (s.rule.scans id id v v s.at s.at s.allowed.is_open s.allowed.is_open).reads (rw s.allowed.can.0 (rw (s.rule.seats.each id v s.at s.allowed.is_open).size (s.rule.seats.each id v s.at s.allowed.is_open).within)),
         λ e there commit. entry_clock _ s e there commit,
       )
-  learnt (take p) s = λ found. was_free kept z g m vs id v _ s p (rw (← (s.rule.seats.each id v s.at s.allowed.is_open).size) s.allowed.can) found
+  learnt (take p) s = (
+    λ found. was_free kept z g m vs id v _ s p (rw (← (s.rule.seats.each id v s.at s.allowed.is_open).size) s.allowed.can) found,
+    (s.rule.met id v s.at s.allowed.is_open).within,
+    let w = after (take p) v (m (status p)) in
+        reckons kept z (turned (take p) v (m (status p)) g) (changed (take p) v m) (set vs id w) (rule_kept kept z g m vs id v (take p) s) id w (set_here vs id w (at_below vs v id s.at)) s.allowed.is_open,
+  )
   learnt (load_head aim r) s =
       let lt : r < z.records = rw (← (s.rule.seats.each id v s.at s.allowed.is_open).size) s.allowed.can.0 in
       let l = s.rule.lists.each r lt in
@@ -320,6 +328,12 @@ module _ (kept : State → Type 0) (z : Size) (g : World) (m : Memory) (vs : Lis
             (λ (l : SomeView (LocksAt r (lock_words m r)) vs). let e = l.holds.names in let inside = (s.rule.seats.each l.index l.view l.here l.is_open).within in rw (s.rule.seats.each id v s.at s.allowed.is_open).size (omega arith)) named,
         (λ alone. ⊎_elim (λ (zero_is : lock_words m r ≡ 0). zero_is) (λ (l : SomeView (LocksAt r (lock_words m r)) vs). absurd (no_other _ s l.index l.view l.here l.is_open (apart l) alone)) named),
       )
+  learnt (load_floor r c) s = λ alone t is.
+      let w = work_of kept z g m vs s.rule id v s.at s.allowed.is_open r c locked s.allowed.can in
+      let b = (s.rule.lists.each r w.on_record).base in
+      let known = s.rule.counts id v s.at s.allowed.is_open (taken_as kept z g m vs s.rule id v s.at s.allowed.is_open alone) in
+      let low = subst (λ (o : Option ℕ). IsTop (stored m).stamps o (g.lists r)) is (known.newest r w.on_record) b.place b.there in
+      let at_floor = b.stamp in omega arith
   learnt (seek_head r c) s =
       let w = work_of kept z g m vs s.rule id v s.at s.allowed.is_open r c above_floor s.allowed.can in
       let l = s.rule.lists.each r w.on_record in

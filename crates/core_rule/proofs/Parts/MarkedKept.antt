@@ -22,7 +22,7 @@ marked_one : (a b : ℕ) → marked a ≡ marked b → a ≡ b
 marked_one a b e = cc
 
 -- a search that rests marks nothing
-rests_not : (p : ℕ) (x : Search) → Rests x → SearchMarks p x → ⊥
+pub rests_not : (p : ℕ) (x : Search) → Rests x → SearchMarks p x → ⊥
 rests_not p still rests h = h
 rests_not p (marks u) rests h = rests
 rests_not p (stands s look) rests h = by_aim s.aim rests h where

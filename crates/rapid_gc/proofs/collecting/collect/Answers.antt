@@ -6,6 +6,7 @@ use Rattle.clock_stamps.specs.Minima.{Raises, raised_write, raised_read, bounded
 use Rattle.rapid_gc.specs.Queues.{Waiting}
 use Rattle.rapid_gc.specs.Collections.{idled, Prepares, GoesThrough, after_collecting}
 use Rattle.rapid_gc.proofs.Alone.{nothing_stays}
+use Rattle.rapid_gc.proofs.Bounds.{are_kept, leaves_one}
 use Rattle.rapid_gc.proofs.Prepared.{idled_is, ends_idled, collects_view}
 use Rattle.rapid_gc.proofs.collecting.collect.Goals as goal
 
@@ -47,8 +48,14 @@ returns-clause-view g c =
     let bound_is : bound ≡ after'.published.read =
     sym (ap (λ (v : View). v.published.read) c.go_through.ensures.view ∙ ap (λ (v : View). v.published.read) c.raise_min_read-reached.ensures.view ∙ ap (λ (v : View). v.published.read) c.publish_read.ensures.view) in
     let all = collects_view before c.idle.new.hand.view raised prepared after' least bound reached e1 c.raise_min_write.ensures.view c.publish_read.new.hand.view c.publish_read.ensures.view c.raise_min_read-reached.ensures.view c.go_through.ensures.view in
-    subst (λ (n : ℕ). after' ≡ after_collecting before n after'.reached after'.gone after'.seen) bound_is
-    (subst (λ (n : ℕ). after' ≡ after_collecting before bound n after'.gone after'.seen) reached_is all)
+    subst (λ (n : ℕ). after' ≡ after_collecting before n after'.reached after'.counts after'.gone after'.seen) bound_is
+    (subst (λ (n : ℕ). after' ≡ after_collecting before bound n after'.counts after'.gone after'.seen) reached_is all)
 
 pub returns-clause-alone : goal.returns-clause-alone
 returns-clause-alone g c = nothing_stays c.args.hand.now.view c.args.queue.now.items c.go_through.new.items.items c.go_through.new.hand.view c.go_through.result (returns-clause-collects g c)
+
+pub returns-clause-known : goal.returns-clause-known
+returns-clause-known g c = are_kept c.args.hand.now.view c.args.queue.now.items c.go_through.new.items.items c.go_through.new.hand.view c.go_through.result (returns-clause-collects g c)
+
+pub returns-clause-one_left : goal.returns-clause-one_left
+returns-clause-one_left g c = leaves_one c.args.hand.now.view c.args.queue.now.items c.go_through.new.items.items c.go_through.new.hand.view c.go_through.result (returns-clause-collects g c)

@@ -4,6 +4,7 @@ use Rattle.core_rule.specs.Views.{Among}
 use Rattle.validate_core.specs.Sets.{SetsView, Once}
 use Rattle.validate_core.specs.Installing.{FindsNoPlace}
 use Rattle.validate_core.proofs.Writes.{same_length}
+use Rattle.validate_core.proofs.Bounds.{none_full}
 use Rattle.validate_core.proofs.Placing.{placing_starts, placing_record, placing_new, placing_once, placing_next, placing_all, finds_no_place}
 use Rattle.validate_core.proofs.installing.install.Goals as goal
 
@@ -32,6 +33,12 @@ returns-in-Err-clause-err g c =
     let w = c.store_first.new.hand.view in
     subst (λ (s : SetsView). FindsNoPlace c.args.core.now.size s c.args.hand.now.view w) (sym same)
     (finds_no_place c.args.core.now c.args.hand.now c.args.sets.now c.loop-i.i c.loop-i.sets c.loop-i.hand c.loop-i.invariant c.requires.begun c.install_one.new.hand f w e.works e.seen (e.linked ∙ ap (λ (s : SetsView). take c.loop-i.i s.writes) same) e.decided e.ends)
+
+pub returns-in-Err-clause-full : goal.returns-in-Err-clause-full
+returns-in-Err-clause-full g c =
+    let count = c.count_writes-i-end.ensures in let test = c.loop-i-test.true in
+    let lt : c.loop-i.i < length c.args.sets.now.writes = omega arith in
+    none_full c.args.core.now c.args.hand.now c.args.sets.now c.loop-i.i c.loop-i.sets c.loop-i.hand c.loop-i.invariant c.requires.begun lt c.in-Err.ensures.full
 
 pub loop-i-preserved : goal.loop-i-preserved
 loop-i-preserved g c =

@@ -1,30 +1,12 @@
-//! Tests of the input's language, of the program and of the queue of lanes: worked rows, limits, and each public call once on
-//! its happy path.
+//! Tests of the program, of its sources and sinks and of the queue of lanes: whole runs, faults at each call, and each public call
+//! once on its happy path.
 //!
 //! They stand here, apart from the crates that they are of, since a crate with tests is proved twice.
 #![tactic(auto)]
 
 #[cfg(test)]
-mod checked_reports;
-#[cfg(test)]
-mod generated_loads;
-#[cfg(test)]
 mod lanes;
-#[cfg(test)]
-mod orders;
-#[cfg(test)]
-mod printing;
-#[cfg(test)]
-mod refused_texts;
-#[cfg(test)]
-mod replays;
-#[cfg(test)]
-mod reports;
 #[cfg(test)]
 mod runs;
 #[cfg(test)]
 mod streams;
-#[cfg(test)]
-mod tables;
-#[cfg(test)]
-mod texts;

@@ -1,6 +1,5 @@
 //! Whole runs through the top call: what no clause of it says, and what its ends do.
 
-use crate::texts::bytes_of;
 use cicada_top::{Finish, Status, run};
 use outside_io::{
     CleanSink, CleanSource, Clock, CountClock, Gate, MemSink, MemSource, OpenGate, Sink, Source,
@@ -12,10 +11,11 @@ use std::test::Fail;
 use std::thread::Threads;
 
 /// A block over one row: 74 bytes.
-const TEXT: &str = "cicada 1/table a/row a 1 100/lane/txn/get a 1/sub a 1 30/get a 1/end/done/";
+const TEXT: &str =
+    "cicada 1\ntable a\nrow a 1 100\nlane\ntxn\nget a 1\nsub a 1 30\nget a 1\nend\ndone\n";
 
 /// Its report: 40 bytes.
-const REPORT: &str = "512 1.1 ok/= 100/= 70/table a/1 70/done/";
+const REPORT: &str = "512 1.1 ok\n= 100\n= 70\ntable a\n1 70\ndone\n";
 
 /// A run with these words, of which `|` separates one from the next.
 fn run_with<R: Threads + Wait + Sync, S: Source, K: Sink>(
@@ -40,27 +40,27 @@ type Row = (&'static str, &'static str, Status, &'static str, usize);
 
 const ROWS: [Row; 8] = [
     ("", TEXT, Status::Done, REPORT, 1),
-    ("", "cicada 1/done/", Status::Done, "done/", 0),
-    ("", "cicada 1/table a/", Status::Input, "refused 3 6/", 0),
+    ("", "cicada 1\ndone\n", Status::Done, "done\n", 0),
+    ("", "cicada 1\ntable a\n", Status::Input, "refused 3 6\n", 0),
     (
         "--gen|1",
         TEXT,
         Status::Done,
-        "transactions 4000/sum 64000000/done/",
+        "transactions 4000\nsum 64000000\ndone\n",
         4000,
     ),
     (
         "--check",
-        "cicada 1/lane/snap/end/done/256 1.1 snap/done/",
+        "cicada 1\nlane\nsnap\nend\ndone\n256 1.1 snap\ndone\n",
         Status::Done,
-        "yes/",
+        "yes\n",
         1,
     ),
     (
         "--check",
-        "cicada 1/done/x",
+        "cicada 1\ndone\nx",
         Status::Differs,
-        "no line 1/",
+        "no line 1\n",
         0,
     ),
     ("--workers|0", TEXT, Status::Usage, "", 0),
@@ -74,7 +74,7 @@ fn answered<R: Threads + Wait + Sync>(
     words: &str,
     text: &str,
 ) -> Result<(Finish, CleanSink), AllocError> {
-    let mut source = CleanSource::new(bytes_of(alloc, text)?);
+    let mut source = CleanSource::new(Vec::from_slice(alloc, text.as_bytes())?);
     let mut sink = CleanSink::new(alloc);
     let finish = run_with(rt, alloc, words, &mut source, &mut sink)?;
     Ok((finish, sink))
@@ -89,7 +89,7 @@ fn texts_are_answered(rt: HostRuntime) -> Result<(), Fail> {
         assert_eq!(rt; finish.order.len(), *blocks);
         assert_eq!(rt; finish.usage.is_some(), *status == Status::Usage);
         assert_eq!(rt; finish.fault.is_some(), *status == Status::Input);
-        let due = bytes_of(alloc, output)?;
+        let due = Vec::from_slice(alloc, output.as_bytes())?;
         assert_eq!(rt; sink.taken(), due.as_slice());
     }
     Ok(())
@@ -100,7 +100,7 @@ fn each_read_that_fails_ends_the_run(rt: HostRuntime) -> Result<(), Fail> {
     let alloc = rt.alloc();
     for call in 1..=75 {
         let fails = [call].to_vec(alloc)?;
-        let mut source = MemSource::new(bytes_of(alloc, TEXT)?, 1, fails);
+        let mut source = MemSource::new(Vec::from_slice(alloc, TEXT.as_bytes())?, 1, fails);
         let mut sink = CleanSink::new(alloc);
         let finish = run_with(&rt, alloc, "", &mut source, &mut sink)?;
         assert_eq!(rt; finish.status, Status::ReadFault);
@@ -112,10 +112,10 @@ fn each_read_that_fails_ends_the_run(rt: HostRuntime) -> Result<(), Fail> {
 #[test]
 fn each_write_that_fails_ends_the_run(rt: HostRuntime) -> Result<(), Fail> {
     let alloc = rt.alloc();
-    let due = bytes_of(alloc, REPORT)?;
+    let due = Vec::from_slice(alloc, REPORT.as_bytes())?;
     for call in 1..=40 {
         let fails = [call].to_vec(alloc)?;
-        let mut source = CleanSource::new(bytes_of(alloc, TEXT)?);
+        let mut source = CleanSource::new(Vec::from_slice(alloc, TEXT.as_bytes())?);
         let mut sink = MemSink::new(alloc, 1, fails);
         let finish = run_with(&rt, alloc, "", &mut source, &mut sink)?;
         assert_eq!(rt; finish.status, Status::WriteFault);
@@ -129,11 +129,11 @@ fn each_write_that_fails_ends_the_run(rt: HostRuntime) -> Result<(), Fail> {
 #[test]
 fn a_byte_at_a_time_is_enough(rt: HostRuntime) -> Result<(), Fail> {
     let alloc = rt.alloc();
-    let mut source = MemSource::new(bytes_of(alloc, TEXT)?, 1, Vec::new(alloc));
+    let mut source = MemSource::new(Vec::from_slice(alloc, TEXT.as_bytes())?, 1, Vec::new(alloc));
     let mut sink = MemSink::new(alloc, 1, Vec::new(alloc));
     let finish = run_with(&rt, alloc, "", &mut source, &mut sink)?;
     assert_eq!(rt; finish.status, Status::Done);
-    let due = bytes_of(alloc, REPORT)?;
+    let due = Vec::from_slice(alloc, REPORT.as_bytes())?;
     assert_eq!(rt; sink.taken(), due.as_slice());
     Ok(())
 }
@@ -141,7 +141,7 @@ fn a_byte_at_a_time_is_enough(rt: HostRuntime) -> Result<(), Fail> {
 #[test]
 fn a_part_is_written_before_a_fault(rt: HostRuntime) -> Result<(), Fail> {
     let alloc = rt.alloc();
-    let mut source = CleanSource::new(bytes_of(alloc, TEXT)?);
+    let mut source = CleanSource::new(Vec::from_slice(alloc, TEXT.as_bytes())?);
     let mut sink = MemSink::new(alloc, 8, [2].to_vec(alloc)?);
     let finish = run_with(&rt, alloc, "", &mut source, &mut sink)?;
     assert_eq!(rt; finish.status, Status::WriteFault);
@@ -153,12 +153,15 @@ fn a_part_is_written_before_a_fault(rt: HostRuntime) -> Result<(), Fail> {
 fn no_order_is_answered_with_other_texts(rt: HostRuntime) -> Result<(), Fail> {
     let alloc = rt.alloc();
     let rows = [
-        ("", "cicada 1/done"),
-        ("--check", "cicada 1/lane/snap/end/done/256 1.1 snap/done/"),
-        ("--check", "cicada 1/lane/snap/end/done/done/"),
+        ("", "cicada 1\ndone"),
+        (
+            "--check",
+            "cicada 1\nlane\nsnap\nend\ndone\n256 1.1 snap\ndone\n",
+        ),
+        ("--check", "cicada 1\nlane\nsnap\nend\ndone\ndone\n"),
     ];
     for (words, text) in rows {
-        let mut source = CleanSource::new(bytes_of(alloc, text)?);
+        let mut source = CleanSource::new(Vec::from_slice(alloc, text.as_bytes())?);
         let mut sink = MemSink::new(alloc, 1, [1].to_vec(alloc)?);
         let finish = run_with(&rt, alloc, words, &mut source, &mut sink)?;
         assert_eq!(rt; finish.status, Status::WriteFault);
@@ -171,7 +174,10 @@ fn no_order_is_answered_with_other_texts(rt: HostRuntime) -> Result<(), Fail> {
 #[test]
 fn the_first_faulty_line_is_answered(rt: HostRuntime) -> Result<(), Fail> {
     let alloc = rt.alloc();
-    let mut source = CleanSource::new(bytes_of(alloc, "cicada 1/table a/row b 1 1/done/")?);
+    let mut source = CleanSource::new(Vec::from_slice(
+        alloc,
+        "cicada 1\ntable a\nrow b 1 1\ndone\n".as_bytes(),
+    )?);
     let finish = run_with(&rt, alloc, "", &mut source, &mut CleanSink::new(alloc))?;
     let fault = finish.fault.ok_or("no fault")?;
     assert_eq!(rt; (fault.line, fault.kind), (3, 3));
@@ -217,7 +223,7 @@ fn neither_clock_nor_gate_is_asked_yet(rt: HostRuntime) -> Result<(), Fail> {
         readings: &readings,
     };
     let clocks = vec![in alloc; clock; 64]?;
-    let mut source = CleanSource::new(bytes_of(alloc, TEXT)?);
+    let mut source = CleanSource::new(Vec::from_slice(alloc, TEXT.as_bytes())?);
     let mut sink = CleanSink::new(alloc);
     let finish = run(&rt, alloc, &[], &mut source, &mut sink, clocks, &gate);
     assert_eq!(rt; finish.status, Status::Done);

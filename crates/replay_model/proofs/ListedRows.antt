@@ -1,9 +1,8 @@
 -- Rows of a table listed by a column: what stands where, and what a range of them holds.
-use Rattle.std.proofs.Common.{◌≡◌, ◌≢◌, ℕ, ◌<◌, ◌≤◌, Bool, true, false, cond, not, ◌==◌, ◌&&◌, nat_le, T, List, [], ◌∷◌, ◌++◌, AllPairs, option_map, map, filter, take, Option, Some, None, ◌+◌, ◌-◌, length, get_or, drop, refl, sym, ap, subst, ◌∙◌, arith, ◌⊎◌, ⊎_elim, inl, inr, eq-eqb, ne_eqb}
+use Rattle.std.proofs.Common.{◌≡◌, ◌≢◌, ℕ, ◌<◌, Bool, true, false, cond, ◌==◌, ◌&&◌, T, List, [], ◌∷◌, ◌++◌, AllPairs, option_map, map, filter, take, Option, Some, None, ◌+◌, ◌-◌, length, get_or, drop, refl, sym, ap, subst, ◌∙◌, arith, ◌⊎◌, ⊎_elim, inl, inr, eq-eqb, ne_eqb}
 use Rattle.std.specs.declared.cmp.Ordering.TheVariants.{Equal}
 use Rattle.std.specs.Ordering.{eq_by_cmp, nat_cmp}
-use Rattle.std.specs.FinMap as finite
-use Rattle.std.specs.FinMap.{entries, entries_sorted, from_entries, get, get-entries, get-from_entries, get-insert, get-remove, insert, remove, same_map, is_sorted, find}
+use Rattle.std.specs.FinMap.{entries, entries_sorted, get, get-entries, get-from_entries, get-insert, get-remove, insert, remove, same_map, is_sorted, find}
 use Rattle.std.specs.FinMap.Entries.{below_all, where_key, is_sorted-where_key, find-where_key, same_entries}
 use Rattle.std.proofs.lemmas.Bool.Decides.{nat_tests}
 use Rattle.replay_model.specs.TableMap.{RowMap, Row, TableMap, pair_cmp, pair_at, column_in, pairs_of}

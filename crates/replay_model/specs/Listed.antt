@@ -1,5 +1,5 @@
 -- The rows of a table with an index, listed by the column of the index and then by their keys.
-use Rattle.std.specs.Prelude.{◌≡◌, ℕ, ◌==◌, if◌then◌else◌, List, map, All, Option, None, Some, slice_get}
+use Rattle.std.specs.Prelude.{◌≡◌, ℕ, ◌==◌, if◌then◌else◌, List, map, Option, None, Some, slice_get}
 use Rattle.std.specs.FinMap.{get}
 use Rattle.replay_model.specs.declared.listed.Listed.{Listed}
 use Rattle.replay_model.specs.TableMap.{RowMap, Row, column_in}

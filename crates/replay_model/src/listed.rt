@@ -22,12 +22,7 @@ pub struct Listed {
 
 impl Listed {
     /// Sets the row at a key, where this one was before, if any. Only a value that the key did not have may want memory.
-    pub fn enter(
-        &mut self,
-        key: u64,
-        was: &Option<Columns>,
-        row: Columns,
-    ) -> Result<(), NoMemory>
+    pub fn enter(&mut self, key: u64, was: &Option<Columns>, row: Columns) -> Result<(), NoMemory>
         requires column { IsColumn self.old.column }
         requires was { (value : ℕ) → get self.old.rows (value, key) ≡ where_value self.old.column was.now value }
         ensures ok { OnOk result (IsRelisted self.old.column key (Some row) self.old.rows self.new.rows) }

@@ -1,6 +1,5 @@
-use Rattle.std.proofs.Common.{ℕ, drop, ap, sym, ◌∙◌}
+use Rattle.std.proofs.Common.{ap, sym, ◌∙◌}
 use Rattle.std.specs.FinMap.{insert}
-use Rattle.replay_model.specs.TableMap.{RowMap}
 use Rattle.replay_model.specs.Effect.{by_column}
 use Rattle.replay_model.proofs.Items.{drop_at}
 use Rattle.replay_model.proofs.listed.listed_by.Goals as goal

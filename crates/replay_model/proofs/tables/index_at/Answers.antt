@@ -1,10 +1,6 @@
-use Rattle.std.proofs.Common.{◌≡◌, ◌≢◌, ℕ, cond, ◌==◌, List, Option, Some, None, map, drop, refl, sym, ap, ◌∙◌, arith}
-use Rattle.std.specs.Ordering.{nat_cmp}
-use Rattle.std.specs.FinMap.{find}
-use Rattle.std.proofs.lemmas.List.{drop_more, drop_all}
+use Rattle.std.proofs.Common.{◌≢◌, Some, sym, ap, ◌∙◌, arith}
 use Rattle.std.proofs.lemmas.Option.{slice_get-get_or, get_or_from_slice_get}
 use Rattle.replay_model.specs.declared.listed.Listed.{Listed}
-use Rattle.replay_model.specs.Listed.{columns_of}
 use Rattle.replay_model.proofs.Items.{each_more, each_all}
 use Rattle.replay_model.proofs.ListedRows.{find_here, find_past}
 use Rattle.replay_model.proofs.tables.index_at.Goals as goal

@@ -1,15 +1,14 @@
-use Rattle.std.proofs.Common.{◌≡◌, ◌≢◌, AllPairs, ℕ, List, ◌++◌, [], ◌∷◌, take, All, ap, sym, refl, subst, Some, ◌∙◌, arith}
-use Rattle.std.proofs.lemmas.List.{take_more, take_all, map-append}
-use Rattle.std.proofs.lemmas.Option.{slice_get-map, get_or_from_slice_get, slice_get_within, slice_get-get_or}
+use Rattle.std.proofs.Common.{◌≡◌, ◌≢◌, AllPairs, ℕ, List, ap, sym, refl, subst, Some, ◌∙◌, arith}
+use Rattle.std.proofs.lemmas.List.{take_all}
+use Rattle.std.proofs.lemmas.Option.{slice_get-map, get_or_from_slice_get, slice_get_within}
 use Rattle.std.specs.List.{slice_get}
 use Rattle.std.specs.FinMap as finite
 use Rattle.std.specs.Prelude.{option_map}
 use Rattle.replay_model.specs.declared.listed.Listed.{Listed}
 use Rattle.replay_model.specs.TableMap.{RowMap}
 use Rattle.replay_model.specs.Effect.{by_column}
-use Rattle.replay_model.specs.RowsIn.{rows_in}
 use Rattle.replay_model.specs.Input.{IsColumn}
-use Rattle.replay_model.specs.Listed.{IsListedBy, columns_of}
+use Rattle.replay_model.specs.Listed.{columns_of}
 use Rattle.replay_model.proofs.ListedRows.{columns_push, get-by_column, listed_push, one_place}
 use Rattle.replay_model.proofs.tables.loaded_indexes.Goals as goal
 

@@ -1,6 +1,6 @@
-use Rattle.std.proofs.Common.{◌≡◌, ℕ, true, false, ◌==◌, cond, subst, Some, None, sym, ap, ◌∙◌, refl, arith}
+use Rattle.std.proofs.Common.{◌==◌, cond, subst, Some, None, sym, ap, ◌∙◌}
 use Rattle.std.specs.FinMap.{insert, remove}
-use Rattle.replay_model.specs.TableMap.{RowMap, Row, column_in}
+use Rattle.replay_model.specs.TableMap.{RowMap}
 use Rattle.replay_model.specs.Listed.{where_value, IsRelisted}
 use Rattle.replay_model.proofs.ListedRows.{relisted_new, relisted_moved}
 use Rattle.replay_model.proofs.listed.Listed.enter.Goals as goal

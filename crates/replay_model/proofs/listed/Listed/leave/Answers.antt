@@ -1,4 +1,4 @@
-use Rattle.std.proofs.Common.{◌≡◌, ℕ, subst, sym, ap, None, ◌∙◌}
+use Rattle.std.proofs.Common.{subst, sym, ap, None, ◌∙◌}
 use Rattle.std.specs.FinMap.{remove}
 use Rattle.replay_model.specs.TableMap.{RowMap}
 use Rattle.replay_model.specs.Listed.{IsRelisted}

@@ -1,8 +1,8 @@
-use Rattle.std.proofs.Common.{◌≡◌, ℕ, List, ap, sym, subst, Some, None, ◌∙◌}
+use Rattle.std.proofs.Common.{◌≡◌, List, ap, sym, subst, Some, ◌∙◌}
 use Rattle.std.specs.List.{slice_get}
 use Rattle.replay_model.specs.declared.listed.Listed.{Listed}
 use Rattle.replay_model.specs.TableMap.{RowMap, TableMap, pairs_of}
-use Rattle.replay_model.specs.Effect.{found, by_column}
+use Rattle.replay_model.specs.Effect.{by_column}
 use Rattle.replay_model.specs.RowsIn.{first_spanning, rows_in}
 use Rattle.replay_model.proofs.ListedRows.{item_at, listed_is, found_spanning}
 use Rattle.replay_model.proofs.tables.Tables.find.Goals as goal
@@ -15,7 +15,7 @@ returns-then-index-column c =
     let rows : RowMap = c.self.inside.rows in
     let listed = listed_is l.table l.column rows l.rows (c.self.invariant.listed place l at) in
     let by = listed ∙ ap (λ t. by_column l.column (rows_in t rows)) own ∙ ap (λ n. by_column n (rows_in c.args.table rows)) c.if-index-column.true
-        ∙ ap (λ (m : TableMap). by_column c.args.column (pairs_of c.args.table m)) c.self.view_is in
+    ∙ ap (λ (m : TableMap). by_column c.args.column (pairs_of c.args.table m)) c.self.view_is in
     c.from_vec.ensures ∙ c.in_ok-found.ensures ∙ ap (first_spanning c.args.lo c.args.hi c.args.limit) by ∙ found_spanning c.args.table c.args.column c.args.lo c.args.hi c.args.limit c.args.self.now
 
 pub returns : goal.returns

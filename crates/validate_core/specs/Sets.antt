@@ -1,5 +1,5 @@
 -- What a transaction has read and what it writes.
-use Rattle.std.specs.Prelude.{◌≡◌, ◌≢◌, ℕ, suc, ◌<◌, List, [], ◌∷◌, ◌++◌, take, drop}
+use Rattle.std.specs.Prelude.{◌≡◌, ◌≢◌, ℕ, suc, ◌<◌, List, [], ◌∷◌, ◌++◌, take, drop, nat_lt, count_by}
 use Rattle.word_layout.specs.Size.{Size, places}
 use Rattle.core_rule.specs.View.{Read, Write}
 use Rattle.core_rule.specs.Views.{Among}
@@ -27,6 +27,10 @@ SameWrites [] [] = Unit {0}
 SameWrites [] (w ∷ ws) = ⊥
 SameWrites (u ∷ us) [] = ⊥
 SameWrites (u ∷ us) (w ∷ ws) = (w.record_number ≡ u.record_number) × (w.cells ≡ u.cells) × SameWrites us ws
+
+-- how many of the writes stand in places below this one
+abbrev pub count_below : (place : ℕ) → List Write → ℕ
+count_below place us = count_by (λ (u : Write). nat_lt u.place place) us
 
 -- records and places are those of a table of this size
 pub record IsInside (z : Size) (s : SetsView) : Type 0 where

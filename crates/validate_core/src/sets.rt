@@ -3,7 +3,7 @@ ghost use Rattle.std.specs.Prelude.{◌≡◌, ◌≢◌, ◌+◌, ◌<◌, ◌�
 ghost use Rattle.core_rule.specs.View.{Read, Write};
 ghost use Rattle.core_rule.specs.Views.{Among};
 ghost use Rattle.core_rule.specs.Versions.{read_version, written_version};
-ghost use Rattle.validate_core.specs.Sets.{SetsView, Turn, Once};
+ghost use Rattle.validate_core.specs.Sets.{SetsView, Turn, Once, count_below};
 
 use crate::staged::Staged;
 use core_rule::{ReadVersion, WrittenVersion};
@@ -80,6 +80,29 @@ impl Sets {
         let Ok(()) = self.writes.push(Staged::new(rid, value)) else {
             unreachable!();
         };
+    }
+
+    /// Drops all reads and writes. The room stays.
+    pub fn clear(&mut self)
+        ensures reads { self.new.reads ≡ [] }
+        ensures writes { self.new.writes ≡ [] }
+        ensures room { (self.old.read_room ≤ self.new.read_room) × (self.old.write_room ≤ self.new.write_room) }
+    {
+        self.reads.clear();
+        self.writes.clear();
+    }
+
+    /// How many writes stand in places below this one.
+    pub fn count_below(&self, place: u32) -> usize
+        ensures { result ≡ count_below place self.now.writes }
+    {
+        let mut count = 0;
+        for write in &self.writes {
+            if write.place() < place {
+                count += 1;
+            }
+        }
+        count
     }
 
     pub(crate) fn count_reads(&self) -> usize

@@ -44,6 +44,12 @@ impl Staged {
         self.rid
     }
 
+    pub(crate) fn place(&self) -> u32
+        ensures { result ≡ self.now.place }
+    {
+        self.place
+    }
+
     pub(crate) fn value(&self) -> Option<Cells>
         ensures cells { cells_of result ≡ self.now.cells }
         ensures whole { (cells_of result ≡ []) ⊎ (length (cells_of result) ≡ 32) }

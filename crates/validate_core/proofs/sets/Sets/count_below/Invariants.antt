@@ -1,0 +1,6 @@
+use Rattle.std.proofs.Common.{◌≡◌, ◌≤◌, take, length}
+use Rattle.validate_core.specs.Sets.{count_below}
+use Rattle.validate_core.proofs.sets.Sets.count_below.Given as goal
+
+abbrev pub invariant-loop-write : goal.invariant-loop-write
+invariant-loop-write l = record { counted : l.count ≡ count_below l.place (take l.write-index l.self.writes); bounded : l.count ≤ l.write-index }

@@ -5,6 +5,7 @@ pub mod Walked
 pub mod Passed
 pub mod Chains
 pub mod Ends
+pub mod Asked
 pub mod Sides
 pub mod Distinct
 pub mod Moved

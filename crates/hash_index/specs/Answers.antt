@@ -1,5 +1,5 @@
 -- What the calls of the index promise.
-use Rattle.std.specs.Prelude.{◌≡◌, ℕ, ◌+◌, ◌≤◌, ◌++◌, List, length, Option, option_to_list, IfSome, is_some, Bool, true, false}
+use Rattle.std.specs.Prelude.{◌≡◌, ℕ, ◌+◌, ◌<◌, ◌≤◌, ◌++◌, List, length, Option, option_to_list, IfSome, is_some, Bool, true, false, Result, OnOk}
 use Rattle.record_store.specs.Meaning.{Meaning}
 use Rattle.record_store.specs.Store.{IsFresh}
 use Rattle.record_store.specs.States.{EachState}
@@ -16,6 +16,11 @@ pub record IsTorn (base key : ℕ) (before after : Meaning) (rid : ℕ) : Type 0
 pub record MayAsk (base key : ℕ) (before after : Meaning) (asks : ℕ) : Type 0 where
   pub once : asks ≤ 1
   pub needs_node : EachChain base before after (λ _ rows. NeedsNode key rows)
+
+-- how often `fresh` was asked: only where it may be, and where the pair is in, once for each record that was given
+pub record Asks {E : Type 0} (base key : ℕ) (before after : Meaning) (answer : Result (Unit {0}) E) (asked : ℕ) : Type 0 where
+  pub may : 0 < asked → MayAsk base key before after asked
+  pub exact : OnOk answer (length after.given ≡ length before.given + asked)
 
 -- a pair is put: one record is written, and where a new node is taken one more
 pub record PutsPair (base key rid : ℕ) (before after : Meaning) : Type 0 where

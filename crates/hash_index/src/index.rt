@@ -9,7 +9,7 @@ ghost use Rattle.record_store.specs.Meaning.{after_write};
 ghost use Rattle.hash_index.specs.Node.{words_of};
 ghost use Rattle.hash_index.specs.Chain.{EachChain, EndsWell, bucket_of, record_of};
 ghost use Rattle.hash_index.specs.Search.{AddsNode};
-ghost use Rattle.hash_index.specs.Answers.{IsTorn, MayAsk, PutsPair, RemovesPair};
+ghost use Rattle.hash_index.specs.Answers.{IsTorn, MayAsk, Asks, PutsPair, RemovesPair};
 
 use crate::node::Node;
 use crate::search::{Link, Place, search};
@@ -56,7 +56,7 @@ pub fn put<S: RecordStore>(
     // each ask of `fresh` is counted, and may be made
     ensures fault { IfStore result (CallFault S.read_gives S.write_gives S.fresh_gives (MayAsk base key (S.meaning store.old) (S.meaning store.new)) store.old store.new) }
     ensures memory { IfNoMemory result ⊥ }
-    ensures calls { (asked : ℕ) × Calls S.read_gives S.write_gives S.fresh_gives store.old asked store.new × (0 < asked → MayAsk base key (S.meaning store.old) (S.meaning store.new) asked) }
+    ensures calls { (asked : ℕ) × Calls S.read_gives S.write_gives S.fresh_gives store.old asked store.new × Asks base key (S.meaning store.old) (S.meaning store.new) result asked }
     ensures after { ReadsGrow (S.meaning store.old) (S.meaning store.new) }
     ensures rest { S.rest store.new ≡ S.rest store.old }
 {

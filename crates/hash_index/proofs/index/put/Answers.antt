@@ -6,6 +6,7 @@ use Rattle.hash_index.proofs.Pairs.{position-found}
 use Rattle.hash_index.proofs.Chains.{is_torn}
 use Rattle.hash_index.proofs.Stored.{puts_found, puts_room, puts_empty, puts_full, needs_node, edited_pairs}
 use Rattle.hash_index.proofs.Ends.{walked_on, walked_written}
+use Rattle.hash_index.proofs.Asked.{never_ok, asked_none, asked_one}
 use Rattle.hash_index.proofs.index.put.Goals as goal
 
 pub returns-in_err-link-clause-torn : goal.returns-in_err-link-clause-torn
@@ -19,7 +20,7 @@ returns-in_err-link-clause-fault g c =
     (IfStore-map c.search.result (λ fault. CallFault-read _ _ _ fault) c.search.ensures.fault)
 
 pub returns-in_err-link-clause-calls : goal.returns-in_err-link-clause-calls
-returns-in_err-link-clause-calls g c = (0, Calls-reads _ _ c.search.ensures.calls, λ asked. absurd (omega arith))
+returns-in_err-link-clause-calls g c = (0, Calls-reads _ _ c.search.ensures.calls, record { may = λ asked. absurd (omega arith); exact = never_ok c.from_residual.result _ _ c.from_residual.ensures.1 })
 
 -- the key is there
 pub returns-in-Found-clause-ok : goal.returns-in-Found-clause-ok
@@ -33,7 +34,8 @@ pub returns-in-Found-clause-fault : goal.returns-in-Found-clause-fault
 returns-in-Found-clause-fault g c = IfStore-map c.write_node.result (λ fault. CallFault-never _ _ _ _ 0 fault (Calls-reads _ _ c.search.ensures.calls)) c.write_node.ensures.fault
 
 pub returns-in-Found-clause-calls : goal.returns-in-Found-clause-calls
-returns-in-Found-clause-calls g c = (0, Calls-trans _ _ _ 0 0 (Calls-reads _ _ c.search.ensures.calls) c.write_node.ensures.calls, λ asked. absurd (omega arith))
+returns-in-Found-clause-calls g c =
+    (0, Calls-trans _ _ _ 0 0 (Calls-reads _ _ c.search.ensures.calls) c.write_node.ensures.calls, record { may = λ asked. absurd (omega arith); exact = OnOk-map c.write_node.result (asked_none (g.S.RecordRead.meaning c.args.store.now) (g.S.RecordRead.meaning c.search.new.store) (g.S.RecordRead.meaning c.write_node.new.store) _ _ c.in_ok-link.ensures.after) c.write_node.ensures.ok })
 
 -- a node has room
 pub returns-in-Room-clause-ok : goal.returns-in-Room-clause-ok
@@ -46,7 +48,8 @@ pub returns-in-Room-clause-fault : goal.returns-in-Room-clause-fault
 returns-in-Room-clause-fault g c = IfStore-map c.write_node-in-Room.result (λ fault. CallFault-never _ _ _ _ 0 fault (Calls-reads _ _ c.search.ensures.calls)) c.write_node-in-Room.ensures.fault
 
 pub returns-in-Room-clause-calls : goal.returns-in-Room-clause-calls
-returns-in-Room-clause-calls g c = (0, Calls-trans _ _ _ 0 0 (Calls-reads _ _ c.search.ensures.calls) c.write_node-in-Room.ensures.calls, λ asked. absurd (omega arith))
+returns-in-Room-clause-calls g c =
+    (0, Calls-trans _ _ _ 0 0 (Calls-reads _ _ c.search.ensures.calls) c.write_node-in-Room.ensures.calls, record { may = λ asked. absurd (omega arith); exact = OnOk-map c.write_node-in-Room.result (asked_none (g.S.RecordRead.meaning c.args.store.now) (g.S.RecordRead.meaning c.search.new.store) (g.S.RecordRead.meaning c.write_node-in-Room.new.store) _ _ c.in_ok-link.ensures.after) c.write_node-in-Room.ensures.ok })
 
 -- every node is full
 pub returns-in-Full-clause-ok : goal.returns-in-Full-clause-ok
@@ -62,7 +65,7 @@ returns-in-Full-clause-fault g c =
 pub returns-in-Full-clause-calls : goal.returns-in-Full-clause-calls
 returns-in-Full-clause-calls g c =
     let needs = needs_node c.size-size.result c.args.base c.args.key (g.S.RecordRead.meaning c.args.store.now) (g.S.RecordRead.meaning c.search.new.store) (g.S.RecordRead.meaning c.add_node.new.store) c.in-Full.link c.size-size.ensures.size c.add_node.ensures.after.reads (λ state agrees. rw c.in-Full.is at (c.in_ok-link.ensures.place state agrees)) in
-    (1, Calls-trans _ _ _ 0 1 (Calls-reads _ _ c.search.ensures.calls) c.add_node.ensures.calls, λ asked. record { once = omega arith; needs_node = needs })
+    (1, Calls-trans _ _ _ 0 1 (Calls-reads _ _ c.search.ensures.calls) c.add_node.ensures.calls, record { may = λ asked. record { once = omega arith; needs_node = needs }; exact = OnOk-map c.add_node.result (asked_one c.args.key c.args.rid c.in-Full.link (g.S.RecordRead.meaning c.args.store.now) (g.S.RecordRead.meaning c.search.new.store) (g.S.RecordRead.meaning c.add_node.new.store) c.in_ok-link.ensures.after) c.add_node.ensures.ok })
 
 -- the bucket is absent
 pub returns-in-Empty-clause-ok : goal.returns-in-Empty-clause-ok
@@ -75,7 +78,8 @@ pub returns-in-Empty-clause-fault : goal.returns-in-Empty-clause-fault
 returns-in-Empty-clause-fault g c = IfStore-map c.write_node-in-Empty.result (λ fault. CallFault-never _ _ _ _ 0 fault (Calls-reads _ _ c.search.ensures.calls)) c.write_node-in-Empty.ensures.fault
 
 pub returns-in-Empty-clause-calls : goal.returns-in-Empty-clause-calls
-returns-in-Empty-clause-calls g c = (0, Calls-trans _ _ _ 0 0 (Calls-reads _ _ c.search.ensures.calls) c.write_node-in-Empty.ensures.calls, λ asked. absurd (omega arith))
+returns-in-Empty-clause-calls g c =
+    (0, Calls-trans _ _ _ 0 0 (Calls-reads _ _ c.search.ensures.calls) c.write_node-in-Empty.ensures.calls, record { may = λ asked. absurd (omega arith); exact = OnOk-map c.write_node-in-Empty.result (asked_none (g.S.RecordRead.meaning c.args.store.now) (g.S.RecordRead.meaning c.search.new.store) (g.S.RecordRead.meaning c.write_node-in-Empty.new.store) _ _ c.in_ok-link.ensures.after) c.write_node-in-Empty.ensures.ok })
 
 -- the walk ended well
 pub returns-in-Found-clause-walked : goal.returns-in-Found-clause-walked

@@ -1,0 +1,14 @@
+pub mod Places
+pub mod Shape
+pub mod Tables
+pub mod Plan
+pub mod Weight
+pub mod Steps
+pub mod Rows
+pub mod Moved
+pub mod Runs
+pub mod Answers
+pub mod Blocks
+pub mod Laws
+pub mod Lists
+pub mod Weights

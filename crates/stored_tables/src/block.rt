@@ -1,0 +1,136 @@
+//! Blocks of commands.
+
+ghost use Rattle.std.specs.Prelude.{◌≡◌, ℕ, ◌*◌, ◌<◌, ◌≤◌, IfOk, All, length};
+ghost use Rattle.record_store.specs.Calls.{Reads, ReadFault, CallFault};
+ghost use Rattle.record_store.specs.Walks.{IfTorn, IfStore, OnlyReads, ReadsGrow};
+ghost use Rattle.replay_model.specs.Input.{AreCommands};
+ghost use Rattle.replay_model.specs.Running.{outcome_of};
+ghost use Rattle.stored_tables.specs.Answers.{IsShort, ReadsAlone, Stands};
+ghost use Rattle.stored_tables.specs.Blocks.{Called, MayAskOnce, MayAskAll, RanTo, SawTo};
+ghost use Rattle.stored_tables.specs.Runs.{Looks, Runs};
+ghost use Rattle.stored_tables.specs.Tables.{EachTables};
+
+use crate::command::{read_command, run_command};
+use record_store::{RecordRead, RecordStore, Walk};
+use replay_model::{Commands, Outcome, Sequence};
+use std::alloc::Global;
+
+/// Runs a block's commands in order, up to the first that is refused. A refused block is taken back by `undo`, which drops all
+/// writes, also those before this call. After a fault what was read and written may have grown.
+///
+/// `NoMemory` comes of the room for answers and lists alone.
+pub fn exec_txn<S: RecordStore>(
+    store: &mut S,
+    alloc: Global,
+    commands: &Commands,
+) -> Result<Outcome, Walk<S::Fault>>
+    requires commands { AreCommands 8 commands.now }
+    requires short { All IsShort commands.now }
+    requires fixed { 4112 ≤ (S.meaning store.old).fixed }
+    ensures outcome { IfOk result (λ outcome. EachTables (S.meaning store.old) (S.meaning store.new) (λ _ _ tables. outcome ≡ outcome_of commands.now tables)) }
+    ensures called { Called S.read_gives S.write_gives S.fresh_gives S.meaning commands.now store.old store.new result }
+    ensures torn { IfTorn result (λ _. EachTables (S.meaning store.old) (S.meaning store.new) (λ _ _ _. ⊥)) }
+
+    // each ask of `fresh` is counted, and may be made
+    ensures fault { IfStore result (CallFault S.read_gives S.write_gives S.fresh_gives (MayAskOnce commands.now (S.meaning store.old) (S.meaning store.new)) store.old store.new) }
+    ensures after { ReadsGrow (S.meaning store.old) (S.meaning store.new) }
+    ensures rest { S.rest store.new ≡ S.rest store.old }
+{
+    // The records that are never given out lie in the store: its size says so.
+    let _size = store.size();
+    match run_commands(store, alloc, commands)? {
+        Outcome::Done(answers) => Ok(Outcome::Done(answers)),
+        Outcome::Refused { command, cause } => {
+            store.undo();
+            Ok(Outcome::Refused { command, cause })
+        }
+    }
+}
+
+/// Runs the commands up to the first that is refused, and takes nothing back.
+fn run_commands<S: RecordStore>(
+    store: &mut S,
+    alloc: Global,
+    commands: &Commands,
+) -> Result<Outcome, Walk<S::Fault>>
+    requires commands { AreCommands 8 commands.now }
+    requires short { All IsShort commands.now }
+    requires size { 4112 ≤ (S.meaning store.old).size }
+    requires fixed { 4112 ≤ (S.meaning store.old).fixed }
+    ensures runs { Runs S.read_gives S.write_gives S.fresh_gives S.meaning (Stands (S.meaning store.old)) (MayAskAll commands.now) (RanTo commands.now (S.meaning store.new)) (128 * length commands.now) store.old store.new result }
+    ensures rest { S.rest store.new ≡ S.rest store.old }
+{
+    let mut answers = Vec::new(alloc);
+    if answers.reserve(commands.len()).is_err() {
+        return Err(Walk::NoMemory);
+    }
+    for (i, command) in commands.as_slice().iter().enumerate() {
+        match run_command(store, alloc, command)? {
+            Ok(answer) => {
+                if answers.push(answer).is_err() {
+                    return Err(Walk::NoMemory);
+                }
+            }
+            Err(cause) => {
+                let command = i as u32 + 1;
+                return Ok(Outcome::Refused { command, cause });
+            }
+        }
+    }
+    Ok(Outcome::Done(Sequence::from_vec(answers)))
+}
+
+/// Runs a block of commands that read alone. After a fault what was read may have grown.
+///
+/// `NoMemory` comes of the room for answers and lists alone.
+pub fn exec_snap<S: RecordRead>(
+    store: &mut S,
+    alloc: Global,
+    commands: &Commands,
+) -> Result<Outcome, Walk<S::Fault>>
+    requires commands { AreCommands 8 commands.now }
+    requires short { All IsShort commands.now }
+    requires reads { All ReadsAlone commands.now }
+    requires size { 4112 ≤ (S.meaning store.old).size }
+    ensures outcome { IfOk result (λ outcome. EachTables (S.meaning store.old) (S.meaning store.new) (λ _ _ tables. outcome ≡ outcome_of commands.now tables)) }
+    ensures torn { IfTorn result (λ _. EachTables (S.meaning store.old) (S.meaning store.new) (λ _ _ _. ⊥)) }
+    ensures fault { IfStore result (ReadFault S.read_gives store.old store.new) }
+    ensures calls { Reads S.read_gives store.old store.new }
+    ensures after { OnlyReads (S.meaning store.old) (S.meaning store.new) }
+    ensures rest { S.rest store.new ≡ S.rest store.old }
+{
+    read_commands(store, alloc, commands)
+}
+
+/// Runs the commands up to the first that is refused.
+fn read_commands<S: RecordRead>(
+    store: &mut S,
+    alloc: Global,
+    commands: &Commands,
+) -> Result<Outcome, Walk<S::Fault>>
+    requires commands { AreCommands 8 commands.now }
+    requires short { All IsShort commands.now }
+    requires reads { All ReadsAlone commands.now }
+    requires size { 4112 ≤ (S.meaning store.old).size }
+    ensures looks { Looks S.read_gives S.meaning (Stands (S.meaning store.old)) (SawTo commands.now) store.old store.new result }
+    ensures rest { S.rest store.new ≡ S.rest store.old }
+{
+    let mut answers = Vec::new(alloc);
+    if answers.reserve(commands.len()).is_err() {
+        return Err(Walk::NoMemory);
+    }
+    for (i, command) in commands.as_slice().iter().enumerate() {
+        match read_command(store, alloc, command)? {
+            Ok(answer) => {
+                if answers.push(answer).is_err() {
+                    return Err(Walk::NoMemory);
+                }
+            }
+            Err(cause) => {
+                let command = i as u32 + 1;
+                return Ok(Outcome::Refused { command, cause });
+            }
+        }
+    }
+    Ok(Outcome::Done(Sequence::from_vec(answers)))
+}

@@ -1,0 +1,52 @@
+//! How a row gets other columns.
+
+ghost use Rattle.std.specs.Prelude.{◌≡◌, ◌≤◌, ◌<◌, IfSome};
+ghost use Rattle.replay_model.specs.Input.{IsColumn};
+ghost use Rattle.replay_model.specs.TableMap.{with_value};
+ghost use Rattle.stored_tables.specs.Answers.{Has, Becomes, MayAskFor};
+ghost use Rattle.stored_tables.specs.Plan.{moves_entry};
+ghost use Rattle.stored_tables.specs.Runs.{Runs};
+
+use crate::reading::Found;
+use crate::steps::{insert_entry, remove_entry, write_row};
+use ordered_index::Key;
+use record_store::{RecordStore, Walk};
+use replay_model::Columns;
+
+/// Writes other columns to a row. Its entry in the table's index moves where it has another value in the column of the index.
+pub fn change_row<S: RecordStore>(
+    store: &mut S,
+    table: u32,
+    key: u64,
+    index: Option<u32>,
+    found: &Found,
+    row: &Columns,
+) -> Result<(), Walk<S::Fault>>
+    requires table { table < 8 }
+    requires fixed { 4112 ≤ (S.meaning store.old).fixed }
+    requires rid { found.now.rid < (S.meaning store.old).size }
+    requires column { IfSome index IsColumn }
+    ensures runs { Runs S.read_gives S.write_gives S.fresh_gives S.meaning (Has (S.meaning store.old) table key index found.now) (MayAskFor (moves_entry table key index found.now.row row.now)) (λ _ asked state held. Becomes (moves_entry table key index found.now.row row.now) (with_value held.1 table key row.now) (S.meaning store.new) asked state held) 53 store.old store.new result }
+    ensures rest { S.rest store.new ≡ S.rest store.old }
+{
+    let rid = found.rid;
+    write_row(store, rid, row)?;
+    let Some(column) = index else {
+        return Ok(());
+    };
+    let was = found.row.column(column);
+    let high = row.column(column);
+    if was == high {
+        return Ok(());
+    }
+    remove_entry(
+        store,
+        table + 8,
+        Key {
+            high: was,
+            low: key,
+        },
+        rid,
+    )?;
+    insert_entry(store, table + 8, Key { high, low: key }, rid)
+}

@@ -1,0 +1,23 @@
+//! Laws of states that stand for tables. Each function does nothing; its contract is a law.
+
+ghost use Rattle.stored_tables.specs.Laws.{EmptyStands, OneTables, FitsRecords, FitsMore};
+
+/// The empty state stands for the tables without rows and indexes.
+pub fn empty_stands()
+    ensures { EmptyStands }
+{}
+
+/// A state stands for one tables at most, at whatever size and wherever they stand.
+pub fn one_tables()
+    ensures { OneTables }
+{}
+
+/// A state of so many records that stands for tables does so at that size too.
+pub fn fits_records()
+    ensures { FitsRecords }
+{}
+
+/// A state that stands for tables at a size does so at each greater size.
+pub fn fits_more()
+    ensures { FitsMore }
+{}

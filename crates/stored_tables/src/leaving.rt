@@ -1,0 +1,57 @@
+//! How a row leaves a table.
+
+ghost use Rattle.std.specs.Prelude.{◌≡◌, ◌≤◌, ◌<◌, IfSome};
+ghost use Rattle.replay_model.specs.Input.{IsColumn};
+ghost use Rattle.replay_model.specs.TableMap.{without};
+ghost use Rattle.stored_tables.specs.Answers.{Has, Becomes, MayAskFor, leave_moves};
+ghost use Rattle.stored_tables.specs.Moved.{Midway};
+ghost use Rattle.stored_tables.specs.Plan.{leaves_index};
+ghost use Rattle.stored_tables.specs.Runs.{Runs};
+ghost use Rattle.stored_tables.specs.Tables.{row_words};
+
+use crate::reading::Found;
+use crate::steps::{drop_row, remove_entry, remove_pair};
+use ordered_index::Key;
+use record_store::{RecordStore, Walk};
+
+/// Takes a row out: of its table's index, of the chain, of the tree by keys, and its record.
+pub fn leave_row<S: RecordStore>(
+    store: &mut S,
+    table: u32,
+    key: u64,
+    index: Option<u32>,
+    found: &Found,
+) -> Result<(), Walk<S::Fault>>
+    requires table { table < 8 }
+    requires fixed { 4112 ≤ (S.meaning store.old).fixed }
+    requires rid { found.now.rid < (S.meaning store.old).size }
+    requires column { IfSome index IsColumn }
+    ensures runs { Runs S.read_gives S.write_gives S.fresh_gives S.meaning (Has (S.meaning store.old) table key index found.now) (MayAskFor (leave_moves table key index found.now.row)) (λ _ asked state held. Becomes (leave_moves table key index found.now.row) (without held.1 table key) (S.meaning store.new) asked state held) 4 store.old store.new result }
+    ensures rest { S.rest store.new ≡ S.rest store.old }
+{
+    leave_index(store, table, key, index, found)?;
+    remove_pair(store, table, key, found.rid)?;
+    remove_entry(store, table, Key { high: key, low: 0 }, found.rid)?;
+    drop_row(store, found.rid)
+}
+
+/// Takes a row's entry out of its table's index, if there is one.
+fn leave_index<S: RecordStore>(
+    store: &mut S,
+    table: u32,
+    key: u64,
+    index: Option<u32>,
+    found: &Found,
+) -> Result<(), Walk<S::Fault>>
+    requires table { table < 8 }
+    requires fixed { 4112 ≤ (S.meaning store.old).fixed }
+    requires column { IfSome index IsColumn }
+    ensures runs { Runs S.read_gives S.write_gives S.fresh_gives S.meaning (Has (S.meaning store.old) table key index found.now) (MayAskFor (leave_moves table key index found.now.row)) (λ _ asked state held. Midway table key found.now.rid (row_words found.now.row) (leaves_index table key index found.now.row) (S.meaning store.old) (S.meaning store.new) asked state held.0) 1 store.old store.new result }
+    ensures rest { S.rest store.new ≡ S.rest store.old }
+{
+    let Some(column) = index else {
+        return Ok(());
+    };
+    let high = found.row.column(column);
+    remove_entry(store, table + 8, Key { high, low: key }, found.rid)
+}

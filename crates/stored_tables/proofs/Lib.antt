@@ -11,7 +11,6 @@ pub mod StepsRows
 pub mod StepsChains
 pub mod StepsTrees
 pub mod StepsHeads
-pub mod Empty
 pub mod Ones
 pub mod Sizes
 pub mod Short
@@ -50,3 +49,5 @@ pub mod ScanRows
 pub mod ReadingCommands
 pub mod Running
 pub mod Ending
+pub mod Declaring
+pub mod DeclareRuns

@@ -25,7 +25,7 @@ shaped_at before now rid value state places wrote shape =
 here_at : (before now : Meaning) (rid : ℕ) (value : Option (List ℕ)) (state : State) → WroteOne before now rid value → overlay now.writes state rid ≡ value
 here_at before now rid value state wrote = ap (λ ws. overlay ws state rid) wrote.writes ∙ written_here before.writes state rid value
 
-other_at : (before now : Meaning) (rid : ℕ) (value : Option (List ℕ)) (state : State) (other : ℕ) → WroteOne before now rid value → other ≢ rid → overlay now.writes state other ≡ overlay before.writes state other
+pub other_at : (before now : Meaning) (rid : ℕ) (value : Option (List ℕ)) (state : State) (other : ℕ) → WroteOne before now rid value → other ≢ rid → overlay now.writes state other ≡ overlay before.writes state other
 other_at before now rid value state other wrote differs = ap (λ ws. overlay ws state other) wrote.writes ∙ written_others before.writes state rid value other differs
 
 -- two rows have two records

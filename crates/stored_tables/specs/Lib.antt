@@ -9,6 +9,8 @@ pub mod Moved
 pub mod Runs
 pub mod Answers
 pub mod Blocks
+pub mod Declare
 pub mod Laws
+pub mod Empty
 pub mod Lists
 pub mod Weights

@@ -1,4 +1,4 @@
-use Rattle.stored_tables.proofs.Empty.{stands_empty}
+use Rattle.stored_tables.specs.Empty.{stands_empty}
 use Rattle.stored_tables.proofs.laws.empty_stands.Goals as goal
 
 pub returns : goal.returns

@@ -11,6 +11,7 @@ pub mod Answers
 pub mod Blocks
 pub mod Declare
 pub mod Laws
+pub mod Kept
 pub mod Empty
 pub mod Lists
 pub mod Weights

@@ -1,6 +1,6 @@
 //! Indexes declared.
 
-ghost use Rattle.std.specs.Prelude.{◌≡◌, ◌<◌, ◌≤◌, IfOk, false};
+ghost use Rattle.std.specs.Prelude.{◌≡◌, ◌<◌, ◌≤◌, IfOk, OnErr, false};
 ghost use Rattle.record_store.specs.Calls.{Calls, CallFault};
 ghost use Rattle.record_store.specs.Walks.{IfTorn, IfStore, OnlyReads, ReadsGrow};
 ghost use Rattle.record_store.specs.Writes.{WritesAtMost};
@@ -17,7 +17,7 @@ use record_store::{RecordRead, RecordStore, Walk};
 use std::alloc::Global;
 
 /// Declares an index of a table on a column, where the table has no row and no index, and answers whether it did. After `false`
-/// nothing was written. It never asks for a new record.
+/// or a refusal nothing was written. It never asks for a new record.
 ///
 /// `NoMemory` comes of the room for one entry alone.
 pub fn declare_index<S: RecordStore>(
@@ -37,6 +37,7 @@ pub fn declare_index<S: RecordStore>(
     ensures calls { Calls S.read_gives S.write_gives S.fresh_gives store.old 0 store.new }
     ensures few { WritesAtMost 1 (S.meaning store.old) (S.meaning store.new) }
     ensures after { ReadsGrow (S.meaning store.old) (S.meaning store.new) }
+    ensures refused { OnErr result (OnlyReads (S.meaning store.old) (S.meaning store.new)) }
     ensures unchanged { IfOk result (λ declared. declared ≡ false → OnlyReads (S.meaning store.old) (S.meaning store.new)) }
     ensures rest { S.rest store.new ≡ S.rest store.old }
 {

@@ -24,32 +24,43 @@ use Rattle.stored_tables.proofs.Ties.{set_here}
 -- ---- plans
 
 row_set : (tables : TableMap) (table key : ℕ) (row : Row) → value_at (with_value tables table key row) table key ≡ Some row
-row_set tables table key row = (with_value_rows tables table key row).rows table key ∙ set_here table key (Some row) (value_at tables) key ∙ ap (λ b. cond b (Some row) (value_at tables table key)) (eq-eqb key key refl)
+row_set tables table key row = (with_value_rows tables table key row).rows table key
+    ∙ set_here table key (Some row) (value_at tables) key ∙ ap (λ b. cond b (Some row) (value_at tables table key)) (eq-eqb key key refl)
 
 row_gone : (tables : TableMap) (table key : ℕ) → value_at (without tables table key) table key ≡ None
-row_gone tables table key = (without_rows tables table key).rows table key ∙ set_here table key None (value_at tables) key ∙ ap (λ b. cond b None (value_at tables table key)) (eq-eqb key key refl)
+row_gone tables table key = (without_rows tables table key).rows table key ∙ set_here table key None (value_at tables) key
+    ∙ ap (λ b. cond b None (value_at tables table key)) (eq-eqb key key refl)
 
-pub plan_enters : (tables : TableMap) (table key : ℕ) (index : Option ℕ) (row : Row) → index_of table tables ≡ index → value_at tables table key ≡ None → moves_at tables table key (value_at tables table key) (value_at (with_value tables table key row) table key) ≡ enter_moves table key index row
+pub plan_enters : (tables : TableMap) (table key : ℕ) (index : Option ℕ) (row : Row) → index_of table tables ≡ index
+    → value_at tables table key ≡ None → moves_at tables table key (value_at tables table key)
+    (value_at (with_value tables table key row) table key) ≡ enter_moves table key index row
 plan_enters tables table key index row is none =
     (λ i. moves_at tables table key (none i) (row_set tables table key row i)) ∙ ap (λ o. enter_moves table key o row) is
 
-pub plan_changes : (tables : TableMap) (table key : ℕ) (index : Option ℕ) (old row : Row) → index_of table tables ≡ index → value_at tables table key ≡ Some old → moves_at tables table key (value_at tables table key) (value_at (with_value tables table key row) table key) ≡ moves_entry table key index old row
+pub plan_changes : (tables : TableMap) (table key : ℕ) (index : Option ℕ) (old row : Row) → index_of table tables ≡ index
+    → value_at tables table key ≡ Some old → moves_at tables table key (value_at tables table key)
+    (value_at (with_value tables table key row) table key) ≡ moves_entry table key index old row
 plan_changes tables table key index old row is there =
     (λ i. moves_at tables table key (there i) (row_set tables table key row i)) ∙ ap (λ o. moves_entry table key o old row) is
 
-pub plan_leaves : (tables : TableMap) (table key : ℕ) (index : Option ℕ) (old : Row) → index_of table tables ≡ index → value_at tables table key ≡ Some old → moves_at tables table key (value_at tables table key) (value_at (without tables table key) table key) ≡ leave_moves table key index old
+pub plan_leaves : (tables : TableMap) (table key : ℕ) (index : Option ℕ) (old : Row) → index_of table tables ≡ index
+    → value_at tables table key ≡ Some old → moves_at tables table key (value_at tables table key)
+    (value_at (without tables table key) table key) ≡ leave_moves table key index old
 plan_leaves tables table key index old is there =
     (λ i. moves_at tables table key (there i) (row_gone tables table key i)) ∙ ap (λ o. leave_moves table key o old) is
 
 -- ---- effects
 
-pub ins_enters : (tables : TableMap) (table key : ℕ) (row : Row) → value_at tables table key ≡ None → effect (Ins table key row) tables ≡ Ok (Nothing, with_value tables table key row)
+pub ins_enters : (tables : TableMap) (table key : ℕ) (row : Row) → value_at tables table key ≡ None
+    → effect (Ins table key row) tables ≡ Ok (Nothing, with_value tables table key row)
 ins_enters tables table key row none = rw none refl
 
-pub ins_exists : (tables : TableMap) (table key : ℕ) (row old : Row) → value_at tables table key ≡ Some old → effect (Ins table key row) tables ≡ Err Exists
+pub ins_exists : (tables : TableMap) (table key : ℕ) (row old : Row) → value_at tables table key ≡ Some old
+    → effect (Ins table key row) tables ≡ Err Exists
 ins_exists tables table key row old there = rw there refl
 
-pub del_leaves : (tables : TableMap) (table key : ℕ) (old : Row) → value_at tables table key ≡ Some old → effect (Del table key) tables ≡ Ok (Nothing, without tables table key)
+pub del_leaves : (tables : TableMap) (table key : ℕ) (old : Row) → value_at tables table key ≡ Some old
+    → effect (Del table key) tables ≡ Ok (Nothing, without tables table key)
 del_leaves tables table key old there = rw there refl
 
 pub del_missing : (tables : TableMap) (table key : ℕ) → value_at tables table key ≡ None → effect (Del table key) tables ≡ Err Missing
@@ -67,28 +78,46 @@ difference_there by value rest fits is = grind (arith, nat_tests)
 difference_short : (by value : ℕ) → value < by → difference_of by value ≡ Err Short
 difference_short by value below = grind (arith, nat_tests)
 
-change_is : (tables : TableMap) (table key column : ℕ) (change : ℕ → Result ℕ Cause) (row : Row) (value : ℕ) → value_at tables table key ≡ Some row → change (column_in column row) ≡ Ok value → change_at tables table key column change (value_at tables table key) ≡ Ok (Nothing, with_value tables table key (with_column column value row))
-change_is tables table key column change row value there is = ap (change_at tables table key column change) there ∙ ap (store_at tables table key column row) is
+change_is : (tables : TableMap) (table key column : ℕ) (change : ℕ → Result ℕ Cause) (row : Row) (value : ℕ)
+    → value_at tables table key ≡ Some row → change (column_in column row) ≡ Ok value → change_at tables table key column change
+    (value_at tables table key) ≡ Ok (Nothing, with_value tables table key (with_column column value row))
+change_is tables table key column change row value there is = ap (change_at tables table key column change) there
+    ∙ ap (store_at tables table key column row) is
 
-change_not : (tables : TableMap) (table key column : ℕ) (change : ℕ → Result ℕ Cause) (row : Row) (cause : Cause) → value_at tables table key ≡ Some row → change (column_in column row) ≡ Err cause → change_at tables table key column change (value_at tables table key) ≡ Err cause
-change_not tables table key column change row cause there is = ap (change_at tables table key column change) there ∙ ap (store_at tables table key column row) is
+change_not : (tables : TableMap) (table key column : ℕ) (change : ℕ → Result ℕ Cause) (row : Row) (cause : Cause)
+    → value_at tables table key ≡ Some row → change (column_in column row) ≡ Err cause → change_at tables table key column change
+    (value_at tables table key) ≡ Err cause
+change_not tables table key column change row cause there is = ap (change_at tables table key column change) there
+    ∙ ap (store_at tables table key column row) is
 
-pub add_changes : (tables : TableMap) (table key column by sum : ℕ) (row : Row) → value_at tables table key ≡ Some row → sum ≡ column_in column row + by → sum < 2 ^ 64 → effect (Add table key column by) tables ≡ Ok (Nothing, with_value tables table key (with_column column sum row))
-add_changes tables table key column by sum row there is below = change_is tables table key column (sum_of by) row sum there (sum_there by (column_in column row) sum is below)
+pub add_changes : (tables : TableMap) (table key column by sum : ℕ) (row : Row) → value_at tables table key ≡ Some row
+    → sum ≡ column_in column row + by → sum < 2 ^ 64 → effect (Add table key column by) tables ≡ Ok
+    (Nothing, with_value tables table key (with_column column sum row))
+add_changes tables table key column by sum row there is below = change_is tables table key column (sum_of by) row sum there
+    (sum_there by (column_in column row) sum is below)
 
-pub add_over : (tables : TableMap) (table key column by : ℕ) (row : Row) → value_at tables table key ≡ Some row → 2 ^ 64 ≤ column_in column row + by → effect (Add table key column by) tables ≡ Err Over
-add_over tables table key column by row there above = change_not tables table key column (sum_of by) row Over there (sum_over by (column_in column row) above)
+pub add_over : (tables : TableMap) (table key column by : ℕ) (row : Row) → value_at tables table key ≡ Some row
+    → 2 ^ 64 ≤ column_in column row + by → effect (Add table key column by) tables ≡ Err Over
+add_over tables table key column by row there above = change_not tables table key column (sum_of by) row Over there
+    (sum_over by (column_in column row) above)
 
-pub add_missing : (tables : TableMap) (table key column by : ℕ) → value_at tables table key ≡ None → effect (Add table key column by) tables ≡ Err Missing
+pub add_missing : (tables : TableMap) (table key column by : ℕ) → value_at tables table key ≡ None
+    → effect (Add table key column by) tables ≡ Err Missing
 add_missing tables table key column by none = rw none refl
 
-pub sub_changes : (tables : TableMap) (table key column by rest : ℕ) (row : Row) → value_at tables table key ≡ Some row → by ≤ column_in column row → rest ≡ column_in column row - by → effect (Sub table key column by) tables ≡ Ok (Nothing, with_value tables table key (with_column column rest row))
-sub_changes tables table key column by rest row there fits is = change_is tables table key column (difference_of by) row rest there (difference_there by (column_in column row) rest fits is)
+pub sub_changes : (tables : TableMap) (table key column by rest : ℕ) (row : Row) → value_at tables table key ≡ Some row
+    → by ≤ column_in column row → rest ≡ column_in column row - by → effect (Sub table key column by) tables ≡ Ok
+    (Nothing, with_value tables table key (with_column column rest row))
+sub_changes tables table key column by rest row there fits is = change_is tables table key column (difference_of by) row rest there
+    (difference_there by (column_in column row) rest fits is)
 
-pub sub_short : (tables : TableMap) (table key column by : ℕ) (row : Row) → value_at tables table key ≡ Some row → column_in column row < by → effect (Sub table key column by) tables ≡ Err Short
-sub_short tables table key column by row there below = change_not tables table key column (difference_of by) row Short there (difference_short by (column_in column row) below)
+pub sub_short : (tables : TableMap) (table key column by : ℕ) (row : Row) → value_at tables table key ≡ Some row
+    → column_in column row < by → effect (Sub table key column by) tables ≡ Err Short
+sub_short tables table key column by row there below = change_not tables table key column (difference_of by) row Short there
+    (difference_short by (column_in column row) below)
 
-pub sub_missing : (tables : TableMap) (table key column by : ℕ) → value_at tables table key ≡ None → effect (Sub table key column by) tables ≡ Err Missing
+pub sub_missing : (tables : TableMap) (table key column by : ℕ) → value_at tables table key ≡ None
+    → effect (Sub table key column by) tables ≡ Err Missing
 sub_missing tables table key column by none = rw none refl
 
 -- ---- what was looked up
@@ -97,52 +126,90 @@ sub_missing tables table key column by none = rw none refl
 abbrev pub Known : ℕ → ℕ → Option ℕ → Option Found → State → Held → Type 0
 Known table key index found state held = IsIndexed table index state held × IsFound table key found state held
 
-found_at : (table key : ℕ) (a b : Option Found) (state : State) (held : Held) → a ≡ b → IsFound table key a state held → IsFound table key b state held
+found_at : (table key : ℕ) (a b : Option Found) (state : State) (held : Held) → a ≡ b → IsFound table key a state held
+    → IsFound table key b state held
 found_at table key a b state held same is = let P : Option Found → Type 0 = λ f. IsFound table key f state held in subst P same is
 
-find_on : (tables : TableMap) (table column lo hi limit : ℕ) (pairs : List (ℕ × Row)) → index_of table tables ≡ Some column → pairs ≡ found table column lo hi limit tables → effect (Find table column lo hi limit) tables ≡ Ok (Pairs pairs, tables)
-find_on tables table column lo hi limit pairs on is = rw on (ap (λ b. cond b (Ok (Pairs (found table column lo hi limit tables), tables)) (Err Unindexed)) (eq-eqb column column refl) ∙ ap (λ ps. Ok (Pairs ps, tables)) (sym is))
+find_on : (tables : TableMap) (table column lo hi limit : ℕ) (pairs : List (ℕ × Row)) → index_of table tables ≡ Some column
+    → pairs ≡ found table column lo hi limit tables → effect (Find table column lo hi limit) tables ≡ Ok (Pairs pairs, tables)
+find_on tables table column lo hi limit pairs on is = rw on
+    (ap (λ b. cond b (Ok (Pairs (found table column lo hi limit tables), tables)) (Err Unindexed)) (eq-eqb column column refl)
+    ∙ ap (λ ps. Ok (Pairs ps, tables)) (sym is))
 
 module _ {S F : Type 0} {read_gives : S → ℕ → Result (Option (List ℕ)) F → S → Type 0} {meaning : S → Meaning} where
-  pub index_then_row : (table key : ℕ) (index : Option ℕ) (first middle last : S) (early : Result (Option ℕ) (Walk F)) (result : Result (Option Found) (Walk F)) → Looks read_gives meaning (Stands (meaning first)) (IsIndexed table) first middle early → early ≡ Ok index → Looks read_gives meaning (Stands (meaning middle)) (IsFound table key) middle last result → Looks read_gives meaning (Stands (meaning first)) (Known table key index) first last result
+  pub index_then_row : (table key : ℕ) (index : Option ℕ) (first middle last : S) (early : Result (Option ℕ) (Walk F))
+      (result : Result (Option Found) (Walk F)) → Looks read_gives meaning (Stands (meaning first)) (IsIndexed table) first middle early
+      → early ≡ Ok index → Looks read_gives meaning (Stands (meaning middle)) (IsFound table key) middle last result
+      → Looks read_gives meaning (Stands (meaning first)) (Known table key index) first last result
   index_then_row table key index first middle last early result a was b =
       looks_then (Known table key index) first middle last early index result a was b
-      (λ state held agrees stands indexed. (held, stands_on (meaning first) (meaning middle) state held a.only stands, λ found is. (indexed, is)))
-
-  -- a search of an index that is on the column
-  pub searched : (table column indexed lo hi limit : ℕ) (first middle last : S) (early : Result (Option ℕ) (Walk F)) (result : Result (List (ℕ × Row)) (Walk F)) → Looks read_gives meaning (Stands (meaning first)) (IsIndexed table) first middle early → early ≡ Ok (Some indexed) → indexed ≡ column
-      → Looks read_gives meaning (λ state held. Stands (meaning middle) state held × IsIndexed table (Some column) state held) (IsSearched table column lo hi limit) middle last result
-      → Looks read_gives meaning (Stands (meaning first)) (λ pairs state held. effect (Find table column lo hi limit) held.1 ≡ Ok (Pairs pairs, held.1)) first last result
-  searched table column indexed lo hi limit first middle last early result a was same b =
-      looks_then (λ pairs state held. effect (Find table column lo hi limit) held.1 ≡ Ok (Pairs pairs, held.1)) first middle last early (Some indexed) result a was b
-      (λ state held agrees stands is. (
-      let on : index_of table held.1 ≡ Some column = is ∙ ap Some same in
-      (held, (stands_on (meaning first) (meaning middle) state held a.only stands, on), λ pairs found. find_on held.1 table column lo hi limit pairs on found)
+      (λ state held agrees stands indexed. (
+        held,
+        stands_on (meaning first) (meaning middle) state held a.only
+            stands,
+        λ found is. (indexed, is),
       ))
 
-  pub row_then_index : (table key : ℕ) (found : Option Found) (first middle last : S) (early : Result (Option Found) (Walk F)) (result : Result (Option ℕ) (Walk F)) → Looks read_gives meaning (Stands (meaning first)) (IsFound table key) first middle early → early ≡ Ok found → Looks read_gives meaning (Stands (meaning middle)) (IsIndexed table) middle last result → Looks read_gives meaning (Stands (meaning first)) (λ index. Known table key index found) first last result
+  -- a search of an index that is on the column
+  pub searched : (table column indexed lo hi limit : ℕ) (first middle last : S) (early : Result (Option ℕ) (Walk F))
+      (result : Result (List (ℕ × Row)) (Walk F)) → Looks read_gives meaning (Stands (meaning first)) (IsIndexed table) first middle
+      early → early ≡ Ok (Some indexed) → indexed ≡ column
+      → Looks read_gives meaning (λ state held. Stands (meaning middle) state held × IsIndexed table (Some column) state held)
+      (IsSearched table column lo hi limit) middle last result
+      → Looks read_gives meaning (Stands (meaning first)) (λ pairs state held. effect (Find table column lo hi limit) held.1 ≡ Ok
+      (Pairs pairs, held.1)) first last result
+  searched table column indexed lo hi limit first middle last early result a was same b =
+      looks_then (λ pairs state held. effect (Find table column lo hi limit) held.1 ≡ Ok (Pairs pairs, held.1)) first middle last early
+      (Some indexed) result a was b
+      (λ state held agrees stands is. (
+      let on : index_of table held.1 ≡ Some column = is ∙ ap Some same in (
+        held,
+        (stands_on (meaning first) (meaning middle) state held a.only stands, on),
+        λ pairs found. find_on held.1 table column lo hi
+            limit pairs on found,
+      )
+      ))
+
+  pub row_then_index : (table key : ℕ) (found : Option Found) (first middle last : S) (early : Result (Option Found) (Walk F))
+      (result : Result (Option ℕ) (Walk F)) → Looks read_gives meaning (Stands (meaning first)) (IsFound table key) first middle early
+      → early ≡ Ok found → Looks read_gives meaning (Stands (meaning middle)) (IsIndexed table) middle last result
+      → Looks read_gives meaning (Stands (meaning first)) (λ index. Known table key index found) first last result
   row_then_index table key found first middle last early result a was b =
       looks_then (λ index. Known table key index found) first middle last early found result a was b
-      (λ state held agrees stands is. (held, stands_on (meaning first) (meaning middle) state held a.only stands, λ index indexed. (indexed, is)))
+      (λ state held agrees stands is. (
+        held,
+        stands_on (meaning first) (meaning middle) state held a.only
+            stands,
+        λ index indexed. (indexed, is),
+      ))
 
-ask_as : (command : Command) (held : Held) (moves : List Move) (n m : ℕ) → plan command held.1 ≡ moves → n ≡ m → MayAskIn moves held.0 n → MayAskIn (plan command held.1) held.0 m
+ask_as : (command : Command) (held : Held) (moves : List Move) (n m : ℕ) → plan command held.1 ≡ moves → n ≡ m → MayAskIn moves held.0 n
+    → MayAskIn (plan command held.1) held.0 m
 ask_as command held moves n m is same may =
     let P : List Move → Type 0 = λ l. MayAskIn l held.0 m in
     let Q : ℕ → Type 0 = λ k. MayAskIn moves held.0 k in
     subst P (sym is) (subst Q same may)
 
-does_as : (command : Command) (held : Held) (moves : List Move) (tables : TableMap) (now : Meaning) (n m : ℕ) (state : State) → plan command held.1 ≡ moves → n ≡ m → Becomes moves tables now n state held → Becomes (plan command held.1) tables now m state held
+does_as : (command : Command) (held : Held) (moves : List Move) (tables : TableMap) (now : Meaning) (n m : ℕ) (state : State)
+    → plan command held.1 ≡ moves → n ≡ m → Becomes moves tables now n state held → Becomes (plan command held.1) tables now m state held
 does_as command held moves tables now n m state is same did =
     let P : List Move → Type 0 = λ l. Becomes l tables now m state held in
     let Q : ℕ → Type 0 = λ k. Becomes moves tables now k state held in
     subst P (sym is) (subst Q same did)
 
-module _ {S F : Type 0} {read_gives : S → ℕ → Result (Option (List ℕ)) F → S → Type 0} {write_gives : S → ℕ → Option (List ℕ) → Result (Unit {0}) F → S → Type 0} {fresh_gives : S → Result ℕ F → S → Type 0} {meaning : S → Meaning} where
+module _ {S F : Type 0} {read_gives : S → ℕ → Result (Option (List ℕ)) F → S → Type 0} {write_gives : S → ℕ → Option (List ℕ)
+    → Result (Unit {0}) F → S → Type 0} {fresh_gives : S → Result ℕ F → S → Type 0} {meaning : S → Meaning} where
   -- a command that changes what was looked up
-  pub then_command : {T : Type 0} {Found' : T → State → Held → Type 0} {Inner : State → Held → Type 0} (command : Command) (moves : List Move) (tables : Held → TableMap) (n most : ℕ) (first middle last : S) (early : Result T (Walk F)) (value : T) (result : Result (Unit {0}) (Walk F)) → Looks read_gives meaning (Stands (meaning first)) Found' first middle early → early ≡ Ok value → n ≤ most
-      → Runs read_gives write_gives fresh_gives meaning Inner (MayAskFor moves) (λ _ asked state held. Becomes moves (tables held) (meaning last) asked state held) n middle last result
-      → ((state : State) (held : Held) → Stands (meaning middle) state held → Found' value state held → Inner state held × (plan command held.1 ≡ moves) × (effect command held.1 ≡ Ok (Nothing, tables held)))
-      → Runs read_gives write_gives fresh_gives meaning (Stands (meaning first)) (MayAsk command) (λ _. Does command (meaning last) (Ok Nothing)) most first last result
+  pub then_command : {T : Type 0} {Found' : T → State → Held → Type 0} {Inner : State → Held → Type 0} (command : Command)
+      (moves : List Move) (tables : Held → TableMap) (n most : ℕ) (first middle last : S) (early : Result T (Walk F)) (value : T)
+      (result : Result (Unit {0}) (Walk F)) → Looks read_gives meaning (Stands (meaning first)) Found' first middle early
+      → early ≡ Ok value → n ≤ most
+      → Runs read_gives write_gives fresh_gives meaning Inner (MayAskFor moves) (λ _ asked state held. Becomes moves (tables held)
+      (meaning last) asked state held) n middle last result
+      → ((state : State) (held : Held) → Stands (meaning middle) state held → Found' value state held → Inner state held
+      × (plan command held.1 ≡ moves) × (effect command held.1 ≡ Ok (Nothing, tables held)))
+      → Runs read_gives write_gives fresh_gives meaning (Stands (meaning first)) (MayAsk command)
+      (λ _. Does command (meaning last) (Ok Nothing)) most first last result
   then_command {T} {Found'} {Inner} command moves tables n most first middle last early value result look was less runs facts =
       let Saw : T → ℕ → State → Held → Type 0 = λ v asked state held. (asked ≡ 0) × Found' v state held in
       runs_did (λ _. Does command (meaning last) (Ok Nothing)) (0 + n) most first last result (omega (arith, less))
@@ -153,7 +220,12 @@ module _ {S F : Type 0} {read_gives : S → ℕ → Result (Option (List ℕ)) F
         held,
         fact.0,
         λ asks may. ask_as command held moves asks (before + asks) fact.1 (omega (arith, saw.0)) may,
-        λ w asked did. (tables held, fact.2, does_as command held moves (tables held) (meaning last) asked (before + asked) state fact.1 (omega (arith, saw.0)) did),
+        λ w asked did. (
+          tables held,
+          fact.2,
+          does_as command held moves (tables held) (meaning last) asked (before + asked) state fact.1
+              (omega (arith, saw.0)) did,
+        ),
       )
       )))
       (λ value asked state held stands did. did)

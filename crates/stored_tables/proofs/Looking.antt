@@ -16,7 +16,8 @@ use Rattle.stored_tables.specs.Runs.{Looks}
 use Rattle.stored_tables.specs.Tables.{row_words}
 use Rattle.stored_tables.proofs.Runs.{no_ok, ok_of}
 
-pub no_torn : {T F : Type 0} (result : Result T (Walk F)) (fault : F) (P : ℕ → Type 0) → IsErrAnd result (λ w. w ≡ Store fault) → IfTorn result P
+pub no_torn : {T F : Type 0} (result : Result T (Walk F)) (fault : F) (P : ℕ → Type 0) → IsErrAnd result (λ w. w ≡ Store fault)
+    → IfTorn result P
 no_torn (Ok v) fault P is = tt
 no_torn (Err w) fault P is = rw is tt
 
@@ -25,7 +26,9 @@ pub same_row : (a b : Row) → row_words a ≡ row_words b → a ≡ b
 same_row a b same = append_cancel_right a b (replicate 26 0) same
 
 module _ {S F : Type 0} {read_gives : S → ℕ → Result (Option (List ℕ)) F → S → Type 0} {meaning : S → Meaning} where
-  pub read_refused : {T X : Type 0} (Stands : State → X → Type 0) (Other : T → State → X → Type 0) (first last : S) (rid : ℕ) (fault : F) (result : Result T (Walk F)) → read_gives first rid (Err fault) last → meaning last ≡ meaning first → IsErrAnd result (λ w. w ≡ Store fault) → Looks read_gives meaning Stands Other first last result
+  pub read_refused : {T X : Type 0} (Stands : State → X → Type 0) (Other : T → State → X → Type 0) (first last : S) (rid : ℕ) (fault : F)
+      (result : Result T (Walk F)) → read_gives first rid (Err fault) last → meaning last ≡ meaning first
+      → IsErrAnd result (λ w. w ≡ Store fault) → Looks read_gives meaning Stands Other first last result
   read_refused Stands Other first last rid fault result gives same is = record {
     calls = read first first last rid (Err fault) (none first) gives;
     found = no_ok result (Store fault) _ is;
@@ -34,7 +37,10 @@ module _ {S F : Type 0} {read_gives : S → ℕ → Result (Option (List ℕ)) F
     only = let P : Meaning → Type 0 = λ m. OnlyReads (meaning first) m in subst P (sym same) (OnlyReads-refl (meaning first));
   }
 
-  pub read_answered : {X : Type 0} (Stands : State → X → Type 0) (first last : S) (rid : ℕ) (value : Option (List ℕ)) → read_gives first rid (Ok value) last → meaning last ≡ after_read (meaning first) rid value → known (meaning last) rid ≡ Some value → Looks {F = F} read_gives meaning Stands (λ found state x. overlay (meaning first).writes state rid ≡ found) first last (Ok value)
+  pub read_answered : {X : Type 0} (Stands : State → X → Type 0) (first last : S) (rid : ℕ) (value : Option (List ℕ))
+      → read_gives first rid (Ok value) last → meaning last ≡ after_read (meaning first) rid value
+      → known (meaning last) rid ≡ Some value → Looks {F = F} read_gives meaning Stands
+      (λ found state x. overlay (meaning first).writes state rid ≡ found) first last (Ok value)
   read_answered Stands first last rid value gives is answer = record {
     calls = read first first last rid (Ok value) (none first) gives;
     found = λ state x agrees stands. answered (meaning first) (meaning last) rid value is answer state agrees;
@@ -44,7 +50,10 @@ module _ {S F : Type 0} {read_gives : S → ℕ → Result (Option (List ℕ)) F
   }
 
   -- what was found is found in no state that stands so
-  pub looks_torn : {T V X : Type 0} {Stands : State → X → Type 0} {Found : V → State → X → Type 0} (Other : T → State → X → Type 0) (first last : S) (other : Result V (Walk F)) (value : V) (rid : ℕ) → Looks read_gives meaning Stands Found first last other → other ≡ Ok value → ((state : State) (x : X) → Agrees state (meaning last).reads → Stands state x → Found value state x → ⊥) → Looks {F = F} read_gives meaning Stands Other first last (Err (Torn rid))
+  pub looks_torn : {T V X : Type 0} {Stands : State → X → Type 0} {Found : V → State → X → Type 0} (Other : T → State → X → Type 0)
+      (first last : S) (other : Result V (Walk F)) (value : V) (rid : ℕ) → Looks read_gives meaning Stands Found first last other
+      → other ≡ Ok value → ((state : State) (x : X) → Agrees state (meaning last).reads → Stands state x → Found value state x → ⊥)
+      → Looks {F = F} read_gives meaning Stands Other first last (Err (Torn rid))
   looks_torn Other first last other value rid l was never = record {
     calls = l.calls;
     found = tt;

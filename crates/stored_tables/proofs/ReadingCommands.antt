@@ -9,7 +9,9 @@ use Rattle.replay_model.specs.declared.outcome.Cause.{Cause}
 use Rattle.stored_tables.specs.Answers.{Held, Stands, Answers, Does, ReadsAlone}
 use Rattle.stored_tables.specs.Plan.Follows.{stays}
 
-pub reads_by : (command : Command) → ((t : ℕ) × (k : ℕ) × (c : ℕ) × (command ≡ Get t k c)) ⊎ (((t : ℕ) × (lo : ℕ) × (hi : ℕ) × (limit : ℕ) × (command ≡ Scan t lo hi limit)) ⊎ ((t : ℕ) × (c : ℕ) × (lo : ℕ) × (hi : ℕ) × (limit : ℕ) × (command ≡ Find t c lo hi limit))) → ReadsAlone command
+pub reads_by : (command : Command) → ((t : ℕ) × (k : ℕ) × (c : ℕ) × (command ≡ Get t k c)) ⊎
+    (((t : ℕ) × (lo : ℕ) × (hi : ℕ) × (limit : ℕ) × (command ≡ Scan t lo hi limit)) ⊎ ((t : ℕ) × (c : ℕ) × (lo : ℕ) × (hi : ℕ)
+    × (limit : ℕ) × (command ≡ Find t c lo hi limit))) → ReadsAlone command
 reads_by command is = elim is as (λ _. ReadsAlone command) [
   | inl get ↦ subst ReadsAlone (sym get.3) tt
   | inr other ↦ elim other as (λ _. ReadsAlone command) [
@@ -18,7 +20,8 @@ reads_by command is = elim is as (λ _. ReadsAlone command) [
   ]
 ]
 
-pub read_does : (command : Command) (value : Result Answer Cause) (now : Meaning) (state : State) (held : Held) → ReadsAlone command → Stands now state held → Answers command value state held → Does command now value 0 state held
+pub read_does : (command : Command) (value : Result Answer Cause) (now : Meaning) (state : State) (held : Held) → ReadsAlone command
+    → Stands now state held → Answers command value state held → Does command now value 0 state held
 read_does (Get t k c) (Ok answer) now state held reads stands answers = (held.1, answers, (held.0, stands, stays held.0))
 read_does (Get t k c) (Err cause) now state held reads stands answers = answers
 read_does (Scan t lo hi limit) (Ok answer) now state held reads stands answers = (held.1, answers, (held.0, stands, stays held.0))

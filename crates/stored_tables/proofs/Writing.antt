@@ -18,16 +18,22 @@ use Rattle.stored_tables.proofs.Runs.{no_ok, never_ok}
 use Rattle.stored_tables.proofs.Looking.{no_torn}
 
 same_grows : (before after : Meaning) → after ≡ before → ReadsGrow before after
-same_grows before after same = let P : Meaning → Type 0 = λ m. ReadsGrow before m in subst P (sym same) (record { reads = extends-refl before.reads; size = refl; fixed = refl })
+same_grows before after same = let P : Meaning → Type 0 = λ m. ReadsGrow before m in subst P (sym same)
+    (record { reads = extends-refl before.reads; size = refl; fixed = refl })
 
 -- a new record is absent in each state that agrees
-pub fresh_absent : (before after : Meaning) (rid : ℕ) (state : State) → IsFresh before rid → after ≡ after_fresh before rid → Agrees state after.reads → overlay before.writes state rid ≡ None
+pub fresh_absent : (before after : Meaning) (rid : ℕ) (state : State) → IsFresh before rid → after ≡ after_fresh before rid
+    → Agrees state after.reads → overlay before.writes state rid ≡ None
 fresh_absent before after rid state new is agrees =
     let R : Meaning → Type 0 = λ m. Agrees state m.reads in
     known-overlay (after_read before rid None) state rid None (known_unwritten before rid new.absent new.not_written) (subst R is agrees)
 
-module _ {S F : Type 0} {read_gives : S → ℕ → Result (Option (List ℕ)) F → S → Type 0} {write_gives : S → ℕ → Option (List ℕ) → Result (Unit {0}) F → S → Type 0} {fresh_gives : S → Result ℕ F → S → Type 0} {meaning : S → Meaning} where
-  pub write_refused : {T X : Type 0} (Stands : State → X → Type 0) (Due : ℕ → State → X → Type 0) (Did : T → ℕ → State → X → Type 0) (most : ℕ) (first last : S) (rid : ℕ) (value : Option (List ℕ)) (fault : F) (result : Result T (Walk F)) → write_gives first rid value (Err fault) last → meaning last ≡ meaning first → IsErrAnd result (λ w. w ≡ Store fault) → Runs read_gives write_gives fresh_gives meaning Stands Due Did most first last result
+module _ {S F : Type 0} {read_gives : S → ℕ → Result (Option (List ℕ)) F → S → Type 0} {write_gives : S → ℕ → Option (List ℕ)
+    → Result (Unit {0}) F → S → Type 0} {fresh_gives : S → Result ℕ F → S → Type 0} {meaning : S → Meaning} where
+  pub write_refused : {T X : Type 0} (Stands : State → X → Type 0) (Due : ℕ → State → X → Type 0) (Did : T → ℕ → State → X → Type 0)
+      (most : ℕ) (first last : S) (rid : ℕ) (value : Option (List ℕ)) (fault : F) (result : Result T (Walk F))
+      → write_gives first rid value (Err fault) last → meaning last ≡ meaning first → IsErrAnd result (λ w. w ≡ Store fault)
+      → Runs read_gives write_gives fresh_gives meaning Stands Due Did most first last result
   write_refused Stands Due Did most first last rid value fault result gives same is = record {
     asked = 0;
     calls = write first first last 0 rid value (Err fault) (none first) gives;
@@ -39,21 +45,30 @@ module _ {S F : Type 0} {read_gives : S → ℕ → Result (Option (List ℕ)) F
     grow = same_grows (meaning first) (meaning last) same;
   }
 
-  pub write_done : {T X : Type 0} (Stands : State → X → Type 0) (Due : ℕ → State → X → Type 0) (Did : T → ℕ → State → X → Type 0) (first last : S) (rid : ℕ) (value : Option (List ℕ)) (new : T) → write_gives first rid value (Ok tt) last → meaning last ≡ after_write (meaning first) rid value → ((state : State) (x : X) → Agrees state (meaning first).reads → Stands state x → Did new 0 state x) → Runs {F = F} read_gives write_gives fresh_gives meaning Stands Due Did 1 first last (Ok new)
+  pub write_done : {T X : Type 0} (Stands : State → X → Type 0) (Due : ℕ → State → X → Type 0) (Did : T → ℕ → State → X → Type 0)
+      (first last : S) (rid : ℕ) (value : Option (List ℕ)) (new : T) → write_gives first rid value (Ok tt) last
+      → meaning last ≡ after_write (meaning first) rid value → ((state : State) (x : X) → Agrees state (meaning first).reads
+      → Stands state x → Did new 0 state x) → Runs {F = F} read_gives write_gives fresh_gives meaning Stands Due Did 1 first last (Ok new)
   write_done Stands Due Did first last rid value new gives is did =
       let reads : (meaning last).reads ≡ (meaning first).reads = ap (λ (m : Meaning). m.reads) is in
       record {
         asked = 0;
         calls = write first first last 0 rid value (Ok tt) (none first) gives;
         may = λ some. absurd (omega arith);
-        did = λ state x agrees stands. did state x (let R : List (ℕ × Option (List ℕ)) → Type 0 = Agrees state in subst R reads agrees) stands;
+        did = λ state x agrees stands. did state x (let R : List (ℕ × Option (List ℕ)) → Type 0 = Agrees state in subst R reads agrees)
+            stands;
         torn = tt;
         fault = tt;
         few = writes-one (meaning first) (meaning last) rid value (ap (λ (m : Meaning). m.writes) is);
-        grow = let P : Meaning → Type 0 = λ m. ReadsGrow (meaning first) m in subst P (sym is) (record { reads = extends-refl (meaning first).reads; size = refl; fixed = refl });
+        grow = let P : Meaning → Type 0 = λ m. ReadsGrow (meaning first) m in subst P (sym is)
+            (record { reads = extends-refl (meaning first).reads; size = refl; fixed = refl });
       }
 
-  pub fresh_refused : {T X : Type 0} (Stands : State → X → Type 0) (Due : ℕ → State → X → Type 0) (Did : T → ℕ → State → X → Type 0) (most : ℕ) (first last : S) (fault : F) (result : Result T (Walk F)) → fresh_gives first (Err fault) last → meaning last ≡ meaning first → IsErrAnd result (λ w. w ≡ Store fault) → ((state : State) (x : X) → Stands state x → Due 1 state x) → Runs read_gives write_gives fresh_gives meaning Stands Due Did most first last result
+  pub fresh_refused : {T X : Type 0} (Stands : State → X → Type 0) (Due : ℕ → State → X → Type 0) (Did : T → ℕ → State → X → Type 0)
+      (most : ℕ) (first last : S) (fault : F) (result : Result T (Walk F)) → fresh_gives first (Err fault) last
+      → meaning last ≡ meaning first → IsErrAnd result (λ w. w ≡ Store fault)
+      → ((state : State) (x : X) → Stands state x → Due 1 state x) → Runs read_gives write_gives fresh_gives meaning Stands Due Did most
+      first last result
   fresh_refused Stands Due Did most first last fault result gives same is due = record {
     asked = 1;
     calls = fresh first first last 0 (Err fault) (none first) gives;
@@ -65,7 +80,10 @@ module _ {S F : Type 0} {read_gives : S → ℕ → Result (Option (List ℕ)) F
     grow = same_grows (meaning first) (meaning last) same;
   }
 
-  pub fresh_done : {X : Type 0} (Stands : State → X → Type 0) (Due : ℕ → State → X → Type 0) (first last : S) (rid : ℕ) → fresh_gives first (Ok rid) last → IsFresh (meaning first) rid → meaning last ≡ after_fresh (meaning first) rid → ((state : State) (x : X) → Stands state x → Due 1 state x) → Runs {F = F} read_gives write_gives fresh_gives meaning Stands Due (λ new asked state x. (asked ≡ 1) × (overlay (meaning first).writes state new ≡ None)) 0 first last (Ok rid)
+  pub fresh_done : {X : Type 0} (Stands : State → X → Type 0) (Due : ℕ → State → X → Type 0) (first last : S) (rid : ℕ)
+      → fresh_gives first (Ok rid) last → IsFresh (meaning first) rid → meaning last ≡ after_fresh (meaning first) rid
+      → ((state : State) (x : X) → Stands state x → Due 1 state x) → Runs {F = F} read_gives write_gives fresh_gives meaning Stands Due
+      (λ new asked state x. (asked ≡ 1) × (overlay (meaning first).writes state new ≡ None)) 0 first last (Ok rid)
   fresh_done Stands Due first last rid gives new is due = record {
     asked = 1;
     calls = fresh first first last 0 (Ok rid) (none first) gives;

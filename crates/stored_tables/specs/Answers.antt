@@ -1,5 +1,5 @@
 -- What the parts of a command promise.
-use Rattle.std.specs.Prelude.{◌≡◌, ℕ, ◌<◌, ◌≤◌, List, [], ◌∷◌, ◌++◌, Option, None, Some, Result, Ok, Err}
+use Rattle.std.specs.Prelude.{◌≡◌, ◌⊎◌, ℕ, ◌<◌, ◌≤◌, List, [], ◌∷◌, ◌++◌, Option, None, Some, Result, Ok, Err}
 use Rattle.plain_data.specs.State.{State, overlay}
 use Rattle.record_store.specs.Meaning.{Meaning}
 use Rattle.hash_index.specs.Chain.{record_of}
@@ -51,6 +51,17 @@ ReadsAlone (Sub t k c by) = ⊥
 ReadsAlone (Scan t lo hi limit) = Unit {0}
 ReadsAlone (Find t c lo hi limit) = Unit {0}
 
+-- a scan that lists nothing by its arguments
+abbrev pub IsIdle : Command → Type 0
+IsIdle (Get t k c) = ⊥
+IsIdle (Put t k columns) = ⊥
+IsIdle (Ins t k columns) = ⊥
+IsIdle (Del t k) = ⊥
+IsIdle (Add t k c by) = ⊥
+IsIdle (Sub t k c by) = ⊥
+IsIdle (Scan t lo hi limit) = (limit ≡ 0) ⊎ (hi < lo)
+IsIdle (Find t c lo hi limit) = ⊥
+
 -- it answers, or is refused, as its effect says, and leaves the tables
 abbrev pub Answers : Command → Result Answer Cause → State → Held → Type 0
 Answers command (Ok answer) state held = effect command held.1 ≡ Ok (answer, held.1)
@@ -77,11 +88,12 @@ abbrev pub LacksRow : Meaning → ℕ → ℕ → State → Places → Type 0
 LacksRow now table key state places = (table < table_limit) × Shaped now state places × (places.row_at table key ≡ None)
 
 -- a row is added, in this record
-pub record AddsRow (table key rid : ℕ) (words : List ℕ) (before now : Meaning) (asked : ℕ) (state : State) (places : Places) : Type 0 where
-  pub once : asked ≡ 1
-  pub shape : Shaped now state (with_row places table key (Some rid))
-  pub here : overlay now.writes state rid ≡ Some words
-  pub stay : RowsStay before now state places
+pub record AddsRow (table key rid : ℕ) (words : List ℕ) (before now : Meaning) (asked : ℕ) (state : State) (places : Places) : Type 0
+  where
+    pub once : asked ≡ 1
+    pub shape : Shaped now state (with_row places table key (Some rid))
+    pub here : overlay now.writes state rid ≡ Some words
+    pub stay : RowsStay before now state places
 
 -- a row has this record
 abbrev pub HasRow : Meaning → ℕ → ℕ → ℕ → State → Places → Type 0
@@ -104,7 +116,8 @@ ChainHas now table key rid state places = Shaped now state places × (record_of 
 
 -- so has a tree, which is declared
 abbrev pub TreeHas : Meaning → ℕ → Key → Option ℕ → State → Places → Type 0
-TreeHas now number key rid state places = IsDeclared places number × Shaped now state places × (record_of_key (places.leaves number) key ≡ rid)
+TreeHas now number key rid state places = IsDeclared places number × Shaped now state places
+    × (record_of_key (places.leaves number) key ≡ rid)
 
 -- ---- changes
 
@@ -114,7 +127,8 @@ Becomes planned tables now asked state held = (after : Places) × Stands now sta
 
 -- what a command does
 abbrev pub Does : Command → Meaning → Result Answer Cause → ℕ → State → Held → Type 0
-Does command now (Ok answer) asked state held = (tables : TableMap) × (effect command held.1 ≡ Ok (answer, tables)) × Becomes (plan command held.1) tables now asked state held
+Does command now (Ok answer) asked state held = (tables : TableMap) × (effect command held.1 ≡ Ok (answer, tables))
+    × Becomes (plan command held.1) tables now asked state held
 Does command now (Err cause) asked state held = effect command held.1 ≡ Err cause
 
 -- and how often it may ask for a new record
@@ -140,7 +154,8 @@ enter_moves table key index row =
 
 abbrev pub leave_moves : ℕ → ℕ → Option ℕ → Row → List Move
 leave_moves table key index row =
-    leaves_index table key index row ++ pair_removed table key ∷ entry_removed table (record { high = key; low = 0 }) ∷ row_dropped table key ∷ []
+    leaves_index table key index row ++ pair_removed table key ∷ entry_removed table (record { high = key; low = 0 }) ∷ row_dropped table
+    key ∷ []
 
 abbrev pub MayAskFor : List Move → ℕ → State → Held → Type 0
 MayAskFor planned asks state held = MayAskIn planned held.0 asks

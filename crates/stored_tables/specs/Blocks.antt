@@ -22,7 +22,8 @@ MayAskOnce commands before after asks = EachTables before after (λ _ places tab
 
 -- the writes leave the tables after the block, at places to which so many asks led
 abbrev pub LeavesTables : List Command → Meaning → ℕ → State → Places → TableMap → Type 0
-LeavesTables commands now asked state places tables = Becomes (run_plan commands tables) (tables_after commands tables) now asked state (places, tables)
+LeavesTables commands now asked state places tables = Becomes (run_plan commands tables) (tables_after commands tables) now asked state
+    (places, tables)
 
 abbrev pub IfDone : {F : Type 0} → Result Outcome (Walk F) → Type 0 → Type 0
 IfDone (Ok (Done answers)) P = P
@@ -36,19 +37,23 @@ IfRefused (Err walk) P = ⊤
 
 -- The calls that a block made on its store, up to the store `before`, and how often it asked for a new record. A block that is done
 -- left its tables, a refused one was undone, and any other answer came at once.
-pub record Called {S F : Type 0} (read_gives : S → ℕ → Result (Option (List ℕ)) F → S → Type 0) (write_gives : S → ℕ → Option (List ℕ) → Result (Unit {0}) F → S → Type 0) (fresh_gives : S → Result ℕ F → S → Type 0) (meaning : S → Meaning) (commands : List Command) (first last : S) (result : Result Outcome (Walk F)) : Type 0 where
+pub record Called {S F : Type 0} (read_gives : S → ℕ → Result (Option (List ℕ)) F → S → Type 0) (write_gives : S → ℕ → Option (List ℕ)
+    → Result (Unit {0}) F → S → Type 0) (fresh_gives : S → Result ℕ F → S → Type 0) (meaning : S → Meaning) (commands : List Command)
+    (first last : S) (result : Result Outcome (Walk F)) : Type 0 where
   pub before : S
   pub asked : ℕ
   pub calls : Calls read_gives write_gives fresh_gives first asked before
   pub may : 0 < asked → MayAskOnce commands (meaning first) (meaning last) asked
   pub few : OnOk result (WritesAtMost (128 * length commands) (meaning first) (meaning before))
-  pub done : IfDone result ((meaning last ≡ meaning before) × EachTables (meaning first) (meaning last) (LeavesTables commands (meaning last) asked))
+  pub done : IfDone result ((meaning last ≡ meaning before) × EachTables (meaning first) (meaning last)
+      (LeavesTables commands (meaning last) asked))
   pub refused : IfRefused result (meaning last ≡ after_undo (meaning before))
   pub otherwise : OnErr result (meaning last ≡ meaning before)
 
 -- the commands so far answered so, and left tables
 abbrev pub Left : List Command → List Answer → Meaning → ℕ → State → Held → Type 0
-Left commands answers now asked state held = (tables : TableMap) × (run_from 1 commands held.1 ≡ Ok (answers, tables)) × Becomes (run_plan commands held.1) tables now asked state held
+Left commands answers now asked state held = (tables : TableMap) × (run_from 1 commands held.1 ≡ Ok (answers, tables))
+    × Becomes (run_plan commands held.1) tables now asked state held
 
 -- all of them ran, or one was refused; nothing is taken back
 abbrev pub RanTo : List Command → Meaning → Outcome → ℕ → State → Held → Type 0

@@ -24,5 +24,6 @@ with_index tables table column = record tables { indexes = insert tables.indexes
 
 -- an index is declared where the table has no row and no index, and nowhere else
 abbrev pub Declares : ℕ → ℕ → Meaning → Bool → State → Held → Type 0
-Declares table column now true state held = IsEmpty table held.1 × (index_of table held.1 ≡ None) × Stands now state (with_head held.0 table column, with_index held.1 table column)
+Declares table column now true state held = IsEmpty table held.1 × (index_of table held.1 ≡ None) × Stands now state
+    (with_head held.0 table column, with_index held.1 table column)
 Declares table column now false state held = HasRows table held.1 ⊎ ((other : ℕ) × (index_of table held.1 ≡ Some other))

@@ -53,12 +53,14 @@ pub record HasMaps (maps : Maps) (places : Places) : Type 0 where
 -- the records of rows, but that of one row, are as they were
 abbrev pub OthersStay : ℕ → ℕ → Meaning → Meaning → State → Places → Type 0
 OthersStay table key before now state places =
-    (other number at : ℕ) → other < table_limit → ((other ≡ table) × (number ≡ key) → ⊥) → places.row_at other number ≡ Some at → overlay now.writes state at ≡ overlay before.writes state at
+    (other number at : ℕ) → other < table_limit → ((other ≡ table) × (number ≡ key) → ⊥) → places.row_at other number ≡ Some at
+    → overlay now.writes state at ≡ overlay before.writes state at
 
 -- those of all rows are
 abbrev pub RowsStay : Meaning → Meaning → State → Places → Type 0
 RowsStay before now state places =
-    (other number at : ℕ) → other < table_limit → places.row_at other number ≡ Some at → overlay now.writes state at ≡ overlay before.writes state at
+    (other number at : ℕ) → other < table_limit → places.row_at other number ≡ Some at
+    → overlay now.writes state at ≡ overlay before.writes state at
 
 abbrev pub Shaped : Meaning → State → Places → Type 0
 Shaped now state places = IsShape now.size (overlay now.writes state) places
@@ -72,7 +74,8 @@ pub record Step (rid : ℕ) (move : Move) (before now : Meaning) (asked : ℕ) (
   pub stay : RowsStay before now state places
 
 -- in the middle of a command on one row: these moves were made, and the row's record has these words
-pub record Midway (table key rid : ℕ) (words : List ℕ) (done : List Move) (before now : Meaning) (asked : ℕ) (state : State) (places : Places) : Type 0 where
+pub record Midway (table key rid : ℕ) (words : List ℕ) (done : List Move) (before now : Meaning) (asked : ℕ) (state : State)
+    (places : Places) : Type 0 where
   pub between : Places
   pub follows : Follows done places asked between
   pub shape : Shaped now state between

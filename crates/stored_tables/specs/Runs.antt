@@ -12,7 +12,8 @@ abbrev pub Each : {X : Type 0} → (State → X → Type 0) → Meaning → (Sta
 Each {X} Stands last P = (state : State) (x : X) → Agrees state last.reads → Stands state x → P state x
 
 -- a part that reads alone: what it found, in each such state; it is torn, or refused by the store, only where it may be
-pub record Looks {S F T X : Type 0} (read_gives : S → ℕ → Result (Option (List ℕ)) F → S → Type 0) (meaning : S → Meaning) (Stands : State → X → Type 0) (Found : T → State → X → Type 0) (first last : S) (result : Result T (Walk F)) : Type 0 where
+pub record Looks {S F T X : Type 0} (read_gives : S → ℕ → Result (Option (List ℕ)) F → S → Type 0) (meaning : S → Meaning)
+    (Stands : State → X → Type 0) (Found : T → State → X → Type 0) (first last : S) (result : Result T (Walk F)) : Type 0 where
   pub calls : Reads read_gives first last
   pub found : IfOk result (λ value. Each Stands (meaning last) (Found value))
   pub torn : IfTorn result (λ _. (state : State) (x : X) → Agrees state (meaning last).reads → Stands state x → ⊥)
@@ -20,12 +21,15 @@ pub record Looks {S F T X : Type 0} (read_gives : S → ℕ → Result (Option (
   pub only : OnlyReads (meaning first) (meaning last)
 
 -- a part that changes: what it did, in each such state, when it asked so often for a new record; each ask may be made
-pub record Runs {S F T X : Type 0} (read_gives : S → ℕ → Result (Option (List ℕ)) F → S → Type 0) (write_gives : S → ℕ → Option (List ℕ) → Result (Unit {0}) F → S → Type 0) (fresh_gives : S → Result ℕ F → S → Type 0) (meaning : S → Meaning) (Stands : State → X → Type 0) (Due : ℕ → State → X → Type 0) (Did : T → ℕ → State → X → Type 0) (most : ℕ) (first last : S) (result : Result T (Walk F)) : Type 0 where
-  pub asked : ℕ
-  pub calls : Calls read_gives write_gives fresh_gives first asked last
-  pub may : 0 < asked → Each Stands (meaning last) (Due asked)
-  pub did : IfOk result (λ value. Each Stands (meaning last) (Did value asked))
-  pub torn : IfTorn result (λ _. (state : State) (x : X) → Agrees state (meaning last).reads → Stands state x → ⊥)
-  pub fault : IfStore result (CallFault read_gives write_gives fresh_gives (λ asks. Each Stands (meaning last) (Due asks)) first last)
-  pub few : OnOk result (WritesAtMost most (meaning first) (meaning last))
-  pub grow : ReadsGrow (meaning first) (meaning last)
+pub record Runs {S F T X : Type 0} (read_gives : S → ℕ → Result (Option (List ℕ)) F → S → Type 0) (write_gives : S → ℕ → Option (List ℕ)
+    → Result (Unit {0}) F → S → Type 0) (fresh_gives : S → Result ℕ F → S → Type 0) (meaning : S → Meaning) (Stands : State → X → Type 0)
+    (Due : ℕ → State → X → Type 0) (Did : T → ℕ → State → X → Type 0) (most : ℕ) (first last : S) (result : Result T (Walk F)) : Type 0
+  where
+    pub asked : ℕ
+    pub calls : Calls read_gives write_gives fresh_gives first asked last
+    pub may : 0 < asked → Each Stands (meaning last) (Due asked)
+    pub did : IfOk result (λ value. Each Stands (meaning last) (Did value asked))
+    pub torn : IfTorn result (λ _. (state : State) (x : X) → Agrees state (meaning last).reads → Stands state x → ⊥)
+    pub fault : IfStore result (CallFault read_gives write_gives fresh_gives (λ asks. Each Stands (meaning last) (Due asks)) first last)
+    pub few : OnOk result (WritesAtMost most (meaning first) (meaning last))
+    pub grow : ReadsGrow (meaning first) (meaning last)

@@ -5,8 +5,8 @@ ghost use Rattle.record_store.specs.Calls.{Reads, ReadFault, CallFault};
 ghost use Rattle.record_store.specs.Walks.{IfTorn, IfStore, OnlyReads, ReadsGrow};
 ghost use Rattle.replay_model.specs.Input.{AreCommands};
 ghost use Rattle.replay_model.specs.Running.{outcome_of};
-ghost use Rattle.stored_tables.specs.Answers.{IsShort, ReadsAlone, Stands};
-ghost use Rattle.stored_tables.specs.Blocks.{Called, MayAskOnce, MayAskAll, RanTo, SawTo};
+ghost use Rattle.stored_tables.specs.Answers.{IsIdle, IsShort, ReadsAlone, Stands};
+ghost use Rattle.stored_tables.specs.Blocks.{Called, IfRefused, MayAskOnce, MayAskAll, RanTo, SawTo};
 ghost use Rattle.stored_tables.specs.Runs.{Looks, Runs};
 ghost use Rattle.stored_tables.specs.Tables.{EachTables};
 
@@ -34,6 +34,9 @@ pub fn exec_txn<S: RecordStore>(
     // each ask of `fresh` is counted, and may be made
     ensures fault { IfStore result (CallFault S.read_gives S.write_gives S.fresh_gives (MayAskOnce commands.now (S.meaning store.old) (S.meaning store.new)) store.old store.new) }
     ensures after { ReadsGrow (S.meaning store.old) (S.meaning store.new) }
+
+    // a scan that lists nothing by its arguments reads nothing
+    ensures idle { All IsIdle commands.now → store.new ≡ store.old }
     ensures rest { S.rest store.new ≡ S.rest store.old }
 {
     // The records that are never given out lie in the store: its size says so.
@@ -58,6 +61,8 @@ fn run_commands<S: RecordStore>(
     requires size { 4112 ≤ (S.meaning store.old).size }
     requires fixed { 4112 ≤ (S.meaning store.old).fixed }
     ensures runs { Runs S.read_gives S.write_gives S.fresh_gives S.meaning (Stands (S.meaning store.old)) (MayAskAll commands.now) (RanTo commands.now (S.meaning store.new)) (128 * length commands.now) store.old store.new result }
+    ensures idle { All IsIdle commands.now → store.new ≡ store.old }
+    ensures unrefused { All IsIdle commands.now → IfRefused result ⊥ }
     ensures rest { S.rest store.new ≡ S.rest store.old }
 {
     let mut answers = Vec::new(alloc);
@@ -97,6 +102,9 @@ pub fn exec_snap<S: RecordRead>(
     ensures fault { IfStore result (ReadFault S.read_gives store.old store.new) }
     ensures calls { Reads S.read_gives store.old store.new }
     ensures after { OnlyReads (S.meaning store.old) (S.meaning store.new) }
+
+    // a scan that lists nothing by its arguments reads nothing
+    ensures idle { All IsIdle commands.now → store.new ≡ store.old }
     ensures rest { S.rest store.new ≡ S.rest store.old }
 {
     read_commands(store, alloc, commands)
@@ -113,6 +121,7 @@ fn read_commands<S: RecordRead>(
     requires reads { All ReadsAlone commands.now }
     requires size { 4112 ≤ (S.meaning store.old).size }
     ensures looks { Looks S.read_gives S.meaning (Stands (S.meaning store.old)) (SawTo commands.now) store.old store.new result }
+    ensures idle { All IsIdle commands.now → store.new ≡ store.old }
     ensures rest { S.rest store.new ≡ S.rest store.old }
 {
     let mut answers = Vec::new(alloc);

@@ -1,10 +1,10 @@
 //! One command.
 
-ghost use Rattle.std.specs.Prelude.{◌≡◌, ◌≤◌, ◌<◌, IfOk, OnOk, All};
+ghost use Rattle.std.specs.Prelude.{◌≡◌, ◌≤◌, ◌<◌, IfOk, IsOk};
 ghost use Rattle.replay_model.specs.Input.{NamesColumn, IsColumn};
 ghost use Rattle.replay_model.specs.declared.command.Command.TheVariants.{Put, Ins, Del, Add, Sub};
 ghost use Rattle.replay_model.specs.Report.{table_named};
-ghost use Rattle.stored_tables.specs.Answers.{Stands, Answers as AnswersAs, Does, MayAsk, ReadsAlone, IsShort};
+ghost use Rattle.stored_tables.specs.Answers.{Stands, Answers as AnswersAs, Does, MayAsk, ReadsAlone, IsShort, IsIdle};
 ghost use Rattle.stored_tables.specs.Runs.{Looks, Runs};
 
 use crate::changing::change_row;
@@ -31,6 +31,8 @@ pub fn read_command<S: RecordRead>(
     requires short { IsShort command.now }
     requires size { 4112 ≤ (S.meaning store.old).size }
     ensures looks { Looks S.read_gives S.meaning (Stands (S.meaning store.old)) (AnswersAs command.now) store.old store.new result }
+    ensures idle { IsIdle command.now → store.new ≡ store.old }
+    ensures answered { IsIdle command.now → IfOk result (λ ran. IsOk ran) }
     ensures rest { S.rest store.new ≡ S.rest store.old }
 {
     match *command {
@@ -76,6 +78,8 @@ pub fn run_command<S: RecordStore>(
     requires size { 4112 ≤ (S.meaning store.old).size }
     requires fixed { 4112 ≤ (S.meaning store.old).fixed }
     ensures runs { Runs S.read_gives S.write_gives S.fresh_gives S.meaning (Stands (S.meaning store.old)) (MayAsk command.now) (Does command.now (S.meaning store.new)) 128 store.old store.new result }
+    ensures idle { IsIdle command.now → store.new ≡ store.old }
+    ensures answered { IsIdle command.now → IfOk result (λ ran. IsOk ran) }
     ensures rest { S.rest store.new ≡ S.rest store.old }
 {
     match *command {

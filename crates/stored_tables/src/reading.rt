@@ -70,6 +70,7 @@ pub fn scan_rows<S: RecordRead>(
     requires table { table < 8 }
     requires size { 4112 ≤ (S.meaning store.old).size }
     ensures looks { Looks S.read_gives S.meaning (Stands (S.meaning store.old)) (IsScanned table lo hi limit) store.old store.new result }
+    ensures nothing { (limit ≡ 0) ⊎ (hi < lo) → store.new ≡ store.old }
     ensures rest { S.rest store.new ≡ S.rest store.old }
 {
     let lo = Key { high: lo, low: 0 };
@@ -95,6 +96,7 @@ pub fn search_rows<S: RecordRead>(
     requires table { table < 8 }
     requires size { 4112 ≤ (S.meaning store.old).size }
     ensures looks { Looks S.read_gives S.meaning (λ state held. Stands (S.meaning store.old) state held × IsIndexed table (Some column) state held) (IsSearched table column lo hi limit) store.old store.new result }
+    ensures nothing { (limit ≡ 0) ⊎ (hi < lo) → store.new ≡ store.old }
     ensures rest { S.rest store.new ≡ S.rest store.old }
 {
     let lo = Key { high: lo, low: 0 };

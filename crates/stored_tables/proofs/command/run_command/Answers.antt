@@ -6,5 +6,7 @@ use Rattle.stored_tables.proofs.command.run_command.Goals as goal
 pub returns-in-Get-clause-runs : goal.returns-in-Get-clause-runs
 returns-in-Get-clause-runs g c =
     looks_runs _ _ 128 c.args.store.now c.read_command.new.store c.read_command.result c.read_command.ensures.looks
-    (λ value state held agrees stands answers. read_does c.args.command.now value (g.S.RecordRead.meaning c.read_command.new.store) state held (reads_by c.args.command.now c.in-Get.is)
-    (stands_on (g.S.RecordRead.meaning c.args.store.now) (g.S.RecordRead.meaning c.read_command.new.store) state held c.read_command.ensures.looks.only stands) answers)
+    (λ value state held agrees stands answers. read_does c.args.command.now value (g.S.RecordRead.meaning c.read_command.new.store) state
+    held (reads_by c.args.command.now c.in-Get.is)
+    (stands_on (g.S.RecordRead.meaning c.args.store.now) (g.S.RecordRead.meaning c.read_command.new.store) state held
+    c.read_command.ensures.looks.only stands) answers)

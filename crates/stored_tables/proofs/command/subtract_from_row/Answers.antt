@@ -10,38 +10,78 @@ use Rattle.stored_tables.proofs.Runs.{looks_runs, runs_moved, runs_value}
 use Rattle.stored_tables.proofs.command.subtract_from_row.Goals as goal
 
 pub index_of-requires-clause-size : goal.index_of-requires-clause-size
-index_of-requires-clause-size g c = rw (size_same (g.S.RecordRead.meaning c.args.store.now) (g.S.RecordRead.meaning c.find_row.new.store) c.find_row.ensures.looks.only) c.requires.size
+index_of-requires-clause-size g c = rw (size_same (g.S.RecordRead.meaning c.args.store.now) (g.S.RecordRead.meaning c.find_row.new.store)
+    c.find_row.ensures.looks.only) c.requires.size
 
 pub returns-in_err-found-clause-runs : goal.returns-in_err-found-clause-runs
 returns-in_err-found-clause-runs g c =
     runs_moved _ 105 105 c.args.store.now c.find_row.new.store c.from_residual.result c.find_row.result c.in_err-found.field-0.0
-    (looks_runs _ (λ _ _ _ _. Unit {0}) 105 c.args.store.now c.find_row.new.store c.find_row.result c.find_row.ensures.looks (λ v state held agrees stands found. tt)) c.in_err-found.was c.from_residual.ensures.1
+    (looks_runs _ (λ _ _ _ _. Unit {0}) 105 c.args.store.now c.find_row.new.store c.find_row.result c.find_row.ensures.looks
+    (λ v state held agrees stands found. tt)) c.in_err-found.was c.from_residual.ensures.1
 
 pub returns-in_err-index-clause-runs : goal.returns-in_err-index-clause-runs
 returns-in_err-index-clause-runs g c =
-    runs_moved _ 105 105 c.args.store.now c.index_of.new.store c.from_residual-in_err-index.result c.index_of.result c.in_err-index.field-0.0
-    (looks_runs _ (λ _ _ _ _. Unit {0}) 105 c.args.store.now c.index_of.new.store c.index_of.result (row_then_index {meaning = g.S.RecordRead.meaning} c.args.table c.args.key (Some c.in-Some.found) c.args.store.now c.find_row.new.store c.index_of.new.store c.find_row.result c.index_of.result c.find_row.ensures.looks (c.in_ok-found.was ∙ ap Ok c.in-Some.is) c.index_of.ensures.looks) (λ v state held agrees stands found. tt)) c.in_err-index.was c.from_residual-in_err-index.ensures.1
+    runs_moved _ 105 105 c.args.store.now c.index_of.new.store c.from_residual-in_err-index.result c.index_of.result
+    c.in_err-index.field-0.0
+    (looks_runs _ (λ _ _ _ _. Unit {0}) 105 c.args.store.now c.index_of.new.store c.index_of.result
+    (row_then_index {meaning = g.S.RecordRead.meaning} c.args.table c.args.key (Some c.in-Some.found) c.args.store.now
+    c.find_row.new.store c.index_of.new.store c.find_row.result c.index_of.result c.find_row.ensures.looks (c.in_ok-found.was
+    ∙ ap Ok c.in-Some.is) c.index_of.ensures.looks) (λ v state held agrees stands found. tt))
+    c.in_err-index.was c.from_residual-in_err-index.ensures.1
 
 pub returns-in_err-change_row-clause-runs : goal.returns-in_err-change_row-clause-runs
 returns-in_err-change_row-clause-runs g c =
-    runs_moved _ 105 105 c.args.store.now c.change_row.new.store c.from_residual-in_err-change_row.result c.change_row.result c.in_err-change_row.field-0.0
-    (then_command {meaning = g.S.RecordRead.meaning} (Sub c.args.table c.args.key c.args.column c.args.by) _ (λ held. with_value held.1 c.args.table c.args.key c.with.result) 53 105 c.args.store.now c.index_of.new.store c.change_row.new.store c.index_of.result _ c.change_row.result (row_then_index {meaning = g.S.RecordRead.meaning} c.args.table c.args.key (Some c.in-Some.found) c.args.store.now c.find_row.new.store c.index_of.new.store c.find_row.result c.index_of.result c.find_row.ensures.looks (c.in_ok-found.was ∙ ap Ok c.in-Some.is) c.index_of.ensures.looks) c.in_ok-index.was (omega arith) c.change_row.ensures.runs
-    (λ state held stands known. (let eff = (sub_changes held.1 c.args.table c.args.key c.args.column c.args.by c.in-Some-checked_sub.rest c.in-Some.found.row known.1.1 (omega (arith, c.in-Some-checked_sub.ensures.0, c.column.ensures)) (c.in-Some-checked_sub.ensures.1 ∙ ap (λ v. v - c.args.by) c.column.ensures) ∙ ap (λ row. Ok (Nothing, with_value held.1 c.args.table c.args.key row)) (sym c.with.ensures)) in (((stands, known.0), known.1), ap (moves_to held.1 c.args.table c.args.key) eff ∙ plan_changes held.1 c.args.table c.args.key c.in_ok-index.index c.in-Some.found.row c.with.result known.0 known.1.1, eff)))) c.in_err-change_row.was c.from_residual-in_err-change_row.ensures.1
+    runs_moved _ 105 105 c.args.store.now c.change_row.new.store c.from_residual-in_err-change_row.result c.change_row.result
+    c.in_err-change_row.field-0.0
+    (then_command {meaning = g.S.RecordRead.meaning} (Sub c.args.table c.args.key c.args.column c.args.by) _
+    (λ held. with_value held.1 c.args.table c.args.key c.with.result) 53 105 c.args.store.now c.index_of.new.store
+    c.change_row.new.store c.index_of.result _ c.change_row.result
+    (row_then_index {meaning = g.S.RecordRead.meaning} c.args.table c.args.key (Some c.in-Some.found) c.args.store.now
+    c.find_row.new.store c.index_of.new.store c.find_row.result c.index_of.result c.find_row.ensures.looks (c.in_ok-found.was
+    ∙ ap Ok c.in-Some.is) c.index_of.ensures.looks) c.in_ok-index.was (omega arith) c.change_row.ensures.runs
+    (λ state held stands known. (let eff = (sub_changes held.1 c.args.table c.args.key c.args.column c.args.by c.in-Some-checked_sub.rest
+    c.in-Some.found.row known.1.1 (omega (arith, c.in-Some-checked_sub.ensures.0, c.column.ensures)) (c.in-Some-checked_sub.ensures.1
+    ∙ ap (λ v. v - c.args.by) c.column.ensures) ∙ ap (λ row. Ok (Nothing, with_value held.1 c.args.table c.args.key row))
+    (sym c.with.ensures)) in (
+      ((stands, known.0), known.1),
+      ap (moves_to held.1 c.args.table c.args.key) eff
+          ∙ plan_changes held.1 c.args.table c.args.key c.in_ok-index.index c.in-Some.found.row c.with.result known.0 known.1.1,
+      eff,
+    ))))
+    c.in_err-change_row.was c.from_residual-in_err-change_row.ensures.1
 
 pub returns-clause-runs : goal.returns-clause-runs
 returns-clause-runs g c =
     runs_value _ 105 105 c.args.store.now c.change_row.new.store c.change_row.result _ _ (omega arith)
-    (then_command {meaning = g.S.RecordRead.meaning} (Sub c.args.table c.args.key c.args.column c.args.by) _ (λ held. with_value held.1 c.args.table c.args.key c.with.result) 53 105 c.args.store.now c.index_of.new.store c.change_row.new.store c.index_of.result _ c.change_row.result (row_then_index {meaning = g.S.RecordRead.meaning} c.args.table c.args.key (Some c.in-Some.found) c.args.store.now c.find_row.new.store c.index_of.new.store c.find_row.result c.index_of.result c.find_row.ensures.looks (c.in_ok-found.was ∙ ap Ok c.in-Some.is) c.index_of.ensures.looks) c.in_ok-index.was (omega arith) c.change_row.ensures.runs
-    (λ state held stands known. (let eff = (sub_changes held.1 c.args.table c.args.key c.args.column c.args.by c.in-Some-checked_sub.rest c.in-Some.found.row known.1.1 (omega (arith, c.in-Some-checked_sub.ensures.0, c.column.ensures)) (c.in-Some-checked_sub.ensures.1 ∙ ap (λ v. v - c.args.by) c.column.ensures) ∙ ap (λ row. Ok (Nothing, with_value held.1 c.args.table c.args.key row)) (sym c.with.ensures)) in (((stands, known.0), known.1), ap (moves_to held.1 c.args.table c.args.key) eff ∙ plan_changes held.1 c.args.table c.args.key c.in_ok-index.index c.in-Some.found.row c.with.result known.0 known.1.1, eff)))) c.in_ok-change_row.was (λ asked state held agrees stands did. did)
+    (then_command {meaning = g.S.RecordRead.meaning} (Sub c.args.table c.args.key c.args.column c.args.by) _
+    (λ held. with_value held.1 c.args.table c.args.key c.with.result) 53 105 c.args.store.now c.index_of.new.store
+    c.change_row.new.store c.index_of.result _ c.change_row.result
+    (row_then_index {meaning = g.S.RecordRead.meaning} c.args.table c.args.key (Some c.in-Some.found) c.args.store.now
+    c.find_row.new.store c.index_of.new.store c.find_row.result c.index_of.result c.find_row.ensures.looks (c.in_ok-found.was
+    ∙ ap Ok c.in-Some.is) c.index_of.ensures.looks) c.in_ok-index.was (omega arith) c.change_row.ensures.runs
+    (λ state held stands known. (let eff = (sub_changes held.1 c.args.table c.args.key c.args.column c.args.by c.in-Some-checked_sub.rest
+    c.in-Some.found.row known.1.1 (omega (arith, c.in-Some-checked_sub.ensures.0, c.column.ensures)) (c.in-Some-checked_sub.ensures.1
+    ∙ ap (λ v. v - c.args.by) c.column.ensures) ∙ ap (λ row. Ok (Nothing, with_value held.1 c.args.table c.args.key row))
+    (sym c.with.ensures)) in (
+      ((stands, known.0), known.1),
+      ap (moves_to held.1 c.args.table c.args.key) eff
+          ∙ plan_changes held.1 c.args.table c.args.key c.in_ok-index.index c.in-Some.found.row c.with.result known.0 known.1.1,
+      eff,
+    ))))
+    c.in_ok-change_row.was (λ asked state held agrees stands did. did)
 
 pub returns-in_default-clause-runs : goal.returns-in_default-clause-runs
 returns-in_default-clause-runs g c =
     runs_value _ 105 105 c.args.store.now c.find_row.new.store c.find_row.result _ _ (omega arith)
-    (looks_runs _ (λ found _ state held. IsFound c.args.table c.args.key found state held) 105 c.args.store.now c.find_row.new.store c.find_row.result c.find_row.ensures.looks (λ v state held agrees stands found. found)) c.in_ok-found.was
-    (λ asked state held agrees stands found. (let f = rw c.in_default.is at found in sub_missing held.1 c.args.table c.args.key c.args.column c.args.by f.1))
+    (looks_runs _ (λ found _ state held. IsFound c.args.table c.args.key found state held) 105 c.args.store.now c.find_row.new.store
+    c.find_row.result c.find_row.ensures.looks (λ v state held agrees stands found. found)) c.in_ok-found.was
+    (λ asked state held agrees stands found. (let f = rw c.in_default.is at found in sub_missing held.1 c.args.table c.args.key
+    c.args.column c.args.by f.1))
 
 pub returns-in_default-checked_sub-clause-runs : goal.returns-in_default-checked_sub-clause-runs
 returns-in_default-checked_sub-clause-runs g c =
     runs_value _ 105 105 c.args.store.now c.find_row.new.store c.find_row.result _ _ (omega arith)
-    (looks_runs _ (λ found _ state held. IsFound c.args.table c.args.key found state held) 105 c.args.store.now c.find_row.new.store c.find_row.result c.find_row.ensures.looks (λ v state held agrees stands found. found)) c.in_ok-found.was
-    (λ asked state held agrees stands found. (let f = rw c.in-Some.is at found in sub_short held.1 c.args.table c.args.key c.args.column c.args.by c.in-Some.found.row f.1 (omega (arith, c.in_default-checked_sub.ensures, c.column.ensures))))
+    (looks_runs _ (λ found _ state held. IsFound c.args.table c.args.key found state held) 105 c.args.store.now c.find_row.new.store
+    c.find_row.result c.find_row.ensures.looks (λ v state held agrees stands found. found)) c.in_ok-found.was
+    (λ asked state held agrees stands found. (let f = rw c.in-Some.is at found in sub_short held.1 c.args.table c.args.key c.args.column
+    c.args.by c.in-Some.found.row f.1 (omega (arith, c.in_default-checked_sub.ensures, c.column.ensures))))

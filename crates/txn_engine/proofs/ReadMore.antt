@@ -1,0 +1,184 @@
+-- What a post keeps through a read.
+use Rattle.std.proofs.Common.{◌≡◌, ◌≢◌, ℕ, ◌<◌, List, [], ◌∷◌, ◌++◌, Option, None, Some, cond, refl, sym, ap, ◌∙◌, subst, inl, inr, ◌⊎◌, ◌≤◌, length, arith}
+use Rattle.std.specs.Prelude.{is_some}
+use Rattle.word_layout.specs.Size.{Size, places}
+use Rattle.core_rule.specs.View.{View, Read, Search, still, Seen}
+use Rattle.core_rule.specs.Views.{Among}
+use Rattle.core_rule.specs.Hands.{Shared, Seated, IsReady}
+use Rattle.core_rule.specs.Searching.{Rests, IsWhole}
+use Rattle.core_rule.specs.Deciding.{AreReads, read_values}
+use Rattle.core_rule.specs.Versions.{read_version}
+use Rattle.record_store.specs.Meaning.{value_at}
+use Rattle.validate_core.specs.Sets.{SetsView, MayInstall}
+use Rattle.validate_core.specs.Installing.{IsBegun}
+use Rattle.txn_engine.specs.Searched.{Finds, Stops}
+use Rattle.txn_engine.specs.Post.{IsPost}
+use Rattle.txn_engine.specs.declared.phase.Phase.{Phase}
+use Rattle.txn_engine.specs.declared.phase.Phase.TheVariants.{Open}
+use Rattle.txn_engine.proofs.Posts.{own_ready}
+use Rattle.txn_engine.proofs.Listed.{unread, read_values-append, read_value-version}
+
+-- one of a list that has one more at its end
+among_append : {A : Type 0} (xs : List A) (y x : A) → Among x (xs ++ y ∷ []) → Among x xs ⊎ (y ≡ x)
+among_append [] y x (inl same) = inr same
+among_append [] y x (inr none) = absurd none
+among_append (z ∷ xs) y x (inl same) = inl (inl same)
+among_append (z ∷ xs) y x (inr more) = elim (among_append xs y x more) as (λ _. Among x (z ∷ xs) ⊎ (y ≡ x)) [ inl a ↦ inl (inr a) | inr b ↦ inr b ]
+
+-- the versions found are more
+found_more : (ds found : List Read) (d : Read) → AreReads ds found → AreReads ds (d ∷ found)
+found_more [] found d are = tt
+found_more (e ∷ ds) found d are = (inr are.0, are.1, are.2, found_more ds found d are.3)
+
+not_again : (ds : List Read) (e d : Read) → ((c : Read) → Among c ds → c.record_number ≡ e.record_number → ⊥) → (e.record_number ≡ d.record_number → ⊥) → (c : Read) → Among c (ds ++ d ∷ []) → c.record_number ≡ e.record_number → ⊥
+not_again ds e d others apart c among same =
+    elim (among_append ds d c among) as (λ _. ⊥) [ inl a ↦ others c a same | inr is ↦ apart (sym same ∙ ap (λ (x : Read). x.record_number) (sym is)) ]
+
+-- one more read, of the version that was found last
+are_more : (ds found : List Read) (d : Read) → AreReads ds (d ∷ found) → IsWhole d → ((c : Read) → Among c ds → c.record_number ≢ d.record_number) → AreReads (ds ++ d ∷ []) (d ∷ found)
+are_more [] found d are whole apart = (inl refl, whole, λ c among. absurd among, tt)
+are_more (e ∷ ds) found d are whole apart =
+    (are.0, are.1, not_again ds e d are.2 (apart e (inl refl)), are_more ds found d are.3 whole (λ c among. apart c (inr among)))
+
+-- the view after a search that found a version, or met a pending one
+abbrev searched : View → Search → List Read → Seen → View
+searched v search reads seen = record v { work = record v.work { search = search; reads = reads }; seen = seen }
+
+may_install_more : (z : Size) (s s' : SetsView) (d : Read) → MayInstall z s → s'.reads ≡ s.reads ++ d ∷ [] → s'.writes ≡ s.writes → d.record_number < z.records → d.place < places z → MayInstall z s'
+may_install_more z s s' d may reads writes rid place = record {
+  reads = λ c among. elim (among_append s.reads d c (subst (λ (ds : List Read). Among c ds) reads among)) as (λ _. (c.record_number < z.records) × (c.place < places z)) [ inl a ↦ may.reads c a | inr is ↦ subst (λ (x : Read). (x.record_number < z.records) × (x.place < places z)) is (rid, place) ];
+  writes = rw writes may.writes;
+  once = rw writes may.once;
+}
+
+begun_found : (z : Size) (s s' : SetsView) (v : View) (search : Search) (d : Read) (seen : Seen) → IsBegun z s v → Rests search → AreReads s'.reads (d ∷ v.work.reads) → MayInstall z s' → IsBegun z s' (searched v search (d ∷ v.work.reads) seen)
+begun_found z s s' v search d seen is rests reads inside = record {
+  in_flight = is.in_flight;
+  stamp = is.stamp;
+  rests = rests;
+  reads = reads;
+  raised = is.raised;
+  finished = is.finished;
+  linked = is.linked;
+  passed = is.passed;
+  undecided = record { undecided = is.undecided.undecided; unsettled = is.undecided.unsettled };
+  collected = is.collected;
+  inside = inside;
+}
+
+begun_stopped : (z : Size) (s : SetsView) (v : View) (search : Search) (seen : Seen) → IsBegun z s v → Rests search → IsBegun z s (record v { work = record v.work { search = search }; seen = seen })
+begun_stopped z s v search seen is rests = record {
+  in_flight = is.in_flight;
+  stamp = is.stamp;
+  rests = rests;
+  reads = is.reads;
+  raised = is.raised;
+  finished = is.finished;
+  linked = is.linked;
+  passed = is.passed;
+  undecided = record { undecided = is.undecided.undecided; unsettled = is.undecided.unsettled };
+  collected = is.collected;
+  inside = is.inside;
+}
+
+pub begun_sets : (z : Size) (s s' : SetsView) (v : View) → IsBegun z s v → s'.reads ≡ s.reads → s'.writes ≡ s.writes → IsBegun z s' v
+begun_sets z s s' v is reads writes = record {
+  in_flight = is.in_flight;
+  stamp = is.stamp;
+  rests = is.rests;
+  reads = rw reads is.reads;
+  raised = is.raised;
+  finished = is.finished;
+  linked = is.linked;
+  passed = is.passed;
+  undecided = is.undecided;
+  collected = is.collected;
+  inside = record { reads = rw reads is.inside.reads; writes = rw writes is.inside.writes; once = rw writes is.inside.once };
+}
+
+-- ---- the post
+
+-- the post where the phase is known
+pub open_at : (phase : Phase) (hand : Seated) (stamp : ℕ) (reads writes : List (ℕ × Option (List ℕ))) (sets : SetsView) → phase ≡ Open → IsPost hand Open stamp reads writes sets → IsPost hand phase stamp reads writes sets
+open_at phase hand stamp reads writes sets same is = subst (λ (p : Phase). IsPost hand p stamp reads writes sets) (sym same) is
+
+pub is_open : (phase : Phase) (hand : Seated) (stamp : ℕ) (reads writes : List (ℕ × Option (List ℕ))) (sets : SetsView) → phase ≡ Open → IsPost hand phase stamp reads writes sets → IsPost hand Open stamp reads writes sets
+is_open phase hand stamp reads writes sets same is = subst (λ (p : Phase). IsPost hand p stamp reads writes sets) same is
+
+-- more room for reads alone
+pub post_room : (hand : Seated) (stamp : ℕ) (reads reads' writes : List (ℕ × Option (List ℕ))) (sets sets' : SetsView) → IsPost hand Open stamp reads writes sets → reads' ≡ reads → sets'.reads ≡ sets.reads → sets'.writes ≡ sets.writes → sets.write_room ≤ sets'.write_room → IsPost hand Open stamp reads' writes sets'
+post_room hand stamp reads reads' writes sets sets' is same_reads set_reads set_writes room = record {
+  ready = is.ready;
+  size = is.size;
+  holds_none = is.holds_none;
+  at = record {
+    begun = begun_sets hand.view.size sets sets' hand.view is.at.begun set_reads set_writes;
+    at = is.at.at;
+    as_read = rw (set_reads, same_reads) is.at.as_read;
+    none_written = set_writes ∙ is.at.none_written;
+    in_range = is.at.in_range;
+    room = let h : length writes ≤ sets.write_room = is.at.room in omega arith;
+  };
+}
+
+-- a read was noted
+pub post_read : (core : Shared) (hand hand' : Seated) (stamp rid place wts : ℕ) (value : Option (List ℕ)) (reads reads' writes : List (ℕ × Option (List ℕ))) (sets sets' : SetsView) → IsPost hand Open stamp reads writes sets → IsReady core hand' → Finds rid place wts value hand.view hand'.view → rid < hand.view.size.records → value_at reads rid ≡ None → reads' ≡ reads ++ (rid, value) ∷ [] → sets'.reads ≡ sets.reads ++ read_version rid place wts value ∷ [] → sets'.writes ≡ sets.writes → sets.write_room ≤ sets'.write_room → IsPost hand' Open stamp reads' writes sets'
+post_read core hand hand' stamp rid place wts value reads reads' writes sets sets' is ready finds within first more set_reads set_writes room =
+    let d = read_version rid place wts value in
+    let may = may_install_more hand.view.size sets sets' d is.at.begun.inside set_reads set_writes within finds.inside in
+    let found = found_more sets.reads hand.view.work.reads d is.at.begun.reads in
+    let apart = unread sets.reads rid (ap (λ vs. value_at vs rid) is.at.as_read ∙ first) in
+    let are : AreReads sets'.reads (d ∷ hand.view.work.reads) = rw set_reads (are_more sets.reads hand.view.work.reads d found finds.whole apart) in
+    record {
+      ready = own_ready core hand' ready;
+      size = rw finds.view is.size;
+      holds_none = rw finds.view is.holds_none;
+      at = record {
+        begun = rw finds.view (begun_found hand.view.size sets sets' hand.view still d hand'.view.seen is.at.begun tt are may);
+        at = rw finds.view is.at.at;
+        as_read = ap read_values set_reads ∙ read_values-append sets.reads d ∙ ap (λ v. read_values sets.reads ++ (rid, v) ∷ []) (read_value-version rid place wts value) ∙ ap (λ vs. vs ++ (rid, value) ∷ []) is.at.as_read ∙ sym more;
+        none_written = set_writes ∙ is.at.none_written;
+        in_range = rw finds.view is.at.in_range;
+        room = let h : length writes ≤ sets.write_room = is.at.room in omega arith;
+      };
+    }
+
+-- a pending version was met
+pub post_stopped : (core : Shared) (hand hand' : Seated) (stamp wts : ℕ) (reads writes : List (ℕ × Option (List ℕ))) (sets : SetsView) → IsPost hand Open stamp reads writes sets → IsReady core hand' → Stops stamp wts hand.view hand'.view → IsPost hand' Open stamp reads writes sets
+post_stopped core hand hand' stamp wts reads writes sets is ready stops = record {
+  ready = own_ready core hand' ready;
+  size = rw stops.view is.size;
+  holds_none = rw stops.view is.holds_none;
+  at = record {
+    begun = rw stops.view (begun_stopped hand.view.size sets hand.view stops.search hand'.view.seen is.at.begun stops.rests);
+    at = rw stops.view is.at.at;
+    as_read = is.at.as_read;
+    none_written = is.at.none_written;
+    in_range = rw stops.view is.at.in_range;
+    room = is.at.room;
+  };
+}
+
+-- a record of which nothing is known was not read
+pub not_read : (w r : Option (Option (List ℕ))) → cond (is_some w) w r ≡ None → r ≡ None
+not_read None r none = none
+not_read (Some x) r none = cc
+
+-- a version was found that is not noted
+pub post_passed : (core : Shared) (hand hand' : Seated) (stamp rid place wts : ℕ) (value : Option (List ℕ)) (reads writes : List (ℕ × Option (List ℕ))) (sets : SetsView) → IsPost hand Open stamp reads writes sets → IsReady core hand' → Finds rid place wts value hand.view hand'.view → IsPost hand' Open stamp reads writes sets
+post_passed core hand hand' stamp rid place wts value reads writes sets is ready finds =
+    let d = read_version rid place wts value in
+    let found = found_more sets.reads hand.view.work.reads d is.at.begun.reads in
+    record {
+      ready = own_ready core hand' ready;
+      size = rw finds.view is.size;
+      holds_none = rw finds.view is.holds_none;
+      at = record {
+        begun = rw finds.view (begun_found hand.view.size sets sets hand.view still d hand'.view.seen is.at.begun tt found is.at.begun.inside);
+        at = rw finds.view is.at.at;
+        as_read = is.at.as_read;
+        none_written = is.at.none_written;
+        in_range = rw finds.view is.at.in_range;
+        room = is.at.room;
+      };
+    }

@@ -1,0 +1,32 @@
+use Rattle.std.proofs.Common.{false, ◌≡◌, ◌<◌, ◌≤◌, ◌+◌, ap, ◌∙◌, arith, length, drop, length-drop, sym, subst}
+use Rattle.std.specs.Prelude.{slice_get}
+use Rattle.std.proofs.lemmas.Option.{slice_get_past}
+use Rattle.txn_engine.specs.Spare.{NumbersView, is_on}
+use Rattle.txn_engine.proofs.NumberLists.{spare_in_range, not_given}
+use Rattle.txn_engine.proofs.numbers.Numbers.at.Goals as goal
+
+pub returns-then-i-len-clause-from : goal.returns-then-i-len-clause-from
+returns-then-i-len-clause-from c =
+    let i = c.self.inside in
+    let within : i.taken + c.args.i < length i.list.items = let l = c.len.ensures in let o = i.list.ok in let t = c.if-i-len.true in let m = c.self.invariant.marked in omega arith in
+    let r = spare_in_range i.fixed i.records i.taken c.args.i c.index.result.now i.list.items _ c.self.invariant within c.index.ensures in
+    subst (λ (n : NumbersView). n.fixed ≤ c.index.result.now) c.self.view_is r.0
+
+pub returns-then-i-len-clause-within : goal.returns-then-i-len-clause-within
+returns-then-i-len-clause-within c =
+    let i = c.self.inside in
+    let within : i.taken + c.args.i < length i.list.items = let l = c.len.ensures in let o = i.list.ok in let t = c.if-i-len.true in let m = c.self.invariant.marked in omega arith in
+    let r = spare_in_range i.fixed i.records i.taken c.args.i c.index.result.now i.list.items _ c.self.invariant within c.index.ensures in
+    subst (λ (n : NumbersView). c.index.result.now < n.records) c.self.view_is r.1
+
+pub returns-else-i-len-clause-at : goal.returns-else-i-len-clause-at
+returns-else-i-len-clause-at c =
+    let i = c.self.inside in
+    let past : length (drop i.taken i.list.items) ≤ c.args.i = let l = c.len.ensures in let d = length-drop i.taken i.list.items in let t = c.if-i-len.false in let o = i.list.ok in omega arith in
+    sym (ap (λ (n : NumbersView). slice_get n.spare c.args.i) (sym c.self.view_is) ∙ slice_get_past (drop i.taken i.list.items) c.args.i past)
+
+pub returns-then-i-len-clause-not_given : goal.returns-then-i-len-clause-not_given
+returns-then-i-len-clause-not_given c =
+    let i = c.self.inside in
+    let within : i.taken + c.args.i < length i.list.items = let l = c.len.ensures in let o = i.list.ok in let t = c.if-i-len.true in let m = c.self.invariant.marked in omega arith in
+    subst (λ (n : NumbersView). is_on n.given c.index.result.now ≡ false) c.self.view_is (not_given i.fixed i.records i.taken c.args.i c.index.result.now i.list.items _ c.self.invariant within c.index.ensures)

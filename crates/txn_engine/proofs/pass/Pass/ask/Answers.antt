@@ -1,0 +1,35 @@
+use Rattle.std.proofs.Common.{◌≡◌, ◌<◌, ap, ◌∙◌, sym, subst, refl, length, remove}
+use Rattle.std.specs.Prelude.{IsSome, is_some}
+use Rattle.std.proofs.lemmas.Option.{slice_get_within}
+use Rattle.record_store.specs.Meaning.{value_at}
+use Rattle.txn_engine.specs.Pass.{PassView}
+use Rattle.txn_engine.specs.Inside.{pass_view}
+use Rattle.txn_engine.specs.Spare.{NumbersView}
+use Rattle.txn_engine.proofs.Asking.{passed_written, asks_struck}
+use Rattle.txn_engine.proofs.pass.Pass.ask.Goals as goal
+
+pub returns-then-is_written-clause-ok : goal.returns-then-is_written-clause-ok
+returns-then-is_written-clause-ok g c =
+    let some : IsSome (value_at c.args.self.now.desk.writes c.args.rid) = ap (λ (x : PassView). is_some (value_at x.desk.writes c.args.rid)) (sym c.self.view_is) ∙ sym c.is_written.ensures ∙ c.if-is_written.true in
+    let passed = passed_written c.args.self.now c.args.i c.args.rid c.requires.at some in
+    (refl, passed.0, passed.1)
+
+pub give-requires : goal.give-requires
+give-requires g c =
+    let same = ap (λ (x : PassView). x.spare) c.self-2.view_is ∙ c.is_absent.ensures.spare in
+    let within = slice_get_within c.args.self.now.spare c.args.i c.args.rid c.requires.at in
+    subst (λ xs. c.args.i < length xs) (sym same) within
+
+pub strike-requires : goal.strike-requires
+strike-requires g c =
+    let same = ap (λ (x : PassView). x.spare) c.self-2.view_is ∙ c.is_absent.ensures.spare in
+    let within = slice_get_within c.args.self.now.spare c.args.i c.args.rid c.requires.at in
+    subst (λ xs. c.args.i < length xs) (sym same) within
+
+pub returns-else-branch-clause-ok : goal.returns-else-branch-clause-ok
+returns-else-branch-clause-ok g c =
+    let i = c.self-2.inside in
+    let kept : c.is_absent.new.self ≡ c.args.self.now = rw c.if-branch.false at c.in_ok-is_absent.ensures.ok in
+    let is : pass_view i.post i.boost i.queue c.strike.new.self i.refusals i.dead i.counted ≡ record c.args.self.now { spare = remove c.args.self.now.spare c.args.i } =
+    ap (λ (n : NumbersView). pass_view i.post i.boost i.queue n i.refusals i.dead i.counted) c.strike.ensures ∙ ap (λ (x : PassView). record x { spare = remove x.spare c.args.i }) (c.self-2.view_is ∙ kept) in
+    asks_struck c.args.self.now _ c.args.i c.args.rid c.requires.at is

@@ -1,0 +1,19 @@
+use Rattle.std.proofs.Common.{ap, ◌∙◌}
+use Rattle.txn_engine.specs.Desk.{DeskView}
+use Rattle.txn_engine.specs.Pass.{PassView}
+use Rattle.txn_engine.specs.Spare.{NumbersView}
+use Rattle.txn_engine.proofs.Passes.{pass_room, pass_opened, pass_numbers, drawn_later}
+use Rattle.txn_engine.proofs.pass.Pass.open.Goals as goal
+
+pub invariant_of-self : goal.invariant_of-self
+invariant_of-self g c = pass_room _ c.self.inside.queue _ _ _ _ _ c.self.invariant c.reserve.ensures.items c.reserve.ensures.not_less
+
+pub invariant_of-self-in_err-open : goal.invariant_of-self-in_err-open
+invariant_of-self-in_err-open g c = rw c.in_err-open.ensures.err (pass_room _ c.self.inside.queue c.reserve.new.self _ _ _ _ c.self.invariant c.reserve.ensures.items c.reserve.ensures.not_less)
+
+pub invariant_of-self-2 : goal.invariant_of-self-2
+invariant_of-self-2 g c =
+    let alive = ap (λ (p : PassView). p.desk.dead) c.self.view_is ∙ ap (λ (d : DeskView). d.dead) c.requires.idle in
+    let room = pass_room _ c.self.inside.queue c.reserve.new.self _ _ _ _ c.self.invariant c.reserve.ensures.items c.reserve.ensures.not_less in
+    let begun = pass_opened c.self.inside.post _ c.reserve.new.self _ _ _ _ room alive (drawn_later c.self.inside.post.clock c.saturating_add.result) in
+    pass_numbers _ _ c.self.inside.numbers c.take_back.new.self _ _ _ (rw c.in_ok-open.ensures.ok begun) (ap (λ (n : NumbersView). n.fixed) c.take_back.ensures) (ap (λ (n : NumbersView). n.records) c.take_back.ensures)

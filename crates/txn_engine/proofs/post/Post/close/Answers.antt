@@ -1,0 +1,12 @@
+use Rattle.std.proofs.Common.{ap, ◌∙◌}
+use Rattle.txn_engine.specs.Post.{PostView}
+use Rattle.txn_engine.proofs.ReadMore.{is_open}
+use Rattle.txn_engine.proofs.WriteMore.{post_closed, open_ends}
+use Rattle.txn_engine.proofs.post.Post.close.Goals as goal
+
+pub invariant_of-self : goal.invariant_of-self
+invariant_of-self g c =
+    let phase = ap (λ (p : PostView). p.phase) c.self.view_is ∙ c.requires in
+    let i = c.self.invariant in
+    let e = c.clear.ensures in
+    rw c.make-self-inside.ensures.number (post_closed c.self.inside.hand c.clear.new.reads.entries c.clear.new.writes.entries c.clear.new.sets i.ready i.size i.holds_none (open_ends _ _ _ _ _ (is_open _ _ _ _ _ _ phase i)) e.no_reads e.no_writes e.none_read e.none_written)

@@ -1,0 +1,47 @@
+use Rattle.std.proofs.Common.{◌≡◌, ◌<◌, subst, sym, ap, ◌∙◌, None}
+use Rattle.core_rule.specs.View.{writing}
+use Rattle.record_store.specs.Meaning.{value_at}
+use Rattle.txn_engine.specs.Post.{PostView}
+use Rattle.txn_engine.proofs.ReadMore.{is_open, open_at, post_room, post_read, post_stopped, not_read}
+use Rattle.txn_engine.proofs.post.Post.read.Goals as goal
+
+pub invariant_of-self : goal.invariant_of-self
+invariant_of-self g c =
+    let phase = ap (λ (p : PostView). p.phase) c.self.view_is ∙ c.requires.open in
+    let m = c.make_room.ensures in
+    open_at _ _ _ _ _ _ phase (post_room _ _ _ _ _ _ _ (is_open _ _ _ _ _ _ phase c.self.invariant) m.entries m.reads m.writes m.not_less)
+
+pub search-requires-clause-rests : goal.search-requires-clause-rests
+search-requires-clause-rests g c =
+    let phase = ap (λ (p : PostView). p.phase) c.self.view_is ∙ c.requires.open in
+    (is_open _ _ _ _ _ _ phase c.self.invariant).at.begun.rests
+
+pub search-requires-clause-in_flight : goal.search-requires-clause-in_flight
+search-requires-clause-in_flight g c =
+    let phase = ap (λ (p : PostView). p.phase) c.self.view_is ∙ c.requires.open in
+    let now = (is_open _ _ _ _ _ _ phase c.self.invariant).at in
+    now.begun.in_flight ∙ ap writing (sym (c.number.ensures.value ∙ now.at))
+
+pub invariant_of-self-in-Err : goal.invariant_of-self-in-Err
+invariant_of-self-in-Err g c =
+    let phase = ap (λ (p : PostView). p.phase) c.self.view_is ∙ c.requires.open in
+    let m = c.make_room.ensures in
+    let room = post_room c.self.inside.hand c.self.inside.stamp c.self.inside.reads.entries c.make_room.new.reads.entries c.self.inside.writes.entries c.self.inside.sets c.make_room.new.sets (is_open _ _ _ _ _ _ phase c.self.invariant) m.entries m.reads m.writes m.not_less in
+    open_at _ _ _ _ _ _ phase (post_stopped c.args.core.now _ _ _ _ _ _ _ room c.search.ensures.stays.ready (rw c.number.ensures.value at c.in-Err.ensures.err))
+
+pub note-requires-clause-same : goal.note-requires-clause-same
+note-requires-clause-same g c =
+    let phase = ap (λ (p : PostView). p.phase) c.self.view_is ∙ c.requires.open in
+    let m = c.make_room.ensures in
+    (post_room c.self.inside.hand c.self.inside.stamp c.self.inside.reads.entries c.make_room.new.reads.entries c.self.inside.writes.entries c.self.inside.sets c.make_room.new.sets (is_open _ _ _ _ _ _ phase c.self.invariant) m.entries m.reads m.writes m.not_less).at.as_read
+
+pub invariant_of-self-in-Ok : goal.invariant_of-self-in-Ok
+invariant_of-self-in-Ok g c =
+    let phase = ap (λ (p : PostView). p.phase) c.self.view_is ∙ c.requires.open in
+    let m = c.make_room.ensures in
+    let room = post_room c.self.inside.hand c.self.inside.stamp c.self.inside.reads.entries c.make_room.new.reads.entries c.self.inside.writes.entries c.self.inside.sets c.make_room.new.sets (is_open _ _ _ _ _ _ phase c.self.invariant) m.entries m.reads m.writes m.not_less in
+    let n = c.note.ensures in
+    let within = subst (λ (p : PostView). c.args.rid < p.shared.size.records) (sym c.self.view_is) c.requires.rid in
+    let unread : value_at c.args.self.now.reads c.args.rid ≡ None = not_read (value_at c.args.self.now.writes c.args.rid) (value_at c.args.self.now.reads c.args.rid) c.requires.first in
+    let first = ap (λ vs. value_at vs c.args.rid) m.entries ∙ ap (λ (p : PostView). value_at p.reads c.args.rid) c.self.view_is ∙ unread in
+    open_at _ _ _ _ _ _ phase (post_read c.args.core.now _ _ _ c.args.rid _ _ _ _ _ _ _ _ room c.search.ensures.stays.ready c.in-Ok.ensures.ok within first n.entries n.reads n.writes n.not_less)

@@ -1,0 +1,39 @@
+-- Which answers refuse a transaction, and what a conflict says.
+use Rattle.std.specs.Prelude.{◌≡◌, ℕ, ⊤}
+use Rattle.validate_core.specs.declared.conflict.Conflict.{Conflict}
+use Rattle.validate_core.specs.declared.conflict.Conflict.TheVariants.{Pending, ReadLater, Overtaken}
+use Rattle.txn_engine.specs.declared.faults.TxnFault.{TxnFault}
+use Rattle.txn_engine.specs.declared.faults.TxnFault.TheVariants as txn
+use Rattle.txn_engine.specs.declared.faults.CommitFault.{CommitFault}
+use Rattle.txn_engine.specs.declared.faults.CommitFault.TheVariants as commit
+use Rattle.txn_engine.specs.Conflicts.{Shows, ShowsPending}
+use Rattle.txn_engine.specs.Pass.{PassView}
+
+-- want of memory is no refusal
+abbrev pub IsRefusal : TxnFault → Type 0
+IsRefusal (txn.Conflict conflict) = ⊤
+IsRefusal txn.RecordsOut = ⊤
+IsRefusal txn.NoMemory = ⊥
+
+abbrev pub IfConflict : TxnFault → (Conflict → Type 0) → Type 0
+IfConflict (txn.Conflict conflict) P = P conflict
+IfConflict txn.RecordsOut P = ⊤
+IfConflict txn.NoMemory P = ⊤
+
+-- what holds of a commit's fault, by its variant
+abbrev pub MatchStopped : CommitFault → (Conflict → Type 0) → Type 0 → Type 0
+MatchStopped (commit.Conflict conflict) P Q = P conflict
+MatchStopped commit.PlacesOut P Q = Q
+
+-- what a conflict says of the transaction of a pass; and what one says that a read met
+abbrev pub IsShown : PassView → Conflict → Type 0
+IsShown p conflict = Shows p.engine.size p.seat p.desk.stamp p.desk.reads p.desk.writes conflict
+
+abbrev pub IsPending : PassView → Conflict → Type 0
+IsPending p conflict = ShowsPending p.engine.size p.seat p.desk.stamp conflict
+
+-- the conflict that a read of this record meets
+abbrev pub MeetsAt : ℕ → Conflict → Type 0
+MeetsAt rid (Pending at wts) = at ≡ rid
+MeetsAt rid (ReadLater at wts rts) = ⊥
+MeetsAt rid (Overtaken at seen now) = ⊥

@@ -1,0 +1,24 @@
+-- How a transaction asks for a new record number.
+use Rattle.std.specs.Prelude.{◌≡◌, ℕ, ◌<◌, ◌-◌, ◌∷◌, ◌++◌, [], None, Some, IsSome, length, slice_get, remove}
+use Rattle.record_store.specs.Meaning.{value_at, after_read}
+use Rattle.record_store.specs.Store.{IsFresh}
+use Rattle.txn_engine.specs.declared.fresh.Asked.{Asked}
+use Rattle.txn_engine.specs.declared.fresh.Asked.TheVariants.{Given, Next}
+use Rattle.txn_engine.specs.Pass.{PassView, store_of}
+
+-- the record was read as absent, if it was not read before
+abbrev pub read_absent : PassView → ℕ → PassView
+read_absent p rid = record p { desk = record p.desk { reads = (after_read (store_of p) rid None).reads } }
+
+-- the spare number at this place is given out
+abbrev pub given_out : PassView → (i rid : ℕ) → PassView
+given_out p i rid = record (read_absent p rid) { spare = remove p.spare i; given = p.given ++ rid ∷ [] }
+
+-- the transaction writes each spare number before this place
+abbrev pub AreWritten : PassView → ℕ → Type 0
+AreWritten p i = (k rid : ℕ) → k < i → slice_get p.spare k ≡ Some rid → IsSome (value_at p.desk.writes rid)
+
+-- the number at this place was given out; or it stays, since it is written, or is struck off, and the next one is at that place
+abbrev pub Asks : (i rid : ℕ) (before after' : PassView) → Asked → Type 0
+Asks i rid before after' Given = IsFresh (store_of before) rid × (after' ≡ given_out before i rid)
+Asks i rid before after' (Next j) = (after' ≡ record before { spare = after'.spare }) × (length after'.spare - j < length before.spare - i) × (AreWritten before i → AreWritten after' j)

@@ -1,0 +1,54 @@
+-- How a pass shows its parts, and what it keeps of them.
+use Rattle.std.specs.Prelude.{◌≡◌, ℕ, ◌+◌, ◌*◌, ◌<◌, ◌≤◌, Bool, false, List, Option, None, IsSome, IfSome, length}
+use Rattle.plain_data.specs.declared.entry.Entry.{Entry}
+use Rattle.record_store.specs.Meaning.{value_at}
+use Rattle.core_rule.specs.Views.{Among}
+use Rattle.rapid_gc.specs.Queues.{Waiting}
+use Rattle.rapid_gc.specs.declared.queue.Queued.{Queued}
+use Rattle.validate_core.specs.declared.conflict.Conflict.{Conflict}
+use Rattle.txn_engine.specs.declared.phase.Phase.TheVariants.{Installed, Decided}
+use Rattle.txn_engine.specs.Conflicts.{ShowsPending}
+use Rattle.txn_engine.specs.Post.{PostView, entry_at}
+use Rattle.txn_engine.specs.Spare.{NumbersView}
+use Rattle.txn_engine.specs.Pass.{PassView}
+
+abbrev pub pass_view : PostView → (boost : ℕ) → Waiting → NumbersView → (refusals : ℕ) → Option Conflict → Bool → PassView
+pass_view p boost q n refusals dead counted = record {
+  engine = record { table = p.shared.table; size = p.shared.size; fixed = n.fixed };
+  seat = p.seat;
+  clock = p.clock;
+  boost = boost;
+  log = p.log;
+  met = p.met;
+  queue = q.items;
+  spare = n.spare;
+  given = n.given;
+  refusals = refusals;
+  desk = record { phase = p.phase; stamp = p.stamp; reads = p.reads; writes = p.writes; dead = dead; counted = counted };
+}
+
+-- a commit entry of the log writes the record at the stamp
+pub record IsQueued (records : ℕ) (log : List Entry) (i : Queued) : Type 0 where
+  pub within : i.rid < records
+  pub entry : Entry
+  pub among : Among entry log
+  pub commit : entry.snapshot ≡ false
+  pub at : entry.stamp ≡ i.stamp
+  pub writes : IsSome (value_at entry.writes i.rid)
+
+abbrev pub AreQueued : (records : ℕ) → List Entry → List Queued → Type 0
+AreQueued records log items = (i : Queued) → Among i items → IsQueued records log i
+
+pub record IsPass (p : PostView) (q : Waiting) (n : NumbersView) (refusals : ℕ) (dead : Option Conflict) (counted : Bool) : Type 0 where
+  pub records : n.records ≡ p.shared.size.records
+  pub fixed : n.fixed ≤ n.records
+  -- the count of refusals is at most 64 times the clock, with one more for a transaction that is not counted yet
+  pub counts : refusals ≤ 64 * p.clock
+  pub uncounted : counted ≡ false → refusals < 64 * p.clock
+  -- what a read met
+  pub stopped : IfSome dead (ShowsPending p.shared.size p.seat p.stamp)
+  pub alive : p.phase ≡ Installed → dead ≡ None
+  -- each queued version has its entry, and there is room for those of the transaction
+  pub queued : AreQueued p.shared.size.records p.log q.items
+  pub logged : p.phase ≡ Decided → Among (entry_at p) p.log
+  pub room : length q.items + length p.writes ≤ q.room

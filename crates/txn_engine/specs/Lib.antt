@@ -1,0 +1,13 @@
+pub mod Conflicts
+pub mod Desk
+pub mod Pass
+pub mod Faults
+pub mod Spare
+pub mod Ends
+pub mod Searched
+pub mod Reading
+pub mod Post
+pub mod Fresh
+pub mod Inside
+pub mod Retired
+pub mod Txn

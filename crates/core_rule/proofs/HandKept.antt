@@ -39,6 +39,7 @@ module _ (number clock published bound made : ℕ) (last_pool : Option ℕ) (v :
     in_range = ok.in_range;
     is_open = ok.is_open;
     settled = ok.settled;
+    made_inside = ok.made_inside;
     last_pool_is = ok.last_pool_is ∙ sym last;
     last_pool_usable = ok.last_pool_usable;
     places_in_range = in_range;
@@ -58,6 +59,7 @@ module _ (number clock published bound made : ℕ) (last_pool : Option ℕ) (v :
     in_range = ok.in_range;
     is_open = ok.is_open;
     settled = ok.settled;
+    made_inside = ok.made_inside;
     last_pool_is = ok.last_pool_is;
     last_pool_usable = ok.last_pool_usable;
     places_in_range = ok.places_in_range;
@@ -77,6 +79,7 @@ module _ (number clock published bound made : ℕ) (last_pool : Option ℕ) (v :
     in_range = ok.in_range;
     is_open = ok.is_open;
     settled = ok.settled;
+    made_inside = ok.made_inside;
     last_pool_is = ok.last_pool_is;
     last_pool_usable = ok.last_pool_usable;
     places_in_range = ok.places_in_range;
@@ -110,6 +113,7 @@ module _ (number clock published bound made : ℕ) (last_pool : Option ℕ) (v :
     in_range = ok.in_range;
     is_open = ok.is_open;
     settled = ok.settled;
+    made_inside = ok.made_inside;
     last_pool_is = ok.last_pool_is;
     last_pool_usable = ok.last_pool_usable;
     places_in_range = ok.places_in_range;

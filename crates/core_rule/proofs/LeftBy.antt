@@ -70,13 +70,18 @@ module _ (kept : State → Type 0) (z : Size) (g : World) (m : Memory) (vs : Lis
   pub search_left : (p : Stand) (w : ℕ) → v.work.search ≡ stands p (stamped w) → AsksStatus p.aim → IsFinal (m (status p.place)) → IsLeft v.log p.record_number limit w (m (status p.place))
   search_left p w is asks final =
       let o : StandOk z g.lists S (status_words m) limit v.published.read p (stamped w) = subst (SearchOk z g.lists S (status_words m) limit v.published.read) is (rule.searches id v at live) in
-      let seen : S p.place ≡ w = o.seen in record {
-        last = subst (NoneAbove v.log p.record_number limit) seen (none_above p.record_number p.place o.kept (λ t f e u among commit writes of lt.
-            asks_above p u.record_number e.stamp p.aim asks (subst (SearchAbove S u.record_number e.stamp) is (((rule.entered id v at live).commits e among commit).own t f lt u writes).search) (sym of)));
+      let seen : S p.place ≡ w = o.seen in
+      let last : NoneAbove v.log p.record_number limit w = subst (NoneAbove v.log p.record_number limit) seen (none_above p.record_number p.place o.kept (λ t f e u among commit writes of lt.
+      asks_above p u.record_number e.stamp p.aim asks (subst (SearchAbove S u.record_number e.stamp) is (((rule.entered id v at live).commits e among commit).own t f lt u writes).search) (sym of))) in record {
+        last = last;
         from = dite (dec_lt 0 w)
             (λ pos. let e = rule.values.each p.record_number p.place o.kept.on_record o.kept.there final (omega arith) in
             inr record { entry = own_entry p.record_number p.place w seen e; shows = e.shows })
-            (λ none. let zero_is : w ≡ 0 = omega arith in inl (zero_is, (rule.versions.each p.record_number p.place o.kept.on_record o.kept.there).base (seen ∙ zero_is)));
+            (λ none. let zero_is : w ≡ 0 = omega arith in inl (
+              zero_is,
+              (rule.versions.each p.record_number p.place o.kept.on_record o.kept.there).base (seen ∙ zero_is),
+              λ e u among commit writes of early. let le = last e u among commit writes of early in let positive = ((rule.entered id v at live).commits e among commit).positive in absurd (omega arith),
+            ));
       }
 
   long : (xs : List ℕ) → 3 ≡ shown_at true xs → (xs ≡ []) ⊎ (length xs ≡ cells_of_value) → length xs ≡ cells_of_value

@@ -17,6 +17,7 @@ pub mod Parts
 pub mod Proper
 pub mod Reckoning
 pub mod RuleKept
+pub mod Snapshots
 pub mod Standing
 pub mod Sources
 pub mod Sought

@@ -27,6 +27,7 @@ first_hand {S} z me size e = subst (λ (x : Me S View). (x.1 ≡ []) × HandOk 0
     in_range = size.has_seat;
     is_open = refl;
     settled = tt;
+    made_inside = let h = size.has_seat in omega arith;
     last_pool_is = refl;
     last_pool_usable = tt;
     places_in_range = tt;

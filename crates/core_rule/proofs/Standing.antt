@@ -6,19 +6,20 @@ use Rattle.std.proofs.lemmas.List.Kept.{AllPairs-cons}
 use mathlib.Core.Option.{some-injective, some-ne-none}
 use Rattle.plain_data.specs.declared.entry.Entry.{Entry}
 use Rattle.plain_data.specs.State.{State, IsEntry, Fits, Agrees, empty_state}
-use Rattle.histories.specs.History.{Lawful, StampsDiffer, time_of, Writes, IsValue, Before, ReadsObey, ObeysWriteBefore, LeavesKept}
+use Rattle.histories.specs.History.{Lawful, StampsDiffer, time_of, Writes, IsValue, Before, UpTo, ReadsObey, ObeysWriteBefore, LeavesKept}
 use Rattle.histories.proofs.Lists.{Contains-nil, Contains-head, Contains-tail, Contains-cases}
-use Rattle.histories.proofs.States.{time-commit}
+use Rattle.histories.proofs.States.{time-commit, time-snapshot}
 use Rattle.histories.proofs.Lawful.{write_before_is_lawful, lawful_has_states}
 use Rattle.word_layout.specs.Size.{Size}
 use Rattle.core_rule.specs.View.{View, Read, Write, Logged}
 use Rattle.core_rule.specs.Views.{At, Among}
-use Rattle.core_rule.specs.Deciding.{read_value, value_of, read_values, written_values, entry_of, StoodAt, IsLawfulLog}
+use Rattle.core_rule.specs.Deciding.{read_value, value_of, read_values, written_values, entry_of, snapshot_of, StoodAt, IsLawfulLog}
 use Rattle.core_rule.specs.Entries.{InLog, Wrote, Precedes, WriteBefore, AllDiffer, Across}
 use Rattle.core_rule.specs.Parts.History.{History}
 use Rattle.core_rule.proofs.Among.{Among-left, Among-right, Among-last, Among-split}
 use Rattle.core_rule.proofs.Proper.{pairs_nil}
 use Rattle.core_rule.proofs.LogGrows.{AllDiffer-append, same_logs}
+use Rattle.core_rule.proofs.Logs.{Wrote-more, Sourced-more}
 
 -- ---- all logs, one after another
 
@@ -77,22 +78,22 @@ pairs_of : (ls : List Logged) → AllDiffer ls → AllPairs StampsDiffer (map en
 pairs_of [] h = pairs_nil StampsDiffer
 pairs_of (x ∷ ls) h = AllPairs-cons StampsDiffer (entry_of x) (map entry_of ls) (all_of (StampsDiffer (entry_of x)) ls (λ e k a b. h.0 e k a b)) (pairs_of ls h.1)
 
-contains : (ls : List Logged) (e : Logged) → Among e ls → Contains (map entry_of ls) (entry_of e)
+pub contains : (ls : List Logged) (e : Logged) → Among e ls → Contains (map entry_of ls) (entry_of e)
 contains [] e h = absurd h
 contains (x ∷ ls) e (inl same) = subst (λ (y : Logged). Contains (map entry_of (x ∷ ls)) (entry_of y)) same (Contains-head (entry_of x) (map entry_of ls))
 contains (x ∷ ls) e (inr h) = Contains-tail (entry_of x) (map entry_of ls) (entry_of e) (contains ls e h)
 
-from_contains : (ls : List Logged) (y : Entry) → Contains (map entry_of ls) y → (e : Logged) × Among e ls × (entry_of e ≡ y)
+pub from_contains : (ls : List Logged) (y : Entry) → Contains (map entry_of ls) y → (e : Logged) × Among e ls × (entry_of e ≡ y)
 from_contains [] y h = absurd (Contains-nil y h)
 from_contains (x ∷ ls) y h = ⊎_elim (λ same. (x, inl refl, same)) (λ rest. let r = from_contains ls y rest in (r.0, inr r.1, r.2)) (Contains-cases (entry_of x) (map entry_of ls) y h)
 
-written_contains : (us : List Write) (u : Write) → Among u us → Contains (written_values us) (u.record_number, value_of u.cells)
+pub written_contains : (us : List Write) (u : Write) → Among u us → Contains (written_values us) (u.record_number, value_of u.cells)
 written_contains [] u h = absurd h
 written_contains (x ∷ us) u (inl same) = subst (λ (y : Write). Contains (written_values (x ∷ us)) (y.record_number, value_of y.cells)) same (Contains-head (x.record_number, value_of x.cells) (written_values us))
 written_contains (x ∷ us) u (inr h) = Contains-tail (x.record_number, value_of x.cells) (written_values us) (u.record_number, value_of u.cells) (written_contains us u h)
 
 -- a write of the entry is one of the log's
-written_from : (rid : ℕ) (us : List Write) (value : ℕ × Option (List ℕ)) → value.0 ≡ rid → Contains (written_values us) value → (u : Write) × Among u us × (u.record_number ≡ rid)
+pub written_from : (rid : ℕ) (us : List Write) (value : ℕ × Option (List ℕ)) → value.0 ≡ rid → Contains (written_values us) value → (u : Write) × Among u us × (u.record_number ≡ rid)
 written_from rid [] value is h = absurd (Contains-nil value h)
 written_from rid (x ∷ us) value is h = ⊎_elim (λ same. (x, inl refl, ap (λ (p : ℕ × Option (List ℕ)). p.0) same ∙ is)) (λ rest. let r = written_from rid us value is rest in (r.0, inr r.1, r.2))
     (Contains-cases (x.record_number, value_of x.cells) (written_values us) value h)
@@ -178,6 +179,26 @@ module _ (kept : State → Type 0) (z : Size) (vs : List View) (h : History kept
       (contains (logs vs) e (in_logs vs e (own e (Among-last e log)))) in
       record { history = all; lawful = law; own = λ c k. contains (logs vs) c (in_logs vs c (own c k)); state = s.0; left = s.1; agrees = s.2 }
 
+-- ---- up to the stamp of a snapshot
+
+up_to : (all : List Entry) (e : Entry) (rid : ℕ) (x : Option (List ℕ)) → e.snapshot ≡ true → IsValue (Before all e) rid x
+    → IsValue (UpTo all e.stamp) rid x
+up_to all e rid x snapshot (inr none) = inr (none.0, λ other among writes. none.1 other (is_before other among writes) writes) where
+  is_before : (other : Entry) → UpTo all e.stamp other → Writes rid other → Before all e other
+  is_before other among writes = let own = time-commit other writes.commit in let at = time-snapshot e snapshot in
+      let le = among.1 in (among.0, omega arith)
+up_to all e rid x snapshot (inl last) = let w = last.1 in let before = w.there.1 in let own = time-commit last.0 w.commit in
+    let at = time-snapshot e snapshot in inl (
+      last.0,
+      record {
+        there = (w.there.0, omega arith);
+        commit = w.commit;
+        value = w.value;
+        last = λ other among writes. let own' = time-commit other writes.commit in let le = among.1 in
+            w.last other (among.0, omega arith) writes;
+      },
+    )
+
 -- ---- the log of the one view that is open
 
 at_one : (v u : View) (i : ℕ) → At (v ∷ []) i u → v ≡ u
@@ -201,7 +222,21 @@ module _ (kept : State → Type 0) (z : Size) (vs : List View) (h : History kept
       (λ i u here o. subst (λ (y : View). AllDiffer y.log) (at_one v u i here) (h.apart id v at live))
       (λ i j a b here here' o o' ne. absurd (ne (index_one v a i here ∙ sym (index_one v b j here'))))
 
+  one_log : logs (v ∷ []) ≡ v.log
+  one_log = append-nil (log_of v) ∙ ap (λ (b : Bool). cond b [] v.log) live
+
   -- the own log is all logs
   pub lawful_log : kept empty_state → IsLawfulLog kept z.records v.log
-  lawful_log keeps = subst (λ (xs : List Logged). Lawful kept z.records (map entry_of xs)) (append-nil (log_of v) ∙ ap (λ (b : Bool). cond b [] v.log) live)
+  lawful_log keeps = subst (λ (xs : List Logged). Lawful kept z.records (map entry_of xs)) one_log
       (lawful kept z (v ∷ []) one (λ c l commit. positive c (back c l) commit) keeps)
+
+  -- the read of a snapshot that obeys the write before has the value that the own log leaves up to the stamp
+  pub value_left : (stamp : ℕ) (ds : List Read) (d : Read) → WriteBefore vs (snapshot_of stamp ds) d
+      → IsValue (UpTo (map entry_of v.log) stamp) d.record_number (read_value d)
+  value_left stamp ds d k = subst (λ (xs : List Logged). IsValue (UpTo (map entry_of xs) stamp) d.record_number (read_value d)) one_log
+      (up_to (entries (v ∷ [])) (entry_of (snapshot_of stamp ds)) d.record_number (read_value d) refl
+      (value_is kept z (v ∷ []) one (λ c l commit. positive c (back c l) commit) (snapshot_of stamp ds) d record {
+        source = Sourced-more vs (v ∷ []) there d k.source;
+        before = k.before;
+        last = λ c u w early. k.last c u (Wrote-more (v ∷ []) vs back d.record_number c u w) early;
+      }))

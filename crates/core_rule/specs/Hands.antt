@@ -5,7 +5,7 @@ use Rattle.word_layout.specs.Size.{Size, IsSize, IsUsable, places}
 use Rattle.core_rule.specs.Views.{AllOf}
 use Rattle.stamp_base.specs.Limits.{end_of_stamps, greatest_clock}
 use Rattle.core_rule.specs.View.{View, Clock, sharing, shared, resting, no_raises, no_places, no_work, nothing_known, no_front, nothing_gone, nothing_seen}
-use Rattle.core_rule.specs.Offers.{made_of, MayOffer, IsSettled}
+use Rattle.core_rule.specs.Offers.{made_of, made_within, MayOffer, IsSettled}
 use Rattle.plain_data.specs.State.{State}
 use Rattle.core_rule.specs.Kinds.{Kind, take, after}
 use Rattle.core_rule.specs.Learnt.{Learnt}
@@ -113,6 +113,7 @@ pub record HandOk (number clock published bound made : ℕ) (last_pool : Option 
   pub in_range : v.number < v.size.seats
   pub is_open : v.spent ≡ false
   pub settled : IsSettled v.splitting
+  pub made_inside : made_within v.size.seats v.splitting ≤ v.size.seats
   pub last_pool_is : last_pool ≡ v.places.last_pool
   pub last_pool_usable : IfSome last_pool (IsUsable v.size)
   pub places_in_range : AllOf (λ p. p < places v.size) v.places.held

@@ -9,6 +9,7 @@ use Rattle.core_rule.specs.View.{View, resting, Aim, links, again, Logged}
 use Rattle.core_rule.specs.Views.{AllOf, Has, Among, IsAlone}
 use Rattle.core_rule.specs.Searching.{limit_of, IsFinal, read_cells, newest, newest_stamp}
 use Rattle.core_rule.specs.Deciding.{stamp_in, commit_of, snapshot_of, StoodAt, IsLawfulLog}
+use Rattle.core_rule.specs.Snapshots.{AreAlike, AreLeft}
 use Rattle.core_rule.specs.Reckoning.{Reckons}
 use Rattle.core_rule.specs.Left.{IsLeft, LeavesCells}
 use Rattle.core_rule.specs.Kinds.{Kind, publish_stamp, hear, scan_writes, scan_reads, load_min_write, load_min_read, raise_min_write, raise_min_read, take, load_head, load_next, load_stamp, load_status, load_cell, link_head, link_next, load_read_stamp, decide_by_check, decide_by_read, decide_bare, finish, take_lock, load_floor, seek_head, seek_stamp, seek_next, cut, follow, front_head, after}
@@ -51,7 +52,11 @@ Learnt kept load_min_write v n =
     × (v.published.write < end_of_stamps → n < stamp_of (suc v.clock.clock) v.number)
     × ((e : Logged) → Among e v.log → e.snapshot ≡ true → e.stamp < n)
     × (IsAlone v → IsLawfulLog kept v.size.records v.log)
-Learnt kept load_min_read v n = n ≤ v.published.read
+-- what a snapshot has read of one record is alike; and a seat that is alone has read what its log leaves
+Learnt kept load_min_read v n =
+    (n ≤ v.published.read)
+    × (v.flight ≡ resting → AreAlike v.work.reads)
+    × (IsAlone v → v.flight ≡ resting → AreLeft v.log v.published.read v.work.reads)
 Learnt kept raise_min_write v n = (v.clock.met ≤ n) × (n ≤ v.published.write) × (v.raises.writes.least ≤ v.published.write)
 -- no entry of the log is above the own clock
 Learnt kept raise_min_read v n =

@@ -9,16 +9,20 @@ use Rattle.core_rule.specs.Collecting.{HasEntry}
 abbrev pub NoneAbove : List Logged → (r limit w : ℕ) → Type 0
 NoneAbove log r limit w = (e : Logged) (u : Write) → Among e log → e.snapshot ≡ false → Among u e.writes → u.record_number ≡ r → e.stamp < limit → e.stamp ≤ w
 
+-- no commit entry of the log writes record r below the limit
+abbrev pub NoneBelow : List Logged → (r limit : ℕ) → Type 0
+NoneBelow log r limit = (e : Logged) (u : Write) → Among e log → e.snapshot ≡ false → Among u e.writes → u.record_number ≡ r → e.stamp < limit → ⊥
+
 -- a commit entry of the log writes record r at the stamp w, by a version that shows this status
 pub record IsWritten (log : List Logged) (r w status : ℕ) : Type 0 where
   pub entry : HasEntry r w log
   pub shows : status ≡ shown_at true entry.write.cells
 
--- the version of record r at the stamp w, with this status, is what the log leaves below the limit: its last write, or the
--- deleted version 0
+-- the version of record r at the stamp w, with this status, is what the log leaves below the limit: its last write, or,
+-- where there is none, the deleted version 0
 pub record IsLeft (log : List Logged) (r limit w status : ℕ) : Type 0 where
   pub last : NoneAbove log r limit w
-  pub from : ((w ≡ 0) × (status ≡ 4)) ⊎ IsWritten log r w status
+  pub from : ((w ≡ 0) × (status ≡ 4) × NoneBelow log r limit) ⊎ IsWritten log r w status
 
 -- the last write of record r below the limit is that at the stamp w, with these cells
 pub record LeavesCells (log : List Logged) (r limit w : ℕ) (cells : List ℕ) : Type 0 where

@@ -12,6 +12,7 @@ pub mod Parts
 pub mod Reckoning
 pub mod Rule
 pub mod Searching
+pub mod Snapshots
 pub mod Stamps
 pub mod View
 pub mod Versions

@@ -76,7 +76,8 @@ impl<J: Keeps> Core<J> {
         self.load::<Brand>(&mut hand.seat, min_write, 0)
     }
 
-    /// Loads `min_rts`, which is at most the own published read word. A retired seat may load it too.
+    /// Loads `min_rts`, which is at most the own published read word. A retired seat may load it too. What a snapshot has read so
+    /// far of one record is alike.
     pub fn load_min_read(&self, hand: &mut Hand<J>) -> u64
         requires { IsHandOf self.now hand.old }
         ensures { Steps J.kept load_min_read hand.old result hand.new }

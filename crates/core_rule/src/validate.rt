@@ -5,7 +5,8 @@ ghost use Rattle.stamp_base.specs.Limits.{end_of_stamps};
 ghost use Rattle.core_rule.specs.View.{again, checks, stamped, shown, resting, writing, no_item};
 ghost use Rattle.core_rule.specs.Views.{Among, Has, AllIn};
 ghost use Rattle.core_rule.specs.Searching.{IsAt, stand_in, look_in, stamp_seen, state_seen, read_in, checked_in, Rests, IsFinal, IsWhole, IsNotRead, Begins, OthersPassed, OthersFinished, shown_at};
-ghost use Rattle.core_rule.specs.Deciding.{stamp_in, commit_of, AreReads, IsFitting, IsUndecided};
+ghost use Rattle.core_rule.specs.Deciding.{stamp_in, commit_of, IsFitting, IsUndecided};
+ghost use Rattle.core_rule.specs.Snapshots.{firsts, AreAllWhole};
 ghost use Rattle.core_rule.specs.Hands.{IsReady, Steps};
 ghost use Rattle.core_rule.specs.Kinds.{load_head, raise_read_stamp, load_read_stamp, decide_by_check, decide_by_read, decide_bare, store_status, finish};
 
@@ -142,16 +143,17 @@ impl<J: Keeps> Core<J> {
         self.store_of::<Brand, WrittenVersion>(&mut hand.seat, word, last, write);
     }
 
-    /// Ends a snapshot with these reads, at a load of the own published read word: its entry enters the log.
-    pub fn finish(&self, hand: &mut Hand<J>, reads: &Vec<ReadVersion>) -> u64
+    /// Ends a snapshot with all that it has read, at a load of the own published read word: its entry enters the log. The
+    /// reads are those that the view has, so nothing of them is stored.
+    pub fn finish(&self, hand: &mut Hand<J>) -> u64
         requires ready { IsReady self.now hand.old }
         requires resting { hand.old.view.flight ≡ resting }
-        requires found { AreReads reads.now.items hand.old.view.work.reads }
+        requires whole { AreAllWhole hand.old.view.work.reads }
         requires collected { hand.old.view.work.item ≡ no_item }
-        ensures { Steps J.kept (finish reads.now.items) hand.old result hand.new }
+        ensures { Steps J.kept (finish (firsts hand.old.view.work.reads)) hand.old result hand.new }
     {
         let word = self.layout.published_read(hand.number);
-        self.load_of::<Brand, Vec<ReadVersion>>(&mut hand.seat, word, reads)
+        self.load::<Brand>(&mut hand.seat, word, 0)
     }
 }
 

@@ -60,8 +60,7 @@ fn entries_without_reads_and_writes(rt: HostRuntime) -> Result<(), Fail> {
     core.publish_stamp(&mut hand, 20);
     assert_eq!(rt; core.decide_bare(&mut hand), 5120);
     assert_eq!(rt; core.publish_idle(&mut hand), 5184);
-    let reads = Vec::new(rt.alloc());
-    assert_eq!(rt; core.finish(&mut hand, &reads), 0);
+    assert_eq!(rt; core.finish(&mut hand), 0);
     Ok(())
 }
 

@@ -55,7 +55,7 @@ idled_alone_by : (v : View) (t : Bool) → IsAlone v → IsAlone (cond t (rests 
 idled_alone_by v true alone = alone
 idled_alone_by v false alone = alone
 
-idled_alone : (v : View) → IsAlone v → IsAlone (idled v)
+pub idled_alone : (v : View) → IsAlone v → IsAlone (idled v)
 idled_alone v alone = idled_alone_by v (nat_lt v.published.write (bound_of_clock v.clock.clock)) alone
 
 idled_above_by : (v : View) (t : Bool) → nat_lt v.published.write (bound_of_clock v.clock.clock) ≡ t → bound_of_clock v.clock.clock ≤ (cond t (rests v) v).published.write

@@ -1,5 +1,5 @@
 //! Going through the queue.
-ghost use Rattle.std.specs.Prelude.{◌≡◌, ◌+◌, ◌<◌, ◌≤◌, []};
+ghost use Rattle.std.specs.Prelude.{◌≡◌, ◌+◌, ◌<◌, ◌≤◌, [], vec_capacity};
 ghost use Rattle.stamp_base.specs.Stamp.{bound_of_clock};
 ghost use Rattle.core_rule.specs.View.{no_item, collects, above_floor};
 ghost use Rattle.core_rule.specs.Views.{IsAlone};
@@ -90,6 +90,9 @@ pub fn collect<J: Keeps>(core: &Core<J>, hand: &mut Hand<J>, queue: &mut Queue) 
     ensures known { AreKept queue.old.items hand.old.view.counts hand.new.view.counts }
     ensures one_left { IsAlone hand.old.view → AllBelow (bound_of_clock hand.old.view.clock.clock) queue.old.items → LeavesOne queue.old.items hand.old.view.tops hand.new.view.counts }
     ensures met { hand.old.view.clock.met ≤ hand.new.view.clock.met }
+    ensures within { hand.new.view.clock.met ≤ hand.new.view.published.write }
+    ensures seen { IsAlone hand.old.view → hand.new.view.clock.met ≡ hand.new.view.published.write }
+    ensures room { queue.old.room ≤ queue.new.room }
     ensures log { hand.new.view.log ≡ hand.old.view.log }
     ensures held { hand.new.view.places ≡ hand.old.view.places }
     ensures none { hand.new.view.work.item ≡ no_item }
@@ -115,6 +118,7 @@ fn go_through<J: Keeps>(
     requires reached { hand.old.view.reached ≡ reached }
     requires committed { AreCommitted core.now.size.records hand.old.view.log items.old.items }
     ensures goes { GoesThrough reached items.old.items items.new.items hand.old.view hand.new.view result }
+    ensures room { vec_capacity items.old ≤ vec_capacity items.new }
     ensures view { Passes hand.old.view hand.new.view }
     ensures stays { StaysReady core.now hand.old hand.new }
 {

@@ -55,4 +55,12 @@ impl Queue {
     {
         let _added = self.items.push(Queued { rid, stamp });
     }
+
+    /// Drops all items. The room stays.
+    pub fn clear(&mut self)
+        ensures items { self.new.items ≡ [] }
+        ensures room { self.new.room ≡ self.old.room }
+    {
+        self.items.clear();
+    }
 }

@@ -1,5 +1,5 @@
 //! Installing the writes of a transaction: each is filled into a place and linked as a pending version.
-ghost use Rattle.std.specs.Prelude.{◌≡◌, ◌<◌, false, length, OnOk, OnErr, IfOk};
+ghost use Rattle.std.specs.Prelude.{◌≡◌, ◌<◌, ◌≤◌, false, length, OnOk, OnErr, IfOk};
 ghost use Rattle.stamp_base.specs.Stamp.{IsStamp};
 ghost use Rattle.word_layout.specs.Size.{places};
 ghost use Rattle.core_rule.specs.View.{Write, writing};
@@ -63,6 +63,7 @@ pub fn install_held<J: Keeps>(
     ensures same { SameSets sets.old sets.new }
     ensures stamp { result.stamp ≡ hand.old.view.published.write }
     ensures installs { InstallsHeld core.now.size place sets.old sets.new hand.old.view hand.new.view }
+    ensures room { (sets.old.read_room ≤ sets.new.read_room) × (sets.old.write_room ≤ sets.new.write_room) }
     ensures stays { StaysReady core.now hand.old hand.new }
 {
     let stamp = hand.published_write();
@@ -122,6 +123,7 @@ fn put<J: Keeps>(
     requires rests { Rests hand.old.view.work.search }
     requires undecided { hand.old.view.work.decided ≡ false }
     ensures puts { Puts core.now.size stamp i place sets.old sets.new hand.old.view hand.new.view }
+    ensures room { (sets.old.read_room ≤ sets.new.read_room) × (sets.old.write_room ≤ sets.new.write_room) }
     ensures stays { StaysReady core.now hand.old hand.new }
 {
     let staged = sets.staged_at(i);

@@ -144,6 +144,7 @@ impl Sets {
         requires { i < length self.old.writes }
         ensures writes { (u : Write) → Turn i self.old.writes u → self.new.writes ≡ slice_set self.old.writes i (record u { place = place; stamp = stamp }) }
         ensures reads { self.new.reads ≡ self.old.reads }
+        ensures room { (self.old.read_room ≤ self.new.read_room) × (self.old.write_room ≤ self.new.write_room) }
     {
         self.writes[i].set_place(place, stamp);
     }

@@ -40,7 +40,9 @@ use Rattle.core_rule.proofs.Collected.{work_of, chain_of}
 use Rattle.core_rule.proofs.Sought.{sought_next}
 use Rattle.core_rule.proofs.Cutting.{cut_work, cut_version, tail_linked, tail_low}
 use Rattle.core_rule.proofs.Tails.{spells_from}
-use Rattle.core_rule.proofs.Standing.{stood, lawful_log}
+use Rattle.core_rule.proofs.Sources.{snapshot_obeys}
+use Rattle.core_rule.proofs.Standing.{stood, lawful_log, value_left}
+use Rattle.core_rule.proofs.Snapshots.{reads_alike}
 use Rattle.core_rule.proofs.LeftBy.{search_left, cells_left}
 use Rattle.core_rule.proofs.Parts.PlacesKept.{was_free}
 use Rattle.core_rule.proofs.Parts.SearchesKept.{next_is, next_above}
@@ -256,7 +258,15 @@ module _ (kept : State → Type 0) (z : Size) (g : World) (m : Memory) (vs : Lis
         (lawful_log kept z vs s.rule.history (λ c l commit. ((s.rule.entered l.index l.view l.here l.is_open).commits c l.among commit).positive) id v s.at s.allowed.is_open
         (λ i u at live. as_this kept z g m vs s.rule id v s.at s.allowed.is_open i u at live taken) s.rule.begins_kept),
   )
-  learnt load_min_read s = (s.rule.minima.each id v s.at s.allowed.is_open).reads
+  learnt load_min_read s = (
+    (s.rule.minima.each id v s.at s.allowed.is_open).reads,
+    reads_alike kept z g m vs s.rule id v s.at s.allowed.is_open,
+    λ alone rests d among whole. let taken = taken_as kept z g m vs s.rule id v s.at s.allowed.is_open alone in
+        value_left kept z vs s.rule.history
+        (λ c l commit. ((s.rule.entered l.index l.view l.here l.is_open).commits c l.among commit).positive)
+        id v s.at s.allowed.is_open (λ i u at live. as_this kept z g m vs s.rule id v s.at s.allowed.is_open i u at live taken)
+        v.published.read [] d (snapshot_obeys kept z g m vs s.rule id v s.at s.allowed.is_open rests d among whole []),
+  )
   learnt raise_min_write s =
       let p = s.rule.minima.each id v s.at s.allowed.is_open in
       (p.met, p.writes, (s.rule.scans id id v v s.at s.at s.allowed.is_open s.allowed.is_open).writes (rw s.allowed.can (rw (s.rule.seats.each id v s.at s.allowed.is_open).size (s.rule.seats.each id v s.at s.allowed.is_open).within)))

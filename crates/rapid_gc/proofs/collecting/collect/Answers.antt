@@ -1,11 +1,12 @@
-use Rattle.std.proofs.Common.{◌≡◌, ℕ, ap, sym, ◌∙◌, subst}
+use Rattle.std.proofs.Common.{◌≡◌, ℕ, ◌+◌, refl, ap, sym, ◌∙◌, subst, arith}
 use Rattle.word_layout.specs.Name.{published_write, published_read, min_write, min_read}
 use Rattle.core_rule.specs.View.{View}
+use Rattle.core_rule.specs.Views.{IsAlone}
 use Rattle.core_rule.specs.Searching.{Ends}
 use Rattle.clock_stamps.specs.Minima.{Raises, raised_write, raised_read, bounded}
 use Rattle.rapid_gc.specs.Queues.{Waiting}
 use Rattle.rapid_gc.specs.Collections.{idled, Prepares, GoesThrough, after_collecting}
-use Rattle.rapid_gc.proofs.Alone.{nothing_stays}
+use Rattle.rapid_gc.proofs.Alone.{idled_alone, nothing_stays}
 use Rattle.rapid_gc.proofs.Bounds.{are_kept, leaves_one}
 use Rattle.rapid_gc.proofs.Prepared.{idled_is, ends_idled, collects_view}
 use Rattle.rapid_gc.proofs.collecting.collect.Goals as goal
@@ -59,3 +60,29 @@ returns-clause-known g c = are_kept c.args.hand.now.view c.args.queue.now.items 
 
 pub returns-clause-one_left : goal.returns-clause-one_left
 returns-clause-one_left g c = leaves_one c.args.hand.now.view c.args.queue.now.items c.go_through.new.items.items c.go_through.new.hand.view c.go_through.result (returns-clause-collects g c)
+
+pub returns-clause-seen : goal.returns-clause-seen
+returns-clause-seen g c = λ alone.
+    let before = c.args.hand.now.view in let raised = c.raise_min_write.new.hand.view in
+    let e1 : c.idle.new.hand.view ≡ idled before = idled_is before c.idle.new.hand.view c.idle.ensures.rises (λ le. ap (λ h. h.view) (c.idle.ensures.unchanged le)) in
+    let r = c.raise_min_write.ensures.raises in
+    let own = r.alone (subst IsAlone (sym e1) (idled_alone before alone)) in
+    let value = r.value in
+    let least : raised.clock.met ≡ c.raise_min_write.result = ap (λ (v : View). v.clock.met) c.raise_min_write.ensures.view in
+    let write : raised.published.write ≡ c.idle.new.hand.view.published.write = ap (λ (v : View). v.published.write) c.raise_min_write.ensures.view in
+    let low = c.publish_read.ensures.met in
+    let high = c.publish_read.ensures.below in
+    let met : c.go_through.new.hand.view.clock.met ≡ c.publish_read.result + 1 =
+    ap (λ (v : View). v.clock.met) c.go_through.ensures.view ∙ ap (λ (v : View). v.clock.met) c.raise_min_read-reached.ensures.view ∙ ap (λ (v : View). v.clock.met) c.publish_read.ensures.view in
+    let published : c.go_through.new.hand.view.published.write ≡ raised.published.write =
+    ap (λ (v : View). v.published.write) c.go_through.ensures.view ∙ ap (λ (v : View). v.published.write) c.raise_min_read-reached.ensures.view ∙ ap (λ (v : View). v.published.write) c.publish_read.ensures.view in
+    omega arith
+
+pub returns-clause-log : goal.returns-clause-log
+returns-clause-log g c = ap (λ (v : View). v.log) (returns-clause-view g c)
+
+pub returns-clause-held : goal.returns-clause-held
+returns-clause-held g c = ap (λ (v : View). v.places) (returns-clause-view g c)
+
+pub returns-clause-ends : goal.returns-clause-ends
+returns-clause-ends g c = subst Ends (sym (ap (λ (v : View). v.work) (returns-clause-view g c))) (record { rests = tt; settled = λ u among. absurd among; collected = refl })

@@ -64,3 +64,7 @@ asks_struck before after' i rid at is =
 -- the end of the list was reached
 pub all_written : (p : PassView) (i : ℕ) → AreWritten p i → slice_get p.spare i ≡ None → AreWritten p (length p.spare)
 all_written p i before none k rid below here = before k rid (past p.spare i k none below) here
+
+pub none_there : (found : Option ℕ) → ((x : ℕ) → found ≡ Some x → ⊥) → found ≡ None
+none_there None none = refl
+none_there (Some x) none = absurd (none x refl)

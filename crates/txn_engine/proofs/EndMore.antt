@@ -1,5 +1,5 @@
 -- What a post keeps where the versions of its transaction are linked, decided and published, and what that tells.
-use Rattle.std.proofs.Common.{◌≡◌, ◌≢◌, ℕ, ◌<◌, ◌≤◌, true, false, Bool, cond, eqb, zero, suc, List, [], ◌∷◌, ◌++◌, Option, Some, refl, sym, ap, ◌∙◌, subst, inl, inr, ◌⊎◌, arith, length, map, take, drop, length-append, eq-eqb}
+use Rattle.std.proofs.Common.{◌≡◌, ◌≢◌, ℕ, ◌<◌, ◌≤◌, true, false, Bool, cond, eqb, zero, suc, List, [], ◌∷◌, ◌++◌, Option, None, Some, refl, sym, ap, ◌∙◌, subst, inl, inr, ◌⊎◌, arith, length, map, take, drop, length-append, eq-eqb}
 use Rattle.std.specs.Prelude.{IsSome, Contains, slice_index_or}
 use Rattle.std.specs.List.{IsDistinct}
 use Rattle.std.specs.Map.{keys_of}
@@ -10,7 +10,8 @@ use Rattle.plain_data.specs.State.{State, Fits}
 use Rattle.stamp_base.specs.Stamp.{seat_of}
 use Rattle.word_layout.specs.Size.{Size}
 use Rattle.core_rule.specs.View.{View, Read, Write, Logged, writing}
-use Rattle.core_rule.specs.Views.{Among}
+use Rattle.core_rule.specs.Views.{Among, IsAlone}
+use Rattle.core_rule.specs.Learnt as learnt
 use Rattle.core_rule.specs.Hands.{Shared, Seated, IsReady}
 use Rattle.core_rule.specs.Deciding.{entry_of, value_of, read_values, written_values, commit_of, StoodAt, IsFitting}
 use Rattle.record_store.specs.Meaning.{value_at}
@@ -19,13 +20,16 @@ use Rattle.validate_core.specs.declared.conflict.Conflict.TheVariants.{Pending, 
 use Rattle.validate_core.specs.Sets.{SetsView, Once, SameWrites, Turn, IsInside}
 use Rattle.validate_core.specs.Installing.{IsBegun, SameSets, Installs}
 use Rattle.validate_core.specs.Validating as validating
+use Rattle.txn_engine.proofs.AloneSeats.{others_of, alone_told}
+use Rattle.txn_engine.specs.Glance.{glance_of}
 use Rattle.txn_engine.specs.Conflicts.{IsOfAnother}
 use Rattle.txn_engine.specs.Ends.{Stood}
 use Rattle.txn_engine.specs.Post.{IsPost, AreSets, IsShownAt, entered, PostView, post_view, entry_at}
 use Rattle.txn_engine.specs.declared.phase.Phase.{Phase}
 use Rattle.txn_engine.specs.declared.phase.Phase.TheVariants.{Idle, Open, Installed, Decided}
 use Rattle.txn_engine.proofs.Posts.{own_ready, none_in_range}
-use Rattle.txn_engine.proofs.Listed.{length-written, few}
+use Rattle.txn_engine.proofs.Listed.{length-written, few, among_written}
+use Rattle.txn_engine.proofs.Placed.{each_counted, placed_kept}
 
 -- ---- what stands in the sets stands in the lists
 
@@ -33,11 +37,6 @@ found_or : (b : Bool) (x : Option (List ℕ)) (found : Option (Option (List ℕ)
 found_or true x found some = refl
 found_or false x found (inl off) = cc
 found_or false x found (inr some) = some
-
-pub among_written : (us : List Write) (u : Write) → Among u us → IsSome (value_at (written_values us) u.record_number)
-among_written [] u among = absurd among
-among_written (w ∷ us) u (inl same) = found_or (eqb u.record_number w.record_number) _ (value_at (written_values us) u.record_number) (inl (eq-eqb u.record_number w.record_number (ap (λ (x : Write). x.record_number) (sym same))))
-among_written (w ∷ us) u (inr among) = found_or (eqb u.record_number w.record_number) _ (value_at (written_values us) u.record_number) (inr (among_written us u among))
 
 pub among_read : (ds : List Read) (d : Read) → Among d ds → IsSome (value_at (read_values ds) d.record_number)
 among_read [] d among = absurd among
@@ -90,6 +89,7 @@ post_installed core hand hand' stamp reads writes sets filled sets' is set_reads
           as_written = same_values filled.writes sets'.writes same.writes ∙ written;
           inside = rw size installs.inside;
         };
+        placed = each_counted hand.view.size hand.view.published.write sets'.writes hand hand' installs.each installs.inside.once;
       };
     }
 
@@ -103,7 +103,7 @@ fits_same kept records core t ds us p same entry fits =
     subst (λ (e : Entry). Fits kept core.size.records e) (sym entry) (subst (λ (x : Shared). Fits kept x.size.records (entry_at p)) same fits)
 
 -- an entry of a log as the history has it
-logged_of : (es : List Logged) (y : Entry) (k : ℕ) → k < length (map entry_of es) → slice_index_or (map entry_of es) k y ≡ y → (c : Logged) × Among c es × (entry_of c ≡ y)
+pub logged_of : (es : List Logged) (y : Entry) (k : ℕ) → k < length (map entry_of es) → slice_index_or (map entry_of es) k y ≡ y → (c : Logged) × Among c es × (entry_of c ≡ y)
 logged_of [] y k within at = absurd (omega arith)
 logged_of (c ∷ es) y zero within at = (c, inl refl, at)
 logged_of (c ∷ es) y (suc k) within at = let more = logged_of es y k (omega arith) at in (more.0, inr more.1, more.2)
@@ -119,13 +119,20 @@ stood_same kept records log c entry same stood = subst (λ (e : Entry). Stood ke
 })
 
 -- the post with the entry in its log
-pub decided_view : (kept : State → Type 0) (records : ℕ) (hand hand' : Seated) (phase : Phase) (stamp t : ℕ) (reads writes : List (ℕ × Option (List ℕ))) (sets : SetsView) → hand'.table ≡ hand.table → validating.Decides kept records t sets hand.view hand'.view → entry_of (commit_of (writing t) sets.reads sets.writes) ≡ entry_at (post_view hand phase stamp reads writes) → post_view hand' Decided stamp reads writes ≡ entered (post_view hand phase stamp reads writes)
-decided_view kept records hand hand' phase stamp t reads writes sets table decides entry =
+pub decided_view : (kept : State → Type 0) (records : ℕ) (hand hand' : Seated) (phase : Phase) (stamp t t' : ℕ) (reads writes : List (ℕ × Option (List ℕ))) (sets : SetsView) → hand.view.flight ≡ writing t' → hand'.table ≡ hand.table → validating.Decides kept records t sets hand.view hand'.view → entry_of (commit_of (writing t) sets.reads sets.writes) ≡ entry_at (post_view hand phase stamp reads writes) → post_view hand' Decided stamp reads writes ≡ entered (post_view hand phase stamp reads writes)
+decided_view kept records hand hand' phase stamp t t' reads writes sets flight table decides entry =
     let number : hand'.view.number ≡ hand.view.number = ap (λ (v : View). v.number) decides.only in
     let size : hand'.view.size ≡ hand.view.size = ap (λ (v : View). v.size) decides.only in
     let clock : hand'.view.clock ≡ hand.view.clock = ap (λ (v : View). v.clock) decides.only in
     let log : map entry_of hand'.view.log ≡ map entry_of hand.view.log ++ entry_at (post_view hand phase stamp reads writes) ∷ [] = ap (λ es. map entry_of es) decides.log ∙ map_push entry_of hand.view.log (commit_of (writing t) sets.reads sets.writes) ∙ ap (λ e. map entry_of hand.view.log ++ e ∷ []) entry in
-    rw (table, number, size, clock, log) refl
+    let published : hand'.view.published ≡ hand.view.published = ap (λ (v : View). v.published) decides.only in
+    let splitting : hand'.view.splitting ≡ hand.view.splitting = ap (λ (v : View). v.splitting) decides.only in
+    let counts : hand'.view.counts ≡ hand.view.counts = ap (λ (v : View). v.counts) decides.only in
+    let tops : hand'.view.tops ≡ hand.view.tops = ap (λ (v : View). v.tops) decides.only in
+    let still : hand'.view.flight ≡ writing t' = ap (λ (v : View). v.flight) decides.only ∙ flight in
+    let glance' : glance_of hand'.view.flight hand'.view.published.read hand'.view.work.reads ≡ None = rw still refl in
+    let glance : glance_of hand.view.flight hand.view.published.read hand.view.work.reads ≡ None = rw flight refl in
+    rw (glance', glance, table, number, size, clock, published, splitting, counts, tops, log) refl
 
 -- ---- what is kept
 
@@ -140,6 +147,7 @@ post_decided core kept records hand hand' stamp reads writes sets is ready decid
       at = record {
         decided = decides.decided;
         are_sets = record { as_read = is.at.are_sets.as_read; as_written = is.at.are_sets.as_written; inside = rw size is.at.are_sets.inside };
+        placed = placed_kept hand hand' sets.writes size (ap (λ (v : View). v.counts) decides.only) is.at.placed;
       };
     }
 
@@ -153,23 +161,33 @@ touched : (size : Size) (sets : SetsView) (rid : ℕ) → IsInside size sets →
 touched size sets rid inside (inl r) = subst (λ (n : ℕ). n < size.records) r.1.of_record (inside.reads r.1.read r.1.among).0
 touched size sets rid inside (inr w) = subst (λ (n : ℕ). n < size.records) w.of_record (inside.writes w.write w.among).0
 
-another_of : (size size' : Size) (seat seat' n : ℕ) → seat' ≡ seat → size' ≡ size → seat < size.seats → (seat_of n ≡ seat' → ⊥) → seat_of n < size'.seats → IsOfAnother size seat n
-another_of size size' seat seat' n number same inside apart within =
-    let w : seat_of n < size.seats = subst (λ (z : Size). seat_of n < z.seats) same within in
-    let a : seat_of n ≢ seat = λ e. apart (e ∙ sym number) in
-    record { another = a; within = w; others = omega arith }
+-- a seat that is alone is so after such a call
+still_alone : (v w : View) → validating.Stands v w → IsAlone v → IsAlone w
+still_alone v w stands alone =
+    let size : w.size ≡ v.size = ap (λ (x : View). x.size) stands.others in
+    let number : w.number ≡ v.number = ap (λ (x : View). x.number) stands.others in
+    let splitting : w.splitting ≡ v.splitting = ap (λ (x : View). x.splitting) stands.others in
+    rw (size, number, splitting, stands.clock) alone
 
-pub shown_at : (hand hand' : Seated) (phase : Phase) (stamp t : ℕ) (reads writes : List (ℕ × Option (List ℕ))) (sets : SetsView) (conflict : Conflict) → AreSets hand reads writes sets → hand.view.number < hand.view.size.seats → t ≡ stamp → hand'.view.number ≡ hand.view.number → hand'.view.size ≡ hand.view.size → validating.IsShown t sets hand.view hand'.view conflict → IsShownAt (post_view hand phase stamp reads writes) conflict
-shown_at hand hand' phase stamp t reads writes sets (Pending rid wts) are inside same number size shown =
-    let other = another_of hand.view.size hand'.view.size hand.view.number hand'.view.number wts number size inside shown.1.another shown.1.within in
+pub another_of : (v w : View) (n : ℕ) → validating.Stands v w → v.number < v.size.seats → learnt.IsOfAnother w n → IsOfAnother v.size v.number (others_of v) n
+another_of v w n stands inside is =
+    let size : w.size ≡ v.size = ap (λ (x : View). x.size) stands.others in
+    let number : w.number ≡ v.number = ap (λ (x : View). x.number) stands.others in
+    let within : seat_of n < v.size.seats = subst (λ (z : Size). seat_of n < z.seats) size is.within in
+    let apart : seat_of n ≢ v.number = λ e. is.another (e ∙ sym number) in
+    record { another = apart; within = within; more = omega arith; not_alone = λ alone. is.not_alone (still_alone v w stands (alone_told v alone)) }
+
+pub shown_at : (hand hand' : Seated) (phase : Phase) (stamp t : ℕ) (reads writes : List (ℕ × Option (List ℕ))) (sets : SetsView) (conflict : Conflict) → AreSets hand reads writes sets → hand.view.number < hand.view.size.seats → t ≡ stamp → validating.Stands hand.view hand'.view → validating.IsShown t sets hand.view hand'.view conflict → IsShownAt (post_view hand phase stamp reads writes) conflict
+shown_at hand hand' phase stamp t reads writes sets (Pending rid wts) are inside same stands shown =
+    let other = another_of hand.view hand'.view wts stands inside shown.1 in
     (touched hand.view.size sets rid are.inside shown.2, subst (λ (n : ℕ). wts < n) same shown.0, other)
-shown_at hand hand' phase stamp t reads writes sets (ReadLater rid wts rts) are inside same number size shown =
-    let other = another_of hand.view.size hand'.view.size hand.view.number hand'.view.number rts number size inside shown.1.another shown.1.within in
+shown_at hand hand' phase stamp t reads writes sets (ReadLater rid wts rts) are inside same stands shown =
+    let other = another_of hand.view hand'.view rts stands inside shown.1 in
     let w = shown.2 in
     let some : IsSome (value_at writes rid) = subst (λ (ws : List (ℕ × Option (List ℕ))). IsSome (value_at ws rid)) are.as_written (subst (λ (n : ℕ). IsSome (value_at (written_values sets.writes) n)) w.of_record (among_written sets.writes w.write w.among)) in
     (some, subst (λ (n : ℕ). wts < n) same shown.3.met.path.early, subst (λ (n : ℕ). n < rts) same shown.0, other)
-shown_at hand hand' phase stamp t reads writes sets (Overtaken rid seen now) are inside same number size shown =
-    let other = another_of hand.view.size hand'.view.size hand.view.number hand'.view.number now number size inside shown.2.another shown.2.within in
+shown_at hand hand' phase stamp t reads writes sets (Overtaken rid seen now) are inside same stands shown =
+    let other = another_of hand.view hand'.view now stands inside shown.2 in
     let d = shown.3 in
     let some : IsSome (value_at reads rid) = subst (λ (ws : List (ℕ × Option (List ℕ))). IsSome (value_at ws rid)) are.as_read (subst (λ (n : ℕ). IsSome (value_at (read_values sets.reads) n)) d.of_record (among_read sets.reads d.read d.among)) in
     (some, shown.0, subst (λ (n : ℕ). now < n) same shown.1, other)

@@ -19,10 +19,10 @@ use Rattle.core_rule.specs.Views.{Among}
 use Rattle.core_rule.specs.Deciding.{read_values, read_value, written_values, value_of}
 
 -- what is among the reads is known by them
-known_head : (b : Bool) (x : Option (List ℕ)) (found : Option (Option (List ℕ))) → b ≡ true → cond b (Some x) found ≡ None → ⊥
+pub known_head : (b : Bool) (x : Option (List ℕ)) (found : Option (Option (List ℕ))) → b ≡ true → cond b (Some x) found ≡ None → ⊥
 known_head b x found is none = let h : Some x ≡ None = subst (λ (c : Bool). cond c (Some x) found ≡ None) is none in cc
 
-known_tail : (b : Bool) (x : Option (List ℕ)) (found : Option (Option (List ℕ))) → cond b (Some x) found ≡ None → found ≡ None
+pub known_tail : (b : Bool) (x : Option (List ℕ)) (found : Option (Option (List ℕ))) → cond b (Some x) found ≡ None → found ≡ None
 known_tail true x found none = cc
 known_tail false x found none = none
 
@@ -115,11 +115,11 @@ other_key P [] i rid value all at = cc
 other_key P (e ∷ es) zero rid value all at = let same : e ≡ (rid, value) = cc in subst (λ (x : ℕ × Option (List ℕ)). P x.0) same all.0
 other_key P (e ∷ es) (suc i) rid value all at = other_key P es i rid value all.1 at
 
-unheld : (b : Bool) (x : Option (List ℕ)) (found : Option (Option (List ℕ))) → b ≡ false → found ≡ None → cond b (Some x) found ≡ None
+pub unheld : (b : Bool) (x : Option (List ℕ)) (found : Option (Option (List ℕ))) → b ≡ false → found ≡ None → cond b (Some x) found ≡ None
 unheld true x found off none = cc
 unheld false x found off none = none
 
-eqb_not : (a b : ℕ) → (a ≡ b → ⊥) → eqb a b ≡ false
+pub eqb_not : (a b : ℕ) → (a ≡ b → ⊥) → eqb a b ≡ false
 eqb_not a b apart = elim (eqb_tells a b) as (λ _. eqb a b ≡ false) [ inl t ↦ absurd (apart t.1) | inr t ↦ t.0 ]
 
 pub not_before : (es : List (ℕ × Option (List ℕ))) (i rid : ℕ) (value : Option (List ℕ)) → IsDistinct eqb (keys_of es) → slice_get es i ≡ Some (rid, value) → value_at (take i es) rid ≡ None
@@ -168,3 +168,9 @@ drop_one es i e at =
 pub held : (value : Option (List ℕ)) → is_some value ≡ holds (Some value)
 held None = refl
 held (Some words) = refl
+
+-- a write that is listed has a value there
+pub among_written : (us : List Write) (u : Write) → Among u us → IsSome (value_at (written_values us) u.record_number)
+among_written [] u among = absurd among
+among_written (w ∷ us) u (inl same) = some_or (eqb u.record_number w.record_number) _ (value_at (written_values us) u.record_number) (inl (eq-eqb u.record_number w.record_number (ap (λ (x : Write). x.record_number) (sym same))))
+among_written (w ∷ us) u (inr among) = some_or (eqb u.record_number w.record_number) _ (value_at (written_values us) u.record_number) (inr (among_written us u among))

@@ -199,6 +199,19 @@ numbers_added fixed records t rid xs room room' are off from within more = recor
   fits = let h = are.fits in omega arith;
 }
 
+-- there are no more of them than records
+pub few_numbers : (fixed records t : ℕ) (xs : List ℕ) (room : ℕ) → AreNumbers fixed records t xs room → length xs ≤ records
+few_numbers fixed records t xs room are = length-le_from_distinct_below xs records are.distinct (λ q on. (are.in_range q on).1)
+
+-- no numbers
+pub numbers_empty : (fixed records : ℕ) (xs : List ℕ) (room : ℕ) → xs ≡ [] → records ≤ room → AreNumbers fixed records 0 xs room
+numbers_empty fixed records xs room none fits = record {
+  marked = omega arith;
+  distinct = subst (IsDistinct eqb) (sym none) (range_distinct 0 0);
+  in_range = λ rid on. let h : is_on [] rid ≡ true = subst (λ (ys : List ℕ). is_on ys rid ≡ true) none on in absurd (apart_bools (sym h));
+  fits = fits;
+}
+
 -- there is room for it
 pub numbers_room : (fixed records t rid : ℕ) (xs : List ℕ) (room : ℕ) → AreNumbers fixed records t xs room → is_on xs rid ≡ false → fixed ≤ rid → rid < records → length xs < room
 numbers_room fixed records t rid xs room are off from within =

@@ -2,7 +2,9 @@
 use Rattle.std.proofs.Common.{◌≡◌, ℕ, ◌<◌, ◌≤◌, ◌+◌, Bool, true, false, List, [], ◌∷◌, ◌++◌, Option, None, Some, refl, sym, ap, subst, ◌∙◌, arith, length, inl, inr, ◌⊎◌, cond, eqb, suc, eq-eqb, append_assoc, length-append}
 use Rattle.std.specs.Prelude.{IfSome, IsSome, is_some, if◌then◌else◌, max, min, ◌==◌}
 use Rattle.stamp_base.specs.Limits.{end_of_stamps, greatest_adopted_clock}
-use Rattle.stamp_base.specs.Stamp.{clock_of}
+use Rattle.word_layout.specs.Size.{Size, IsSize}
+use Rattle.stamp_base.specs.Stamp.{clock_of, stamp_of, bound_of_clock}
+use Rattle.txn_engine.specs.Pass.{IsAbove, AreBelow}
 use Rattle.core_rule.specs.Stamps.{adopted}
 use Rattle.clock_stamps.specs.Clocks.{drawn_clock}
 use Rattle.plain_data.specs.declared.entry.Entry.{Entry}
@@ -16,7 +18,8 @@ use Rattle.rapid_gc.specs.Queues.{Waiting}
 use Rattle.validate_core.specs.declared.conflict.Conflict.{Conflict}
 use Rattle.txn_engine.specs.declared.phase.Phase.TheVariants.{Open, Installed, Decided}
 use Rattle.txn_engine.specs.Conflicts.{ShowsPending}
-use Rattle.txn_engine.specs.Post.{PostView, known_at, with_clock, opened, closed, in_phase, noted, entered, entry_at}
+use Rattle.txn_engine.specs.Post.{PostView, known_at, with_clock, drawn_at, knowing, opened, closed, in_phase, noted, entered, entry_at}
+use Rattle.txn_engine.specs.Seats.{Known}
 use Rattle.txn_engine.specs.Spare.{NumbersView}
 use Rattle.txn_engine.specs.Inside.{IsPass, IsQueued, AreQueued}
 
@@ -27,6 +30,43 @@ pass_clock p clock q n refusals dead counted is later = record {
   fixed = is.fixed;
   counts = let h = is.counts in omega arith;
   uncounted = λ off. let h = is.uncounted off in omega arith;
+  commits = λ e among commit. let h = is.commits e among commit in omega arith;
+  stamped = let h = is.stamped in omega arith;
+  snapshots = is.snapshots;
+  stopped = is.stopped;
+  alive = is.alive;
+  queued = is.queued;
+  logged = is.logged;
+  room = is.room;
+}
+
+-- a stamp was drawn
+pub pass_drawn : (p : PostView) (clock : ℕ) (q : Waiting) (n : NumbersView) (refusals : ℕ) (dead : Option Conflict) (counted : Bool) → IsPass p q n refusals dead counted → p.clock ≤ clock → IsPass (drawn_at p clock) q n refusals dead counted
+pass_drawn p clock q n refusals dead counted is later = record {
+  records = is.records;
+  fixed = is.fixed;
+  counts = let h = is.counts in omega arith;
+  uncounted = λ off. let h = is.uncounted off in omega arith;
+  commits = λ e among commit. let h = is.commits e among commit in omega arith;
+  stamped = let h = is.stamped in omega arith;
+  snapshots = is.snapshots;
+  stopped = is.stopped;
+  alive = is.alive;
+  queued = is.queued;
+  logged = is.logged;
+  room = is.room;
+}
+
+-- what it knows of lists is other
+pub pass_knowing : (p : PostView) (known : Known) (q : Waiting) (n : NumbersView) (refusals : ℕ) (dead : Option Conflict) (counted : Bool) → IsPass p q n refusals dead counted → IsPass (knowing p known) q n refusals dead counted
+pass_knowing p known q n refusals dead counted is = record {
+  records = is.records;
+  fixed = is.fixed;
+  counts = is.counts;
+  uncounted = is.uncounted;
+  commits = is.commits;
+  stamped = is.stamped;
+  snapshots = is.snapshots;
   stopped = is.stopped;
   alive = is.alive;
   queued = is.queued;
@@ -41,6 +81,9 @@ pass_room p q q' n refusals dead counted is items room = record {
   fixed = is.fixed;
   counts = is.counts;
   uncounted = is.uncounted;
+  commits = is.commits;
+  stamped = is.stamped;
+  snapshots = is.snapshots;
   stopped = is.stopped;
   alive = is.alive;
   queued = rw items is.queued;
@@ -48,16 +91,26 @@ pass_room p q q' n refusals dead counted is items room = record {
   room = rw items (let h = is.room in omega arith);
 }
 
-none_stopped : (p : PostView) (stamp : ℕ) (dead : Option Conflict) → dead ≡ None → IfSome dead (ShowsPending p.shared.size p.seat stamp)
+none_stopped : (p : PostView) (stamp : ℕ) (dead : Option Conflict) → dead ≡ None → IfSome dead (ShowsPending p.shared.size p.seat p.others stamp)
 none_stopped p stamp dead none = rw none tt
 
+pub seat_below : {size : Size} {seat : ℕ} → IsSize size → seat < size.seats → seat < 64
+seat_below {size} {seat} is within = let h = is.seats_in_range in omega arith
+
+-- a stamp that is drawn is above each commit entry
+pub above_drawn : (log : List Entry) (clock reading seat : ℕ) → IsAbove log (bound_of_clock clock) → IsAbove log (stamp_of (drawn_clock clock reading) seat)
+above_drawn log clock reading seat above e among commit = let h = above e among commit in omega arith
+
 -- a transaction begins
-pub pass_opened : (p : PostView) (clock : ℕ) (q : Waiting) (n : NumbersView) (refusals : ℕ) (dead : Option Conflict) (counted : Bool) → IsPass p q n refusals dead counted → dead ≡ None → p.clock < clock → IsPass (opened p clock) q n refusals dead false
-pass_opened p clock q n refusals dead counted is alive later = record {
+pub pass_opened : (p : PostView) (clock : ℕ) (q : Waiting) (n : NumbersView) (refusals : ℕ) (dead : Option Conflict) (counted : Bool) → IsPass p q n refusals dead counted → dead ≡ None → p.clock < clock → p.seat < 64 → IsPass (opened p clock) q n refusals dead false
+pass_opened p clock q n refusals dead counted is alive later seat = record {
   records = is.records;
   fixed = is.fixed;
   counts = let h = is.counts in omega arith;
   uncounted = λ off. let h = is.counts in omega arith;
+  commits = λ e among commit. let h = is.commits e among commit in omega arith;
+  stamped = omega arith;
+  snapshots = is.snapshots;
   stopped = none_stopped p _ dead alive;
   alive = λ not. alive;
   queued = is.queued;
@@ -87,6 +140,9 @@ pass_cleared p q n n' refusals dead counted is fixed records = record {
   fixed = rw (fixed, records) is.fixed;
   counts = is.counts;
   uncounted = λ off. cc;
+  commits = is.commits;
+  stamped = is.stamped;
+  snapshots = is.snapshots;
   stopped = tt;
   alive = λ not. refl;
   queued = is.queued;
@@ -100,6 +156,9 @@ pass_numbers p q n n' refusals dead counted is fixed records = record {
   fixed = rw (fixed, records) is.fixed;
   counts = is.counts;
   uncounted = is.uncounted;
+  commits = is.commits;
+  stamped = is.stamped;
+  snapshots = is.snapshots;
   stopped = is.stopped;
   alive = is.alive;
   queued = is.queued;
@@ -114,6 +173,9 @@ pass_closed p q n refusals dead counted is alive = record {
   fixed = is.fixed;
   counts = is.counts;
   uncounted = is.uncounted;
+  commits = is.commits;
+  stamped = omega arith;
+  snapshots = is.snapshots;
   stopped = none_stopped p 0 dead alive;
   alive = λ not. alive;
   queued = is.queued;
@@ -128,6 +190,9 @@ pass_installed p q n refusals dead counted is alive = record {
   fixed = is.fixed;
   counts = is.counts;
   uncounted = is.uncounted;
+  commits = is.commits;
+  stamped = is.stamped;
+  snapshots = is.snapshots;
   stopped = is.stopped;
   alive = λ not. alive;
   queued = is.queued;
@@ -142,6 +207,9 @@ pass_read p rid value q n refusals dead counted is phase = record {
   fixed = is.fixed;
   counts = is.counts;
   uncounted = is.uncounted;
+  commits = is.commits;
+  stamped = is.stamped;
+  snapshots = is.snapshots;
   stopped = is.stopped;
   alive = is.alive;
   queued = is.queued;
@@ -156,6 +224,9 @@ pass_written p writes q n refusals dead counted is phase room = record {
   fixed = is.fixed;
   counts = is.counts;
   uncounted = is.uncounted;
+  commits = is.commits;
+  stamped = is.stamped;
+  snapshots = is.snapshots;
   stopped = is.stopped;
   alive = is.alive;
   queued = is.queued;
@@ -164,16 +235,35 @@ pass_written p writes q n refusals dead counted is phase room = record {
 }
 
 -- its entry is in the log
-among_more : {A : Type 0} (xs : List A) (y x : A) → Among x xs → Among x (xs ++ y ∷ [])
+pub among_more : {A : Type 0} (xs : List A) (y x : A) → Among x xs → Among x (xs ++ y ∷ [])
 among_more [] y x among = absurd among
 among_more (z ∷ xs) y x (inl same) = inl same
 among_more (z ∷ xs) y x (inr among) = inr (among_more xs y x among)
 
-among_last : {A : Type 0} (xs : List A) (y : A) → Among y (xs ++ y ∷ [])
+pub among_last : {A : Type 0} (xs : List A) (y : A) → Among y (xs ++ y ∷ [])
 among_last [] y = inl refl
 among_last (z ∷ xs) y = inr (among_last xs y)
 
-queued_more : (records : ℕ) (log : List Entry) (entry : Entry) (i : Queued) → IsQueued records log i → IsQueued records (log ++ entry ∷ []) i
+pub among_either : {A : Type 0} (xs ys : List A) (x : A) → Among x (xs ++ ys) → Among x xs ⊎ Among x ys
+among_either [] ys x among = inr among
+among_either (z ∷ xs) ys x (inl same) = inl (inl same)
+among_either (z ∷ xs) ys x (inr more) = elim (among_either xs ys x more) as (λ _. Among x (z ∷ xs) ⊎ Among x ys) [ inl a ↦ inl (inr a) | inr b ↦ inr b ]
+
+pub above_more : (log : List Entry) (e : Entry) (t : ℕ) → IsAbove log t → e.stamp < t → IsAbove (log ++ e ∷ []) t
+above_more log e t above below x among commit =
+    elim (among_either log (e ∷ []) x among) as (λ _. x.stamp < t) [
+      | inl a ↦ above x a commit
+      | inr b ↦ elim b as (λ _. x.stamp < t) [ inl same ↦ subst (λ (y : Entry). y.stamp < t) same below | inr none ↦ absurd none ]
+    ]
+
+pub below_more : (log : List Entry) (e : Entry) (t : ℕ) → AreBelow log t → e.snapshot ≡ false → AreBelow (log ++ e ∷ []) t
+below_more log e t before commit x among snapshot =
+    elim (among_either log (e ∷ []) x among) as (λ _. x.stamp < t) [
+      | inl a ↦ before x a snapshot
+      | inr b ↦ elim b as (λ _. x.stamp < t) [ inl same ↦ (let h : true ≡ false = sym snapshot ∙ ap (λ (y : Entry). y.snapshot) (sym same) ∙ commit in cc) | inr none ↦ absurd none ]
+    ]
+
+pub queued_more : (records : ℕ) (log : List Entry) (entry : Entry) (i : Queued) → IsQueued records log i → IsQueued records (log ++ entry ∷ []) i
 queued_more records log entry i is = record {
   within = is.within;
   entry = is.entry;
@@ -189,6 +279,9 @@ pass_entered p q n refusals dead counted is = record {
   fixed = is.fixed;
   counts = is.counts;
   uncounted = is.uncounted;
+  commits = above_more p.log (entry_at p) (bound_of_clock p.clock) is.commits is.stamped;
+  stamped = is.stamped;
+  snapshots = below_more p.log (entry_at p) p.met is.snapshots refl;
   stopped = is.stopped;
   alive = λ not. cc;
   queued = λ i among. queued_more p.shared.size.records p.log (entry_at p) i (is.queued i among);
@@ -201,11 +294,6 @@ no_conflict None none = refl
 no_conflict (Some x) none = absurd (none x refl)
 
 -- ---- publishing
-
-among_either : {A : Type 0} (xs ys : List A) (x : A) → Among x (xs ++ ys) → Among x xs ⊎ Among x ys
-among_either [] ys x among = inr among
-among_either (z ∷ xs) ys x (inl same) = inl (inl same)
-among_either (z ∷ xs) ys x (inr more) = elim (among_either xs ys x more) as (λ _. Among x (z ∷ xs) ⊎ Among x ys) [ inl a ↦ inl (inr a) | inr b ↦ inr b ]
 
 some_or : (b : Bool) (x : Option (List ℕ)) (found : Option (Option (List ℕ))) → (b ≡ true) ⊎ IsSome found → IsSome (cond b (Some x) found)
 some_or true x found some = refl
@@ -239,6 +327,9 @@ pass_published p q q' n n' refusals dead counted is phase within more room fixed
   fixed = rw (fixed, records) is.fixed;
   counts = is.counts;
   uncounted = λ off. cc;
+  commits = is.commits;
+  stamped = omega arith;
+  snapshots = is.snapshots;
   stopped = tt;
   alive = λ not. refl;
   queued = all_queued p q.items q'.items is.queued (is.logged phase) within more;

@@ -1,11 +1,15 @@
 -- What a post keeps of its hand, from call to call.
-use Rattle.std.proofs.Common.{◌≡◌, ℕ, ◌<◌, List, [], Option, refl, sym, ap, subst, arith}
+use Rattle.std.proofs.Common.{◌≡◌, ℕ, ◌<◌, map, List, [], Option, refl, sym, ap, subst, arith}
 use Rattle.std.specs.Prelude.{IsSome}
 use Rattle.record_store.specs.Meaning.{value_at}
 use Rattle.stamp_base.specs.Stamp.{IsStamp, stamp_of}
-use Rattle.core_rule.specs.Views.{Among}
+use Rattle.core_rule.specs.Views.{Among, OthersTaken}
+use Rattle.core_rule.specs.Deciding.{entry_of}
+use Rattle.std.proofs.lemmas.List.Elements.{All-nil}
+use Rattle.txn_engine.specs.Pass.{IsAbove}
+use Rattle.txn_engine.specs.Leaves.{LeavesValue}
 use Rattle.clock_stamps.specs.Clocks.{drawn}
-use Rattle.core_rule.specs.View.{View, Clock, Seen, Read, Write}
+use Rattle.core_rule.specs.View.{resting, writing, View, Clock, Seen, Read, Write}
 use Rattle.core_rule.specs.Hands.{Shared, Seated, IsReady}
 use Rattle.word_layout.specs.Size.{Size, IsSize}
 use Rattle.validate_core.specs.Sets.{SetsView, MayInstall}
@@ -58,39 +62,44 @@ decided_turned stamp s v clock seen is = record {
 abbrev turned_hand : Seated → Seated → Clock → Seen → Seated
 turned_hand hand hand' clock seen = record hand' { view = turned hand.view clock seen }
 
-at_turned : (phase : Phase) (hand hand' : Seated) (stamp : ℕ) (reads writes : List (ℕ × Option (List ℕ))) (sets : SetsView) (clock : Clock) (seen : Seen) → IsAt phase hand stamp reads writes sets → IsAt phase (turned_hand hand hand' clock seen) stamp reads writes sets
-at_turned Idle hand hand' stamp reads writes sets clock seen is = record {
+at_turned : (phase : Phase) (hand hand' : Seated) (stamp : ℕ) (reads writes : List (ℕ × Option (List ℕ))) (sets : SetsView) (clock : Clock) (seen : Seen) → clock.taken_in ≡ hand.view.clock.taken_in → IsAt phase hand stamp reads writes sets → IsAt phase (turned_hand hand hand' clock seen) stamp reads writes sets
+at_turned Idle hand hand' stamp reads writes sets clock seen taken is = record {
   ends = is.ends;
+  whole = is.whole;
   no_stamp = is.no_stamp;
   no_reads = is.no_reads;
   no_writes = is.no_writes;
   none_read = is.none_read;
   none_written = is.none_written;
 }
-at_turned Open hand hand' stamp reads writes sets clock seen is = record {
+at_turned Open hand hand' stamp reads writes sets clock seen taken is = record {
   begun = begun_turned hand.view.size sets hand.view clock seen is.begun;
   at = is.at;
   as_read = is.as_read;
   none_written = is.none_written;
   in_range = is.in_range;
   room = is.room;
+  above = is.above;
+  left = λ alone. is.left (subst (λ (taken_in : List ℕ). OthersTaken hand.view.size.seats hand.view.number hand.view.splitting taken_in) taken alone);
 }
-at_turned Installed hand hand' stamp reads writes sets clock seen is = record {
+at_turned Installed hand hand' stamp reads writes sets clock seen taken is = record {
   installed = is.installed;
   are_sets = record { as_read = is.are_sets.as_read; as_written = is.are_sets.as_written; inside = is.are_sets.inside };
+  placed = is.placed;
 }
-at_turned Decided hand hand' stamp reads writes sets clock seen is = record {
+at_turned Decided hand hand' stamp reads writes sets clock seen taken is = record {
   decided = decided_turned stamp sets hand.view clock seen is.decided;
   are_sets = record { as_read = is.are_sets.as_read; as_written = is.are_sets.as_written; inside = is.are_sets.inside };
+  placed = is.placed;
 }
 
 -- a call that changes the clock alone keeps what a post keeps
-pub post_turned : (core : Shared) (phase : Phase) (hand hand' : Seated) (stamp : ℕ) (reads writes : List (ℕ × Option (List ℕ))) (sets : SetsView) (clock : Clock) (seen : Seen) → IsPost hand phase stamp reads writes sets → IsReady core hand' → hand'.view ≡ turned hand.view clock seen → IsPost hand' phase stamp reads writes sets
-post_turned core phase hand hand' stamp reads writes sets clock seen is ready view = record {
+pub post_turned : (core : Shared) (phase : Phase) (hand hand' : Seated) (stamp : ℕ) (reads writes : List (ℕ × Option (List ℕ))) (sets : SetsView) (clock : Clock) (seen : Seen) → IsPost hand phase stamp reads writes sets → IsReady core hand' → hand'.view ≡ turned hand.view clock seen → clock.taken_in ≡ hand.view.clock.taken_in → IsPost hand' phase stamp reads writes sets
+post_turned core phase hand hand' stamp reads writes sets clock seen is ready view taken = record {
   ready = own_ready core hand' ready;
   size = rw view is.size;
   holds_none = rw view is.holds_none;
-  at = let same : turned_hand hand hand' clock seen ≡ hand' = ap (λ (v : View). record hand' { view = v }) (sym view) in subst (λ (h : Seated). IsAt phase h stamp reads writes sets) same (at_turned phase hand hand' stamp reads writes sets clock seen is.at);
+  at = let same : turned_hand hand hand' clock seen ≡ hand' = ap (λ (v : View). record hand' { view = v }) (sym view) in subst (λ (h : Seated). IsAt phase h stamp reads writes sets) same (at_turned phase hand hand' stamp reads writes sets clock seen taken is.at);
 }
 
 -- ---- drawing a stamp
@@ -121,8 +130,8 @@ pub none_in_range : (records : ℕ) (writes : List (ℕ × Option (List ℕ))) �
 none_in_range records writes none rid some = let h : IsSome (value_at [] rid) = subst (λ (ws : List (ℕ × Option (List ℕ))). IsSome (value_at ws rid)) none some in cc
 
 -- a transaction begins at the stamp that was drawn
-pub post_opened : (core : Shared) (hand hand' : Seated) (stamp t clock : ℕ) (reads writes : List (ℕ × Option (List ℕ))) (sets : SetsView) → IsIdleAt hand stamp reads writes sets → hand.view.places.held ≡ [] → IsSize hand.view.size → IsReady core hand' → hand'.view ≡ drawn hand.view clock → IsStamp t → t ≡ stamp_of clock hand.view.number → IsPost hand' Open t reads writes sets
-post_opened core hand hand' stamp t clock reads writes sets idle held size ready view is_stamp at = record {
+pub post_opened : (core : Shared) (hand hand' : Seated) (stamp t clock : ℕ) (reads writes : List (ℕ × Option (List ℕ))) (sets : SetsView) → IsIdleAt hand stamp reads writes sets → hand.view.places.held ≡ [] → IsSize hand.view.size → IsReady core hand' → hand'.view ≡ drawn hand.view clock → IsStamp t → t ≡ stamp_of clock hand.view.number → IsAbove (map entry_of hand.view.log) (stamp_of clock hand.view.number) → IsPost hand' Open t reads writes sets
+post_opened core hand hand' stamp t clock reads writes sets idle held size ready view is_stamp at above = record {
   ready = own_ready core hand' ready;
   size = rw view size;
   holds_none = rw view held;
@@ -133,6 +142,8 @@ post_opened core hand hand' stamp t clock reads writes sets idle held size ready
     none_written = idle.none_written;
     in_range = none_in_range hand'.view.size.records writes idle.no_writes;
     room = rw idle.no_writes (omega arith);
+    above = rw (view, at) above;
+    left = λ alone. rw idle.no_reads (All-nil (λ read. LeavesValue (map entry_of hand'.view.log) read.0 t read.1));
   };
 }
 
@@ -140,6 +151,7 @@ post_opened core hand hand' stamp t clock reads writes sets idle held size ready
 pub post_ticked : (hand hand' : Seated) (stamp clock : ℕ) (reads writes : List (ℕ × Option (List ℕ))) (sets : SetsView) → IsIdleAt hand stamp reads writes sets → hand'.view ≡ drawn hand.view clock → IsIdleAt hand' stamp reads writes sets
 post_ticked hand hand' stamp clock reads writes sets idle view = record {
   ends = rw view (record { rests = tt; settled = λ u among. absurd among; collected = refl });
+  whole = rw view (λ at. let e : writing (stamp_of clock hand.view.number) ≡ resting = at in cc);
   no_stamp = idle.no_stamp;
   no_reads = idle.no_reads;
   no_writes = idle.no_writes;

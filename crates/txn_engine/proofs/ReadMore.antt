@@ -1,21 +1,29 @@
 -- What a post keeps through a read.
-use Rattle.std.proofs.Common.{◌≡◌, ◌≢◌, ℕ, ◌<◌, List, [], ◌∷◌, ◌++◌, Option, None, Some, cond, refl, sym, ap, ◌∙◌, subst, inl, inr, ◌⊎◌, ◌≤◌, length, arith}
+use Rattle.std.proofs.Common.{◌≡◌, ◌≢◌, ℕ, ◌<◌, List, [], ◌∷◌, ◌++◌, Option, None, Some, cond, refl, sym, ap, ◌∙◌, subst, inl, inr, ◌⊎◌, ◌≤◌, map, length, arith, false, ◌+◌}
 use Rattle.std.specs.Prelude.{is_some}
 use Rattle.word_layout.specs.Size.{Size, places}
-use Rattle.core_rule.specs.View.{View, Read, Search, still, Seen}
-use Rattle.core_rule.specs.Views.{Among}
+use Rattle.core_rule.specs.View.{reads as for_reads, stands, shown, View, Read, Search, still, Seen}
+use Rattle.core_rule.specs.Views.{Among, IsAlone}
 use Rattle.core_rule.specs.Hands.{Shared, Seated, IsReady}
 use Rattle.core_rule.specs.Searching.{Rests, IsWhole}
-use Rattle.core_rule.specs.Deciding.{AreReads, read_values}
+use Rattle.core_rule.specs.Deciding.{AreReads, read_values, entry_of}
 use Rattle.core_rule.specs.Versions.{read_version}
 use Rattle.record_store.specs.Meaning.{value_at}
 use Rattle.validate_core.specs.Sets.{SetsView, MayInstall}
 use Rattle.validate_core.specs.Installing.{IsBegun}
+use Rattle.version_search.specs.Finding as finding
 use Rattle.txn_engine.specs.Searched.{Finds, Stops}
-use Rattle.txn_engine.specs.Post.{IsPost}
+use Rattle.txn_engine.specs.Conflicts.{IsOfAnother}
+use Rattle.txn_engine.specs.Post.{PostView, IsPost, post_view}
 use Rattle.txn_engine.specs.declared.phase.Phase.{Phase}
 use Rattle.txn_engine.specs.declared.phase.Phase.TheVariants.{Open}
+use Rattle.txn_engine.proofs.AloneSeats.{alone_told}
 use Rattle.txn_engine.proofs.Posts.{own_ready}
+use Rattle.std.proofs.lemmas.List.Elements.{All-push}
+use Rattle.txn_engine.specs.Leaves.{LeavesValue, AreLeft}
+use Rattle.txn_engine.specs.Pass.{IsAbove}
+use Rattle.txn_engine.specs.Seats.{IsAloneAt}
+use Rattle.txn_engine.proofs.Leaving.{post_left}
 use Rattle.txn_engine.proofs.Listed.{unread, read_values-append, read_value-version}
 
 -- one of a list that has one more at its end
@@ -118,8 +126,33 @@ post_room hand stamp reads reads' writes sets sets' is same_reads set_reads set_
     none_written = set_writes ∙ is.at.none_written;
     in_range = is.at.in_range;
     room = let h : length writes ≤ sets.write_room = is.at.room in omega arith;
+    above = is.at.above;
+    left = λ alone. rw same_reads (is.at.left alone);
   };
 }
+
+-- a search that met a pending version
+pub stops_at : (stamp rid place wts : ℕ) (v w : View) → finding.Finds for_reads (cond false (stamp + 1) stamp) rid place wts 2 v w → Stops stamp wts v w
+stops_at stamp rid place wts v w found =
+    let r = found.reaches in
+    let met = r.met refl in
+    let view = r.view in
+    record {
+      search = stands (finding.stand_for for_reads rid place r.under) (shown wts 2);
+      view = view;
+      rests = tt;
+      before = r.early;
+      another = λ e. met.another (rw view e);
+      within = rw view at met.within;
+      not_alone = λ alone. met.not_alone (rw view alone);
+    }
+
+-- what it says of the transaction of a post
+pub met_at : (hand hand' : Seated) (phase : Phase) (stamp wts : ℕ) (reads writes : List (ℕ × Option (List ℕ))) → Stops stamp wts hand.view hand'.view → hand.view.number < hand.view.size.seats → (wts < stamp) × IsOfAnother hand.view.size hand.view.number (post_view hand phase stamp reads writes).others wts
+met_at hand hand' phase stamp wts reads writes stops inside =
+    let within = stops.within in
+    let apart = stops.another in
+    (stops.before, record { another = apart; within = within; more = omega arith; not_alone = λ alone. stops.not_alone (alone_told hand.view alone) })
 
 -- a read was noted
 pub post_read : (core : Shared) (hand hand' : Seated) (stamp rid place wts : ℕ) (value : Option (List ℕ)) (reads reads' writes : List (ℕ × Option (List ℕ))) (sets sets' : SetsView) → IsPost hand Open stamp reads writes sets → IsReady core hand' → Finds rid place wts value hand.view hand'.view → rid < hand.view.size.records → value_at reads rid ≡ None → reads' ≡ reads ++ (rid, value) ∷ [] → sets'.reads ≡ sets.reads ++ read_version rid place wts value ∷ [] → sets'.writes ≡ sets.writes → sets.write_room ≤ sets'.write_room → IsPost hand' Open stamp reads' writes sets'
@@ -140,6 +173,11 @@ post_read core hand hand' stamp rid place wts value reads reads' writes sets set
         none_written = set_writes ∙ is.at.none_written;
         in_range = rw finds.view is.at.in_range;
         room = let h : length writes ≤ sets.write_room = is.at.room in omega arith;
+        above = rw finds.view is.at.above;
+        left = λ alone.
+            let before : IsAlone hand.view = rw finds.view at alone in
+            let here = post_left hand hand' stamp rid place wts value finds is.at.begun.in_flight is.at.at before in
+            rw (finds.view, more) (All-push (λ read. LeavesValue (map entry_of hand.view.log) read.0 stamp read.1) reads (rid, value) (is.at.left before) here);
       };
     }
 
@@ -156,6 +194,8 @@ post_stopped core hand hand' stamp wts reads writes sets is ready stops = record
     none_written = is.at.none_written;
     in_range = rw stops.view is.at.in_range;
     room = is.at.room;
+    above = rw stops.view is.at.above;
+    left = rw stops.view is.at.left;
   };
 }
 
@@ -180,5 +220,27 @@ post_passed core hand hand' stamp rid place wts value reads writes sets is ready
         none_written = is.at.none_written;
         in_range = rw finds.view is.at.in_range;
         room = is.at.room;
+        above = rw finds.view is.at.above;
+        left = rw finds.view is.at.left;
       };
     }
+
+-- ---- what a log leaves
+
+pub alone_at : (hand : Seated) (phase : Phase) (stamp : ℕ) (reads writes : List (ℕ × Option (List ℕ))) (p : PostView) → post_view hand phase stamp reads writes ≡ p → IsAloneAt p.shared.size p.seat p.others → IsAlone hand.view
+alone_at hand phase stamp reads writes p same on = alone_told hand.view (subst (λ (q : PostView). IsAloneAt q.shared.size q.seat q.others) (sym same) on)
+
+pub open_left : (hand : Seated) (phase : Phase) (stamp : ℕ) (reads writes : List (ℕ × Option (List ℕ))) (sets : SetsView) (p : PostView) → IsPost hand phase stamp reads writes sets → post_view hand phase stamp reads writes ≡ p → p.phase ≡ Open → IsAloneAt p.shared.size p.seat p.others → AreLeft p.log p.stamp p.reads
+open_left hand phase stamp reads writes sets p is same flying on =
+    let now = is_open phase hand stamp reads writes sets (ap (λ (q : PostView). q.phase) same ∙ flying) is in
+    subst (λ (q : PostView). AreLeft q.log q.stamp q.reads) same (now.at.left (alone_at hand phase stamp reads writes p same on))
+
+pub open_above : (hand : Seated) (phase : Phase) (stamp : ℕ) (reads writes : List (ℕ × Option (List ℕ))) (sets : SetsView) (p : PostView) → IsPost hand phase stamp reads writes sets → post_view hand phase stamp reads writes ≡ p → p.phase ≡ Open → IsAbove p.log p.stamp
+open_above hand phase stamp reads writes sets p is same flying =
+    let now = is_open phase hand stamp reads writes sets (ap (λ (q : PostView). q.phase) same ∙ flying) is in
+    subst (λ (q : PostView). IsAbove q.log q.stamp) same now.at.above
+
+pub found_left : (hand hand' : Seated) (phase : Phase) (stamp rid place wts : ℕ) (value : Option (List ℕ)) (reads writes : List (ℕ × Option (List ℕ))) (sets : SetsView) (p : PostView) → IsPost hand phase stamp reads writes sets → post_view hand phase stamp reads writes ≡ p → p.phase ≡ Open → Finds rid place wts value hand.view hand'.view → IsAloneAt p.shared.size p.seat p.others → LeavesValue p.log rid p.stamp value
+found_left hand hand' phase stamp rid place wts value reads writes sets p is same flying finds on =
+    let now = is_open phase hand stamp reads writes sets (ap (λ (q : PostView). q.phase) same ∙ flying) is in
+    subst (λ (q : PostView). LeavesValue q.log rid q.stamp value) same (post_left hand hand' stamp rid place wts value finds now.at.begun.in_flight now.at.at (alone_at hand phase stamp reads writes p same on))

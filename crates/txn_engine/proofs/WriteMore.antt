@@ -4,7 +4,8 @@ use Rattle.std.specs.Prelude.{IsSome}
 use Rattle.std.specs.List.{IsDistinct}
 use Rattle.std.specs.Map.{keys_of}
 use Rattle.word_layout.specs.Size.{IsSize}
-use Rattle.core_rule.specs.View.{Write}
+use Rattle.core_rule.specs.View.{Write, resting}
+use Rattle.core_rule.specs.Snapshots.{AreAllWhole}
 use Rattle.core_rule.specs.Views.{Among}
 use Rattle.core_rule.specs.Hands.{Seated, IsReady}
 use Rattle.core_rule.specs.Searching.{Ends}
@@ -39,6 +40,8 @@ post_written hand stamp reads writes writes' sets sets' is set_reads set_writes 
     none_written = set_writes ∙ is.at.none_written;
     in_range = within;
     room = room;
+    above = is.at.above;
+    left = is.at.left;
   };
 }
 
@@ -50,12 +53,12 @@ few_written hand stamp reads writes sets is distinct =
     omega arith
 
 -- nothing is left of the transaction
-pub post_closed : (hand : Seated) (reads writes : List (ℕ × Option (List ℕ))) (sets : SetsView) → IsReady (shared_of hand) hand → IsSize hand.view.size → hand.view.places.held ≡ [] → Ends hand.view.work → reads ≡ [] → writes ≡ [] → sets.reads ≡ [] → sets.writes ≡ [] → IsPost hand Idle 0 reads writes sets
-post_closed hand reads writes sets ready size held ends no_reads no_writes none_read none_written = record {
+pub post_closed : (hand : Seated) (reads writes : List (ℕ × Option (List ℕ))) (sets : SetsView) → IsReady (shared_of hand) hand → IsSize hand.view.size → hand.view.places.held ≡ [] → Ends hand.view.work → (hand.view.flight ≡ resting → AreAllWhole hand.view.work.reads) → reads ≡ [] → writes ≡ [] → sets.reads ≡ [] → sets.writes ≡ [] → IsPost hand Idle 0 reads writes sets
+post_closed hand reads writes sets ready size held ends whole no_reads no_writes none_read none_written = record {
   ready = ready;
   size = size;
   holds_none = held;
-  at = record { ends = ends; no_stamp = refl; no_reads = no_reads; no_writes = no_writes; none_read = none_read; none_written = none_written };
+  at = record { ends = ends; whole = whole; no_stamp = refl; no_reads = no_reads; no_writes = no_writes; none_read = none_read; none_written = none_written };
 }
 
 -- a transaction that has linked nothing leaves nothing to be done

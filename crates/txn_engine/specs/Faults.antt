@@ -27,10 +27,10 @@ MatchStopped commit.PlacesOut P Q = Q
 
 -- what a conflict says of the transaction of a pass; and what one says that a read met
 abbrev pub IsShown : PassView → Conflict → Type 0
-IsShown p conflict = Shows p.engine.size p.seat p.desk.stamp p.desk.reads p.desk.writes conflict
+IsShown p conflict = Shows p.engine.size p.seat p.others p.desk.stamp p.desk.reads p.desk.writes conflict
 
 abbrev pub IsPending : PassView → Conflict → Type 0
-IsPending p conflict = ShowsPending p.engine.size p.seat p.desk.stamp conflict
+IsPending p conflict = ShowsPending p.engine.size p.seat p.others p.desk.stamp conflict
 
 -- the conflict that a read of this record meets
 abbrev pub MeetsAt : ℕ → Conflict → Type 0

@@ -1,5 +1,5 @@
 -- How a pass shows its parts, and what it keeps of them.
-use Rattle.std.specs.Prelude.{◌≡◌, ℕ, ◌+◌, ◌*◌, ◌<◌, ◌≤◌, Bool, false, List, Option, None, IsSome, IfSome, length}
+use Rattle.std.specs.Prelude.{◌≡◌, ℕ, ◌+◌, ◌<◌, ◌≤◌, Bool, false, List, Option, None, IsSome, IfSome, length}
 use Rattle.plain_data.specs.declared.entry.Entry.{Entry}
 use Rattle.record_store.specs.Meaning.{value_at}
 use Rattle.core_rule.specs.Views.{Among}
@@ -10,16 +10,21 @@ use Rattle.txn_engine.specs.declared.phase.Phase.TheVariants.{Installed, Decided
 use Rattle.txn_engine.specs.Conflicts.{ShowsPending}
 use Rattle.txn_engine.specs.Post.{PostView, entry_at}
 use Rattle.txn_engine.specs.Spare.{NumbersView}
-use Rattle.txn_engine.specs.Pass.{PassView}
+use Rattle.stamp_base.specs.Stamp.{bound_of_clock}
+use Rattle.txn_engine.specs.Pass.{PassView, IsAbove, AreBelow}
 
 abbrev pub pass_view : PostView → (boost : ℕ) → Waiting → NumbersView → (refusals : ℕ) → Option Conflict → Bool → PassView
 pass_view p boost q n refusals dead counted = record {
   engine = record { table = p.shared.table; size = p.shared.size; fixed = n.fixed };
   seat = p.seat;
   clock = p.clock;
+  published = p.published;
   boost = boost;
+  others = p.others;
+  known = p.known;
   log = p.log;
   met = p.met;
+  glance = p.glance;
   queue = q.items;
   spare = n.spare;
   given = n.given;
@@ -42,11 +47,15 @@ AreQueued records log items = (i : Queued) → Among i items → IsQueued record
 pub record IsPass (p : PostView) (q : Waiting) (n : NumbersView) (refusals : ℕ) (dead : Option Conflict) (counted : Bool) : Type 0 where
   pub records : n.records ≡ p.shared.size.records
   pub fixed : n.fixed ≤ n.records
-  -- the count of refusals is at most 64 times the clock, with one more for a transaction that is not counted yet
-  pub counts : refusals ≤ 64 * p.clock
-  pub uncounted : counted ≡ false → refusals < 64 * p.clock
+  -- the count of refusals is at most the clock, with one more for a transaction that is not counted yet
+  pub counts : refusals ≤ p.clock
+  pub uncounted : counted ≡ false → refusals < p.clock
+  -- no commit entry of the log and no stamp of its own is above the clock; no snapshot is at or above the greatest minimum met
+  pub commits : IsAbove p.log (bound_of_clock p.clock)
+  pub stamped : p.stamp < bound_of_clock p.clock
+  pub snapshots : AreBelow p.log p.met
   -- what a read met
-  pub stopped : IfSome dead (ShowsPending p.shared.size p.seat p.stamp)
+  pub stopped : IfSome dead (ShowsPending p.shared.size p.seat p.others p.stamp)
   pub alive : p.phase ≡ Installed → dead ≡ None
   -- each queued version has its entry, and there is room for those of the transaction
   pub queued : AreQueued p.shared.size.records p.log q.items

@@ -1,5 +1,5 @@
 -- What contracts see of an engine and of a pass, and what the calls of a pass and of its transactions make of it.
-use Rattle.std.specs.Prelude.{◌≡◌, ℕ, ◌+◌, ◌-◌, max, true, false, if◌then◌else◌, List, [], ◌∷◌, ◌++◌, Option, None, Some, map}
+use Rattle.std.specs.Prelude.{◌≡◌, ℕ, ◌+◌, ◌-◌, max, ◌<◌, true, false, if◌then◌else◌, List, [], ◌∷◌, ◌++◌, Option, None, Some, map}
 use Rattle.std.specs.List.{range_with_len}
 use Rattle.atomic_table.specs.Seated.{TableId}
 use Rattle.plain_data.specs.declared.entry.Entry.{Entry}
@@ -12,6 +12,10 @@ use Rattle.validate_core.specs.declared.conflict.Conflict.{Conflict}
 use Rattle.rapid_gc.specs.declared.queue.Queued.{Queued}
 use Rattle.txn_engine.specs.declared.phase.Phase.{Phase}
 use Rattle.txn_engine.specs.declared.phase.Phase.TheVariants.{Idle, Open, Installed, Decided}
+use Rattle.core_rule.specs.Views.{Among}
+use Rattle.core_rule.specs.View.{single, one_each}
+use Rattle.txn_engine.specs.Seats.{Others, Known, IsAloneAt}
+use Rattle.txn_engine.specs.Glance.{GlanceView, first_glance}
 use Rattle.txn_engine.specs.Desk.{DeskView, no_desk, open_desk}
 use Rattle.txn_engine.specs.Spare.{spare_after}
 
@@ -21,16 +25,21 @@ pub record EngineView : Type 0 where
   pub size : Size
   pub fixed : ℕ
 
--- A seat of an engine, with its clock; the boost of its clock; its log; the greatest `min_wts` that it has met; the versions below
--- which it has not yet collected; its spare record numbers, without those that are given out to the transaction in flight, and
--- these; how often it was refused; and that transaction.
+-- A seat of an engine, with its clock; its published write word, a number that no entry to come is stamped under; the boost of its
+-- clock; the seats that it takes as open; what it knows of the records' lists; its log; the greatest `min_wts` that it has met; the
+-- versions below which it has not yet collected; what a snapshot has read at its read stamp, while no stamp of a transaction is in flight; its spare record numbers, without those that are given out to the transaction in
+-- flight, and these; how often it was refused; and that transaction.
 pub record PassView : Type 0 where
   pub engine : EngineView
   pub seat : ℕ
   pub clock : ℕ
+  pub published : ℕ
   pub boost : ℕ
+  pub others : Others
+  pub known : Known
   pub log : List Entry
   pub met : ℕ
+  pub glance : Option GlanceView
   pub queue : List Queued
   pub spare : List ℕ
   pub given : List ℕ
@@ -41,21 +50,47 @@ pub record PassView : Type 0 where
 abbrev pub IsIdle : PassView → Type 0
 IsIdle p = p.desk ≡ no_desk
 
+-- no other seat of its engine is open
+abbrev pub IsAlone : PassView → Type 0
+IsAlone p = IsAloneAt p.engine.size p.seat p.others
+
+-- what it knows of lists is other
+abbrev pub knowing : PassView → Known → PassView
+knowing p known = record p { known = known }
+
+-- what a snapshot there has read is other; and is left out
+abbrev pub with_glance : PassView → Option GlanceView → PassView
+with_glance p glance = record p { glance = glance }
+
+abbrev pub unglanced : PassView → PassView
+unglanced p = with_glance p None
+
 -- seat 0 of a new engine
 abbrev pub first_pass : EngineView → PassView
 first_pass e = record {
   engine = e;
   seat = 0;
   clock = 0;
+  published = 1;
   boost = 0;
+  others = record { splitting = single; taken_in = [] };
+  known = record { counts = one_each; tops = [] };
   log = [];
   met = 0;
+  glance = first_glance 0;
   queue = [];
   spare = range_with_len e.fixed (e.size.records - e.fixed);
   given = [];
   refusals = 0;
   desk = no_desk;
 }
+
+-- every commit entry of the log is stamped below this number; and every snapshot entry is
+abbrev pub IsAbove : List Entry → ℕ → Type 0
+IsAbove log t = (e : Entry) → Among e log → e.snapshot ≡ false → e.stamp < t
+
+abbrev pub AreBelow : List Entry → ℕ → Type 0
+AreBelow log t = (e : Entry) → Among e log → e.snapshot ≡ true → e.stamp < t
 
 -- ---- clocks
 
@@ -65,7 +100,7 @@ next_clock p reading = drawn_clock p.clock (reading + p.boost)
 
 -- a stamp was drawn at this clock that no transaction gets; one was heard; a published word of another seat was
 abbrev pub ticked : PassView → ℕ → PassView
-ticked p clock = record p { clock = clock }
+ticked p clock = record p { clock = clock; published = stamp_of clock p.seat; glance = None }
 
 abbrev pub heard : PassView → ℕ → PassView
 heard p stamp = record p { clock = max p.clock (clock_of stamp) }
@@ -104,7 +139,7 @@ entry_of d = record { stamp = d.stamp; snapshot = false; reads = d.reads; writes
 
 -- a transaction has begun at this clock
 abbrev pub begun : PassView → ℕ → PassView
-begun p clock = record p { clock = clock; spare = p.given ++ p.spare; given = []; desk = open_desk (stamp_of clock p.seat) }
+begun p clock = record p { clock = clock; published = stamp_of clock p.seat; glance = None; spare = p.given ++ p.spare; given = []; desk = open_desk (stamp_of clock p.seat) }
 
 -- it counts among the refusals, once
 abbrev pub counted : PassView → PassView
@@ -163,8 +198,12 @@ pub record Frame : Type 0 where
   pub engine : EngineView
   pub seat : ℕ
   pub clock : ℕ
+  pub published : ℕ
+  pub others : Others
+  pub known : Known
   pub log : List Entry
   pub met : ℕ
+  pub glance : Option GlanceView
   pub queue : List Queued
   pub phase : Phase
   pub stamp : ℕ
@@ -175,8 +214,12 @@ frame p = record {
   engine = p.engine;
   seat = p.seat;
   clock = p.clock;
+  published = p.published;
+  others = p.others;
+  known = p.known;
   log = p.log;
   met = p.met;
+  glance = p.glance;
   queue = p.queue;
   phase = p.desk.phase;
   stamp = p.desk.stamp;

@@ -1,32 +1,36 @@
 -- What contracts see of a seat that has retired, and what its retired hand keeps.
-use Rattle.std.specs.Prelude.{◌≡◌, ℕ, ◌*◌, ◌≤◌, List, [], ◌++◌, map}
+use Rattle.std.specs.Prelude.{◌≡◌, ℕ, ◌≤◌, List, [], ◌++◌, map}
 use Rattle.plain_data.specs.declared.entry.Entry.{Entry}
+use Rattle.stamp_base.specs.Stamp.{bound_of_clock}
 use Rattle.word_layout.specs.Size.{IsSize}
 use Rattle.core_rule.specs.Deciding as deciding
 use Rattle.core_rule.specs.Hands.{Seated, IsHandOf, IsRetired}
 use Rattle.core_rule.specs.Searching.{Ends}
-use Rattle.txn_engine.specs.Pass.{EngineView, PassView}
+use Rattle.txn_engine.specs.Pass.{EngineView, PassView, IsAbove, AreBelow}
 use Rattle.txn_engine.specs.Post.{shared_of}
+use Rattle.txn_engine.specs.Seats.{Others}
 use Rattle.txn_engine.specs.Spare.{NumbersView}
 
--- a seat that has retired: what a pass leaves
+-- a seat that has retired: what a pass leaves, and which seats it took as open
 pub record RetiredView : Type 0 where
   pub engine : EngineView
   pub seat : ℕ
   pub clock : ℕ
+  pub others : Others
   pub log : List Entry
   pub met : ℕ
   pub spare : List ℕ
   pub refusals : ℕ
 
 abbrev pub retired : PassView → RetiredView
-retired p = record { engine = p.engine; seat = p.seat; clock = p.clock; log = p.log; met = p.met; spare = p.given ++ p.spare; refusals = p.refusals }
+retired p = record { engine = p.engine; seat = p.seat; clock = p.clock; others = p.others; log = p.log; met = p.met; spare = p.given ++ p.spare; refusals = p.refusals }
 
 abbrev pub retired_view : Seated → NumbersView → ℕ → RetiredView
 retired_view hand n refusals = record {
   engine = record { table = hand.table; size = hand.view.size; fixed = n.fixed };
   seat = hand.view.number;
   clock = hand.view.clock.clock;
+  others = record { splitting = hand.view.splitting; taken_in = hand.view.clock.taken_in };
   log = map deciding.entry_of hand.view.log;
   met = hand.view.clock.met;
   spare = n.spare;
@@ -46,4 +50,7 @@ pub record IsRetiredSeat (hand : Seated) (n : NumbersView) (refusals : ℕ) : Ty
   pub records : n.records ≡ hand.view.size.records
   pub fixed : n.fixed ≤ n.records
   pub none_given : n.given ≡ []
-  pub counts : refusals ≤ 64 * hand.view.clock.clock
+  pub counts : refusals ≤ hand.view.clock.clock
+  -- no commit entry of the log is above the clock, and no snapshot is at or above the greatest minimum met
+  pub commits : IsAbove (map deciding.entry_of hand.view.log) (bound_of_clock hand.view.clock.clock)
+  pub snapshots : AreBelow (map deciding.entry_of hand.view.log) hand.view.clock.met

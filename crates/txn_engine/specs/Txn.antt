@@ -1,5 +1,5 @@
 -- What a transaction means as a store, and what its calls leave of its pass.
-use Rattle.std.specs.Prelude.{◌≡◌, true, Some, Result, IfErr, IfSome, length}
+use Rattle.std.specs.Prelude.{◌≡◌, ℕ, Bool, true, Some, Result, IfErr, IfSome, length}
 use Rattle.std.specs.Borrow.{GName}
 use Rattle.txn_engine.specs.declared.faults.TxnFault.{TxnFault}
 use Rattle.txn_engine.specs.declared.faults.TxnFault.TheVariants as fault
@@ -7,10 +7,11 @@ use Rattle.txn_engine.specs.Pass.{PassView, Frame}
 use Rattle.txn_engine.specs.Faults.{IsRefusal, IfConflict, IsPending}
 use Rattle.txn_engine.specs.Fresh.{AreWritten}
 
--- what no call changes: at which pass the transaction is, and the frame of that pass
+-- what no call changes: at which pass the transaction is, the frame of that pass, and which records it accounts for
 pub record TxnRest : Type 0 where
   pub name : GName
   pub of_pass : Frame
+  pub accounts : ℕ → Bool
 
 -- what a fault leaves: a refusal was counted, and a conflict is shown and answered from then on
 pub record Fails (after' : PassView) (fault : TxnFault) : Type 0 where

@@ -1,8 +1,12 @@
 //! Ending a transaction at a post: its versions are linked, it is decided, and they get their last status.
-ghost use Rattle.std.specs.Prelude.{◌≡◌, ◌≢◌, ◌≤◌, [], length, OnOk, OnErr, IfOk, IfErr};
+ghost use Rattle.std.specs.Prelude.{◌≡◌, ◌≢◌, ◌+◌, ◌≤◌, [], length, OnOk, OnErr, IfOk, IfErr};
 ghost use Rattle.plain_data.specs.State.{Fits};
 ghost use Rattle.txn_engine.specs.Ends.{Stood};
-ghost use Rattle.txn_engine.specs.Post.{PostView, in_phase, closed, entered, entry_at, IsShownAt};
+ghost use Rattle.txn_engine.specs.Seats.{IsAloneAt};
+ghost use Rattle.txn_engine.specs.Leaves.{AreLeft};
+ghost use Rattle.txn_engine.specs.Pass.{IsAbove};
+ghost use Rattle.txn_engine.specs.Lists.{AreLinked, AreSomeLinked, known_before, AreKnown, count_raised, IsFullAt};
+ghost use Rattle.txn_engine.specs.Post.{PostView, knowing, in_phase, closed, entered, entry_at, IsShownAt};
 
 use crate::phase::Phase;
 use crate::post::Post;
@@ -17,10 +21,16 @@ impl<J: Keeps> Post<J> {
     pub(crate) fn install(&mut self, core: &Core<J>) -> Result<Installed, PlacesOut>
         requires core { self.old.shared ≡ core.now }
         requires open { self.old.phase ≡ Phase.Open }
-        ensures ok { OnOk result (self.new ≡ in_phase self.old Phase.Installed) }
+        ensures ok { OnOk result (self.new ≡ in_phase (knowing self.old self.new.known) Phase.Installed) }
         ensures stamp { IfOk result (λ installed. installed.stamp ≡ self.old.stamp) }
-        ensures err { OnErr result (self.new ≡ closed self.old) }
+        ensures err { OnErr result (self.new ≡ closed (knowing self.old self.new.known)) }
         ensures written { OnErr result (self.old.writes ≢ []) }
+        ensures above { IsAbove self.old.log self.old.stamp }
+        ensures read_left { IsAloneAt self.old.shared.size self.old.seat self.old.others → AreLeft self.old.log self.old.stamp self.old.reads }
+        ensures before { OnOk result (known_before (length self.old.writes) self.new.known ≡ self.old.known) }
+        ensures linked { OnOk result (AreLinked self.old.writes self.old.stamp self.old.known self.new.known) }
+        ensures some_linked { OnErr result (AreSomeLinked self.old.writes self.old.stamp self.old.known self.new.known) }
+        ensures full { OnErr result (IsAloneAt self.old.shared.size self.old.seat self.old.others → IsFullAt self.old.shared.size self.old.known (length self.old.writes)) }
     {
         fill(&mut self.sets, &self.writes);
         match install(core, &mut self.hand, &mut self.sets) {
@@ -87,6 +97,7 @@ impl<J: Keeps> Post<J> {
         requires stamp { decided.stamp ≡ self.old.stamp }
         ensures closed { self.new ≡ closed self.old }
         ensures count { result ≤ length self.old.writes }
+        ensures placed { AreKnown (known_before (length self.old.writes) self.old.known) self.old.writes → result + count_raised (known_before (length self.old.writes) self.old.known) self.old.known self.old.writes ≡ length self.old.writes }
     {
         let inlined = self.sets.count_below(core.layout().records());
         decided.publish(core, &mut self.hand, &self.sets);

@@ -1,9 +1,14 @@
 //! The engine, which all threads share by reference.
-ghost use Rattle.std.specs.Prelude.{◌≡◌, ◌≤◌, ◌↔◌, IfOk, IfErr, OnOk, IsErr};
+ghost use Rattle.std.specs.Prelude.{◌≡◌, ◌≤◌, ◌↔◌, IfOk, IfErr, OnOk, IsErr, false};
 ghost use Rattle.word_layout.specs.Size.{IsSize, size_of};
+ghost use Rattle.txn_engine.specs.Alone.{AloneView};
 ghost use Rattle.txn_engine.specs.Pass.{EngineView, first_pass};
+ghost use Rattle.txn_engine.specs.Leaves.{HoldsAbsent};
+ghost use Rattle.txn_engine.specs.Lists.{IsTidy, IsRoomy};
 
+use crate::alone::Alone;
 use crate::faults::StartFault;
+use crate::parts::Parts;
 use crate::pass::Pass;
 use core_rule::{Core, Keeps};
 use std::alloc::Global;
@@ -29,21 +34,24 @@ impl<J: Keeps> Model for Engine<J> {
 }
 
 impl<J: Keeps> Engine<J> {
-    /// An engine of so many seats and records, with `spare` places for versions beside one for each record, and the pass of
-    /// seat 0. Every record is absent. Those from `fixed` on are given out to transactions that ask for a new one, the lowest
-    /// first. All room is taken here. `Limit` comes before memory is asked for.
+    /// An engine of so many seats and records, with `spare` places for versions beside one for each record, and its seat 0,
+    /// which is alone. Every record is absent. Those from `fixed` on are given out to transactions that ask for a new one, the
+    /// lowest first. All room is taken here, that of the passes of all seats too. `Limit` comes before memory is asked for.
     pub fn start(
         alloc: Global,
         seats: u32,
         records: u32,
         fixed: u32,
         spare: u32,
-    ) -> Result<(Engine<J>, Pass<J>), StartFault>
+    ) -> Result<(Engine<J>, Alone<J>), StartFault>
         ensures limit { IfErr result (λ fault. (fault ≡ StartFault.Limit) ↔ (¬ (IsSize (size_of seats records spare) × (fixed ≤ records)))) }
         ensures in_range { OnOk result (IsSize (size_of seats records spare) × (fixed ≤ records)) }
         ensures size { IfOk result (λ made. made.0.size ≡ size_of seats records spare) }
         ensures fixed { IfOk result (λ made. made.0.fixed ≡ fixed) }
-        ensures pass { IfOk result (λ made. made.1 ≡ first_pass made.0) }
+        ensures alone { IfOk result (λ made. made.1 ≡ record { pass = first_pass made.0; shared = false }) }
+        ensures absent { IfOk result (λ made. HoldsAbsent made.1.pass) }
+        ensures tidy { IfOk result (λ made. IsTidy made.1.pass) }
+        ensures roomy { IfOk result (λ made. IsRoomy made.1.pass) }
     {
         let Ok(layout) = Layout::new(seats, records, spare) else {
             return Err(StartFault::Limit);
@@ -53,7 +61,8 @@ impl<J: Keeps> Engine<J> {
         }
         let (core, hand) = Core::new(alloc, &layout)?;
         let pass = Pass::first(alloc, hand, fixed, records)?;
-        Ok((Engine { core, fixed }, pass))
+        let parts = Parts::new(alloc, seats, fixed, records)?;
+        Ok((Engine { core, fixed }, Alone::first(pass, parts)))
     }
 
     /// The number of seats.

@@ -38,6 +38,15 @@ pub enum TxnFault {
     NoMemory,
 }
 
+/// Why a transaction of the seat that is alone does not read or write.
+#[derive(Clone, Copy, PartialEq, Eq, Debug)]
+pub enum AloneFault {
+    /// No spare record number is left for a new record.
+    RecordsOut,
+    /// The allocator had no room. The transaction is as before.
+    NoMemory,
+}
+
 /// Why a transaction does not commit.
 #[derive(Clone, Copy, PartialEq, Eq, Debug)]
 pub enum CommitFault {

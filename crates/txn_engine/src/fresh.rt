@@ -2,7 +2,9 @@
 ghost use Rattle.std.specs.Prelude.{◌≡◌, ◌≢◌, ◌<◌, ◌≤◌, ℕ, false, true, None, Some, Err, IfOk, IfErr, OnErr, IfSome, length, slice_get, is_some, IsSome, if◌then◌else◌};
 ghost use Rattle.record_store.specs.Meaning.{value_at, after_fresh};
 ghost use Rattle.record_store.specs.Store.{IsFresh};
-ghost use Rattle.txn_engine.specs.Pass.{PassView, store_of, frame};
+ghost use Rattle.txn_engine.specs.Pass.{PassView, IsAlone, store_of, frame};
+ghost use Rattle.txn_engine.specs.Leaves.{IsPresent, HoldsAbsent, NoneLeft};
+ghost use Rattle.txn_engine.specs.Accounts.{accounted};
 ghost use Rattle.txn_engine.specs.Spare.{is_on};
 ghost use Rattle.txn_engine.specs.Txn.{Fails};
 ghost use Rattle.txn_engine.specs.Fresh.{read_absent, given_out, AreWritten, Asks};
@@ -32,6 +34,8 @@ impl<J: Keeps> Pass<J> {
         requires unwritten { value_at self.old.desk.writes rid ≡ None }
         ensures ok { IfOk result (λ absent. self.new ≡ (if absent then read_absent self.old rid else self.old)) }
         ensures spare { self.new.spare ≡ self.old.spare }
+        ensures accounts { accounted self.new ≡ accounted self.old }
+        ensures present { IsAlone self.old → IfOk result (λ absent. absent ≡ false → IsPresent self.old.log rid) }
         ensures absent { IfOk result (λ absent. absent ≡ true → IfSome (value_at self.old.desk.reads rid) (λ value. value ≡ None)) }
         ensures err { OnErr result (store_of self.new ≡ store_of self.old) }
         ensures stays { OnErr result (frame self.new ≡ frame self.old) }
@@ -58,6 +62,7 @@ impl<J: Keeps> Pass<J> {
         requires not_given { is_on self.old.given rid ≡ false }
         requires next { i < usize.MAX }
         ensures ok { IfOk result (Asks i rid self.old self.new) }
+        ensures accounts { accounted self.new ≡ accounted self.old }
         ensures err { OnErr result (store_of self.new ≡ store_of self.old) }
         ensures stays { frame self.new ≡ frame self.old }
         ensures fails { IfErr result (Fails self.new) }
@@ -86,6 +91,8 @@ impl<J: Keeps> Pass<J> {
         ensures fails { IfErr result (Fails self.new) }
         ensures dead { IfErr result (λ fault. IfSome self.old.desk.dead (λ conflict. fault ≡ TxnFault.Conflict conflict)) }
         ensures records_out { IfErr result (λ fault. fault ≡ TxnFault.RecordsOut → AreWritten self.new (length self.new.spare)) }
+        ensures accounts { accounted self.new ≡ accounted self.old }
+        ensures none_left { IfErr result (λ fault. fault ≡ TxnFault.RecordsOut → HoldsAbsent self.new → NoneLeft self.new) }
     {
         self.stopped()?;
         let mut i = 0;

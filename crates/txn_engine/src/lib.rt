@@ -1,30 +1,51 @@
 //! The engine: what all seats share, and the passes, transactions and snapshots of its seats.
 #![tactic(auto)]
 
+mod alone;
+mod alone_snapshot;
+mod alone_transacting;
+mod alone_txn;
+mod collecting;
 mod ending;
 mod engine;
 mod faults;
 mod fresh;
+mod glancing;
+mod joining;
 mod numbers;
 mod opened;
+mod parts;
 mod pass;
 mod phase;
 mod post;
+mod promoting;
 mod reading;
+mod rescan;
 mod retired;
+mod rewriting;
 mod search;
+mod sharing;
+mod snapshot;
 mod staged;
+mod telling;
 mod transacting;
 mod txn;
 mod values;
 mod writing;
 
+pub use alone::Alone;
+pub use alone_snapshot::AloneSnapshot;
+pub use alone_txn::{AloneOver, AloneTxn};
 pub use clock_stamps::ClockOut;
 pub use engine::{Engine, Lent};
-pub use faults::{BeginFault, CommitFault, StartFault, TxnFault};
+pub use faults::{AloneFault, BeginFault, CommitFault, StartFault, TxnFault};
 pub use pass::Pass;
+pub use promoting::{PromoteFault, Promotion};
+pub use rapid_gc::Collected;
 pub use retired::Retired;
+pub use snapshot::{NoFault, Snapshot};
 pub use staged::{DecidedOver, DecidedTxn, InstalledOver, InstalledTxn};
 pub use transacting::Committed;
 pub use txn::{Txn, TxnOver};
 pub use validate_core::Conflict;
+pub use version_pool::PlacesOut;

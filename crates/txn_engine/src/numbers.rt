@@ -1,7 +1,10 @@
 //! The spare record numbers of a pass.
-ghost use Rattle.std.specs.Prelude.{◌≡◌, ◌≢◌, ◌<◌, ◌≤◌, ◌-◌, ◌++◌, ◌∷◌, [], false, ℕ, IsSome, IfOk, IfSome, length, nat_le, ◌&&◌, if◌then◌else◌, slice_get, slice_index_or, remove, Some};
-ghost use Rattle.std.specs.List.{range_with_len};
+ghost use Rattle.std.specs.Prelude.{◌≡◌, ◌≢◌, ◌<◌, ◌≤◌, ◌-◌, ◌++◌, ◌∷◌, [], false, ℕ, IsSome, IfOk, IfSome, length, nat_eq, nat_le, ◌&&◌, if◌then◌else◌, slice_get, slice_index_or, remove, Some};
+ghost use Rattle.std.specs.List.{range_with_len, IsDistinct};
 ghost use Rattle.record_store.specs.Meaning.{value_at};
+ghost use Rattle.txn_engine.specs.Alone.{no_numbers};
+ghost use Rattle.txn_engine.specs.Joining.{with_all};
+ghost use Rattle.txn_engine.specs.Sharing.{every};
 ghost use Rattle.txn_engine.specs.Spare.{is_on, NumbersView, spare_after, unused, added, holds, is_deletion};
 
 use indexmap::IndexMap;
@@ -52,11 +55,48 @@ impl Numbers {
         })
     }
 
+    /// No numbers, and room for all that a list may ever have.
+    pub(crate) fn empty(alloc: Global, fixed: u32, records: u32) -> Result<Self, NoMemory>
+        ensures { IfOk result (λ numbers. numbers ≡ no_numbers fixed records) }
+    {
+        let list = VecDeque::with_capacity(alloc, records as usize)?;
+        Ok(Numbers {
+            fixed,
+            records,
+            list,
+            taken: 0,
+        })
+    }
+
     /// The number of all records.
     pub(crate) fn records(&self) -> u32
         ensures { result ≡ self.now.records }
     {
         self.records
+    }
+
+    /// How many records are never given out.
+    pub(crate) fn fixed(&self) -> u32
+        ensures { result ≡ self.now.fixed }
+    {
+        self.fixed
+    }
+
+    /// How many numbers are spare.
+    pub(crate) fn len(&self) -> u32
+        ensures { result ≡ length self.now.spare }
+    {
+        // They are no more than the records.
+        self.records();
+        (self.list.len() - self.taken) as u32
+    }
+
+    /// Drops all numbers. The room stays.
+    pub(crate) fn clear(&mut self)
+        ensures { self.new ≡ record self.old { spare = []; given = [] } }
+    {
+        self.list.clear();
+        self.taken = self.list.len();
     }
 
     /// The spare number at this place of the list.
@@ -66,6 +106,8 @@ impl Numbers {
         ensures within { IfSome result (λ rid. rid < self.now.records) }
         ensures next { IfSome result (λ _. i < usize.MAX) }
         ensures not_given { IfSome result (λ rid. is_on self.now.given rid ≡ false) }
+        ensures early { IfSome result (λ _. i < self.now.records) }
+        ensures distinct { IsDistinct nat_eq self.now.spare }
     {
         if i < self.list.len() - self.taken {
             Some(self.list[self.taken + i])
@@ -135,8 +177,8 @@ impl Numbers {
         }
     }
 
-    // Adds a number at the end of the list, where it is not there.
-    fn add(&mut self, rid: u32)
+    /// Adds a number at the end of the list, where it is not there.
+    pub(crate) fn add(&mut self, rid: u32)
         requires from { self.old.fixed ≤ rid }
         requires within { rid < self.old.records }
         requires none { self.old.given ≡ [] }
@@ -148,6 +190,38 @@ impl Numbers {
         let Ok(()) = self.list.push_back(rid) else {
             unreachable!();
         };
+    }
+
+    /// Puts every so many-th spare number of another list into this one, from a place on.
+    pub(crate) fn fill(&mut self, from: &Numbers, step: u32, first: u32)
+        requires step { 0 < step }
+        requires fixed { self.old.fixed ≡ from.now.fixed }
+        requires records { self.old.records ≡ from.now.records }
+        requires none { self.old.spare ≡ [] }
+        requires none_given { self.old.given ≡ [] }
+        ensures { self.new ≡ record self.old { spare = every step first from.now.spare } }
+    {
+        // The records are fewer than 2^32.
+        from.records();
+        let mut i = first as usize;
+        while let Some(rid) = from.at(i) {
+            self.add(rid);
+            i += step as usize;
+        }
+    }
+
+    /// Adds the spare numbers of another list that are not on this one.
+    pub(crate) fn add_all(&mut self, other: &Numbers)
+        requires fixed { self.old.fixed ≡ other.now.fixed }
+        requires records { self.old.records ≡ other.now.records }
+        requires none_given { self.old.given ≡ [] }
+        ensures { self.new ≡ record self.old { spare = with_all self.old.spare other.now.spare } }
+    {
+        let mut i = 0;
+        while let Some(rid) = other.at(i) {
+            self.add(rid);
+            i += 1;
+        }
     }
 
     // Adds the record where it is deleted and is one of those that are given out.

@@ -5,6 +5,8 @@ ghost use Rattle.record_store.specs.Meaning.{after_fresh, after_undo};
 ghost use Rattle.record_store.specs.Store.{IsFresh};
 ghost use Rattle.txn_engine.specs.Pass.{PassView, meaning_of_pass, frame};
 ghost use Rattle.txn_engine.specs.Txn.{Refuses};
+ghost use Rattle.txn_engine.specs.Leaves.{HoldsAbsent, NoneLeft};
+ghost use Rattle.txn_engine.specs.Accounts.{accounted};
 
 use crate::engine::Engine;
 use crate::faults::TxnFault;
@@ -31,6 +33,8 @@ impl<J: Keeps> Pass<J> {
         ensures err { OnErr result (meaning_of_pass self.new ≡ meaning_of_pass self.old) }
         ensures stays { frame self.new ≡ frame self.old }
         ensures refuses { Refuses self.old self.new result }
+        ensures accounts { accounted self.new ≡ accounted self.old }
+        ensures none_left { IfErr result (λ fault. fault ≡ TxnFault.RecordsOut → HoldsAbsent self.new → NoneLeft self.new) }
     {
         match self.post.phase() {
             Phase::Open => self.fresh(engine),
@@ -43,6 +47,7 @@ impl<J: Keeps> Pass<J> {
 
     pub(crate) fn undo_if_open(&mut self)
         ensures meaning { meaning_of_pass self.new ≡ after_undo (meaning_of_pass self.old) }
+        ensures accounts { accounted self.new ≡ accounted self.old }
         ensures stays { frame self.new ≡ frame self.old }
     {
         match self.post.phase() {

@@ -11,6 +11,7 @@ use crate::faults::BeginFault;
 use crate::numbers::Numbers;
 use crate::phase::Phase;
 use crate::post::Post;
+use crate::rewriting::Room;
 use clock_stamps::ClockOut;
 use core_rule::{Hand, Keeps};
 use plain_data::NoMemory;
@@ -48,7 +49,7 @@ impl<J> Model for Pass<J> {
 }
 
 impl<J: Keeps> Pass<J> {
-    ghost use Rattle.txn_engine.specs.Pass.{PassView, IsIdle, first_pass, next_clock, ticked, heard, synchronised, begun};
+    ghost use Rattle.txn_engine.specs.Pass.{PassView, IsIdle, IsAbove, first_pass, next_clock, ticked, heard, synchronised, begun};
 
     /// The pass of seat 0 of a new table.
     pub(crate) fn first(
@@ -64,8 +65,9 @@ impl<J: Keeps> Pass<J> {
         ensures { IfOk result (λ pass. pass ≡ first_pass (record { table = hand.table; size = hand.view.size; fixed = fixed })) }
     {
         let numbers = Numbers::new(alloc, fixed, records)?;
+        let room = Room::new(alloc)?;
         Ok(Pass {
-            post: Post::new(alloc, hand),
+            post: Post::new(alloc, hand, room),
             boost: 0,
             queue: Queue::new(alloc),
             numbers,
@@ -92,8 +94,11 @@ impl<J: Keeps> Pass<J> {
 
     /// How many of its transactions answered a conflict, `PlacesOut` or `RecordsOut`, each counted once.
     pub fn refusals(&self) -> u64
-        ensures { result ≡ self.now.refusals }
+        ensures value { result ≡ self.now.refusals }
+        ensures at_most { result ≤ self.now.clock }
+        ensures clock { self.now.clock ≤ greatest_clock }
     {
+        self.post.clock();
         self.refusals
     }
 
@@ -103,6 +108,7 @@ impl<J: Keeps> Pass<J> {
         requires idle { IsIdle self.old }
         ensures ok { OnOk result (self.new ≡ ticked self.old (next_clock self.old reading)) }
         ensures stamp { IfOk result (λ stamp. stamp ≡ stamp_of (next_clock self.old reading) self.old.seat) }
+        ensures above { IfOk result (IsAbove self.old.log) }
         ensures clock_out { IsErr result ↔ (next_clock self.old reading ≡ greatest_clock + 1) }
         ensures err { OnErr result (self.new ≡ self.old) }
     {
@@ -135,10 +141,13 @@ impl<J: Keeps> Pass<J> {
         requires engine { self.old.engine ≡ engine.now }
         requires idle { IsIdle self.old }
         ensures ok { OnOk result (self.new ≡ begun self.old (next_clock self.old reading)) }
+        ensures above { OnOk result (IsAbove self.old.log self.new.desk.stamp) }
         ensures in_range { OnOk result (next_clock self.old reading ≤ greatest_clock) }
         ensures clock_out { IfErr result (λ fault. fault ≡ BeginFault.ClockOut → next_clock self.old reading ≡ greatest_clock + 1) }
         ensures err { OnErr result (self.new ≡ self.old) }
     {
+        // The seat is in its range.
+        self.post.number();
         self.queue.reserve(1)?;
         self.post
             .open(&engine.core, reading.saturating_add(self.boost))?;

@@ -1,17 +1,21 @@
 //! The hand of a seat, and what the transaction in flight there has read and written.
 ghost use Rattle.std.specs.Prelude.{◌≡◌, ◌+◌, ◌<◌, ◌≤◌, ◌↔◌, max, ℕ, [], length, IsSome, IsErr, IfOk, OnOk, OnErr};
-ghost use Rattle.stamp_base.specs.Stamp.{stamp_of, clock_of};
+ghost use Rattle.stamp_base.specs.Stamp.{stamp_of, clock_of, bound_of_clock};
 ghost use Rattle.stamp_base.specs.Limits.{greatest_clock};
 ghost use Rattle.word_layout.specs.Size.{IsSize};
 ghost use Rattle.record_store.specs.Limits.{record_limit};
 ghost use Rattle.record_store.specs.Meaning.{value_at};
+ghost use Rattle.core_rule.specs.View.{resting};
+ghost use Rattle.core_rule.specs.Snapshots.{AreAllWhole};
 ghost use Rattle.core_rule.specs.Hands.{IsReady};
 ghost use Rattle.core_rule.specs.Searching.{Ends};
 ghost use Rattle.core_rule.specs.Stamps.{adopted};
 ghost use Rattle.clock_stamps.specs.Clocks.{drawn_clock};
-ghost use Rattle.txn_engine.specs.Post.{PostView, shared_of, post_view, opened, with_clock, closed};
+ghost use Rattle.txn_engine.specs.Pass.{IsAbove};
+ghost use Rattle.txn_engine.specs.Post.{PostView, shared_of, post_view, opened, drawn_at, with_clock, closed};
 
 use crate::phase::Phase;
+use crate::rewriting::Room;
 use clock_stamps::{ClockOut, draw, hear, sync};
 use core_rule::{Core, Hand, Keeps};
 use indexmap::IndexMap;
@@ -23,7 +27,7 @@ use validate_core::Sets;
 
 /// The hand of a seat, how far its transaction is, and what that has read and written.
 ///
-/// The two maps find a record; the sets are what validation is given.
+/// The two maps find a record; the sets are what validation is given. The room is that of a promotion.
 #[derive(Drop)]
 pub(crate) struct Post<J> {
     pub(crate) hand: Hand<J>,
@@ -32,9 +36,11 @@ pub(crate) struct Post<J> {
     pub(crate) reads: IndexMap<u32, Option<Cells>>,
     pub(crate) writes: IndexMap<u32, Option<Cells>>,
     pub(crate) sets: Sets,
+    pub(crate) room: Room,
 }
 
 impl<J> Model for Post<J> {
+    ghost use Rattle.txn_engine.specs.Pass.{IsAbove};
     ghost use Rattle.txn_engine.specs.Post.{PostView, post_view, IsPost};
 
     ghost Value = { PostView };
@@ -46,10 +52,11 @@ impl<J> Model for Post<J> {
 
 impl<J> Post<J> {
     /// The post of a hand that has nothing in flight.
-    pub(crate) fn new(alloc: Global, hand: Hand<J>) -> Self
+    pub(crate) fn new(alloc: Global, hand: Hand<J>, room: Room) -> Self
         requires ready { IsReady (shared_of hand) hand }
         requires holds_none { hand.view.places.held ≡ [] }
         requires ends { Ends hand.view.work }
+        requires whole { hand.view.flight ≡ resting → AreAllWhole hand.view.work.reads }
         ensures { result ≡ post_view hand Phase.Idle 0 [] [] }
     {
         hand.number();
@@ -60,6 +67,7 @@ impl<J> Post<J> {
             reads: IndexMap::new(alloc),
             writes: IndexMap::new(alloc),
             sets: Sets::new(alloc),
+            room,
         }
     }
 
@@ -110,6 +118,7 @@ impl<J: Keeps> Post<J> {
     pub(crate) fn open(&mut self, core: &Core<J>, reading: u64) -> Result<Stamp, ClockOut>
         requires core { self.old.shared ≡ core.now }
         requires idle { self.old.phase ≡ Phase.Idle }
+        requires commits { IsAbove self.old.log (bound_of_clock self.old.clock) }
         ensures ok { OnOk result (self.new ≡ opened self.old (drawn_clock self.old.clock reading)) }
         ensures stamp { IfOk result (λ stamp. stamp ≡ stamp_of (drawn_clock self.old.clock reading) self.old.seat) }
         ensures clock_out { IsErr result ↔ (drawn_clock self.old.clock reading ≡ greatest_clock + 1) }
@@ -127,7 +136,7 @@ impl<J: Keeps> Post<J> {
     pub(crate) fn tick(&mut self, core: &Core<J>, reading: u64) -> Result<Stamp, ClockOut>
         requires core { self.old.shared ≡ core.now }
         requires idle { self.old.phase ≡ Phase.Idle }
-        ensures ok { OnOk result (self.new ≡ with_clock self.old (drawn_clock self.old.clock reading)) }
+        ensures ok { OnOk result (self.new ≡ drawn_at self.old (drawn_clock self.old.clock reading)) }
         ensures stamp { IfOk result (λ stamp. stamp ≡ stamp_of (drawn_clock self.old.clock reading) self.old.seat) }
         ensures clock_out { IsErr result ↔ (drawn_clock self.old.clock reading ≡ greatest_clock + 1) }
         ensures err { OnErr result (self.new ≡ self.old) }

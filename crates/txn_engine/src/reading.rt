@@ -1,10 +1,13 @@
 //! Reading and writing at a post.
-ghost use Rattle.std.specs.Prelude.{◌≡◌, ◌≢◌, ◌+◌, ◌<◌, ◌≤◌, ◌++◌, ◌∷◌, [], None, Some, is_some, IfOk, IfErr, OnOk, OnErr, length, if◌then◌else◌};
+ghost use Rattle.std.specs.Prelude.{◌≡◌, ◌≢◌, ◌+◌, ◌<◌, ◌≤◌, ◌++◌, ◌∷◌, [], None, Some, false, is_some, IfOk, IfErr, IfSome, OnOk, OnErr, length, if◌then◌else◌};
 ghost use Rattle.indexmap.specs.IndexMap.{spare};
 ghost use Rattle.core_rule.specs.Deciding.{read_values};
 ghost use Rattle.core_rule.specs.Versions.{read_version};
 ghost use Rattle.record_store.specs.Meaning.{value_at};
 ghost use Rattle.txn_engine.specs.Post.{PostView, known_at, noted};
+ghost use Rattle.txn_engine.specs.Seats.{IsAloneAt};
+ghost use Rattle.txn_engine.specs.Pass.{IsAbove};
+ghost use Rattle.txn_engine.specs.Leaves.{LeavesValue, LeavesSome};
 ghost use Rattle.txn_engine.specs.Conflicts.{IsOfAnother};
 ghost use Rattle.txn_engine.specs.Reading.{IfPending};
 
@@ -70,7 +73,9 @@ fn note(reads: &mut IndexMap<u32, Option<Cells>>, sets: &mut Sets, rid: u32, rea
 impl<J: Keeps> Post<J> {
     /// What is known of a record: the value written, else the value read.
     pub(crate) fn known(&self, rid: u32) -> Option<Option<Cells>>
-        ensures { result ≡ known_at self.now rid }
+        ensures value { result ≡ known_at self.now rid }
+        ensures above { self.now.phase ≡ Phase.Open → IsAbove self.now.log self.now.stamp }
+        ensures left { self.now.phase ≡ Phase.Open → IsAloneAt self.now.shared.size self.now.seat self.now.others → value_at self.now.writes rid ≡ None → IfSome result (LeavesValue self.now.log rid self.now.stamp) }
     {
         match self.writes.get(&rid) {
             Some(value) => Some(*value),
@@ -92,8 +97,9 @@ impl<J: Keeps> Post<J> {
         requires rid { rid < self.old.shared.size.records }
         requires first { known_at self.old rid ≡ None }
         ensures ok { IfOk result (λ value. self.new ≡ noted self.old rid value) }
+        ensures left { IsAloneAt self.old.shared.size self.old.seat self.old.others → IfOk result (LeavesValue self.old.log rid self.old.stamp) }
         ensures err { OnErr result (self.new ≡ self.old) }
-        ensures met { IfErr result (λ fault. IfPending fault (λ wts. (wts < self.old.stamp) × IsOfAnother self.old.shared.size self.old.seat wts)) }
+        ensures met { IfErr result (λ fault. IfPending fault (λ wts. (wts < self.old.stamp) × IsOfAnother self.old.shared.size self.old.seat self.old.others wts)) }
     {
         make_room(&mut self.reads, &mut self.sets)?;
         match search(core, &mut self.hand, rid, self.stamp.number()) {
@@ -112,8 +118,9 @@ impl<J: Keeps> Post<J> {
         requires rid { rid < self.old.shared.size.records }
         requires first { known_at self.old rid ≡ None }
         ensures ok { IfOk result (λ absent. self.new ≡ (if absent then noted self.old rid None else self.old)) }
+        ensures left { IsAloneAt self.old.shared.size self.old.seat self.old.others → IfOk result (λ absent. absent ≡ false → LeavesSome self.old.log rid self.old.stamp) }
         ensures err { OnErr result (self.new ≡ self.old) }
-        ensures met { IfErr result (λ fault. IfPending fault (λ wts. (wts < self.old.stamp) × IsOfAnother self.old.shared.size self.old.seat wts)) }
+        ensures met { IfErr result (λ fault. IfPending fault (λ wts. (wts < self.old.stamp) × IsOfAnother self.old.shared.size self.old.seat self.old.others wts)) }
     {
         make_room(&mut self.reads, &mut self.sets)?;
         match search(core, &mut self.hand, rid, self.stamp.number()) {

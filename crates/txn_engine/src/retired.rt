@@ -1,7 +1,9 @@
 //! A seat that has retired.
 ghost use Rattle.std.specs.Prelude.{◌≡◌, ◌<◌};
+ghost use Rattle.stamp_base.specs.Limits.{end_of_stamps};
 ghost use Rattle.stamp_base.specs.Stamp.{stamp_of};
 ghost use Rattle.txn_engine.specs.Pass.{IsIdle};
+ghost use Rattle.txn_engine.specs.Glance.{first_glance};
 ghost use Rattle.txn_engine.specs.Post.{post_view};
 ghost use Rattle.txn_engine.specs.Retired.{RetiredView, IsDone, retired};
 
@@ -55,7 +57,7 @@ impl<J: Keeps> Post<J> {
     pub(crate) fn retire(self, core: &Core<J>) -> Hand<J>
         requires core { self.shared ≡ core.now }
         requires idle { self.phase ≡ Phase.Idle }
-        ensures hand { post_view result Phase.Idle self.stamp self.reads self.writes ≡ self }
+        ensures hand { post_view result Phase.Idle self.stamp self.reads self.writes ≡ record self { published = end_of_stamps; glance = first_glance end_of_stamps } }
         ensures done { IsDone result }
     {
         let Post {
@@ -65,6 +67,7 @@ impl<J: Keeps> Post<J> {
             reads: _,
             writes: _,
             sets: _,
+            room: _,
         } = self;
         retire(core, &mut hand);
         hand

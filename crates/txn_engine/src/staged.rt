@@ -1,10 +1,14 @@
 //! A transaction whose versions are linked, and one that is decided.
-ghost use Rattle.std.specs.Prelude.{◌≡◌, ◌≢◌, ◌+◌, [], OnOk, IfOk, IfErr, IfSome, length};
+ghost use Rattle.std.specs.Prelude.{◌≡◌, ◌≢◌, ◌+◌, ◌++◌, ◌∷◌, List, [], OnOk, IfOk, IfErr, IfSome, length};
 ghost use Rattle.std.specs.Borrow.{sem, RestsIfErr};
+ghost use Rattle.plain_data.specs.declared.entry.Entry.{Entry};
 ghost use Rattle.std.proofs.Props.{props};
 ghost use Rattle.plain_data.specs.State.{Fits};
 ghost use Rattle.txn_engine.specs.contracts.pass.Pass.{the_row};
-ghost use Rattle.txn_engine.specs.Pass.{entry_of, installed, decided, published, refused, aborted};
+ghost use Rattle.txn_engine.specs.Seats.{Known};
+ghost use Rattle.txn_engine.specs.Leaves.{AreLeft, HoldsAbsent};
+ghost use Rattle.txn_engine.specs.Lists.{AreLinked, AreSomeLinked, known_before, AreKnown, count_raised, IsFull, IsTidyOnceCollected, IsRoomyOnceCollected};
+ghost use Rattle.txn_engine.specs.Pass.{IsAlone, IsAbove, knowing, entry_of, installed, decided, published, refused, aborted};
 ghost use Rattle.txn_engine.specs.Ends.{Stood};
 ghost use Rattle.txn_engine.specs.Faults.{IsShown, MatchStopped};
 
@@ -43,13 +47,17 @@ impl<'a, J: Keeps, E: Lent<J>> TxnOver<'a, J, E> {
     /// Links the versions as pending ones. Other transactions meet them from now on.
     pub fn install(self) -> Result<InstalledOver<'a, J, E>, CommitFault>
         requires open { self.pass.now.desk.phase ≡ Phase.Open }
-        ensures* rests { sem 𝓛 (RestsIfErr (the_row J.row) self.entry.pass (λ t. t.pass.ghost_name) result (λ p. p ≡ refused self.entry.pass.now)) }
+        ensures* rests { sem 𝓛 (RestsIfErr (the_row J.row) self.entry.pass (λ t. t.pass.ghost_name) result (λ p. (p ≡ refused (knowing self.entry.pass.now p.known)) × AreSomeLinked self.entry.pass.now.desk.writes self.entry.pass.now.desk.stamp self.entry.pass.now.known p.known)) }
         ensures same_reference { IfOk result (λ t. t.pass.ghost_name ≡ self.entry.pass.ghost_name) }
-        ensures ok { IfOk result (λ t. t.pass.now ≡ installed self.entry.pass.now) }
+        ensures ok { IfOk result (λ t. t.pass.now ≡ installed (knowing self.entry.pass.now t.pass.now.known)) }
         ensures engine { IfOk result (λ t. t.engine ≡ self.entry.engine) }
         ensures linked { IfOk result (λ t. t.linked.stamp ≡ self.entry.pass.now.desk.stamp) }
         ensures dead { IfErr result (λ fault. IfSome self.entry.pass.now.desk.dead (λ conflict. fault ≡ CommitFault.Conflict conflict)) }
         ensures cause { IfErr result (λ fault. MatchStopped fault (IsShown self.entry.pass.now) (self.entry.pass.now.desk.writes ≢ [])) }
+        ensures read_left { IsAlone self.entry.pass.now → AreLeft self.entry.pass.now.log self.entry.pass.now.desk.stamp self.entry.pass.now.desk.reads }
+        ensures before { IfOk result (λ t. known_before (length self.entry.pass.now.desk.writes) t.pass.now.known ≡ self.entry.pass.now.known) }
+        ensures versions { IfOk result (λ t. AreLinked self.entry.pass.now.desk.writes self.entry.pass.now.desk.stamp self.entry.pass.now.known t.pass.now.known) }
+        ensures full { IfErr result (λ fault. fault ≡ CommitFault.PlacesOut → IsAlone self.entry.pass.now → IsFull self.entry.pass.now) }
     {
         let TxnOver { pass, engine } = self;
         let linked = pass.install(engine.engine())?;
@@ -111,6 +119,10 @@ impl<J: Keeps, E: Lent<J>> DecidedOver<'_, J, E> {
         ensures after { self.exit.0.now ≡ published self.entry.pass.now }
         ensures stamp { result.stamp ≡ self.entry.pass.now.desk.stamp }
         ensures counts { result.inlined + result.pooled ≡ length self.entry.pass.now.desk.writes }
+        ensures pooled { AreKnown (known_before (length self.entry.pass.now.desk.writes) self.entry.pass.now.known) self.entry.pass.now.desk.writes → result.pooled ≡ count_raised (known_before (length self.entry.pass.now.desk.writes) self.entry.pass.now.known) self.entry.pass.now.known self.entry.pass.now.desk.writes }
+        ensures tidy { (before : Known) → AreLinked self.entry.pass.now.desk.writes self.entry.pass.now.desk.stamp before self.entry.pass.now.known → IsTidyOnceCollected (knowing self.entry.pass.now before) → IsTidyOnceCollected self.exit.0.now }
+        ensures roomy { (before : Known) → AreLinked self.entry.pass.now.desk.writes self.entry.pass.now.desk.stamp before self.entry.pass.now.known → IsRoomyOnceCollected (knowing self.entry.pass.now before) → IsRoomyOnceCollected self.exit.0.now }
+        ensures absent { (before : List Entry) → self.entry.pass.now.log ≡ before ++ entry_of self.entry.pass.now.desk ∷ [] → IsAbove before self.entry.pass.now.desk.stamp → HoldsAbsent (record self.entry.pass.now { log = before }) → HoldsAbsent self.exit.0.now }
     {
         let DecidedOver {
             pass,

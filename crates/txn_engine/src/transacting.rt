@@ -4,7 +4,10 @@ ghost use Rattle.plain_data.specs.State.{Fits};
 ghost use Rattle.record_store.specs.Limits.{record_limit};
 ghost use Rattle.record_store.specs.Meaning.{known, after_read, after_write, after_fresh, after_undo};
 ghost use Rattle.record_store.specs.Store.{IsFresh};
-ghost use Rattle.txn_engine.specs.Pass.{PassView, store_of, entry_of, counted, doomed, cleared, aborted, refused, installed, decided, queued, published, committed, frame};
+ghost use Rattle.txn_engine.specs.Leaves.{ReadsLeft, AreLeft, HoldsAbsent};
+ghost use Rattle.txn_engine.specs.Accounts.{accounted};
+ghost use Rattle.txn_engine.specs.Lists.{AreLinked, AreSomeLinked, known_before, AreKnown, count_raised, IsFull, IsTidyOnceCollected, IsRoomyOnceCollected};
+ghost use Rattle.txn_engine.specs.Pass.{PassView, IsAlone, IsAbove, knowing, store_of, entry_of, counted, doomed, cleared, aborted, refused, installed, decided, queued, published, committed, frame};
 ghost use Rattle.txn_engine.specs.Ends.{Stood};
 ghost use Rattle.txn_engine.specs.Faults.{IsShown, MatchStopped, IfConflict, MeetsAt};
 ghost use Rattle.txn_engine.specs.Txn.{Fails};
@@ -23,7 +26,7 @@ use stamp_base::Stamp;
 use validate_core::{Conflict, Decided, Installed};
 
 /// The boost of the clock after a refusal.
-const BOOST: u64 = 1024;
+pub(crate) const BOOST: u64 = 1024;
 
 /// What a commit tells: its stamp, and how many of its versions took the inline place of their record, and how many a place of
 /// the pool.
@@ -39,7 +42,7 @@ impl<J> Pass<J> {
     pub(crate) fn count(&mut self)
         ensures { self.new ≡ counted self.old }
     {
-        // The count is below 64 times the clock, which fits.
+        // The count is below the clock, which fits.
         self.post.clock();
         if !self.counted {
             self.counted = true;
@@ -50,7 +53,7 @@ impl<J> Pass<J> {
     // The transaction in flight answers this conflict from now on.
     pub(crate) fn doom(&mut self, rid: u32, wts: u64) -> TxnFault
         requires open { self.old.desk.phase ≡ Phase.Open }
-        requires shown { ShowsPending self.old.engine.size self.old.seat self.old.desk.stamp (Conflict.Pending rid wts) }
+        requires shown { ShowsPending self.old.engine.size self.old.seat self.old.others self.old.desk.stamp (Conflict.Pending rid wts) }
         ensures after { self.new ≡ doomed self.old (Conflict.Pending rid wts) }
         ensures fault { result ≡ TxnFault.Conflict (Conflict.Pending rid wts) }
     {
@@ -124,12 +127,18 @@ impl<J: Keeps> Pass<J> {
     pub(crate) fn install(&mut self, engine: &Engine<J>) -> Result<Installed, CommitFault>
         requires engine { self.old.engine ≡ engine.now }
         requires open { self.old.desk.phase ≡ Phase.Open }
-        ensures ok { OnOk result (self.new ≡ installed self.old) }
+        ensures ok { OnOk result (self.new ≡ installed (knowing self.old self.new.known)) }
         ensures alive { OnOk result (self.old.desk.dead ≡ None) }
         ensures stamp { IfOk result (λ installed. installed.stamp ≡ self.old.desk.stamp) }
-        ensures err { OnErr result (self.new ≡ refused self.old) }
+        ensures err { OnErr result (self.new ≡ refused (knowing self.old self.new.known)) }
         ensures dead { IfErr result (λ fault. IfSome self.old.desk.dead (λ conflict. fault ≡ CommitFault.Conflict conflict)) }
         ensures cause { IfErr result (λ fault. MatchStopped fault (IsShown self.old) (self.old.desk.writes ≢ [])) }
+        ensures above { OnOk result (IsAbove self.old.log self.old.desk.stamp) }
+        ensures read_left { IsAlone self.old → AreLeft self.old.log self.old.desk.stamp self.old.desk.reads }
+        ensures before { OnOk result (known_before (length self.old.desk.writes) self.new.known ≡ self.old.known) }
+        ensures linked { OnOk result (AreLinked self.old.desk.writes self.old.desk.stamp self.old.known self.new.known) }
+        ensures some_linked { OnErr result (AreSomeLinked self.old.desk.writes self.old.desk.stamp self.old.known self.new.known) }
+        ensures full { IfErr result (λ fault. fault ≡ CommitFault.PlacesOut → IsAlone self.old → IsFull self.old) }
     {
         if let Some(conflict) = self.dead {
             self.refuse();
@@ -188,6 +197,7 @@ impl<J: Keeps> Pass<J> {
         ensures after { self.new ≡ published self.old }
         ensures stamp { result.stamp ≡ self.old.desk.stamp }
         ensures counts { result.inlined + result.pooled ≡ length self.old.desk.writes }
+        ensures pooled { AreKnown (known_before (length self.old.desk.writes) self.old.known) self.old.desk.writes → result.pooled ≡ count_raised (known_before (length self.old.desk.writes) self.old.known) self.old.known self.old.desk.writes }
     {
         let stamp = self.post.stamp();
         let count = self.post.writes().len() as u32;
@@ -209,13 +219,21 @@ impl<J: Keeps> Pass<J> {
         requires engine { self.old.engine ≡ engine.now }
         requires open { self.old.desk.phase ≡ Phase.Open }
         requires fits { Fits J.kept self.old.engine.size.records (entry_of self.old.desk) }
-        ensures ok { OnOk result (self.new ≡ committed self.old) }
+        ensures ok { OnOk result (self.new ≡ committed (knowing self.old self.new.known)) }
         ensures stood { OnOk result (Stood J.kept self.old.engine.size.records self.old.log (entry_of self.old.desk)) }
         ensures stamp { IfOk result (λ told. told.stamp ≡ self.old.desk.stamp) }
         ensures counts { IfOk result (λ told. told.inlined + told.pooled ≡ length self.old.desk.writes) }
-        ensures err { OnErr result (self.new ≡ refused self.old) }
+        ensures pooled { IfOk result (λ told. AreKnown self.old.known self.old.desk.writes → told.pooled ≡ count_raised self.old.known self.new.known self.old.desk.writes) }
+        ensures err { OnErr result (self.new ≡ refused (knowing self.old self.new.known)) }
         ensures dead { IfErr result (λ fault. IfSome self.old.desk.dead (λ conflict. fault ≡ CommitFault.Conflict conflict)) }
         ensures cause { IfErr result (λ fault. MatchStopped fault (IsShown self.old) (self.old.desk.writes ≢ [])) }
+        ensures read_left { IsAlone self.old → AreLeft self.old.log self.old.desk.stamp self.old.desk.reads }
+        ensures linked { OnOk result (AreLinked self.old.desk.writes self.old.desk.stamp self.old.known self.new.known) }
+        ensures some_linked { OnErr result (AreSomeLinked self.old.desk.writes self.old.desk.stamp self.old.known self.new.known) }
+        ensures full { IfErr result (λ fault. fault ≡ CommitFault.PlacesOut → IsAlone self.old → IsFull self.old) }
+        ensures tidy { OnOk result (IsTidyOnceCollected self.old → IsTidyOnceCollected self.new) }
+        ensures roomy { OnOk result (IsRoomyOnceCollected self.old → IsRoomyOnceCollected self.new) }
+        ensures absent { HoldsAbsent self.old → HoldsAbsent self.new }
     {
         let linked = self.install(engine)?;
         let entered = self.check(engine, linked)?;
@@ -241,6 +259,8 @@ impl<J: Keeps> Pass<J> {
         requires rid { rid < self.old.engine.size.records }
         ensures ok { IfOk result (λ value. store_of self.new ≡ after_read (store_of self.old) rid value) }
         ensures answer { IfOk result (λ value. known (store_of self.new) rid ≡ Some value) }
+        ensures left { IfOk result (ReadsLeft self.old rid) }
+        ensures accounts { accounted self.new ≡ accounted self.old }
         ensures err { OnErr result (store_of self.new ≡ store_of self.old) }
         ensures stays { frame self.new ≡ frame self.old }
         ensures fails { IfErr result (Fails self.new) }
@@ -264,6 +284,7 @@ impl<J: Keeps> Pass<J> {
         requires open { self.old.desk.phase ≡ Phase.Open }
         requires rid { rid < self.old.engine.size.records }
         ensures ok { OnOk result (store_of self.new ≡ after_write (store_of self.old) rid value.now) }
+        ensures accounts { accounted self.new ≡ accounted self.old }
         ensures err { OnErr result (store_of self.new ≡ store_of self.old) }
         ensures stays { frame self.new ≡ frame self.old }
         ensures fails { IfErr result (Fails self.new) }
@@ -281,6 +302,7 @@ impl<J: Keeps> Pass<J> {
     pub(crate) fn undo(&mut self)
         requires { self.old.desk.phase ≡ Phase.Open }
         ensures meaning { store_of self.new ≡ after_undo (store_of self.old) }
+        ensures accounts { accounted self.new ≡ accounted self.old }
         ensures stays { frame self.new ≡ frame self.old }
     {
         self.numbers.take_back();

@@ -1,8 +1,10 @@
-use Rattle.std.proofs.Common.{false, ◌≡◌, ◌<◌, ◌≤◌, ◌+◌, ap, ◌∙◌, arith, length, drop, length-drop, sym, subst}
+use Rattle.std.proofs.Common.{false, ◌≡◌, ◌<◌, ◌≤◌, ◌+◌, ap, ◌∙◌, arith, length, drop, length-drop, sym, subst, eqb}
 use Rattle.std.specs.Prelude.{slice_get}
 use Rattle.std.proofs.lemmas.Option.{slice_get_past}
 use Rattle.txn_engine.specs.Spare.{NumbersView, is_on}
-use Rattle.txn_engine.proofs.NumberLists.{spare_in_range, not_given}
+use Rattle.std.specs.List.{IsDistinct}
+use Rattle.txn_engine.proofs.NumberLists.{spare_in_range, not_given, few_numbers}
+use Rattle.txn_engine.proofs.Shares.{distinct_drop}
 use Rattle.txn_engine.proofs.numbers.Numbers.at.Goals as goal
 
 pub returns-then-i-len-clause-from : goal.returns-then-i-len-clause-from
@@ -30,3 +32,20 @@ returns-then-i-len-clause-not_given c =
     let i = c.self.inside in
     let within : i.taken + c.args.i < length i.list.items = let l = c.len.ensures in let o = i.list.ok in let t = c.if-i-len.true in let m = c.self.invariant.marked in omega arith in
     subst (λ (n : NumbersView). is_on n.given c.index.result.now ≡ false) c.self.view_is (not_given i.fixed i.records i.taken c.args.i c.index.result.now i.list.items _ c.self.invariant within c.index.ensures)
+
+pub returns-then-i-len-clause-distinct : goal.returns-then-i-len-clause-distinct
+returns-then-i-len-clause-distinct c =
+    let i = c.self.inside in
+    subst (λ (n : NumbersView). IsDistinct eqb n.spare) c.self.view_is (distinct_drop i.taken i.list.items c.self.invariant.distinct)
+
+pub returns-else-i-len-clause-distinct : goal.returns-else-i-len-clause-distinct
+returns-else-i-len-clause-distinct c =
+    let i = c.self.inside in
+    subst (λ (n : NumbersView). IsDistinct eqb n.spare) c.self.view_is (distinct_drop i.taken i.list.items c.self.invariant.distinct)
+
+pub returns-then-i-len-clause-early : goal.returns-then-i-len-clause-early
+returns-then-i-len-clause-early c =
+    let i = c.self.inside in
+    let within : i.taken + c.args.i < length i.list.items = let l = c.len.ensures in let o = i.list.ok in let t = c.if-i-len.true in let m = c.self.invariant.marked in omega arith in
+    let few = few_numbers i.fixed i.records i.taken i.list.items _ c.self.invariant in
+    subst (λ (n : NumbersView). c.args.i < n.records) c.self.view_is (omega arith)

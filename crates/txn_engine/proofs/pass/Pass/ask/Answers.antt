@@ -1,10 +1,12 @@
-use Rattle.std.proofs.Common.{◌≡◌, ◌<◌, ap, ◌∙◌, sym, subst, refl, length, remove}
+use Rattle.std.proofs.Common.{◌≡◌, ◌<◌, ◌++◌, ◌∷◌, [], ap, ◌∙◌, sym, subst, refl, length, remove}
 use Rattle.std.specs.Prelude.{IsSome, is_some}
 use Rattle.std.proofs.lemmas.Option.{slice_get_within}
 use Rattle.record_store.specs.Meaning.{value_at}
 use Rattle.txn_engine.specs.Pass.{PassView}
 use Rattle.txn_engine.specs.Inside.{pass_view}
 use Rattle.txn_engine.specs.Spare.{NumbersView}
+use Rattle.txn_engine.specs.Accounts.{accounted}
+use Rattle.txn_engine.proofs.Accounting.{accounted_given, accounted_struck}
 use Rattle.txn_engine.proofs.Asking.{passed_written, asks_struck}
 use Rattle.txn_engine.proofs.pass.Pass.ask.Goals as goal
 
@@ -33,3 +35,19 @@ returns-else-branch-clause-ok g c =
     let is : pass_view i.post i.boost i.queue c.strike.new.self i.refusals i.dead i.counted ≡ record c.args.self.now { spare = remove c.args.self.now.spare c.args.i } =
     ap (λ (n : NumbersView). pass_view i.post i.boost i.queue n i.refusals i.dead i.counted) c.strike.ensures ∙ ap (λ (x : PassView). record x { spare = remove x.spare c.args.i }) (c.self-2.view_is ∙ kept) in
     asks_struck c.args.self.now _ c.args.i c.args.rid c.requires.at is
+
+pub returns-then-branch-clause-accounts : goal.returns-then-branch-clause-accounts
+returns-then-branch-clause-accounts g c =
+    let i = c.self-2.inside in
+    let p = pass_view i.post i.boost i.queue i.numbers i.refusals i.dead i.counted in
+    let is : pass_view i.post i.boost i.queue c.give.new.self i.refusals i.dead i.counted ≡ record p { spare = remove p.spare c.args.i; given = p.given ++ c.give.result ∷ [] } =
+    ap (λ (n : NumbersView). pass_view i.post i.boost i.queue n i.refusals i.dead i.counted) c.give.ensures.after in
+    ap accounted is ∙ accounted_given p c.args.i c.give.result c.give.ensures.value ∙ ap accounted c.self-2.view_is ∙ c.is_absent.ensures.accounts
+
+pub returns-else-branch-clause-accounts : goal.returns-else-branch-clause-accounts
+returns-else-branch-clause-accounts g c =
+    let i = c.self-2.inside in
+    let kept : c.is_absent.new.self ≡ c.args.self.now = rw c.if-branch.false at c.in_ok-is_absent.ensures.ok in
+    let is : pass_view i.post i.boost i.queue c.strike.new.self i.refusals i.dead i.counted ≡ record c.args.self.now { spare = remove c.args.self.now.spare c.args.i } =
+    ap (λ (n : NumbersView). pass_view i.post i.boost i.queue n i.refusals i.dead i.counted) c.strike.ensures ∙ ap (λ (x : PassView). record x { spare = remove x.spare c.args.i }) (c.self-2.view_is ∙ kept) in
+    ap accounted is ∙ accounted_struck c.args.self.now c.args.i c.args.rid c.requires.at (λ alone. c.in_ok-is_absent.ensures.present alone c.if-branch.false)

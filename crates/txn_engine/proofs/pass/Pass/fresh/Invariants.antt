@@ -1,11 +1,13 @@
 use Rattle.std.proofs.Common.{◌≡◌, ◌-◌, length}
 use Rattle.txn_engine.specs.Fresh.{AreWritten}
+use Rattle.txn_engine.specs.Accounts.{accounted}
 use Rattle.txn_engine.proofs.pass.Pass.fresh.Given as goal
 
 abbrev pub invariant-loop-rid : goal.invariant-loop-rid
 invariant-loop-rid g l = record {
   same : l.self ≡ record l.fn.self { spare = l.self.spare };
   written : AreWritten l.self l.i;
+  accounts : accounted l.self ≡ accounted l.fn.self;
 }
 
 abbrev pub decreases-loop-rid : goal.decreases-loop-rid

@@ -1,8 +1,8 @@
-use Rattle.std.proofs.Common.{ap, ◌∙◌}
+use Rattle.std.proofs.Common.{ℕ, ◌<◌, ap, ◌∙◌, subst}
 use Rattle.txn_engine.specs.Desk.{DeskView}
-use Rattle.txn_engine.specs.Pass.{PassView}
+use Rattle.txn_engine.specs.Pass.{PassView, IsAbove}
 use Rattle.txn_engine.specs.Spare.{NumbersView}
-use Rattle.txn_engine.proofs.Passes.{pass_room, pass_opened, pass_numbers, drawn_later}
+use Rattle.txn_engine.proofs.Passes.{pass_room, pass_opened, pass_numbers, drawn_later, seat_below, above_drawn}
 use Rattle.txn_engine.proofs.pass.Pass.open.Goals as goal
 
 pub invariant_of-self : goal.invariant_of-self
@@ -15,5 +15,11 @@ pub invariant_of-self-2 : goal.invariant_of-self-2
 invariant_of-self-2 g c =
     let alive = ap (λ (p : PassView). p.desk.dead) c.self.view_is ∙ ap (λ (d : DeskView). d.dead) c.requires.idle in
     let room = pass_room _ c.self.inside.queue c.reserve.new.self _ _ _ _ c.self.invariant c.reserve.ensures.items c.reserve.ensures.not_less in
-    let begun = pass_opened c.self.inside.post _ c.reserve.new.self _ _ _ _ room alive (drawn_later c.self.inside.post.clock c.saturating_add.result) in
+    let begun = pass_opened c.self.inside.post _ c.reserve.new.self _ _ _ _ room alive (drawn_later c.self.inside.post.clock c.saturating_add.result) (seat_below c.number.ensures.size (subst (λ (n : ℕ). n < c.self.inside.post.shared.size.seats) c.number.ensures.value c.number.ensures.within)) in
     pass_numbers _ _ c.self.inside.numbers c.take_back.new.self _ _ _ (rw c.in_ok-open.ensures.ok begun) (ap (λ (n : NumbersView). n.fixed) c.take_back.ensures) (ap (λ (n : NumbersView). n.records) c.take_back.ensures)
+
+pub returns-clause-above : goal.returns-clause-above
+returns-clause-above g c =
+    let p = c.self.inside.post in
+    let above = above_drawn p.log p.clock c.saturating_add.result p.seat c.self.invariant.commits in
+    subst (λ (q : PassView). IsAbove q.log c.open.new.self.stamp) c.self.view_is (rw c.in_ok-open.ensures.ok above)

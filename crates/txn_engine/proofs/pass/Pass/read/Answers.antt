@@ -12,5 +12,5 @@ invariant_of-self g c =
 pub returns-in-Ok-clause-answer : goal.returns-in-Ok-clause-answer
 returns-in-Ok-clause-answer g c =
     let p = c.self.inside.post in
-    let unknown : known_at p c.args.rid ≡ None = sym c.known.ensures ∙ none_known c.known.result c.in_default.not-Some in
+    let unknown : known_at p c.args.rid ≡ None = sym c.known.ensures.value ∙ none_known c.known.result c.in_default.not-Some in
     ap (λ (x : PostView). known_at x c.args.rid) c.in-Ok.ensures.ok ∙ known_noted p c.args.rid c.in-Ok.value unknown

@@ -1,5 +1,13 @@
-use Rattle.txn_engine.proofs.Passes.{pass_clock, drawn_later, less_is_most}
+use Rattle.std.proofs.Common.{subst}
+use Rattle.txn_engine.specs.Pass.{PassView, IsAbove}
+use Rattle.txn_engine.proofs.Passes.{above_drawn, pass_drawn, drawn_later, less_is_most}
 use Rattle.txn_engine.proofs.pass.Pass.tick.Goals as goal
 
 pub invariant_of-self-2 : goal.invariant_of-self-2
-invariant_of-self-2 g c = rw c.in_ok-stamp.ensures.ok (pass_clock c.self.inside.post _ _ _ _ _ _ c.self.invariant (less_is_most _ _ (drawn_later c.self.inside.post.clock c.saturating_add.result)))
+invariant_of-self-2 g c = rw c.in_ok-stamp.ensures.ok (pass_drawn c.self.inside.post _ _ _ _ _ _ c.self.invariant (less_is_most _ _ (drawn_later c.self.inside.post.clock c.saturating_add.result)))
+
+pub returns-clause-above : goal.returns-clause-above
+returns-clause-above g c =
+    let p = c.self.inside.post in
+    let above = above_drawn p.log p.clock c.saturating_add.result p.seat c.self.invariant.commits in
+    subst (λ (q : PassView). IsAbove q.log c.in_ok-stamp.stamp) c.self.view_is (rw c.in_ok-stamp.ensures.stamp above)

@@ -1,6 +1,7 @@
 use Rattle.std.proofs.Common.{ap, ◌∙◌}
 use Rattle.txn_engine.specs.Post.{PostView}
 use Rattle.txn_engine.proofs.ReadMore.{is_open}
+use Rattle.txn_engine.proofs.Over.{none_resting}
 use Rattle.txn_engine.proofs.WriteMore.{post_closed, open_ends}
 use Rattle.txn_engine.proofs.post.Post.close.Goals as goal
 
@@ -9,4 +10,5 @@ invariant_of-self g c =
     let phase = ap (λ (p : PostView). p.phase) c.self.view_is ∙ c.requires in
     let i = c.self.invariant in
     let e = c.clear.ensures in
-    rw c.make-self-inside.ensures.number (post_closed c.self.inside.hand c.clear.new.reads.entries c.clear.new.writes.entries c.clear.new.sets i.ready i.size i.holds_none (open_ends _ _ _ _ _ (is_open _ _ _ _ _ _ phase i)) e.no_reads e.no_writes e.none_read e.none_written)
+    let begun = is_open _ _ _ _ _ _ phase i in
+    rw c.make-self-inside.ensures.number (post_closed c.self.inside.hand c.clear.new.reads.entries c.clear.new.writes.entries c.clear.new.sets i.ready i.size i.holds_none (open_ends _ _ _ _ _ begun) (none_resting _ _ _ begun.at.begun.in_flight) e.no_reads e.no_writes e.none_read e.none_written)

@@ -1,12 +1,13 @@
 use Rattle.std.proofs.Common.{ℕ, ap, sym, subst, ◌∙◌}
-use Rattle.core_rule.specs.View.{View, writing}
+use Rattle.core_rule.specs.View.{writing}
 use Rattle.core_rule.specs.Deciding.{commit_of}
 use Rattle.core_rule.specs.Hands.{Shared}
 use Rattle.validate_core.specs.Sets.{IsInside}
 use Rattle.validate_core.specs.Validating as validating
 use Rattle.txn_engine.specs.Ends.{Stood}
-use Rattle.txn_engine.specs.Post.{PostView, post_view, entered, entry_at, IsShownAt}
+use Rattle.txn_engine.specs.Post.{PostView, post_view, closed, entered, entry_at, IsShownAt}
 use Rattle.txn_engine.proofs.EndMore.{at_known, entry_same, fits_same, stood_same, decided_view, post_decided, shown_at}
+use Rattle.txn_engine.proofs.Over.{view_over_all, post_over}
 use Rattle.txn_engine.proofs.post.Post.decide.Goals as goal
 
 pub decide-requires-clause-inside : goal.decide-requires-clause-inside
@@ -41,7 +42,7 @@ returns-in-Ok-clause-ok g c =
     let same = c.requires.stamp ∙ sym (ap (λ (p : PostView). p.stamp) c.self.view_is) in
     let p = post_view i.hand i.phase i.stamp i.reads.entries i.writes.entries in
     let entry = entry_same c.args.installed.stamp i.sets.reads i.sets.writes p same a.as_read a.as_written in
-    decided_view g.J.Keeps.kept c.args.core.now.size.records i.hand c.decide.new.hand i.phase i.stamp c.args.installed.stamp i.reads.entries i.writes.entries i.sets c.decide.ensures.stays.seat.same_table c.in-Ok.ensures.ok entry
+    decided_view g.J.Keeps.kept c.args.core.now.size.records i.hand c.decide.new.hand i.phase i.stamp c.args.installed.stamp i.stamp i.reads.entries i.writes.entries i.sets is.at.installed.in_flight c.decide.ensures.stays.seat.same_table c.in-Ok.ensures.ok entry
     ∙ ap entered c.self.view_is
 
 pub returns-in-Ok-clause-stood : goal.returns-in-Ok-clause-stood
@@ -60,5 +61,20 @@ returns-in-Err-clause-shown g c =
     let i = c.self.inside in
     let is = at_known _ _ _ _ _ _ _ (ap (λ (p : PostView). p.phase) c.self.view_is ∙ c.requires.phase) c.self.invariant in
     let same = c.requires.stamp ∙ sym (ap (λ (p : PostView). p.stamp) c.self.view_is) in
-    let others = c.decide.ensures.stands.others in
-    subst (λ (q : PostView). IsShownAt q c.in-Err.conflict) c.self.view_is (shown_at i.hand c.decide.new.hand i.phase i.stamp c.args.installed.stamp i.reads.entries i.writes.entries i.sets c.in-Err.conflict is.at.are_sets is.ready.hand_of.in_range same (ap (λ (v : View). v.number) others) (ap (λ (v : View). v.size) others) c.in-Err.ensures.conflict)
+    subst (λ (q : PostView). IsShownAt q c.in-Err.conflict) c.self.view_is (shown_at i.hand c.decide.new.hand i.phase i.stamp c.args.installed.stamp i.reads.entries i.writes.entries i.sets c.in-Err.conflict is.at.are_sets is.ready.hand_of.in_range same c.decide.ensures.stands c.in-Err.ensures.conflict)
+
+pub invariant_of-self-in-Err : goal.invariant_of-self-in-Err
+invariant_of-self-in-Err g c =
+    let is = at_known _ _ _ _ _ _ _ (ap (λ (p : PostView). p.phase) c.self.view_is ∙ c.requires.phase) c.self.invariant in
+    let d = c.decide.ensures in
+    let e = c.clear.ensures in
+    post_over c.args.core.now _ _ _ _ _ _ _ _ _ _ _ _ is d.stands is.at.installed.in_flight d.stays.ready c.in-Err.ensures.aborted.ends c.make-self-inside.ensures.number e.no_reads e.no_writes e.none_read e.none_written
+
+pub returns-in-Err-clause-err : goal.returns-in-Err-clause-err
+returns-in-Err-clause-err g c =
+    let i = c.self.inside in
+    let is = at_known _ _ _ _ _ _ _ (ap (λ (p : PostView). p.phase) c.self.view_is ∙ c.requires.phase) c.self.invariant in
+    let d = c.decide.ensures in
+    let e = c.clear.ensures in
+    view_over_all i.hand c.decide.new.hand i.phase i.stamp _ _ i.reads.entries _ i.writes.entries _ d.stays.seat.same_table d.stands c.in-Err.ensures.as_before is.at.installed.in_flight c.in-Err.ensures.log c.make-self-inside.ensures.number e.no_reads e.no_writes
+    ∙ ap closed c.self.view_is

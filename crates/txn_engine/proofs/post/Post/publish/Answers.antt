@@ -1,12 +1,15 @@
 use Rattle.std.proofs.Common.{ℕ, ap, sym, subst, ◌∙◌, arith, length}
 use Rattle.std.proofs.lemmas.List.Sums.{count_by-le-length}
 use Rattle.std.specs.Prelude.{nat_lt}
+use Rattle.word_layout.specs.Size.{Size}
 use Rattle.core_rule.specs.View.{Write}
 use Rattle.core_rule.specs.Hands.{Shared}
 use Rattle.validate_core.specs.Sets.{IsInside}
 use Rattle.validate_core.specs.Validating.{IsDecidedAt}
-use Rattle.txn_engine.specs.Post.{PostView}
+use Rattle.txn_engine.specs.Post.{PostView, closed}
+use Rattle.txn_engine.proofs.Placed.{placed_shown}
 use Rattle.txn_engine.proofs.EndMore.{at_known, length_sets}
+use Rattle.txn_engine.proofs.Over.{view_over_all, post_over}
 use Rattle.txn_engine.proofs.post.Post.publish.Goals as goal
 
 pub publish-requires-clause-inside : goal.publish-requires-clause-inside
@@ -26,3 +29,25 @@ returns-clause-count g c =
     let few = count_by-le-length (λ (u : Write). nat_lt u.place c.records.result) c.self.inside.sets.writes in
     let count = c.count_below-inlined.ensures in
     omega arith
+
+pub invariant_of-self : goal.invariant_of-self
+invariant_of-self g c =
+    let is = at_known _ _ _ _ _ _ _ (ap (λ (p : PostView). p.phase) c.self.view_is ∙ c.requires.phase) c.self.invariant in
+    let p = c.publish.ensures in
+    let e = c.clear.ensures in
+    post_over c.args.core.now _ _ _ _ _ _ _ _ _ _ _ _ is p.stands is.at.decided.in_flight p.stays.ready p.published.ends c.make-self-inside.ensures.number e.no_reads e.no_writes e.none_read e.none_written
+
+pub returns-clause-closed : goal.returns-clause-closed
+returns-clause-closed g c =
+    let i = c.self.inside in
+    let is = at_known _ _ _ _ _ _ _ (ap (λ (p : PostView). p.phase) c.self.view_is ∙ c.requires.phase) c.self.invariant in
+    let p = c.publish.ensures in
+    let e = c.clear.ensures in
+    view_over_all i.hand c.publish.new.hand i.phase i.stamp _ _ i.reads.entries _ i.writes.entries _ p.stays.seat.same_table p.stands p.as_before is.at.decided.in_flight p.log c.make-self-inside.ensures.number e.no_reads e.no_writes
+    ∙ ap closed c.self.view_is
+
+pub returns-clause-placed : goal.returns-clause-placed
+returns-clause-placed g c =
+    let is = at_known _ _ _ _ _ _ _ (ap (λ (p : PostView). p.phase) c.self.view_is ∙ c.requires.phase) c.self.invariant in
+    placed_shown c.self.inside.hand c.self.inside.sets.writes c.records.result c.count_below-inlined.result c.args.self.now.writes c.args.self.now.known is.at.placed (is.at.are_sets.as_written ∙ ap (λ (p : PostView). p.writes) c.self.view_is) (ap (λ (p : PostView). p.known) c.self.view_is)
+    (c.records.ensures.count ∙ ap (λ (z : Size). z.records) c.layout.ensures ∙ sym (ap (λ (p : PostView). p.shared.size.records) c.self.view_is ∙ ap (λ (x : Shared). x.size.records) c.requires.core)) c.count_below-inlined.ensures

@@ -1,8 +1,10 @@
-use Rattle.std.proofs.Common.{◌≡◌, ◌<◌, subst, sym, ap, ◌∙◌, None}
+use Rattle.std.proofs.Common.{◌≡◌, ◌<◌, subst, sym, ap, ◌∙◌, None, [], ◌∷◌, ◌++◌}
 use Rattle.core_rule.specs.View.{writing}
 use Rattle.record_store.specs.Meaning.{value_at}
-use Rattle.txn_engine.specs.Post.{PostView}
-use Rattle.txn_engine.proofs.ReadMore.{is_open, open_at, post_room, post_read, post_stopped, not_read}
+use Rattle.txn_engine.specs.Conflicts.{IsOfAnother}
+use Rattle.txn_engine.specs.Post.{PostView, post_view, noted}
+use Rattle.txn_engine.proofs.ReadMore.{met_at, is_open, open_at, post_room, post_read, post_stopped, not_read, found_left}
+use Rattle.txn_engine.proofs.Over.{view_found}
 use Rattle.txn_engine.proofs.post.Post.read.Goals as goal
 
 pub invariant_of-self : goal.invariant_of-self
@@ -45,3 +47,25 @@ invariant_of-self-in-Ok g c =
     let unread : value_at c.args.self.now.reads c.args.rid ≡ None = not_read (value_at c.args.self.now.writes c.args.rid) (value_at c.args.self.now.reads c.args.rid) c.requires.first in
     let first = ap (λ vs. value_at vs c.args.rid) m.entries ∙ ap (λ (p : PostView). value_at p.reads c.args.rid) c.self.view_is ∙ unread in
     open_at _ _ _ _ _ _ phase (post_read c.args.core.now _ _ _ c.args.rid _ _ _ _ _ _ _ _ room c.search.ensures.stays.ready c.in-Ok.ensures.ok within first n.entries n.reads n.writes n.not_less)
+
+pub returns-in-Err-clause-met : goal.returns-in-Err-clause-met
+returns-in-Err-clause-met g c =
+    let i = c.self.inside in
+    let met = met_at i.hand c.search.new.hand i.phase i.stamp c.in-Err.met.wts i.reads.entries i.writes.entries (rw c.number.ensures.value at c.in-Err.ensures.err) c.self.invariant.ready.hand_of.in_range in
+    subst (λ (p : PostView). (c.in-Err.met.wts < p.stamp) × IsOfAnother p.shared.size p.seat p.others c.in-Err.met.wts) c.self.view_is met
+
+pub returns-in-Ok-clause-ok : goal.returns-in-Ok-clause-ok
+returns-in-Ok-clause-ok g c =
+    let i = c.self.inside in
+    let phase = ap (λ (p : PostView). p.phase) c.self.view_is ∙ c.requires.open in
+    let flight = (is_open _ _ _ _ _ _ phase c.self.invariant).at.begun.in_flight in
+    let read = c.in-Ok.read in
+    let more = c.note.ensures.entries ∙ ap (λ es. es ++ (c.args.rid, read.value) ∷ []) c.make_room.ensures.entries in
+    view_found i.hand c.search.new.hand i.phase i.stamp _ _ _ _ _ c.note.new.reads.entries i.writes.entries c.search.ensures.stays.seat.same_table c.in-Ok.ensures.ok flight
+    ∙ ap (λ es. post_view i.hand i.phase i.stamp es i.writes.entries) more
+    ∙ ap (λ (p : PostView). noted p c.args.rid read.value) c.self.view_is
+
+pub returns-in-Ok-clause-left : goal.returns-in-Ok-clause-left
+returns-in-Ok-clause-left g c =
+    let i = c.self.inside in
+    found_left i.hand c.search.new.hand i.phase i.stamp c.args.rid _ _ _ i.reads.entries i.writes.entries i.sets c.args.self.now c.self.invariant c.self.view_is c.requires.open c.in-Ok.ensures.ok

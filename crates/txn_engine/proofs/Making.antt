@@ -1,0 +1,105 @@
+-- The seats that are made, and their passes.
+use Rattle.txn_engine.specs.Alone.{counting}
+use Rattle.std.proofs.Common.{◌≡◌, ℕ, ◌+◌, ◌-◌, ◌≤◌, Bool, true, false, cond, ltb, ltb-false, lt-ltb, List, [], ◌∷◌, ◌++◌, refl, sym, ap, subst, ◌∙◌, arith, length, map, inl, inr}
+use Rattle.std.specs.List.{range_with_len}
+use mathlib.Core.List.{map-append}
+use Rattle.std.proofs.lemmas.List.{length-map}
+use Rattle.std.proofs.lemmas.List.FromFn.{map-range_with_len_more, length-map-range_with_len}
+use Rattle.core_rule.specs.View.{single, sharing}
+use Rattle.core_rule.specs.Views.{Among}
+use Rattle.core_rule.specs.Offers.{MayOffer, made_of}
+use Rattle.txn_engine.specs.Pass.{PassView, with_glance, unglanced}
+use Rattle.txn_engine.specs.Seats.{Others}
+use Rattle.txn_engine.specs.Sharing.{no_knowledge, others_made, with_made, share_at, shares_of}
+
+-- ---- making seats
+
+made_plain : (b : Bool) (o : Others) (made : ℕ) → o.splitting ≡ single → 1 ≤ made → (b ≡ false → made ≡ 1) → MayOffer (cond b (record o { splitting = sharing made }) o).splitting × (made_of (cond b (record o { splitting = sharing made }) o).splitting ≡ made)
+made_plain true o made plain some is = (tt, refl)
+made_plain false o made plain some is = rw plain (tt, sym (is refl))
+
+first_made : (made : ℕ) → 1 ≤ made → ltb 1 made ≡ false → made ≡ 1
+first_made made some off = let h = ltb-false 1 made off in omega arith
+
+-- the seat that has made these may make the next one
+pub may_make : (made : ℕ) (o : Others) → 1 ≤ made → o.splitting ≡ single → MayOffer (others_made made o).splitting × (made_of (others_made made o).splitting ≡ made)
+may_make made o some plain = made_plain (ltb 1 made) o made plain some (first_made made some)
+
+others_over : (b : Bool) (o : Others) (s t : ℕ) → record (cond b (record o { splitting = sharing s }) o) { splitting = sharing t } ≡ record o { splitting = sharing t }
+others_over true o s t = refl
+others_over false o s t = refl
+
+-- it has made one more
+pub made_more : (made : ℕ) (p : PassView) → 1 ≤ made → p.others.splitting ≡ single → record (with_made made p) { others = record (others_made made p.others) { splitting = sharing (made_of (others_made made p.others).splitting + 1) }; known = no_knowledge } ≡ with_made (made + 1) p
+made_more made p some plain =
+    let on : ltb 1 (made + 1) ≡ true = lt-ltb 1 (made + 1) (omega arith) in
+    let count = (may_make made p.others some plain).1 in
+    ap (λ (o : Others). record p { others = o; known = no_knowledge }) (ap (λ (n : ℕ). record (others_made made p.others) { splitting = sharing (n + 1) }) count ∙ others_over (ltb 1 made) p.others made (made + 1))
+    ∙ ap (λ (b : Bool). record p { others = cond b (record p.others { splitting = sharing (made + 1) }) p.others; known = cond b no_knowledge p.known }) (sym on)
+
+-- one more pass is there
+pub pushed_share : (p : PassView) (passes passes' : List PassView) (seat : ℕ) (made : PassView) → 1 ≤ seat → map unglanced passes ≡ map (share_at p) (range_with_len 1 (seat - 1)) → unglanced made ≡ share_at p seat → passes' ≡ passes ++ made ∷ [] → map unglanced passes' ≡ map (share_at p) (range_with_len 1 (seat + 1 - 1))
+pushed_share p passes passes' seat made some are is more =
+    let last : 1 + (seat - 1) ≡ seat = omega arith in
+    let count : seat - 1 + 1 ≡ seat + 1 - 1 = omega arith in
+    ap (map unglanced) more ∙ map-append unglanced passes (made ∷ []) ∙ ap (λ qs. qs ++ unglanced made ∷ []) are ∙ ap (λ q. map (share_at p) (range_with_len 1 (seat - 1)) ++ q ∷ []) is
+    ∙ sym (map-range_with_len_more (share_at p) 1 (seat - 1) seat last)
+    ∙ ap (λ n. map (share_at p) (range_with_len 1 n)) count
+
+met_of : (p : PassView) (xs : List ℕ) (q : PassView) → Among q (map (share_at p) xs) → q.met ≡ p.met
+met_of p [] q among = absurd among
+met_of p (x ∷ xs) q (inl same) = ap (λ (y : PassView). y.met) (sym same)
+met_of p (x ∷ xs) q (inr more) = met_of p xs q more
+
+-- each pass has met what seat 0 has met
+met_among : (p q : PassView) → Among q (shares_of p) → q.met ≡ p.met
+met_among p q (inl same) = ap (λ (y : PassView). y.met) (sym same)
+met_among p q (inr more) = met_of p (range_with_len 1 (p.engine.size.seats - 1)) q more
+
+among_unglanced : (passes : List PassView) (q : PassView) → Among q passes → Among (unglanced q) (map unglanced passes)
+among_unglanced [] q among = absurd among
+among_unglanced (x ∷ xs) q (inl same) = inl (ap unglanced same)
+among_unglanced (x ∷ xs) q (inr more) = inr (among_unglanced xs q more)
+
+pub met_shared : (p q : PassView) (passes : List PassView) → map unglanced passes ≡ shares_of p → Among q passes → q.met ≡ p.met
+met_shared p q passes are among = met_among p (unglanced q) (subst (λ xs. Among (unglanced q) xs) are (among_unglanced passes q among))
+
+-- one of a list that is left when its last one is taken
+pub among_left : {A : Type 0} (xs ys : List A) (x : A) → Among x xs → Among x (xs ++ ys)
+among_left [] ys x among = absurd among
+among_left (z ∷ xs) ys x (inl same) = inl same
+among_left (z ∷ xs) ys x (inr more) = inr (among_left xs ys x more)
+
+pub among_right : {A : Type 0} (xs ys : List A) (x : A) → Among x ys → Among x (xs ++ ys)
+among_right [] ys x among = among
+among_right (z ∷ xs) ys x among = inr (among_right xs ys x among)
+
+pub among_last : {A : Type 0} (xs : List A) (y : A) → Among y (xs ++ y ∷ [])
+among_last [] y = inl refl
+among_last (z ∷ xs) y = inr (among_last xs y)
+
+-- what holds of each of a list holds with one more
+pub each_more : {A : Type 0} (P : A → Type 0) (xs ys : List A) (y : A) → ((x : A) → Among x xs → P x) → P y → ys ≡ xs ++ y ∷ [] → (x : A) → Among x ys → P x
+each_more P xs ys y each last same x among = each_pushed P xs y each last x (subst (λ zs. Among x zs) same among)
+  where
+    each_pushed : {A : Type 0} (P : A → Type 0) (xs : List A) (y : A) → ((x : A) → Among x xs → P x) → P y → (x : A) → Among x (xs ++ y ∷ []) → P x
+    each_pushed P [] y each last x (inl is) = subst P is last
+    each_pushed P [] y each last x (inr none) = absurd none
+    each_pushed P (z ∷ xs) y each last x (inl is) = each x (inl is)
+    each_pushed P (z ∷ xs) y each last x (inr more) = each_pushed P xs y (λ w a. each w (inr a)) last x more
+
+-- the pass that is made for the next seat
+pub next_share : (p q r : PassView) (made : ℕ) → 1 ≤ made → p.others.splitting ≡ single → q ≡ with_glance (with_made made p) q.glance → unglanced r ≡ share_at q (made_of q.others.splitting) → unglanced r ≡ share_at p made
+next_share p q r made some plain are is =
+    is ∙ ap (λ (x : PassView). share_at x (made_of x.others.splitting)) are ∙ ap (share_at p) (may_make made p.others some plain).1
+
+pub next_made : (p q r : PassView) (made : ℕ) → 1 ≤ made → p.others.splitting ≡ single → q ≡ with_glance (with_made made p) q.glance → r ≡ record q { others = record q.others { splitting = sharing (made_of q.others.splitting + 1) }; known = no_knowledge; glance = r.glance } → r ≡ with_glance (with_made (made + 1) p) r.glance
+next_made p q r made some plain are is =
+    is ∙ ap (λ (x : PassView). record x { others = record x.others { splitting = sharing (made_of x.others.splitting + 1) }; known = no_knowledge; glance = r.glance }) are ∙ ap (λ (x : PassView). with_glance x r.glance) (made_more made p some plain)
+
+pub count_shares : (p : PassView) (passes : List PassView) (seat : ℕ) → map unglanced passes ≡ map (share_at p) (range_with_len 1 (seat - 1)) → length passes ≡ seat - 1
+count_shares p passes seat are = sym (length-map passes unglanced) ∙ ap length are ∙ length-map-range_with_len (share_at p) 1 (seat - 1)
+
+-- where no other seat counted, the count is its own
+pub counting_none : (p : PassView) (n : ℕ) → n ≡ 0 → counting p n ≡ p
+counting_none p n none = let same : p.refusals + n ≡ p.refusals = omega arith in ap (λ r. record p { refusals = r }) same

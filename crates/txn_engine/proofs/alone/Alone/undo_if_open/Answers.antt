@@ -1,0 +1,7 @@
+use Rattle.std.proofs.Common.{ap, ◌∙◌}
+use Rattle.txn_engine.specs.Accounts.{accounted}
+use Rattle.txn_engine.specs.Alone.{AloneView}
+use Rattle.txn_engine.proofs.alone.Alone.undo_if_open.Goals as goal
+
+pub returns-clause-accounts : goal.returns-clause-accounts
+returns-clause-accounts g c = c.undo_if_open.ensures.accounts ∙ ap (λ (a : AloneView). accounted a.pass) c.self.view_is

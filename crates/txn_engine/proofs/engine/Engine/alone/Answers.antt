@@ -1,0 +1,93 @@
+use Rattle.std.proofs.Common.{◌≡◌, ◌<◌, ◌≤◌, ◌+◌, ◌-◌, ◌*◌, ℕ, [], ◌∷◌, List, length, ap, ◌∙◌, sym, subst, arith, eqb-true}
+use Rattle.core_rule.specs.Offers.{made_within}
+use Rattle.core_rule.specs.View.{Splitting}
+use Rattle.txn_engine.specs.Joining.{AreOfEngine, AreOthers, refusals_of, come_together}
+use Rattle.txn_engine.specs.Pass.{PassView, EngineView}
+use Rattle.txn_engine.specs.Retired.{RetiredView}
+use Rattle.txn_engine.proofs.Joined.{uncounted, count_others, earlier_more, earlier_most, first_out, none_left, rests_joined, together_more, alone_together}
+use Rattle.txn_engine.proofs.engine.Engine.alone.Goals as goal
+
+pub overflow_add-earlier : goal.overflow_add-earlier
+overflow_add-earlier g c =
+    let i = c.loop-pass.invariant in
+    let few = count_others c.args.self.now.size c.args.others.items c.seats.ensures.in_range c.requires.each_once in
+    let k = length c.args.others.items - length c.loop-pass.rest.items in
+    let most = earlier_most k c.loop-pass.earlier c.loop-pass.pass.clock 63 i.earlier (omega arith) in
+    let own = i.in_range in
+    let result = c.join-earlier.ensures.few in
+    let joined = ap (λ (p : PassView). p.clock) c.join-earlier.ensures.joined in
+    let clock = c.join-earlier.ensures.in_range in
+    omega arith
+
+pub loop-pass-preserved : goal.loop-pass-preserved
+loop-pass-preserved g c =
+    let i = c.loop-pass.invariant in
+    let p = c.loop-pass.pass in
+    let q = c.join-earlier.new.self in
+    let r = c.remove.result in
+    let rest = c.loop-pass.rest.items in
+    let rs = c.remove.new.self.items in
+    let e = c.join-earlier.ensures in
+    let left = c.remove.ensures.len in
+    let ok = c.loop-pass.rest.ok in
+    let some : 0 < length rest = omega arith in
+    let first : rest ≡ r ∷ rs = first_out rest rs r c.remove.ensures.items c.remove.ensures.value some in
+    let shorter = ap length first in
+    let none = ap (λ (x : PassView). x.given) i.rests in
+    let sum = i.sum in
+    let more : refusals_of rest ≡ r.refusals + refusals_of rs = ap refusals_of first in
+    let refusals = e.refusals in
+    let k = length c.args.others.items - length rest in
+    let fewer = i.fewer in
+    let one : k + 1 ≡ length c.args.others.items - length rs = omega arith in
+    let clock = ap (λ (x : PassView). x.clock) e.joined in
+    record {
+      together = together_more p q r rest rs _ none e.joined first i.together;
+      own = ap (λ (x : PassView). x.refusals) e.joined ∙ i.own;
+      rests = rests_joined p q r i.rests e.joined;
+      engine = ap (λ (x : PassView). x.engine) e.joined ∙ i.engine;
+      of_engine = (subst (λ (xs : List RetiredView). AreOfEngine c.args.self.now xs) first i.of_engine).1;
+      sum = omega arith;
+      fewer = omega arith;
+      earlier = subst (λ (n : ℕ). c.loop-pass.earlier + c.join-earlier.result ≤ n * q.clock) one (subst (λ (n : ℕ). c.loop-pass.earlier + c.join-earlier.result ≤ (k + 1) * n) (sym clock) (earlier_more k c.loop-pass.earlier p.clock r.clock c.join-earlier.result i.earlier e.few));
+      in_range = e.in_range;
+    }
+
+pub returns-clause-alone : goal.returns-clause-alone
+returns-clause-alone g c =
+    let i = c.loop-pass.invariant in
+    let first = c.clear_all.new.self in
+    let others = c.args.others.items in
+    let none : c.loop-pass.rest.items ≡ [] = none_left c.loop-pass.rest.items (let e = eqb-true _ 0 (sym c.is_empty.ensures ∙ c.loop-pass-test.false) in let ok = c.loop-pass.rest.ok in omega arith) in
+    let all = subst (λ (xs : List RetiredView). uncounted (come_together c.loop-pass.pass xs) ≡ uncounted (come_together first others)) none i.together in
+    let seat = ap (λ (p : PassView). p.seat) all in
+    let engine = ap (λ (p : PassView). p.engine) all in
+    let own : first.engine ≡ c.args.self.now = sym engine ∙ i.engine in
+    let inside = subst (λ (p : PassView). made_within p.engine.size.seats p.others.splitting ≤ p.engine.size.seats) c.pass.view_is c.tell_made.ensures in
+    let splitting = ap (λ (p : PassView). p.others.splitting) all in
+    alone_together first c.loop-pass.pass others (ap (λ (p : PassView). p.seat) c.clear_all.ensures ∙ c.requires.first) seat engine (ap (λ (p : PassView). p.others) all)
+    (subst (λ (e : EngineView). AreOthers e.size others) (sym own) c.requires.each_once)
+    (subst (λ (s : Splitting). made_within first.engine.size.seats s ≤ first.engine.size.seats) splitting (subst (λ (e : EngineView). made_within e.size.seats c.loop-pass.pass.others.splitting ≤ e.size.seats) engine inside))
+
+pub invariant_of-result : goal.invariant_of-result
+invariant_of-result g c =
+    let i = c.loop-pass.invariant in
+    let first = c.clear_all.new.self in
+    let others = c.args.others.items in
+    let none : c.loop-pass.rest.items ≡ [] = none_left c.loop-pass.rest.items (let e = eqb-true _ 0 (sym c.is_empty.ensures ∙ c.loop-pass-test.false) in let ok = c.loop-pass.rest.ok in omega arith) in
+    let all = subst (λ (xs : List RetiredView). uncounted (come_together c.loop-pass.pass xs) ≡ uncounted (come_together first others)) none i.together in
+    let seat = ap (λ (p : PassView). p.seat) all in
+    let engine = ap (λ (p : PassView). p.engine) all in
+    let own : first.engine ≡ c.args.self.now = sym engine ∙ i.engine in
+    let inside = subst (λ (p : PassView). made_within p.engine.size.seats p.others.splitting ≤ p.engine.size.seats) c.pass.view_is c.tell_made.ensures in
+    let splitting = ap (λ (p : PassView). p.others.splitting) all in
+    let alone = alone_together first c.loop-pass.pass others (ap (λ (p : PassView). p.seat) c.clear_all.ensures ∙ c.requires.first) seat engine (ap (λ (p : PassView). p.others) all)
+    (subst (λ (e : EngineView). AreOthers e.size others) (sym own) c.requires.each_once)
+    (subst (λ (s : Splitting). made_within first.engine.size.seats s ≤ first.engine.size.seats) splitting (subst (λ (e : EngineView). made_within e.size.seats c.loop-pass.pass.others.splitting ≤ e.size.seats) engine inside)) in
+    let few = count_others c.args.self.now.size others c.seats.ensures.in_range c.requires.each_once in
+    record {
+      alone = alone;
+      first = seat ∙ ap (λ (p : PassView). p.seat) c.clear_all.ensures ∙ c.requires.first;
+      counts = earlier_most (length others - length c.loop-pass.rest.items) c.loop-pass.earlier c.loop-pass.pass.clock 63 i.earlier (omega arith);
+      unshared = tt;
+    }

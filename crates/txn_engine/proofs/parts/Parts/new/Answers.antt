@@ -1,0 +1,14 @@
+use Rattle.std.proofs.Common.{[], ◌∷◌, length, length-append, ap, arith}
+use Rattle.txn_engine.proofs.Making.{each_more}
+use Rattle.txn_engine.proofs.parts.Parts.new.Goals as goal
+
+pub loop-seat-preserved : goal.loop-seat-preserved
+loop-seat-preserved g c =
+    let items = c.in_ok-push.ensures.items in
+    let long = length-append c.loop-seat.lists.items (c.in_ok-empty.field-0 ∷ []) in
+    let same = ap length items in
+    let count = c.loop-seat.invariant.count in
+    record {
+      count = omega arith;
+      empty = each_more _ c.loop-seat.lists.items c.push.new.self.items c.in_ok-empty.field-0 c.loop-seat.invariant.empty c.in_ok-empty.ensures items;
+    }

@@ -1,0 +1,16 @@
+use Rattle.std.proofs.Common.{ap, subst, arith}
+use Rattle.txn_engine.specs.Pass.{PassView, IsAbove}
+use Rattle.txn_engine.proofs.CollectMore.{all_below, pass_collected}
+use Rattle.txn_engine.proofs.pass.Pass.collect.Goals as goal
+
+pub collect-requires-clause-below : goal.collect-requires-clause-below
+collect-requires-clause-below g c = all_below _ _ _ _ c.self.invariant.queued c.self.invariant.commits
+
+pub invariant_of-self : goal.invariant_of-self
+invariant_of-self g c = let e = c.collect.ensures in rw e.after (pass_collected _ _ _ _ _ _ _ _ _ _ c.self.invariant e.met e.queue e.room)
+
+pub returns-clause-above : goal.returns-clause-above
+returns-clause-above g c =
+    let p = c.self.inside.post in
+    let above : IsAbove p.log c.collect.new.self.published = λ e among commit. let h = c.self.invariant.commits e among commit in let a = ap (λ q. q.published) c.collect.ensures.after in omega arith in
+    subst (λ (q : PassView). IsAbove q.log c.collect.new.self.published) c.self.view_is above

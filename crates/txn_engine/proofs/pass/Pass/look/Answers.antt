@@ -1,0 +1,5 @@
+use Rattle.txn_engine.proofs.Looking.{pass_glanced}
+use Rattle.txn_engine.proofs.pass.Pass.look.Goals as goal
+
+pub invariant_of-self : goal.invariant_of-self
+invariant_of-self g c = rw c.look.ensures.after (pass_glanced c.self.inside.post _ _ _ _ _ _ c.self.invariant)

@@ -1,0 +1,91 @@
+use Rattle.std.proofs.Common.{◌≡◌, ◌≤◌, [], ◌∷◌, List, length, map, length-append, ap, ◌∙◌, sym, subst, refl, arith}
+use Rattle.core_rule.specs.Views.{Among}
+use Rattle.txn_engine.specs.Alone.{PartsView}
+use Rattle.txn_engine.specs.Pass.{PassView, unglanced}
+use Rattle.txn_engine.specs.Seats.{Others}
+use Rattle.txn_engine.specs.Spare.{NumbersView}
+use Rattle.txn_engine.proofs.Making.{among_left, among_last, next_share, next_made, pushed_share, count_shares}
+use Rattle.txn_engine.proofs.sharing.share_out.Goals as goal
+
+pub loop-seat-init : goal.loop-seat-init
+loop-seat-init g c =
+    let view = c.parts.view_is in
+    let has = c.requires.parts in
+    let count = has.count in
+    let long = ap (λ (p : PartsView). length p.lists) view in
+    record {
+      pass = refl;
+      passes = ap (map unglanced) c.parts.invariant;
+      lists = omega arith;
+      empty = λ n among. has.empty n (subst (λ (p : PartsView). Among n p.lists) view among);
+      room = subst (λ (p : PartsView). c.args.engine.now.size.seats ≤ p.room) (sym view) has.room;
+    }
+
+pub split-requires-clause-list : goal.split-requires-clause-list
+split-requires-clause-list g c =
+    let i = c.loop-seat.invariant in
+    let engine : c.loop-seat.pass.engine ≡ c.args.engine.now = ap (λ (p : PassView). p.engine) i.pass ∙ c.requires.engine in
+    let is = i.empty c.in-Some.list (subst (λ (ns : List NumbersView). Among c.in-Some.list ns) (sym c.in-Some.ensures.items) (among_last c.pop.new.self.items c.in-Some.list)) in
+    rw engine is
+
+pub unreachable-requires-in_default-push : goal.unreachable-requires-in_default-push
+unreachable-requires-in_default-push g c =
+    let i = c.loop-seat.invariant in
+    let full = c.in_default-push.ensures.full in
+    let long = count_shares c.args.pass c.loop-seat.passes.items c.loop-seat._seat i.passes in
+    let ok = c.loop-seat.passes.ok in
+    let room = i.room in
+    let test = c.loop-seat-test.true in
+    let end = c.seats-seat-end.ensures.value in
+    omega arith
+
+pub loop-seat-preserved : goal.loop-seat-preserved
+loop-seat-preserved g c =
+    let i = c.loop-seat.invariant in
+    let some = c.loop-seat.auto._seat in
+    let plain = ap (λ (o : Others). o.splitting) c.requires.only in
+    let popped = c.in-Some.ensures.items in
+    let long = ap length popped in
+    let parts = length-append c.pop.new.self.items (c.in-Some.list ∷ []) in
+    let lists = i.lists in
+    let room = i.room in
+    let kept = c.in-Ok.ensures.capacity in
+    let made = next_share c.args.pass c.loop-seat.pass c.split.result c.loop-seat._seat some plain i.pass c.split.ensures.right in
+    record {
+      pass = next_made c.args.pass c.loop-seat.pass c.split.new.self c.loop-seat._seat some plain i.pass c.split.ensures.left;
+      passes = pushed_share c.args.pass c.loop-seat.passes.items c.push.new.self.items c.loop-seat._seat c.split.result some i.passes made c.in-Ok.ensures.items;
+      lists = omega arith;
+      empty = λ n among. i.empty n (subst (λ (ns : List NumbersView). Among n ns) (sym popped) (among_left c.pop.new.self.items (c.in-Some.list ∷ []) n among));
+      room = omega arith;
+    }
+
+pub keep_share-requires-clause-list : goal.keep_share-requires-clause-list
+keep_share-requires-clause-list g c =
+    let i = c.loop-seat.invariant in
+    let engine : c.loop-seat.pass.engine ≡ c.args.engine.now = ap (λ (p : PassView). p.engine) i.pass ∙ c.requires.engine in
+    let is = i.empty c.in-Some-pop.list (subst (λ (ns : List NumbersView). Among c.in-Some-pop.list ns) (sym c.in-Some-pop.ensures.items) (among_last c.pop-2.new.self.items c.in-Some-pop.list)) in
+    rw engine is
+
+pub unreachable-requires-in_default-insert : goal.unreachable-requires-in_default-insert
+unreachable-requires-in_default-insert g c =
+    let i = c.loop-seat.invariant in
+    let full = c.in_default-insert.ensures.full in
+    let long = count_shares c.args.pass c.loop-seat.passes.items c.loop-seat._seat i.passes in
+    let ok = c.loop-seat.passes.ok in
+    let room = i.room in
+    let test = c.loop-seat-test.false in
+    let end = c.seats-seat-end.ensures.value in
+    let some = c.seats.ensures.in_range.has_seat in
+    let last = c.loop-seat.auto._seat-end in
+    omega arith
+
+pub returns-clause-count : goal.returns-clause-count
+returns-clause-count g c =
+    let i = c.loop-seat.invariant in
+    let items = ap length c.in-Ok-insert.ensures.items in
+    let long = count_shares c.args.pass c.loop-seat.passes.items c.loop-seat._seat i.passes in
+    let test = c.loop-seat-test.false in
+    let end = c.seats-seat-end.ensures.value in
+    let some = c.seats.ensures.in_range.has_seat in
+    let last = c.loop-seat.auto._seat-end in
+    omega arith

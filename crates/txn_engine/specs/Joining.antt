@@ -1,0 +1,98 @@
+-- What becomes of a pass and the seats that have retired where they come together.
+use Rattle.std.specs.Prelude.{◌≡◌, ℕ, ◌+◌, ◌-◌, max, List, [], ◌∷◌, ◌++◌, map}
+use Rattle.std.specs.List.{range_with_len}
+use Rattle.std.specs.List.Sorted.{IsPermutation}
+use Rattle.plain_data.specs.declared.entry.Entry.{Entry}
+use Rattle.word_layout.specs.Size.{Size}
+use Rattle.txn_engine.specs.Pass.{EngineView, PassView}
+use Rattle.txn_engine.specs.Post.{PostView}
+use Rattle.txn_engine.specs.Retired.{RetiredView}
+use Rattle.txn_engine.specs.Seats.{Known}
+use Rattle.txn_engine.specs.Sharing.{no_knowledge}
+use Rattle.txn_engine.specs.Spare.{NumbersView, added}
+
+-- each of these numbers at the end of the list, where it is not on it
+abbrev pub with_all : List ℕ → List ℕ → List ℕ
+with_all rids [] = rids
+with_all rids (x ∷ xs) = with_all (added rids x) xs
+
+-- ---- what they leave together
+
+abbrev pub AreOfEngine : EngineView → List RetiredView → Type 0
+AreOfEngine engine [] = Unit {0}
+AreOfEngine engine (r ∷ rs) = (r.engine ≡ engine) × AreOfEngine engine rs
+
+-- every seat but the first, once
+abbrev pub AreOthers : Size → List RetiredView → Type 0
+AreOthers size rs = IsPermutation (map (λ r. r.seat) rs) (range_with_len 1 (size.seats - 1))
+
+-- the logs one after another; the sum of the refusals; the greatest of the clocks and of the minima met; and the spare numbers, each
+-- once
+abbrev pub logs_of : List RetiredView → List Entry
+logs_of [] = []
+logs_of (r ∷ rs) = r.log ++ logs_of rs
+
+abbrev pub refusals_of : List RetiredView → ℕ
+refusals_of [] = 0
+refusals_of (r ∷ rs) = r.refusals + refusals_of rs
+
+abbrev pub greatest_clock_of : ℕ → List RetiredView → ℕ
+greatest_clock_of clock [] = clock
+greatest_clock_of clock (r ∷ rs) = greatest_clock_of (max clock r.clock) rs
+
+abbrev pub greatest_met_of : ℕ → List RetiredView → ℕ
+greatest_met_of met [] = met
+greatest_met_of met (r ∷ rs) = greatest_met_of (max met r.met) rs
+
+abbrev pub spare_of : List ℕ → List RetiredView → List ℕ
+spare_of rids [] = rids
+spare_of rids (r ∷ rs) = spare_of (with_all rids r.spare) rs
+
+-- the seats that are taken in; what is known of lists is forgotten with the first
+abbrev pub taken_of : List ℕ → List RetiredView → List ℕ
+taken_of taken_in [] = taken_in
+taken_of taken_in (r ∷ rs) = taken_of (taken_in ++ r.seat ∷ r.others.taken_in) rs
+
+abbrev pub known_of : Known → List RetiredView → Known
+known_of known [] = known
+known_of known (r ∷ rs) = no_knowledge
+
+-- the pass with one seat taken in, but for its glance
+abbrev pub joined : PassView → RetiredView → PassView
+joined p r = record p {
+  clock = max p.clock r.clock;
+  others = record p.others { taken_in = p.others.taken_in ++ r.seat ∷ r.others.taken_in };
+  known = no_knowledge;
+  log = p.log ++ r.log;
+  met = max p.met r.met;
+  spare = with_all p.spare r.spare;
+}
+
+-- the seat that is alone when all of them are taken in, but for its glance
+abbrev pub come_together : PassView → List RetiredView → PassView
+come_together p rs = record p {
+  clock = greatest_clock_of p.clock rs;
+  boost = 0;
+  others = record p.others { taken_in = taken_of p.others.taken_in rs };
+  known = known_of p.known rs;
+  log = p.log ++ logs_of rs;
+  met = greatest_met_of p.met rs;
+  queue = [];
+  spare = spare_of (p.given ++ p.spare) rs;
+  given = [];
+  refusals = p.refusals + refusals_of rs;
+}
+
+-- ---- the same of a post, with what its hand alone tells of a seat
+
+abbrev pub no_part : NumbersView
+no_part = record { fixed = 0; records = 0; spare = []; given = [] }
+
+abbrev pub joined_at : PostView → RetiredView → PostView
+joined_at p r = record p {
+  clock = max p.clock r.clock;
+  others = record p.others { taken_in = p.others.taken_in ++ r.seat ∷ r.others.taken_in };
+  known = no_knowledge;
+  log = p.log ++ r.log;
+  met = max p.met r.met;
+}

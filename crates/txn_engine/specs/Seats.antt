@@ -1,0 +1,29 @@
+-- Which seats of its engine a seat takes as open, and what it knows of the records' lists of versions while it is the only one.
+use Rattle.std.specs.Prelude.{◌≡◌, ℕ, zero, suc, Bool, true, ◌==◌, ◌&&◌, ◌||◌, List}
+use Rattle.std.specs.List.{list_any}
+use Rattle.core_rule.specs.View.{Splitting, Counted, Top}
+use Rattle.core_rule.specs.Offers.{made_within}
+use Rattle.word_layout.specs.Size.{Size}
+
+-- which seats were made, and which of them this one has taken in
+pub record Others : Type 0 where
+  pub splitting : Splitting
+  pub taken_in : List ℕ
+
+-- each seat below this number is this one or was taken in
+abbrev pub all_taken : (made seat : ℕ) → List ℕ → Bool
+all_taken zero seat taken_in = true
+all_taken (suc s) seat taken_in = (s == seat || list_any (λ other. s == other) taken_in) && all_taken s seat taken_in
+
+-- no other seat is open
+abbrev pub is_alone_at : Size → (seat : ℕ) → Others → Bool
+is_alone_at size seat others = all_taken (made_within size.seats others.splitting) seat others.taken_in
+
+abbrev pub IsAloneAt : Size → (seat : ℕ) → Others → Type 0
+IsAloneAt size seat others = is_alone_at size seat others ≡ true
+
+-- bounds on how many versions of each record are linked, and on those outside its inline place; and numbers that no version of a
+-- record is stamped above
+pub record Known : Type 0 where
+  pub counts : Counted
+  pub tops : List Top

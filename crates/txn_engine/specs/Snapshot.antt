@@ -1,0 +1,68 @@
+-- A snapshot of a pass: how it begins, what it means as a store, what one read makes of it, and how it ends.
+use Rattle.std.specs.Prelude.{◌≡◌, ℕ, ◌+◌, ◌<◌, ◌≤◌, Bool, true, false, nat_lt, List, [], ◌∷◌, ◌++◌, Option, None, Some, option_map, IfSome}
+use Rattle.std.specs.Borrow.{GName}
+use Rattle.plain_data.specs.declared.entry.Entry.{Entry}
+use Rattle.stamp_base.specs.Stamp.{stamp_of}
+use Rattle.histories.specs.History.{IsValue, UpTo}
+use Rattle.record_store.specs.Meaning.{Meaning}
+use Rattle.txn_engine.specs.declared.phase.Phase.{Phase}
+use Rattle.txn_engine.specs.declared.phase.Phase.TheVariants.{Idle, Open, Installed, Decided}
+use Rattle.txn_engine.specs.Glance.{GlanceView, first_glance, with_read}
+use Rattle.txn_engine.specs.Pass.{PassView, IsAlone, AreBelow, no_store}
+
+-- the entry of a snapshot
+abbrev pub entry_of_glance : GlanceView → Entry
+entry_of_glance g = record { stamp = g.stamp; snapshot = true; reads = g.reads; writes = [] }
+
+-- one begins at this stamp, one less than the minimum met; it ends with its entry
+abbrev pub looking : PassView → ℕ → PassView
+looking p stamp = record p { met = stamp + 1; glance = first_glance stamp }
+
+abbrev pub finished : PassView → GlanceView → PassView
+finished p g = record p { log = p.log ++ entry_of_glance g ∷ []; glance = first_glance g.stamp }
+
+-- A snapshot begins: its stamp is at least one less than the minimum met before, and no snapshot of the log is above it. It is below what is
+-- published and below the next stamp. Of a seat that is alone it is at least one less than what is published.
+pub record Begins (before after' : PassView) : Type 0 where
+  pub stamp : ℕ
+  pub pass : after' ≡ looking before stamp
+  pub met : before.met ≤ stamp + 1
+  pub snapshots : AreBelow before.log (stamp + 1)
+  pub below : stamp < before.published
+  pub below_next : stamp < stamp_of (before.clock + 1) before.seat
+  pub alone : IsAlone before → before.published ≤ stamp + 1
+
+-- no transaction is in flight, and a snapshot is, at a stamp below the minimum met
+abbrev pub looks_in : Phase → Option GlanceView → (met : ℕ) → Bool
+looks_in Idle None met = false
+looks_in Idle (Some g) met = nat_lt g.stamp met
+looks_in Open glance met = false
+looks_in Installed glance met = false
+looks_in Decided glance met = false
+
+abbrev pub IsLooking : PassView → Type 0
+IsLooking p = looks_in p.desk.phase p.glance p.met ≡ true
+
+-- the records that it sees
+abbrev pub glance_store : PassView → Option GlanceView → Meaning
+glance_store p None = no_store
+glance_store p (Some g) = record { size = p.engine.size.records; fixed = p.engine.fixed; reads = g.reads; writes = []; given = [] }
+
+abbrev pub meaning_of_glance : PassView → Meaning
+meaning_of_glance p = glance_store p p.glance
+
+-- what no read changes: at which pass it is, and all of that but what was read
+pub record GlanceRest : Type 0 where
+  pub name : GName
+  pub of_pass : PassView
+
+abbrev pub unread : PassView → PassView
+unread p = record p { glance = option_map (λ (g : GlanceView). record g { reads = [] }) p.glance }
+
+-- one more record was read, where it is not there
+abbrev pub looked : PassView → ℕ → Option (List ℕ) → PassView
+looked p rid value = record p { glance = option_map (λ (g : GlanceView). record g { reads = with_read g.reads rid value }) p.glance }
+
+-- a seat that is alone reads what its log leaves up to the stamp
+abbrev pub ReadsLeft : PassView → ℕ → Option (List ℕ) → Type 0
+ReadsLeft p rid value = IsAlone p → IfSome p.glance (λ g. IsValue (UpTo p.log g.stamp) rid value)

@@ -1,0 +1,103 @@
+//! Coming together: a pass takes in the seats that have retired, and is alone.
+ghost use Rattle.std.specs.Prelude.{◌≡◌, ◌≤◌, ◌+◌, ◌*◌, ◌++◌, [], true, length};
+ghost use Rattle.core_rule.specs.Offers.{made_within};
+ghost use Rattle.stamp_base.specs.Limits.{greatest_clock};
+ghost use Rattle.txn_engine.specs.Alone.{AloneView};
+ghost use Rattle.txn_engine.specs.Joining.{AreOfEngine, AreOthers, joined, joined_at, no_part, come_together};
+ghost use Rattle.txn_engine.specs.Pass.{PassView, IsIdle, IsAlone, with_glance};
+ghost use Rattle.txn_engine.specs.Post.{PostView, shared_of};
+ghost use Rattle.txn_engine.specs.Retired.{RetiredView, IsDone, retired_view};
+
+use crate::alone::Alone;
+use crate::engine::Engine;
+use crate::pass::Pass;
+use crate::phase::Phase;
+use crate::post::Post;
+use crate::retired::Retired;
+use core_rule::{Core, Hand, Keeps};
+
+impl<J: Keeps> Post<J> {
+    /// Takes in the hand of a seat that has retired.
+    pub(crate) fn join(&mut self, core: &Core<J>, other: Hand<J>)
+        requires core { self.old.shared ≡ core.now }
+        requires idle { self.old.phase ≡ Phase.Idle }
+        requires done { IsDone other }
+        requires same { shared_of other ≡ core.now }
+        ensures { self.new ≡ record (joined_at self.old (retired_view other no_part 0)) { glance = self.new.glance } }
+    {
+        core.join(&mut self.hand, other);
+    }
+
+    /// Tells that no more seats were made than the table has.
+    pub(crate) fn tell_made(&self)
+        ensures { made_within self.now.shared.size.seats self.now.others.splitting ≤ self.now.shared.size.seats }
+    {
+        self.hand.tell_made();
+    }
+}
+
+impl<J: Keeps> Pass<J> {
+    // Takes in a seat that has retired, and gives the count of its refusals.
+    fn join(&mut self, engine: &Engine<J>, other: Retired<J>) -> u64
+        requires engine { self.old.engine ≡ engine.now }
+        requires other_engine { other.engine ≡ engine.now }
+        requires idle { IsIdle self.old }
+        requires none_given { self.old.given ≡ [] }
+        ensures joined { self.new ≡ with_glance (joined self.old other) self.new.glance }
+        ensures refusals { result ≡ other.refusals }
+        ensures few { result ≤ other.clock }
+        ensures in_range { self.new.clock ≤ greatest_clock }
+    {
+        let Retired {
+            hand,
+            numbers,
+            refusals,
+        } = other;
+        self.numbers.add_all(&numbers);
+        self.post.join(&engine.core, hand);
+        self.post.clock();
+        refusals
+    }
+
+    // What was given out is spare again, and nothing is left of boost and queue.
+    fn clear_all(&mut self)
+        requires { IsIdle self.old }
+        ensures { self.new ≡ record self.old { spare = self.old.given ++ self.old.spare; given = []; boost = 0; queue = [] } }
+    {
+        self.numbers.take_back();
+        self.boost = 0;
+        self.queue.clear();
+    }
+}
+
+impl<J: Keeps> Engine<J> {
+    /// The seat that is alone again, after all other seats have retired. Its log is that of the pass with the logs of the others
+    /// behind it, as they are handed in; its clock and the greatest `min_wts` that it has met are the greatest of all; it has
+    /// no boost and nothing queued, all spare numbers, each once, and the sum of the refusals.
+    pub fn alone(&self, pass: Pass<J>, others: Vec<Retired<J>>) -> Alone<J>
+        requires engine { pass.engine ≡ self.now }
+        requires idle { IsIdle pass }
+        requires first { pass.seat ≡ 0 }
+        requires of_engine { AreOfEngine self.now others.items }
+        requires each_once { AreOthers self.now.size others.items }
+        ensures pass { result.pass ≡ with_glance (come_together pass others.items) result.pass.glance }
+        ensures shared { result.shared ≡ true }
+        ensures alone { IsAlone result.pass }
+    {
+        // The seats are at most 64.
+        self.seats();
+        let mut pass = pass;
+        let mut rest = others;
+        let mut earlier = 0;
+        pass.clear_all();
+        while !rest.is_empty() {
+            earlier += pass.join(self, rest.remove(0));
+        }
+        pass.post.tell_made();
+        Alone {
+            pass,
+            earlier,
+            parts: None,
+        }
+    }
+}

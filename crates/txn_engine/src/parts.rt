@@ -1,0 +1,74 @@
+//! What the passes are made of that a share gives.
+ghost use Rattle.std.specs.Prelude.{◌≡◌, IfOk};
+ghost use Rattle.txn_engine.specs.Alone.{HasParts, no_numbers};
+
+use crate::numbers::Numbers;
+use crate::pass::Pass;
+use crate::rewriting::Room;
+use plain_data::NoMemory;
+use std::alloc::Global;
+use std::marker::Model;
+
+/// What one pass is made of: an empty list of spare numbers, which contracts see, and room to write a record again.
+#[derive(Drop)]
+pub(crate) struct Part {
+    pub(crate) numbers: Numbers,
+    pub(crate) room: Room,
+}
+
+impl Model for Part {
+    ghost use Rattle.txn_engine.specs.Spare.{NumbersView};
+
+    ghost Value = { NumbersView };
+
+    ghost view = { λ p. p.numbers };
+}
+
+impl Part {
+    /// Of a pass over these records.
+    fn empty(alloc: Global, fixed: u32, records: u32) -> Result<Self, NoMemory>
+        ensures { IfOk result (λ part. part ≡ no_numbers fixed records) }
+    {
+        let numbers = Numbers::empty(alloc, fixed, records)?;
+        let room = Room::new(alloc)?;
+        Ok(Part { numbers, room })
+    }
+}
+
+/// Room for a pass of each seat, and what each of them is made of.
+#[derive(Drop)]
+pub(crate) struct Parts<J> {
+    pub(crate) alloc: Global,
+    pub(crate) lists: Vec<Part>,
+    pub(crate) passes: Vec<Pass<J>>,
+}
+
+impl<J> Model for Parts<J> {
+    ghost use Rattle.std.specs.Prelude.{◌≡◌, []};
+    ghost use Rattle.std.specs.Vec.{vec_capacity};
+    ghost use Rattle.txn_engine.specs.Alone.{PartsView};
+
+    ghost Value = { PartsView };
+
+    ghost view = { λ p. record { lists = p.lists.items; room = vec_capacity p.passes } };
+
+    ghost invariant = { λ p. p.passes.items ≡ [] };
+}
+
+impl<J> Parts<J> {
+    /// The parts for so many seats, over these records.
+    pub(crate) fn new(alloc: Global, seats: u32, fixed: u32, records: u32) -> Result<Self, NoMemory>
+        ensures { IfOk result (HasParts seats fixed records) }
+    {
+        let mut lists = Vec::with_capacity(alloc, seats as usize)?;
+        for _seat in 0..seats {
+            lists.push(Part::empty(alloc, fixed, records)?)?;
+        }
+        let passes = Vec::with_capacity(alloc, seats as usize)?;
+        Ok(Parts {
+            alloc,
+            lists,
+            passes,
+        })
+    }
+}

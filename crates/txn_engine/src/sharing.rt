@@ -1,0 +1,160 @@
+//! Sharing: the seat that is alone makes the other seats of its engine.
+ghost use Rattle.std.specs.Prelude.{◌≡◌, ◌+◌, ◌<◌, ◌≤◌, [], length, map, false};
+ghost use Rattle.core_rule.specs.Offers.{MayOffer, made_of};
+ghost use Rattle.core_rule.specs.View.{single, sharing};
+ghost use Rattle.core_rule.specs.Views.{Among};
+ghost use Rattle.stamp_base.specs.Stamp.{stamp_of};
+ghost use Rattle.txn_engine.specs.Alone.{AloneView, HasParts, no_numbers};
+ghost use Rattle.txn_engine.specs.Pass.{PassView, IsIdle, IsAlone, with_glance, unglanced};
+ghost use Rattle.txn_engine.specs.Post.{PostView};
+ghost use Rattle.txn_engine.specs.Seats.{IsAloneAt};
+ghost use Rattle.txn_engine.specs.Sharing.{every, no_knowledge, announced, share_at, shares_of, shares, announced_at, one_more, made_next};
+
+use crate::alone::Alone;
+use crate::engine::Engine;
+use crate::parts::{Part, Parts};
+use crate::pass::Pass;
+use crate::phase::Phase;
+use crate::post::Post;
+use crate::rewriting::Room;
+use clock_stamps::{idle, raise_min_write};
+use core_rule::{Core, Keeps};
+use rapid_gc::Queue;
+use std::alloc::Global;
+
+impl<J: Keeps> Post<J> {
+    /// Publishes the bound of its clock, and raises `min_wts` to it, which no other seat holds back.
+    pub(crate) fn announce(&mut self, core: &Core<J>)
+        requires core { self.old.shared ≡ core.now }
+        requires idle { self.old.phase ≡ Phase.Idle }
+        requires alone { IsAloneAt self.old.shared.size self.old.seat self.old.others }
+        ensures value { self.new ≡ record (announced_at self.old) { glance = self.new.glance } }
+        ensures not_back { self.old.met ≤ self.new.met }
+    {
+        idle(core, &mut self.hand);
+        raise_min_write(core, &mut self.hand);
+    }
+
+    /// Makes the next seat.
+    pub(crate) fn split(&mut self, alloc: Global, core: &Core<J>, room: Room) -> Post<J>
+        requires core { self.old.shared ≡ core.now }
+        requires idle { self.old.phase ≡ Phase.Idle }
+        requires makes { MayOffer self.old.others.splitting }
+        requires room { made_of self.old.others.splitting < core.now.size.seats }
+        ensures left { self.new ≡ record (one_more self.old) { glance = self.new.glance } }
+        ensures right { result ≡ record (made_next self.old) { glance = result.glance } }
+    {
+        let hand = core.split(&mut self.hand);
+        Post::new(alloc, hand, room)
+    }
+}
+
+impl<J: Keeps> Pass<J> {
+    // Publishes the bound of its clock, and raises `min_wts` to it. What was given out is spare again.
+    fn announce(&mut self, engine: &Engine<J>)
+        requires engine { self.old.engine ≡ engine.now }
+        requires idle { IsIdle self.old }
+        requires alone { IsAlone self.old }
+        ensures { self.new ≡ with_glance (announced self.old) self.new.glance }
+    {
+        self.post.announce(&engine.core);
+        self.numbers.take_back();
+    }
+
+    // Makes the pass of the next seat, with its share of the spare numbers in this list.
+    fn split(&mut self, alloc: Global, engine: &Engine<J>, list: Part) -> Pass<J>
+        requires engine { self.old.engine ≡ engine.now }
+        requires idle { IsIdle self.old }
+        requires makes { MayOffer self.old.others.splitting }
+        requires room { made_of self.old.others.splitting < engine.now.size.seats }
+        requires list { list ≡ no_numbers self.old.engine.fixed self.old.engine.size.records }
+        ensures left { self.new ≡ record self.old { others = record self.old.others { splitting = sharing (made_of self.old.others.splitting + 1) }; known = no_knowledge; glance = self.new.glance } }
+        ensures right { unglanced result ≡ share_at self.old (made_of self.old.others.splitting) }
+    {
+        let Part { mut numbers, room } = list;
+        let post = self.post.split(alloc, &engine.core, room);
+        numbers.fill(&self.numbers, engine.seats(), post.number());
+        Pass {
+            post,
+            boost: 0,
+            queue: Queue::new(alloc),
+            numbers,
+            refusals: 0,
+            dead: None,
+            counted: true,
+        }
+    }
+
+    // Keeps its share of the spare numbers, in this list.
+    fn keep_share(&mut self, seats: u32, list: Part)
+        requires seats { 0 < seats }
+        requires list { list ≡ no_numbers self.old.engine.fixed self.old.engine.size.records }
+        requires none_given { self.old.given ≡ [] }
+        ensures { self.new ≡ record self.old { spare = every seats 0 self.old.spare } }
+    {
+        let Part {
+            mut numbers,
+            room: _,
+        } = list;
+        numbers.fill(&self.numbers, seats, 0);
+        self.numbers = numbers;
+    }
+}
+
+// Makes the passes of all seats out of that of seat 0, which is the only one.
+fn share_out<J: Keeps>(mut pass: Pass<J>, engine: &Engine<J>, parts: Parts<J>) -> Vec<Pass<J>>
+    requires engine { pass.engine ≡ engine.now }
+    requires idle { IsIdle pass }
+    requires only { pass.others ≡ record { splitting = single; taken_in = [] } }
+    requires none_given { pass.given ≡ [] }
+    requires parts { HasParts engine.now.size.seats engine.now.fixed engine.now.size.records parts }
+    ensures passes { map unglanced result.items ≡ shares_of pass }
+    ensures count { length result.items ≡ engine.now.size.seats }
+{
+    let Parts {
+        alloc,
+        mut lists,
+        mut passes,
+    } = parts;
+    for _seat in 1..engine.seats() {
+        let Some(list) = lists.pop() else {
+            unreachable!();
+        };
+        let Ok(()) = passes.push(pass.split(alloc, engine, list)) else {
+            unreachable!();
+        };
+    }
+    let Some(list) = lists.pop() else {
+        unreachable!();
+    };
+    pass.keep_share(engine.seats(), list);
+    let Ok(()) = passes.insert(0, pass) else {
+        unreachable!();
+    };
+    passes
+}
+
+impl<J: Keeps> Alone<J> {
+    /// One pass for each seat, by rising seat number. No entry to come is stamped under what is published first, and `min_wts` is
+    /// raised to it: a snapshot of any pass sees all that was committed before. Spare record i of the list, counted from 0, goes
+    /// to pass i mod seats. The pass of seat 0 keeps the boost, the log, the queue and the count of refusals.
+    pub fn share(self, engine: &Engine<J>) -> Vec<Pass<J>>
+        requires engine { self.pass.engine ≡ engine.now }
+        requires idle { IsIdle self.pass }
+        requires not_shared { self.shared ≡ false }
+        ensures passes { map unglanced result.items ≡ shares self.pass }
+        ensures count { length result.items ≡ engine.now.size.seats }
+        ensures met { (pass : PassView) → Among pass result.items → stamp_of self.pass.clock self.pass.seat < pass.met }
+    {
+        let Alone {
+            mut pass,
+            earlier: _,
+            parts,
+        } = self;
+        let Some(parts) = parts else {
+            unreachable!();
+        };
+        pass.announce(engine);
+        share_out(pass, engine, parts)
+    }
+}

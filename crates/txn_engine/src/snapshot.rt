@@ -1,0 +1,192 @@
+//! Snapshots: a pass reads records at one stamp, and each read answers.
+ghost use Rattle.std.specs.Prelude.{◌≡◌, ◌+◌, ◌<◌, ◌≤◌, Some, IsSome, IfSome};
+ghost use Rattle.std.specs.Borrow.{sem};
+ghost use Rattle.std.proofs.Props.{props};
+ghost use Rattle.stamp_base.specs.Stamp.{stamp_of};
+ghost use Rattle.histories.specs.History.{IsValue, UpTo};
+ghost use Rattle.record_store.specs.Limits.{record_limit};
+ghost use Rattle.record_store.specs.Meaning.{value_at, known, after_read};
+ghost use Rattle.txn_engine.specs.Ends.{Stood};
+ghost use Rattle.txn_engine.specs.Pass.{PassView, IsIdle, AreBelow};
+ghost use Rattle.txn_engine.specs.Post.{PostView, IsAlonePost, looking_at, looked_at, finished_at};
+ghost use Rattle.txn_engine.specs.Snapshot.{meaning_of_glance, entry_of_glance, Begins, IsLooking, looked, unread, finished, ReadsLeft};
+
+use crate::engine::Engine;
+use crate::glancing::{begin_glances, end_glances, glance};
+use crate::pass::Pass;
+use crate::phase::Phase;
+use crate::post::Post;
+use core_rule::{Core, Keeps};
+use plain_data::Cells;
+use record_store::RecordRead;
+
+impl<J: Keeps> Post<J> {
+    /// Begins a snapshot, and gives its stamp.
+    pub(crate) fn begin_snapshot(&mut self, core: &Core<J>) -> u64
+        requires core { self.old.shared ≡ core.now }
+        requires idle { self.old.phase ≡ Phase.Idle }
+        ensures after { self.new ≡ looking_at self.old result }
+        ensures met { self.old.met ≤ result + 1 }
+        ensures snapshots { AreBelow self.old.log (result + 1) }
+        ensures below { result < self.old.published }
+        ensures below_next { result < stamp_of (self.old.clock + 1) self.old.seat }
+        ensures alone { IsAlonePost self.old → self.old.published ≤ result + 1 }
+    {
+        begin_glances(core, &mut self.hand)
+    }
+
+    /// The stamp of the snapshot.
+    pub(crate) fn snapshot_stamp(&self) -> u64
+        ensures { IfSome self.now.glance (λ g. result ≡ g.stamp) }
+    {
+        self.hand.published_read()
+    }
+
+    /// Reads a record for the snapshot. What was read of it before is read again.
+    pub(crate) fn look(&mut self, core: &Core<J>, rid: u32) -> Option<Cells>
+        requires core { self.old.shared ≡ core.now }
+        requires idle { self.old.phase ≡ Phase.Idle }
+        requires looks { IsSome self.old.glance }
+        requires rid { rid < self.old.shared.size.records }
+        ensures after { self.new ≡ looked_at self.old rid result }
+        ensures answer { IfSome self.new.glance (λ g. value_at g.reads rid ≡ Some result) }
+        ensures left { IsAlonePost self.old → IfSome self.old.glance (λ g. IsValue (UpTo self.old.log g.stamp) rid result) }
+    {
+        glance(core, &mut self.hand, rid)
+    }
+
+    /// Ends the snapshot: its entry enters the log. Gives its stamp.
+    pub(crate) fn end_snapshot(&mut self, core: &Core<J>) -> u64
+        requires core { self.old.shared ≡ core.now }
+        requires idle { self.old.phase ≡ Phase.Idle }
+        requires looks { IsSome self.old.glance }
+        ensures after { IfSome self.old.glance (λ g. self.new ≡ finished_at self.old g) }
+        ensures stamp { IfSome self.old.glance (λ g. result ≡ g.stamp) }
+        ensures stood { IfSome self.old.glance (λ g. Stood J.kept self.old.shared.size.records self.old.log (entry_of_glance g)) }
+    {
+        end_glances(core, &mut self.hand)
+    }
+}
+
+/// A fault that never comes: it has no values.
+#[derive(Clone, Copy, Drop)]
+pub enum NoFault {}
+
+/// A snapshot: records as they stand at its stamp. Each read answers, and takes no memory. It must be spent.
+pub struct Snapshot<'a, J: Keeps> {
+    pass: &'a mut Pass<J>,
+    engine: &'a Engine<J>,
+    ghost of: { pass.now.engine ≡ engine.now } by { Prim.hlevel props },
+    ghost looks: { IsLooking pass.now } by { Prim.hlevel props },
+}
+
+impl<J: Keeps> Pass<J> {
+    /// Begins a snapshot: raises `min_wts` to the least published write word of all seats, and reads at one less than it. No
+    /// transaction that commits from then on is stamped up to that.
+    pub fn snapshot<'a>(&'a mut self, engine: &'a Engine<J>) -> Snapshot<'a, J>
+        requires engine { self.old.engine ≡ engine.now }
+        requires idle { IsIdle self.old }
+        ensures same_reference { result.pass.ghost_name ≡ self.entry.ghost_name }
+        ensures begins { Begins self.old result.pass.now }
+        ensures engine { result.engine.now ≡ engine.now }
+    {
+        self.look_from_now(engine);
+        Snapshot { pass: self, engine }
+    }
+
+    // Begins a snapshot at this pass.
+    pub(crate) fn look_from_now(&mut self, engine: &Engine<J>)
+        requires engine { self.old.engine ≡ engine.now }
+        requires idle { IsIdle self.old }
+        ensures begins { Begins self.old self.new }
+        ensures looks { IsLooking self.new }
+    {
+        self.post.begin_snapshot(&engine.core);
+    }
+
+    // Reads a record for it.
+    pub(crate) fn look(&mut self, engine: &Engine<J>, rid: u32) -> Option<Cells>
+        requires engine { self.old.engine ≡ engine.now }
+        requires looks { IsLooking self.old }
+        requires rid { rid < self.old.engine.size.records }
+        ensures still { IsLooking self.new }
+        ensures meaning { meaning_of_glance self.new ≡ after_read (meaning_of_glance self.old) rid result }
+        ensures rest { unread self.new ≡ unread self.old }
+        ensures after { self.new ≡ looked self.old rid result }
+        ensures answer { known (meaning_of_glance self.new) rid ≡ Some result }
+        ensures left { ReadsLeft self.old rid result }
+    {
+        self.post.look(&engine.core, rid)
+    }
+
+    // Its stamp.
+    pub(crate) fn look_stamp(&self) -> u64
+        ensures { IfSome self.now.glance (λ g. result ≡ g.stamp) }
+    {
+        self.post.snapshot_stamp()
+    }
+
+    // How many records it sees.
+    pub(crate) fn glance_size(&self) -> u32
+        requires { IsLooking self.now }
+        ensures value { result ≡ (meaning_of_glance self.now).size }
+        ensures at_most { result ≤ record_limit }
+        ensures fixed { (meaning_of_glance self.now).fixed ≤ result }
+    {
+        self.records()
+    }
+
+    // Ends it.
+    pub(crate) fn end_look(&mut self, engine: &Engine<J>) -> u64
+        requires engine { self.old.engine ≡ engine.now }
+        requires looks { IsLooking self.old }
+        ensures after { IfSome self.old.glance (λ g. self.new ≡ finished self.old g) }
+        ensures stamp { IfSome self.old.glance (λ g. result ≡ g.stamp) }
+        ensures stood { IfSome self.old.glance (λ g. Stood J.kept self.old.engine.size.records self.old.log (entry_of_glance g)) }
+    {
+        self.post.end_snapshot(&engine.core)
+    }
+}
+
+impl<'a, J: Keeps> Snapshot<'a, J> {
+    /// The stamp at which records are read.
+    pub fn stamp(&self) -> u64
+        ensures { IfSome self.now.pass.now.glance (λ g. result ≡ g.stamp) }
+    {
+        self.pass.look_stamp()
+    }
+
+    /// Ends the snapshot, and gives its stamp. One entry with all that was read stands at the end of the log, and a kept state of
+    /// the history at that stamp agrees with it.
+    pub fn finish(self) -> u64
+        ensures after { IfSome self.entry.pass.now.glance (λ g. self.exit.0.now ≡ finished self.entry.pass.now g) }
+        ensures stamp { IfSome self.entry.pass.now.glance (λ g. result ≡ g.stamp) }
+        ensures stood { IfSome self.entry.pass.now.glance (λ g. Stood J.kept self.entry.pass.now.engine.size.records self.entry.pass.now.log (entry_of_glance g)) }
+    {
+        let Snapshot { pass, engine } = self;
+        pass.end_look(engine)
+    }
+}
+
+impl<J: Keeps> RecordRead for Snapshot<'_, J> {
+    type Fault = NoFault;
+
+    ghost use Rattle.std.specs.Prelude.{IfOk};
+    ghost use Rattle.txn_engine.specs.Snapshot.{meaning_of_glance, GlanceRest, unread, ReadsLeft};
+
+    ghost meaning = { λ s. meaning_of_glance s.pass.now };
+
+    ghost Rest = { GlanceRest };
+
+    ghost rest = { λ s. record { name = s.pass.ghost_name; of_pass = unread s.pass.now } };
+
+    ghost read_gives = { λ s rid answer s'. IfOk answer (ReadsLeft s.pass.now rid) };
+
+    fn read(&mut self, rid: u32) -> Result<Option<Cells>, NoFault> {
+        Ok(self.pass.look(self.engine, rid))
+    }
+
+    fn size(&self) -> u32 {
+        self.pass.glance_size()
+    }
+}

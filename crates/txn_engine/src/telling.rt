@@ -1,0 +1,54 @@
+//! Telling that the log of the seat that is alone is a lawful history.
+ghost use Rattle.std.specs.Prelude.{◌≡◌, ◌≤◌};
+ghost use Rattle.histories.specs.History.{Lawful};
+ghost use Rattle.txn_engine.specs.Alone.{AloneView, with_pass};
+ghost use Rattle.txn_engine.specs.Pass.{PassView, IsIdle, IsAlone};
+ghost use Rattle.txn_engine.specs.Post.{PostView};
+ghost use Rattle.txn_engine.specs.Seats.{IsAloneAt};
+
+use crate::alone::Alone;
+use crate::engine::Engine;
+use crate::pass::Pass;
+use crate::phase::Phase;
+use crate::post::Post;
+use core_rule::{Core, Keeps};
+
+impl<J: Keeps> Post<J> {
+    /// Loads `min_wts`.
+    pub(crate) fn tell(&mut self, core: &Core<J>)
+        requires core { self.old.shared ≡ core.now }
+        requires idle { self.old.phase ≡ Phase.Idle }
+        requires alone { IsAloneAt self.old.shared.size self.old.seat self.old.others }
+        ensures value { self.new ≡ record self.old { met = self.new.met } }
+        ensures not_back { self.old.met ≤ self.new.met }
+        ensures lawful { Lawful J.kept self.old.shared.size.records self.old.log }
+    {
+        core.load_min_write(&mut self.hand);
+    }
+}
+
+impl<J: Keeps> Pass<J> {
+    fn tell(&mut self, engine: &Engine<J>)
+        requires engine { self.old.engine ≡ engine.now }
+        requires idle { IsIdle self.old }
+        requires alone { IsAlone self.old }
+        ensures value { self.new ≡ record self.old { met = self.new.met } }
+        ensures not_back { self.old.met ≤ self.new.met }
+        ensures lawful { Lawful J.kept self.old.engine.size.records self.old.log }
+    {
+        self.post.tell(&engine.core);
+    }
+}
+
+impl<J: Keeps> Alone<J> {
+    /// One load of `min_wts`, which is met. After it the log is one lawful history.
+    pub fn tell(&mut self, engine: &Engine<J>)
+        requires engine { self.old.pass.engine ≡ engine.now }
+        requires idle { IsIdle self.old.pass }
+        ensures value { self.new ≡ with_pass self.old (record self.old.pass { met = self.new.pass.met }) }
+        ensures not_back { self.old.pass.met ≤ self.new.pass.met }
+        ensures lawful { Lawful J.kept self.old.pass.engine.size.records self.old.pass.log }
+    {
+        self.pass.tell(engine);
+    }
+}

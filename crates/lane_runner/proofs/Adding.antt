@@ -1,0 +1,68 @@
+-- What is added to a pass, call behind call.
+use Rattle.std.proofs.Common.{◌≡◌, ◌+◌, ◌<◌, ◌≤◌, List, [], ◌∷◌, ◌++◌, append-nil, append_assoc, refl, sym, ap, subst, ◌∙◌, arith, ⊎_elim, inl, inr}
+use Rattle.plain_data.specs.declared.entry.Entry.{Entry}
+use Rattle.stamp_base.specs.Stamp.{stamp_of}
+use Rattle.core_rule.specs.Views.{Among}
+use Rattle.core_rule.proofs.Among.{Among-left, Among-right, Among-split}
+use Rattle.txn_engine.specs.Pass.{PassView, IsIdle}
+use Rattle.lane_runner.specs.Adds.{IsNext, IsLater, AreInOrder, Adds}
+
+-- nothing is added
+pub Adds-none : (p : PassView) → IsIdle p → Adds p p []
+Adds-none p idle = record {
+  engine = refl;
+  seat = refl;
+  others = refl;
+  idle = idle;
+  log = sym (append-nil p.log);
+  each = λ entry among. absurd among;
+  in_order = tt;
+  clock = omega arith;
+  met = omega arith;
+  refusals = omega arith;
+}
+
+-- what comes next after other entries came next
+next_before : (p q : PassView) (xs : List Entry) (entry : Entry) → Adds p q xs → IsNext q entry → IsNext p entry
+next_before p q xs entry first next = record {
+  commit_clock = λ commit.
+      let later : stamp_of q.clock q.seat < entry.stamp = next.commit_clock commit in
+      let clock : p.clock ≤ q.clock = first.clock in
+      let seat : q.seat ≡ p.seat = first.seat in
+      omega arith;
+  commit_log = λ commit e among kind. next.commit_log commit e (in_log e among) kind;
+  snapshot_met = λ snapshot.
+      let near : q.met ≤ entry.stamp + 1 = next.snapshot_met snapshot in
+      let met : p.met ≤ q.met = first.met in
+      omega arith;
+  snapshot_log = λ snapshot e among kind. next.snapshot_log snapshot e (in_log e among) kind;
+} where
+  in_log : (e : Entry) → Among e p.log → Among e q.log
+  in_log e among = subst (λ (log : List Entry). Among e log) (sym first.log) (Among-left e p.log xs among)
+
+-- entries in order, behind which others come next
+in_order_behind : (xs ys : List Entry) → AreInOrder xs → AreInOrder ys → ((x y : Entry) → Among x xs → Among y ys → IsLater x y) → AreInOrder (xs ++ ys)
+in_order_behind [] ys first second across = second
+in_order_behind (x ∷ xs) ys first second across = (λ y among. ⊎_elim (λ h. first.0 y h) (λ h. across x y (inl refl) h) (Among-split y xs ys among), in_order_behind xs ys first.1 second (λ a b here there. across a b (inr here) there))
+
+pub Adds-trans : (p q r : PassView) (xs ys : List Entry) → Adds p q xs → Adds q r ys → Adds p r (xs ++ ys)
+Adds-trans p q r xs ys first second = record {
+  engine = second.engine ∙ first.engine;
+  seat = second.seat ∙ first.seat;
+  others = second.others ∙ first.others;
+  idle = second.idle;
+  log = second.log ∙ ap (λ (log : List Entry). log ++ ys) first.log ∙ append_assoc p.log xs ys;
+  each = λ entry among. ⊎_elim (λ h. first.each entry h) (λ h. next_before p q xs entry first (second.each entry h)) (Among-split entry xs ys among);
+  in_order = in_order_behind xs ys first.in_order second.in_order across;
+  clock = omega (arith, first.clock, second.clock);
+  met = omega (arith, first.met, second.met);
+  refusals = omega (arith, first.refusals, second.refusals);
+} where
+  in_log : (e : Entry) → Among e xs → Among e q.log
+  in_log e among = subst (λ (log : List Entry). Among e log) (sym first.log) (Among-right e p.log xs among)
+
+  across : (x y : Entry) → Among x xs → Among y ys → IsLater x y
+  across x y here there = record {
+    commits = λ a b. (second.each y there).commit_log b x (in_log x here) a;
+    snapshots = λ a b. (second.each y there).snapshot_log b x (in_log x here) a;
+  }

@@ -1,0 +1,6 @@
+pub mod Entries
+pub mod Adding
+pub mod Begun
+pub mod Tried
+pub mod Run
+pub mod Results

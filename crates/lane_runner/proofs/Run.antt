@@ -1,0 +1,81 @@
+-- The run of blocks, one behind the other.
+use Rattle.std.proofs.Common.{◌≡◌, ◌≢◌, ◌⊎◌, inl, inr, ℕ, ◌+◌, ◌*◌, ◌≤◌, List, [], ◌∷◌, ◌++◌, append-nil, append_assoc, refl, sym, ap, subst, ◌∙◌, arith, length, length-append, suc}
+use Rattle.std.proofs.Math.Nat.{suc-mul}
+use Rattle.std.specs.Prelude.{All}
+use Rattle.std.proofs.lemmas.List.Elements.{All-tail}
+use Rattle.plain_data.specs.declared.entry.Entry.{Entry}
+use Rattle.replay_model.specs.declared.input.Block.{Block}
+use Rattle.replay_model.specs.declared.outcome.Outcome.{Outcome}
+use Rattle.replay_model.specs.declared.outcome.Placed.{Placed}
+use Rattle.txn_engine.specs.Pass.{PassView, EngineView, IsIdle}
+use Rattle.lane_runner.specs.Room.{clock_after}
+use Rattle.lane_runner.specs.Adds.{Adds}
+use Rattle.lane_runner.specs.Blocks.{IsPlaceOf, Commits, IsRefused}
+use Rattle.lane_runner.specs.Lanes.{MayRun, IsResult, AreEntries, Runs}
+use Rattle.lane_runner.specs.Lanes.AreEntries.{none, result, other}
+use Rattle.lane_runner.proofs.Adding.{Adds-none, Adds-trans}
+
+pub AreEntries-append : (records : ℕ) (entries : List Entry) (blocks : List Block) (results : List (Placed × Outcome)) (entries' : List Entry) (blocks' : List Block) (results' : List (Placed × Outcome))
+    → AreEntries records entries blocks results → AreEntries records entries' blocks' results' → AreEntries records (entries ++ entries') (blocks ++ blocks') (results ++ results')
+AreEntries-append records entries blocks results entries' blocks' results' none second = second
+AreEntries-append records entries blocks results entries' blocks' results' (result e es b bs r rs is first) second = result e (es ++ entries') b (bs ++ blocks') r (rs ++ results') is (AreEntries-append records es bs rs entries' blocks' results' first second)
+AreEntries-append records entries blocks results entries' blocks' results' (other e es bs rs keeps first) second = other e (es ++ entries') (bs ++ blocks') (rs ++ results') keeps (AreEntries-append records es bs rs entries' blocks' results' first second)
+
+-- one more block has its result, where none is kept
+pub Runs-result : (blocks : List Block) (results : List (Placed × Outcome)) (rest : List Block) (p q r : PassView) (block : Block) (placed : Placed) (outcome : Outcome) (results' : List (Placed × Outcome))
+    → Runs blocks results rest p q → rest ≡ [] → Commits block.commands q r placed outcome → IsPlaceOf block placed → results' ≡ results ++ (placed, outcome) ∷ [] → Runs (blocks ++ block ∷ []) results' rest p r
+Runs-result blocks results rest p q r block placed outcome results' so_far none_kept commits place pushed = record {
+  done = so_far.done ++ block ∷ [];
+  blocks_are = subst (λ (left : List Block). blocks ++ block ∷ [] ≡ (so_far.done ++ block ∷ []) ++ left) (sym none_kept)
+      (ap (λ (xs : List Block). xs ++ block ∷ []) (so_far.blocks_are ∙ ap (λ (left : List Block). so_far.done ++ left) none_kept ∙ append-nil so_far.done) ∙ sym (append-nil (so_far.done ++ block ∷ [])));
+  entries = so_far.entries ++ commits.entry ∷ [];
+  are_entries = subst (λ (xs : List (Placed × Outcome)). AreEntries p.engine.size.records (so_far.entries ++ commits.entry ∷ []) (so_far.done ++ block ∷ []) xs) (sym pushed)
+      (AreEntries-append p.engine.size.records so_far.entries so_far.done results (commits.entry ∷ []) (block ∷ []) ((placed, outcome) ∷ []) so_far.are_entries
+      (result commits.entry [] block [] (placed, outcome) [] is none));
+  adds = Adds-trans p q r so_far.entries (commits.entry ∷ []) so_far.adds commits.adds;
+} where
+  is : IsResult p.engine.size.records block (placed, outcome) commits.entry
+  is = subst (λ (e : EngineView). IsResult e.size.records block (placed, outcome) commits.entry) so_far.adds.engine (record { place = place; is_entry = commits.is_entry })
+
+-- one more block is kept
+pub Runs-kept : (blocks : List Block) (results : List (Placed × Outcome)) (rest : List Block) (p q r : PassView) (block : Block) (times : ℕ) (rest' : List Block)
+    → Runs blocks results rest p q → IsRefused times q r → rest' ≡ rest ++ block ∷ [] → Runs (blocks ++ block ∷ []) results rest' p r
+Runs-kept blocks results rest p q r block times rest' so_far refused pushed = record {
+  done = so_far.done;
+  blocks_are = ap (λ (xs : List Block). xs ++ block ∷ []) so_far.blocks_are ∙ append_assoc so_far.done rest (block ∷ []) ∙ ap (λ (xs : List Block). so_far.done ++ xs) (sym pushed);
+  entries = so_far.entries;
+  are_entries = so_far.are_entries;
+  adds = subst (λ (xs : List Entry). Adds p r xs) (append-nil so_far.entries) (Adds-trans p q r so_far.entries [] so_far.adds refused.adds);
+}
+
+pub none_kept : (rest : List Block) → length rest ≡ 0 → rest ≡ []
+none_kept [] is = refl
+none_kept (block ∷ rest) is = absurd (omega arith)
+
+pub Runs-new : (results : List (Placed × Outcome)) (rest : List Block) (p : PassView) → results ≡ [] → rest ≡ [] → IsIdle p → Runs [] results rest p p
+Runs-new results rest p no_results no_rest idle = record {
+  done = [];
+  blocks_are = sym no_rest;
+  entries = [];
+  are_entries = subst (λ (xs : List (Placed × Outcome)). AreEntries p.engine.size.records [] [] xs) (sym no_results) none;
+  adds = Adds-none p idle;
+}
+
+-- the clock after the draws for one more block
+pub clock_more : (clock clock' first tries : ℕ) (blocks : List Block) (block : Block) → clock ≤ clock_after first (length blocks * tries) → clock' ≤ clock_after clock tries → clock' ≤ clock_after first (length (blocks ++ block ∷ []) * tries)
+clock_more clock clock' first tries blocks block so_far more =
+    let one : length (blocks ++ block ∷ []) ≡ suc (length blocks) = omega (arith, length-append blocks (block ∷ [])) in
+    let step : length (blocks ++ block ∷ []) * tries ≡ length blocks * tries + tries = ap (λ (n : ℕ). n * tries) one ∙ suc-mul (length blocks) tries in
+    omega (arith, step)
+
+-- the next of the blocks that are left
+pub blocks_more : (so_far : List Block) (block : Block) (items items' all : List Block) → so_far ++ items ≡ all → items ≡ block ∷ items' → (so_far ++ block ∷ []) ++ items' ≡ all
+blocks_more so_far block items items' all whole next = append_assoc so_far (block ∷ []) items' ∙ ap (λ (xs : List Block). so_far ++ xs) (sym next) ∙ whole
+
+pub may_more : (block : Block) (items items' : List Block) → All MayRun items → items ≡ block ∷ items' → All MayRun items'
+may_more block items items' may next = All-tail MayRun block items' (subst (λ (xs : List Block). All MayRun xs) next may)
+
+-- a block is kept only where the pass was refused so often
+pub kept_more : (rest : List Block) (first now after tries : ℕ) → (rest ≢ [] → first + tries ≤ now) → first ≤ now → now ≤ after → (rest ≢ []) ⊎ (after ≡ now + tries) → first + tries ≤ after
+kept_more rest first now after tries so_far low grows (inl left) = let h : first + tries ≤ now = so_far left in omega arith
+kept_more rest first now after tries so_far low grows (inr counted) = omega arith

@@ -1,0 +1,40 @@
+use Rattle.std.proofs.Common.{◌++◌, refl, ◌∙◌, rules, arith}
+use Rattle.lane_runner.proofs.Adding.{Adds-trans}
+use Rattle.lane_runner.proofs.Results.{keep_order}
+use Rattle.lane_runner.proofs.Run.{Runs-new, clock_more, blocks_more, may_more, kept_more}
+use Rattle.lane_runner.proofs.running.run_blocks.Goals as goal
+
+pub loop-block-init : goal.loop-block-init
+loop-block-init g c = record {
+  engine = c.requires.engine;
+  runs = Runs-new c.new-results.result c.new-rest.result c.args.pass.now c.new-results.ensures c.new-rest.ensures c.requires.idle;
+  blocks = refl;
+  may = search rules;
+  kept = search rules;
+  clock = omega arith;
+}
+
+pub loop-block-preserved : goal.loop-block-preserved
+loop-block-preserved g c =
+    let i = c.loop-block.invariant in
+    let next = c.in-Some.ensures.steps.0 in
+    let more = c.run_next.ensures.adds in
+    record {
+      engine = more.1.engine ∙ i.engine;
+      runs = c.in_ok-run_next.ensures.runs c.loop-block.yielded c.args.pass.now i.runs;
+      blocks = blocks_more c.loop-block.yielded c.in-Some.block _ _ _ i.blocks next;
+      may = may_more c.in-Some.block _ _ i.may next;
+      kept = λ left. kept_more c.loop-block.rest c.args.pass.now.refusals c.loop-block.pass.refusals c.run_next.new.pass.refusals c.args.tries i.kept i.runs.adds.refusals more.1.refusals (c.in_ok-run_next.ensures.kept left);
+      clock = clock_more c.loop-block.pass.clock c.run_next.new.pass.clock c.args.pass.now.clock c.args.tries c.loop-block.yielded c.in-Some.block i.clock c.run_next.ensures.clock;
+    }
+
+pub returns-in_err-run_next-clause-adds : goal.returns-in_err-run_next-clause-adds
+returns-in_err-run_next-clause-adds g c =
+    let so_far = c.loop-block.invariant.runs in
+    let more = c.run_next.ensures.adds in
+    (so_far.entries ++ more.0, Adds-trans c.args.pass.now c.loop-block.pass c.run_next.new.pass so_far.entries more.0 so_far.adds more.1)
+
+pub returns-clause-order : goal.returns-clause-order
+returns-clause-order g c =
+    let run = c.loop-block.invariant.runs in
+    keep_order _ run.entries run.done c.loop-block.results run.are_entries run.adds.in_order

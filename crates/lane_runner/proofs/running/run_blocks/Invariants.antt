@@ -1,0 +1,16 @@
+use Rattle.std.proofs.Common.{◌≡◌, ◌≢◌, ◌+◌, ◌*◌, ◌≤◌, [], ◌++◌, length}
+use Rattle.std.specs.Prelude.{All}
+use Rattle.std.specs.Vec.Iter.{into_iter_items}
+use Rattle.lane_runner.specs.Room.{clock_after}
+use Rattle.lane_runner.specs.Lanes.{MayRun, Runs}
+use Rattle.lane_runner.proofs.running.run_blocks.Given as goal
+
+abbrev pub invariant-loop-block : goal.invariant-loop-block
+invariant-loop-block g l = record {
+  engine : l.pass.engine ≡ l.engine;
+  runs : Runs l.yielded l.results l.rest l.initial.pass l.pass;
+  blocks : l.yielded ++ into_iter_items l.block-iterator ≡ into_iter_items l.initial.block-iterator;
+  may : All MayRun (into_iter_items l.block-iterator);
+  kept : l.rest ≢ [] → l.initial.pass.refusals + l.tries ≤ l.pass.refusals;
+  clock : l.pass.clock ≤ clock_after l.initial.pass.clock (length l.yielded * l.tries);
+}

@@ -1,0 +1,12 @@
+use Rattle.std.proofs.Common.{◌≡◌, ◌<◌, ◌≤◌}
+use Rattle.lane_runner.specs.Room.{clock_after}
+use Rattle.lane_runner.specs.Blocks.{IsRefused}
+use Rattle.lane_runner.proofs.tries.try_until.Given as goal
+
+abbrev pub invariant-loop-attempt : goal.invariant-loop-attempt
+invariant-loop-attempt g l = record {
+  engine : l.pass.engine ≡ l.engine;
+  refused : IsRefused l.attempt l.initial.pass l.pass;
+  clock : l.pass.clock ≤ clock_after l.initial.pass.clock l.attempt;
+  other : l.other < l.engine.size.seats;
+}

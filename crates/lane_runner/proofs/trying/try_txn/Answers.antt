@@ -1,0 +1,52 @@
+use Rattle.std.proofs.Common.{rules, ◌≡◌, ℕ, ◌≤◌, refl, sym, ap, subst, arith}
+use Rattle.record_store.specs.Limits.{record_limit}
+use Rattle.txn_engine.specs.Pass.{EngineView, IsAbove, Frame, frame, next_clock, entry_of}
+use Rattle.txn_engine.specs.Txn.{TxnRest}
+use Rattle.lane_runner.proofs.Entries.{has_run, fits_none}
+use Rattle.lane_runner.proofs.Begun.{kept_frame, is_open, none_written, run_at, fits_at, torn_at, undone_writes, never_at, commits_at}
+use Rattle.lane_runner.proofs.trying.try_txn.Goals as goal
+
+pub commit-requires-clause-fits : goal.commit-requires-clause-fits
+commit-requires-clause-fits g c =
+    let p = c.args.pass.now in
+    let b = c.in-Ok.txn.pass.now in
+    let q = c.exec_txn.new.store.pass.now in
+    let rest : frame q ≡ frame b = ap (λ (x : TxnRest). x.of_pass) c.exec_txn.ensures.rest in
+    let open_here = is_open p b q (next_clock p c.args.reading) c.in-Ok.ensures.ok rest in
+    fits_none _ _ (entry_of c.undo.new.self.pass.now.desk) (undone_writes q c.undo.new.self.pass.now open_here (ap (λ (x : TxnRest). x.of_pass) c.undo.ensures.rest) c.undo.ensures.undone)
+
+pub unreachable-requires-in-Ok-commit : goal.unreachable-requires-in-Ok-commit
+unreachable-requires-in-Ok-commit g c =
+    let p = c.args.pass.now in
+    let b = c.in-Ok.txn.pass.now in
+    let q = c.exec_txn.new.store.pass.now in
+    let rest : frame q ≡ frame b = ap (λ (x : TxnRest). x.of_pass) c.exec_txn.ensures.rest in
+    let open_here = is_open p b q (next_clock p c.args.reading) c.in-Ok.ensures.ok rest in
+    never_at q c.undo.new.self.pass.now open_here (ap (λ (x : TxnRest). x.of_pass) c.undo.ensures.rest) c.undo.ensures.undone _ c.keeps_tables.ensures c.in-Ok-commit.ensures.stood
+    (torn_at p b q (next_clock p c.args.reading) c.in-Ok.ensures.ok rest (rw c.in-Err-Torn.field-0-is at c.in-Err-Torn.ensures.torn))
+
+pub commit-requires-2-clause-fits : goal.commit-requires-2-clause-fits
+commit-requires-2-clause-fits g c =
+    let p = c.args.pass.now in
+    let b = c.in-Ok.txn.pass.now in
+    let q = c.exec_txn.new.store.pass.now in
+    let clock = next_clock p c.args.reading in
+    let rest : frame q ≡ frame b = ap (λ (x : TxnRest). x.of_pass) c.exec_txn.ensures.rest in
+    let records : p.engine.size.records ≡ c.args.engine.now.size.records = ap (λ (e : EngineView). e.size.records) c.requires.engine in
+    let few : p.engine.size.records ≤ record_limit = let is = c.records.ensures.in_range.records_in_range in omega arith in
+    let run = has_run _ _ _ _ c.args.block.now.commands c.in-Ok.txn c.exec_txn.new.store c.in-Ok-exec_txn.outcome c.in-Ok-exec_txn.ensures.outcome c.in-Ok-exec_txn.ensures.called c.exec_txn.ensures.after (none_written p b q clock c.in-Ok.ensures.ok rest) in
+    fits_at p b q clock c.in-Ok.ensures.ok rest _ c.args.block.now.commands c.in-Ok-exec_txn.outcome c.keeps_tables.ensures few (run_at p b q clock c.in-Ok.ensures.ok rest c.args.block.now.commands c.in-Ok-exec_txn.outcome run)
+
+pub returns-clause-committed : goal.returns-clause-committed
+returns-clause-committed g c =
+    let p = c.args.pass.now in
+    let b = c.in-Ok.txn.pass.now in
+    let q = c.exec_txn.new.store.pass.now in
+    let clock = next_clock p c.args.reading in
+    let rest : frame q ≡ frame b = ap (λ (x : TxnRest). x.of_pass) c.exec_txn.ensures.rest in
+    let records : p.engine.size.records ≡ c.args.engine.now.size.records = ap (λ (e : EngineView). e.size.records) c.requires.engine in
+    let few : p.engine.size.records ≤ record_limit = let is = c.records.ensures.in_range.records_in_range in omega arith in
+    let run = has_run _ _ _ _ c.args.block.now.commands c.in-Ok.txn c.exec_txn.new.store c.in-Ok-exec_txn.outcome c.in-Ok-exec_txn.ensures.outcome c.in-Ok-exec_txn.ensures.called c.exec_txn.ensures.after (none_written p b q clock c.in-Ok.ensures.ok rest) in
+    let above : IsAbove p.log q.desk.stamp = subst (λ (n : ℕ). IsAbove p.log n) (sym (ap (λ (f : Frame). f.stamp) rest)) c.in-Ok.ensures.above in
+    commits_at p q c.commit-2.new.self.0 _ clock c.commit-2.new.self.0.known c.args.block.now.commands c.in-Ok-exec_txn.outcome _ (omega arith) above (kept_frame p b q clock c.in-Ok.ensures.ok rest) c.in-Ok-commit-2.ensures.ok (search rules)
+    c.fits_records.ensures c.fits_more.ensures few (run_at p b q clock c.in-Ok.ensures.ok rest c.args.block.now.commands c.in-Ok-exec_txn.outcome run) (search rules) refl

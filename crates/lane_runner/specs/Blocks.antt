@@ -1,0 +1,28 @@
+-- What the tries of a block leave of a pass.
+use Rattle.std.specs.Prelude.{◌≡◌, ℕ, ◌+◌, List, [], ◌∷◌}
+use Rattle.plain_data.specs.declared.entry.Entry.{Entry}
+use Rattle.replay_model.specs.declared.command.Command.{Command}
+use Rattle.replay_model.specs.declared.input.Block.{Block}
+use Rattle.replay_model.specs.declared.outcome.Outcome.{Outcome}
+use Rattle.replay_model.specs.declared.outcome.Placed.{Placed}
+use Rattle.history_replay.specs.Results.{IsEntryOf}
+use Rattle.txn_engine.specs.Pass.{PassView}
+use Rattle.lane_runner.specs.Rows.{stands}
+use Rattle.lane_runner.specs.Adds.{Adds}
+
+-- a place is that of a block: of its kind, lane and number, at any stamp
+pub record IsPlaceOf (block : Block) (placed : Placed) : Type 0 where
+  pub snap : placed.snap ≡ block.snap
+  pub lane : placed.lane ≡ block.lane
+  pub number : placed.number ≡ block.number
+
+-- exactly one entry was added, that of the commands with this outcome
+pub record Commits (commands : List Command) (before after' : PassView) (placed : Placed) (outcome : Outcome) : Type 0 where
+  pub entry : Entry
+  pub adds : Adds before after' (entry ∷ [])
+  pub is_entry : IsEntryOf stands before.engine.size.records commands placed outcome entry
+
+-- no entry was added, and so many refusals were counted
+pub record IsRefused (times : ℕ) (before after' : PassView) : Type 0 where
+  pub adds : Adds before after' []
+  pub refusals : after'.refusals ≡ before.refusals + times

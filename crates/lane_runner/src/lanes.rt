@@ -1,0 +1,46 @@
+//! The run of one lane.
+
+ghost use Rattle.std.specs.Prelude.{◌≡◌, ◌≢◌, ◌+◌, ◌≤◌, [], All, IfOk};
+ghost use Rattle.txn_engine.specs.Pass.{IsIdle};
+ghost use Rattle.lane_runner.specs.Room.{HasRoom, clock_after};
+ghost use Rattle.lane_runner.specs.Lanes.{MayRun, AddsSome, lane_draws};
+ghost use Rattle.lane_runner.specs.Done.{DoesLane};
+
+use crate::done::LaneDone;
+use crate::running::run_blocks;
+use lane_queue::Lane;
+use outside_io::{Clock, Gate};
+use replay_model::NoMemory;
+use std::alloc::Global;
+use stored_tables::RowsLawful;
+use txn_engine::{Engine, Pass};
+
+/// Runs the transaction blocks of a lane in their order, each with so many tries. Blocks remain only where the pass counted at least
+/// `tries` refusals in this call. After `NoMemory` the pass may have entries of blocks whose results are lost.
+pub fn run_lane<C: Clock, G: Gate>(
+    alloc: Global,
+    engine: &Engine<RowsLawful>,
+    pass: &mut Pass<RowsLawful>,
+    lane: Lane,
+    clock: &mut C,
+    gate: &G,
+    tries: u32,
+) -> Result<LaneDone, NoMemory>
+    requires engine { pass.old.engine ≡ engine.now }
+    requires idle { IsIdle pass.old }
+    requires blocks { All MayRun lane.blocks }
+    requires fixed { 4112 ≤ engine.now.fixed }
+    requires room { HasRoom pass.old.clock (lane_draws lane.blocks tries) }
+    ensures does { IfOk result (λ done. DoesLane lane done pass.old pass.new) }
+    ensures rest { IfOk result (λ done. done.rest ≢ [] → pass.old.refusals + tries ≤ pass.new.refusals) }
+    ensures adds { AddsSome pass.old pass.new }
+    ensures clock { pass.new.clock ≤ clock_after pass.old.clock (lane_draws lane.blocks tries) }
+{
+    let Lane { number, blocks } = lane;
+    let (results, rest) = run_blocks(alloc, engine, pass, blocks, clock, gate, tries)?;
+    Ok(LaneDone {
+        lane: number,
+        results,
+        rest,
+    })
+}

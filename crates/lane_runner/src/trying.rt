@@ -1,0 +1,85 @@
+//! One try of a transaction block.
+
+ghost use Rattle.std.specs.Prelude.{◌≡◌, ◌+◌, ◌≤◌, [], false, All, IfOk, IfSome, IfNone, OnErr};
+ghost use Rattle.replay_model.specs.Input.{AreCommands};
+ghost use Rattle.stored_tables.specs.Answers.{IsShort};
+ghost use Rattle.txn_engine.specs.Pass.{IsIdle};
+ghost use Rattle.lane_runner.specs.Room.{HasRoom, clock_after};
+ghost use Rattle.lane_runner.specs.Adds.{Adds};
+ghost use Rattle.lane_runner.specs.Blocks.{IsPlaceOf, Commits, IsRefused};
+
+use outside_io::Gate;
+use record_store::RecordStore;
+use replay_model::{Block, NoMemory, Outcome, Placed};
+use std::alloc::Global;
+use stored_tables::{RowsLawful, Walk, exec_txn, fits_more, fits_records, keeps_tables};
+use txn_engine::{BeginFault, Engine, Pass, TxnFault};
+
+/// Tries a transaction block once. `None`: it is to be tried again, since another transaction was in the way, or no place or no
+/// record number was left; one refusal more is counted then.
+///
+/// A block that a command refuses has an entry without writes. The clock's reading may be any number.
+pub(crate) fn try_txn<G: Gate>(
+    alloc: Global,
+    engine: &Engine<RowsLawful>,
+    pass: &mut Pass<RowsLawful>,
+    block: &Block,
+    reading: u64,
+    gate: &G,
+) -> Result<Option<(Placed, Outcome)>, NoMemory>
+    requires engine { pass.old.engine ≡ engine.now }
+    requires idle { IsIdle pass.old }
+    requires kind { block.now.snap ≡ false }
+    requires commands { AreCommands 8 block.now.commands }
+    requires short { All IsShort block.now.commands }
+    requires fixed { 4112 ≤ engine.now.fixed }
+    requires room { HasRoom pass.old.clock 1 }
+    ensures committed { IfOk result (λ answer. IfSome answer (λ done. Commits block.now.commands pass.old pass.new done.0 done.1)) }
+    ensures placed { IfOk result (λ answer. IfSome answer (λ done. IsPlaceOf block.now done.0)) }
+    ensures refused { IfOk result (λ answer. IfNone answer (IsRefused 1 pass.old pass.new)) }
+    ensures fault { OnErr result (Adds pass.old pass.new []) }
+    ensures clock { pass.new.clock ≤ clock_after pass.old.clock 1 }
+{
+    keeps_tables();
+    fits_records();
+    fits_more();
+    // The number of records is in its range.
+    engine.records();
+    let mut txn = match pass.begin(engine, reading) {
+        Ok(txn) => txn,
+        Err(BeginFault::ClockOut) => unreachable!(),
+        Err(BeginFault::NoMemory) => return Err(NoMemory),
+    };
+    let outcome = match exec_txn(&mut txn, alloc, &block.commands) {
+        Ok(outcome) => outcome,
+        Err(Walk::Torn(_)) => {
+            // No kept state agrees with what was read, so the reads do not commit.
+            txn.undo();
+            gate.before_commit(block.lane, block.number);
+            match txn.commit() {
+                Ok(_) => unreachable!(),
+                Err(_) => return Ok(None),
+            }
+        }
+        Err(Walk::Store(TxnFault::Conflict(_) | TxnFault::RecordsOut)) => {
+            txn.abort();
+            return Ok(None);
+        }
+        Err(_) => {
+            txn.abort();
+            return Err(NoMemory);
+        }
+    };
+    gate.before_commit(block.lane, block.number);
+    let Ok(committed) = txn.commit() else {
+        return Ok(None);
+    };
+    gate.after_outcome(block.lane, block.number);
+    let placed = Placed {
+        stamp: committed.stamp.number(),
+        snap: false,
+        lane: block.lane,
+        number: block.number,
+    };
+    Ok(Some((placed, outcome)))
+}

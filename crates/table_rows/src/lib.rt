@@ -1,0 +1,22 @@
+//! Tests of tables in a store of records: worked rows, and blocks of commands that run over a map of records in memory and over the
+//! plain tables side by side.
+#![tactic(auto)]
+
+#[cfg(test)]
+mod beside;
+#[cfg(test)]
+mod draws;
+#[cfg(test)]
+mod filled;
+#[cfg(test)]
+mod generated;
+#[cfg(test)]
+mod outcomes;
+#[cfg(test)]
+mod script;
+#[cfg(test)]
+mod shapes;
+#[cfg(test)]
+mod store;
+#[cfg(test)]
+mod worked;

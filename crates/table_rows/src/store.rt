@@ -1,0 +1,125 @@
+//! A map of records in memory that has tables.
+
+ghost use Rattle.std.specs.Prelude.{◌≡◌, ◌<◌, ◌≤◌, All};
+ghost use Rattle.record_store.specs.Limits.{record_limit};
+ghost use Rattle.replay_model.specs.Input.{AreCommands, IsColumn};
+ghost use Rattle.stored_tables.specs.Answers.{IsShort, ReadsAlone};
+
+use crate::outcomes::compare;
+use record_store::{MapFault, MapStore, RecordRead, RecordStore, Walk};
+use replay_model::{Cells, Commands, Outcome};
+use std::alloc::Global;
+use std::test::Fail;
+use stored_tables::{declare_index, exec_snap, exec_txn};
+
+/// A map and the number of its records.
+#[derive(Drop)]
+pub struct Store {
+    map: MapStore,
+    size: u32,
+    ghost first_new: { map.fixed ≡ 4112 },
+    ghost sized: { map.size ≡ size },
+    ghost least: { 4112 ≤ size },
+    ghost most: { size ≤ record_limit },
+}
+
+impl Store {
+    /// So many records, all absent.
+    pub fn new(alloc: Global, size: u32) -> Self
+        requires least { 4112 ≤ size }
+        requires most { size ≤ record_limit }
+    {
+        let map = MapStore::new(alloc, 4112, size);
+        Store { map, size }
+    }
+
+    /// Declares an index, and answers whether it did.
+    pub fn declare(
+        &mut self,
+        alloc: Global,
+        table: u32,
+        column: u32,
+    ) -> Result<bool, Walk<MapFault>>
+        requires table { table < 8 }
+        requires column { IsColumn column }
+    {
+        declare_index(&mut self.map, alloc, table, column)
+    }
+
+    /// Runs a transaction, which has to come to this outcome.
+    pub fn run(&mut self, alloc: Global, commands: &Commands, due: &Outcome) -> Result<(), Fail>
+        requires commands { AreCommands 8 commands.now }
+        requires short { All IsShort commands.now }
+    {
+        let got = exec_txn(&mut self.map, alloc, commands)?;
+        compare(&got, due)
+    }
+
+    /// Runs a transaction that is refused, and so empties the store, which goes on as it was before.
+    pub fn run_refused(
+        &mut self,
+        alloc: Global,
+        commands: &Commands,
+        due: &Outcome,
+    ) -> Result<(), Fail>
+        requires commands { AreCommands 8 commands.now }
+        requires short { All IsShort commands.now }
+    {
+        let kept = self.copied(alloc)?;
+        self.run(alloc, commands, due)?;
+        if !self.is_empty()? {
+            return Err("a refused block left a record".into());
+        }
+        *self = kept;
+        Ok(())
+    }
+
+    /// Runs commands that read alone, which have to come to this outcome.
+    pub fn look(&mut self, alloc: Global, commands: &Commands, due: &Outcome) -> Result<(), Fail>
+        requires commands { AreCommands 8 commands.now }
+        requires short { All IsShort commands.now }
+        requires reads { All ReadsAlone commands.now }
+    {
+        let got = exec_snap(&mut self.map, alloc, commands)?;
+        compare(&got, due)
+    }
+
+    /// A store with the same records.
+    fn copied(&mut self, alloc: Global) -> Result<Store, MapFault> {
+        let size = self.size;
+        let mut copy = Store::new(alloc, size);
+        for rid in 0..size {
+            copy.copy_from(self, rid)?;
+        }
+        Ok(copy)
+    }
+
+    /// Copies a record of another store.
+    fn copy_from(&mut self, other: &mut Store, rid: u32) -> Result<(), MapFault> {
+        if rid >= self.size {
+            return Ok(());
+        }
+        match other.read(rid)? {
+            Some(cells) => self.map.write(rid, Some(cells)),
+            None => Ok(()),
+        }
+    }
+
+    /// Whether no record is present.
+    fn is_empty(&mut self) -> Result<bool, MapFault> {
+        for rid in 0..self.size {
+            if self.read(rid)?.is_some() {
+                return Ok(false);
+            }
+        }
+        Ok(true)
+    }
+
+    /// A record, if the store has it and it is present.
+    fn read(&mut self, rid: u32) -> Result<Option<Cells>, MapFault> {
+        if rid >= self.size {
+            return Ok(None);
+        }
+        self.map.read(rid)
+    }
+}

@@ -19,6 +19,10 @@ use std::fmt;
 pub struct ClockOut;
 
 impl fmt::Display for ClockOut {
+    ghost use Rattle.std.specs.Prelude.{codes, Some};
+
+    ghost output = { λ _. Some (codes "clock out") };
+
     fn fmt<W: fmt::Write>(&self, f: &mut fmt::Formatter<W>) -> fmt::Result {
         f.write_str("clock out")
     }

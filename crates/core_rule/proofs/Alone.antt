@@ -1,5 +1,5 @@
 -- While one view is alone, no other is open, and nothing that was drawn is above its stamp in flight.
-use Rattle.std.proofs.Common.{◌≡◌, ◌≢◌, ℕ, ◌<◌, ◌≤◌, false, List, refl, sym, ap, subst, ⊎_elim, arith}
+use Rattle.std.proofs.Common.{◌≡◌, ◌≢◌, ℕ, ◌+◌, ◌<◌, ◌≤◌, false, List, refl, sym, ap, subst, ⊎_elim, arith}
 use mathlib.Core.Logic.{dite}
 use native.Mathlib.Decide.{ℕ_discrete, dec_lt}
 use Rattle.plain_data.specs.State.{State}
@@ -9,7 +9,7 @@ use Rattle.core_rule.specs.Memory.{Memory, stored}
 use Rattle.core_rule.specs.World.{World}
 use Rattle.core_rule.specs.View.{View, Splitting, single, sharing, offers_write, offers_both, shared, writing}
 use Rattle.core_rule.specs.Views.{At, Has, OthersTaken, IsAlone}
-use Rattle.core_rule.specs.Offers.{made_within, MayOffer, HasOffered, offered_write, offered_read}
+use Rattle.core_rule.specs.Offers.{made_of, made_within, MayOffer, HasOffered, HasOfferedBoth, offered_write, offered_read}
 use Rattle.core_rule.specs.Rule.{Rule}
 use Rattle.core_rule.specs.Parts.Splitting.{Makes}
 use Rattle.core_rule.specs.Parts.Clocks.{InFlight}
@@ -38,6 +38,14 @@ OthersTaken-before seats number (sharing made) taken_in offered h = absurd offer
 OthersTaken-before seats number (offers_write made) taken_in offered h = h
 OthersTaken-before seats number (offers_both made) taken_in offered h = absurd offered
 OthersTaken-before seats number shared taken_in offered h = absurd offered
+
+-- and the seat is made
+pub OthersTaken-made : (seats number : ℕ) (s : Splitting) (taken_in : List ℕ) → HasOfferedBoth s → OthersTaken seats number (sharing (made_of s + 1)) taken_in → OthersTaken seats number s taken_in
+OthersTaken-made seats number single taken_in offered h = absurd offered
+OthersTaken-made seats number (sharing made) taken_in offered h = absurd offered
+OthersTaken-made seats number (offers_write made) taken_in offered h = absurd offered
+OthersTaken-made seats number (offers_both made) taken_in offered h = λ s lt. h s (omega arith)
+OthersTaken-made seats number shared taken_in offered h = absurd offered
 
 module _ (kept : State → Type 0) (z : Size) (g : World) (m : Memory) (vs : List View) (rule : Rule kept z g m vs) (id : ℕ) (v : View) (at : At vs id v) (live : v.spent ≡ false) where
   -- each view is of a seat that was made

@@ -20,6 +20,7 @@ pub mod RuleKept
 pub mod Snapshots
 pub mod Standing
 pub mod Sources
+pub mod Spares
 pub mod Sought
 pub mod Step
 pub mod Stepping

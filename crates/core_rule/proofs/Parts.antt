@@ -32,3 +32,4 @@ pub mod CountsKept
 pub mod TopsKept
 pub mod MarkedKept
 pub mod MetKept
+pub mod KeepingKept

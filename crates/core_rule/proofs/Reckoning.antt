@@ -110,7 +110,7 @@ module _ (z : Size) where
 module _ (kept : State → Type 0) (z : Size) (g : World) (m : Memory) (vs : List View) (rule : Rule kept z g m vs) (id : ℕ) (v : View) (at : At vs id v) (live : v.spent ≡ false) where
   module _ (alone : OthersTaken z.seats v.number v.splitting v.clock.taken_in) (rests : Rests v.work.search) (none : v.work.item ≡ no_item) where
     -- what has a place that is not free
-    by_owner : (p : ℕ) → p < places z → (o : Owner) → g.owner p ≡ o → o ≢ free → Has p v.places.held ⊎ ((r : ℕ) × (r < z.records) × Has p (g.lists r))
+    pub by_owner : (p : ℕ) → p < places z → (o : Owner) → g.owner p ≡ o → o ≢ free → Has p v.places.held ⊎ ((r : ℕ) × (r < z.records) × Has p (g.lists r))
     by_owner p inside free e ne = absurd (ne refl)
     by_owner p inside (held seat) e ne =
         let h = rule.places.holder p seat inside e in

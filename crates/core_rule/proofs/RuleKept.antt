@@ -44,6 +44,7 @@ use Rattle.core_rule.proofs.Parts.LeftsKept.{lefts_kept, lefts_split, lefts_join
 use Rattle.core_rule.proofs.Parts.TopsKept.{tops_kept, tops_split, tops_joined, tops_start}
 use Rattle.core_rule.proofs.Parts.MarkedKept.{marked_kept, marked_split, marked_joined, marked_start}
 use Rattle.core_rule.proofs.Parts.MetKept.{met_kept, met_split, met_joined, met_start}
+use Rattle.core_rule.proofs.Parts.KeepingKept.{keeping_kept, keeping_split, keeping_joined, keeping_start}
 
 module _ (kept : State → Type 0) (z : Size) (g : World) (m : Memory) (vs : List View) (id : ℕ) (v : View) where
   pub rule_kept : (k : Kind) → Step kept z g m vs id v k → Rule kept z (turned k v (m (name k v)) g) (changed k v m) (set vs id (after k v (m (name k v))))
@@ -83,6 +84,7 @@ module _ (kept : State → Type 0) (z : Size) (g : World) (m : Memory) (vs : Lis
     marked = marked_kept kept z g m vs id v k s;
     met = met_kept kept z g m vs id v k s;
     tops = tops_kept kept z g m vs id v k s;
+    keeping = keeping_kept kept z g m vs id v k s;
   }
 
   pub rule_split : Split kept z g m vs id v → Rule kept z g m (set vs id (split_left v) ++ split_right v ∷ [])
@@ -122,6 +124,7 @@ module _ (kept : State → Type 0) (z : Size) (g : World) (m : Memory) (vs : Lis
     marked = marked_split kept z g m vs id v s;
     met = met_split kept z g m vs id v s;
     tops = tops_split kept z g m vs id v s;
+    keeping = keeping_split kept z g m vs id v s;
   }
 
   pub rule_joined : (other : ℕ) (w : View) → Join kept z g m vs id other v w → Rule kept z g m (joined vs (joined_view v w) id other)
@@ -161,6 +164,7 @@ module _ (kept : State → Type 0) (z : Size) (g : World) (m : Memory) (vs : Lis
     marked = marked_joined kept z g m vs id other v w s;
     met = met_joined kept z g m vs id other v w s;
     tops = tops_joined kept z g m vs id other v w s;
+    keeping = keeping_joined kept z g m vs id other v w s;
   }
 
 pub rule_start : (kept : State → Type 0) (z : Size) → IsSize z → kept empty_state → Rule kept z (first_world z) (start z) (first_view z ∷ [])
@@ -200,4 +204,5 @@ rule_start kept z h k = record {
   marked = marked_start z h;
   met = met_start z h;
   tops = tops_start z h;
+  keeping = keeping_start z h;
 }

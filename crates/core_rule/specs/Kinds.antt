@@ -7,7 +7,7 @@ use Rattle.stamp_base.specs.Limits.{end_of_stamps, greatest_clock}
 use Rattle.stamp_base.specs.Stamp.{stamp_of, clock_of, bound_of_clock}
 use Rattle.plain_data.specs.State.{State}
 use Rattle.core_rule.specs.Stamps.{adopted}
-use Rattle.core_rule.specs.View.{View, resting, writing, Scan, no_scan, Splitting, Fill, Aim, links, again, checks, Joint, Stand, Look, blank, stamped, shown, still, marks, stands, Read, Write, Work, no_work, nothing_known, no_front, at_front, locked, above_floor, seeks, passes, found, floored, cut_off, freeing, no_item, collects}
+use Rattle.core_rule.specs.View.{View, resting, writing, Scan, no_scan, Splitting, Fill, Aim, links, again, checks, Joint, Stand, Look, blank, stamped, shown, still, marks, stands, Read, Write, Work, no_work, forgotten, no_front, at_front, locked, above_floor, seeks, passes, found, floored, cut_off, freeing, no_item, collects}
 use Rattle.core_rule.specs.Views.{Has, Among, AllIn, IsAlone}
 use Rattle.core_rule.specs.Memory.{Memory}
 use Rattle.core_rule.specs.World.{World, free, held, marked, linked, at_number, behind, up_to, from_behind, cut_from, all_but_first}
@@ -201,7 +201,7 @@ linked_after s j w n work = record work {
 
 -- the view after, but for what is the same for all kinds, from the number told
 abbrev pub next : Kind → View → ℕ → View
-next offer_write_word v n = record v { counts = nothing_known; tops = []; front = no_front }
+next offer_write_word v n = record v { counts = forgotten v.counts.in_kept; tops = []; front = no_front }
 next (publish_stamp clock) v n = record v {
   clock = record v.clock {
     clock = clock;
@@ -285,13 +285,13 @@ next (point s j w) v n = record v {
 next (link_head s j w) v n = record v {
   front = (if n == suc s.place then no_front else v.front);
   work = linked_after s j w n v.work;
-  counts = (if n == suc s.place then counted_more v.size s.record_number j.write.place v.counts else v.counts);
+  counts = (if n == suc s.place then counted_more v.size s.record_number j.write.stamp j.write.place v.counts else v.counts);
   tops = (if n == suc s.place then record { record_number = s.record_number; stamp = j.write.stamp } ∷ v.tops else v.tops);
 }
 next (link_next s j above w) v n = record v {
   front = (if n == suc s.place then no_front else v.front);
   work = linked_after s j w n v.work;
-  counts = (if n == suc s.place then counted_more v.size s.record_number j.write.place v.counts else v.counts);
+  counts = (if n == suc s.place then counted_more v.size s.record_number j.write.stamp j.write.place v.counts else v.counts);
   tops = (if n == suc s.place then record { record_number = s.record_number; stamp = j.write.stamp } ∷ v.tops else v.tops);
 }
 next (raise_read_stamp d) v n = record v { work = record v.work { raised = v.work.raised ++ d ∷ [] } }

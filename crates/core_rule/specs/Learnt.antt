@@ -11,6 +11,7 @@ use Rattle.core_rule.specs.Searching.{limit_of, IsFinal, read_cells, newest, new
 use Rattle.core_rule.specs.Deciding.{stamp_in, commit_of, snapshot_of, StoodAt, IsLawfulLog}
 use Rattle.core_rule.specs.Snapshots.{AreAlike, AreLeft}
 use Rattle.core_rule.specs.Reckoning.{Reckons}
+use Rattle.core_rule.specs.Spares.{KnowsFree}
 use Rattle.core_rule.specs.Left.{IsLeft, LeavesCells}
 use Rattle.core_rule.specs.Kinds.{Kind, publish_stamp, hear, scan_writes, scan_reads, load_min_write, load_min_read, raise_min_write, raise_min_read, take, load_head, load_next, load_stamp, load_status, load_cell, link_head, link_next, load_read_stamp, decide_by_check, decide_by_read, decide_bare, finish, take_lock, load_floor, seek_head, seek_stamp, seek_next, cut, follow, front_head, after}
 
@@ -61,8 +62,10 @@ Learnt kept raise_min_write v n = (v.clock.met ≤ n) × (n ≤ v.published.writ
 -- no entry of the log is above the own clock
 Learnt kept raise_min_read v n =
     (n ≤ v.published.read) × (v.raises.reads.least ≤ v.published.read) × ((e : Logged) → Among e v.log → e.snapshot ≡ false → clock_of e.stamp ≤ v.clock.clock)
--- a place that is taken was not held; and where each usable pool place was met not free, they are counted
-Learnt kept (take place) v n = (n ≡ 0 → AllOf (λ p. p ≢ place) v.places.held) × (v.seen.since ≤ length v.seen.lost) × Reckons (after (take place) v n)
+-- a place that is taken was not held; where each usable pool place was met not free, they are counted; and what is known to be
+-- free is found so
+Learnt kept (take place) v n =
+    (n ≡ 0 → AllOf (λ p. p ≢ place) v.places.held) × (v.seen.since ≤ length v.seen.lost) × Reckons (after (take place) v n) × (KnowsFree v place → n ≡ 0)
 Learnt kept (load_head aim r) v n = IsLink (places v.size) n
 Learnt kept (load_next s look) v n = IsLink (places v.size) n
 Learnt kept (load_stamp s) v n = (least_of s.aim ≤ n) × (n < s.under)

@@ -13,6 +13,7 @@ pub mod Reckoning
 pub mod Rule
 pub mod Searching
 pub mod Snapshots
+pub mod Spares
 pub mod Stamps
 pub mod View
 pub mod Versions

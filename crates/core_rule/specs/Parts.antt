@@ -31,3 +31,4 @@ pub mod Counts
 pub mod Tops
 pub mod Marked
 pub mod Met
+pub mod Keeping

@@ -1,9 +1,9 @@
 -- What a seat searches for, finds and links, from step to step.
 use Rattle.std.specs.Prelude.{◌≡◌, ◌≢◌, ◌⊎◌, ℕ, suc, ◌-◌, ◌<◌, ◌≤◌, Bool, false, ◌==◌, ◌&&◌, nat_le, nat_lt, if◌then◌else◌, List, [], ◌∷◌, ◌++◌, length, Option, Some, None}
-use Rattle.word_layout.specs.Size.{Size}
+use Rattle.word_layout.specs.Size.{Size, kept_place}
 use Rattle.word_layout.specs.Limits.{cells_of_value}
 use Rattle.core_rule.specs.Views.{Among, Has}
-use Rattle.core_rule.specs.View.{Flight, resting, writing, Fill, Write, Read, Joint, Aim, reads, links, again, checks, Stand, Look, blank, stamped, shown, Search, still, marks, stands, no_item, Work, Bound, Count, Counted, Top, Front, no_front, at_front}
+use Rattle.core_rule.specs.View.{Flight, resting, writing, Fill, Write, Read, Joint, Aim, reads, links, again, checks, Stand, Look, blank, stamped, shown, Search, still, marks, stands, no_item, Work, Bound, Count, Kept, nothing_kept, version_kept, maybe_kept, Counted, Top, Front, no_front, at_front}
 
 -- versions from this stamp on are too late for a transaction at its stamp, and for a snapshot at the read stamp
 abbrev pub limit_of : Flight → ℕ → ℕ
@@ -204,9 +204,13 @@ known_in rest (c ∷ cs) r = if c.record_number == r then c.bound else known_in 
 abbrev pub known_of : Counted → ℕ → Option Bound
 known_of c r = known_in c.rest c.listed r
 
--- what is known after one more version of record r was linked in place p
-abbrev pub counted_more : Size → (r p : ℕ) → Counted → Counted
-counted_more z r p c = record c { listed = record { record_number = r; bound = one_more z p (known_of c r) } ∷ c.listed }
+-- what is known after one more version of record r, at the stamp t, was linked in place p
+abbrev pub counted_more : Size → (r t p : ℕ) → Counted → Counted
+counted_more z r t p c = record {
+  rest = c.rest;
+  listed = record { record_number = r; bound = one_more z p (known_of c r) } ∷ c.listed;
+  in_kept = (if p == kept_place z then version_kept r t else c.in_kept);
+}
 
 -- what is known after the version in place p was found to be the only one of record r
 abbrev pub counted_one : Size → (r p : ℕ) → Counted → Counted
@@ -223,9 +227,20 @@ abbrev pub is_newest : ℕ → Option ℕ → Bool
 is_newest c None = false
 is_newest c (Some t) = nat_le t c
 
+-- what the seat has in the kept place, after the versions of record r below the stamp c were cut off
+abbrev pub kept_from : (r c : ℕ) → Kept → Kept
+kept_from r c (version_kept q t) = if (q == r) && nat_lt t c then nothing_kept else version_kept q t
+kept_from r c k = k
+
 -- what is known after what is older than the version of record r in place p, at the stamp c, was cut off
 abbrev pub counted_cut : Size → (r c p : ℕ) → List Top → Counted → Counted
-counted_cut z r c p tops known = if is_newest c (newest_stamp tops r) then counted_one z r p known else known
+counted_cut z r c p tops known =
+    record (if is_newest c (newest_stamp tops r) then counted_one z r p known else known) { in_kept = kept_from r c known.in_kept }
+
+-- what two seats together have in the kept place
+abbrev pub kept_by_both : Kept → Kept → Kept
+kept_by_both nothing_kept nothing_kept = nothing_kept
+kept_by_both a b = maybe_kept
 
 -- where the look at a first version stands
 abbrev pub front_record : Front → ℕ

@@ -57,7 +57,7 @@ one_by_cut z r c p t tops k known low =
 
 -- ---- one item
 
-cut_counts : (i : Queued) (v w : View) → (h : IsCutBelow i v w) → w.counts ≡ counted_cut v.size i.rid i.stamp h.cuts.place v.tops v.counts
+pub cut_counts : (i : Queued) (v w : View) → (h : IsCutBelow i v w) → w.counts ≡ counted_cut v.size i.rid i.stamp h.cuts.place v.tops v.counts
 cut_counts i v w h = ap (λ (x : View). x.counts) (h.cuts.view ∙ ap (λ (x : View). at_item (knowing_cut i h.cuts.place x) no_item w.gone w.seen) h.view)
 
 became_kept : (reached : ℕ) (i : Queued) (f : Fate) (v w : View) → Became reached i f v w → (q : ℕ) → IsKept (known_of v.counts q) (known_of w.counts q)
@@ -98,14 +98,14 @@ kept_both a b c first (inr h) = inr h
 kept_both a b c (inl d) (inl e) = inl (e ∙ d)
 kept_both a b c (inr h) (inl e) = inr (subst IsOneLeft (sym e) h)
 
-among_either : (i y : Queued) (xs : List Queued) → Among i (xs ++ y ∷ []) → Among i xs ⊎ (y ≡ i)
+pub among_either : (i y : Queued) (xs : List Queued) → Among i (xs ++ y ∷ []) → Among i xs ⊎ (y ≡ i)
 among_either i y [] (inl e) = inr e
 among_either i y [] (inr h) = absurd h
 among_either i y (x ∷ xs) (inl e) = inl (inl e)
 among_either i y (x ∷ xs) (inr h) = ⊎_elim (λ k. inl (inr k)) (λ k. inr k) (among_either i y xs h)
 
 module _ (reached : ℕ) where
-  goes_tops : (es : List Ended) (v w : View) → Goes reached es v w → w.tops ≡ v.tops
+  pub goes_tops : (es : List Ended) (v w : View) → Goes reached es v w → w.tops ≡ v.tops
   goes_tops _ _ _ (not_begun v) = refl
   goes_tops _ _ _ (goes_on es e v w x g b) = became_tops reached e.item e.end w x b ∙ goes_tops es v w g
 
@@ -145,10 +145,10 @@ idled_tops v true = refl
 idled_tops v false = refl
 
 module _ (before : View) (items items' : List Queued) (after' : View) (tally : Collected) (c : Collects before items items' after' tally) where
-  same_counts : c.prepared.counts ≡ before.counts
+  pub same_counts : c.prepared.counts ≡ before.counts
   same_counts = let p = c.prepares in ap (λ (v : View). v.counts) p.after_is ∙ ap (λ (v : View). v.counts) p.raised_is ∙ idled_counts before (nat_lt before.published.write (bound_of_clock before.clock.clock))
 
-  same_tops : c.prepared.tops ≡ before.tops
+  pub same_tops : c.prepared.tops ≡ before.tops
   same_tops = let p = c.prepares in ap (λ (v : View). v.tops) p.after_is ∙ ap (λ (v : View). v.tops) p.raised_is ∙ idled_tops before (nat_lt before.published.write (bound_of_clock before.clock.clock))
 
   pub are_kept : AreKept items before.counts after'.counts

@@ -9,6 +9,7 @@ ghost use Rattle.core_rule.specs.Hands.{IsReady, StaysReady};
 ghost use Rattle.rapid_gc.specs.Queues.{AreCommitted, AllBelow};
 ghost use Rattle.rapid_gc.specs.Views.{Passes};
 ghost use Rattle.rapid_gc.specs.Bounds.{AreKept, LeavesOne};
+ghost use Rattle.rapid_gc.specs.InKept.{Remains, CutsOff};
 ghost use Rattle.rapid_gc.specs.Chains.{counted};
 ghost use Rattle.rapid_gc.specs.Ends.{Became, CutsBelow, FreesCounted, late_one, locked_one, dropped_one, cut_one};
 ghost use Rattle.rapid_gc.specs.Collections.{GoesThrough, Collects, after_collecting};
@@ -89,6 +90,9 @@ pub fn collect<J: Keeps>(core: &Core<J>, hand: &mut Hand<J>, queue: &mut Queue) 
     // What it knows of a list is as before, or that one version is left; that, where the item's version is the newest.
     ensures known { AreKept queue.old.items hand.old.view.counts hand.new.view.counts }
     ensures one_left { IsAlone hand.old.view → AllBelow (bound_of_clock hand.old.view.clock.clock) queue.old.items → LeavesOne queue.old.items hand.old.view.tops hand.new.view.counts }
+    // What it has in the kept place is as before, or was cut off; and so it was where its record has no version above the item's.
+    ensures in_kept { Remains queue.old.items hand.old.view.counts.in_kept hand.new.view.counts.in_kept }
+    ensures cut_off { IsAlone hand.old.view → AllBelow (bound_of_clock hand.old.view.clock.clock) queue.old.items → CutsOff queue.old.items hand.old.view.tops hand.old.view.counts.in_kept hand.new.view.counts.in_kept }
     ensures met { hand.old.view.clock.met ≤ hand.new.view.clock.met }
     ensures within { hand.new.view.clock.met ≤ hand.new.view.published.write }
     ensures seen { IsAlone hand.old.view → hand.new.view.clock.met ≡ hand.new.view.published.write }

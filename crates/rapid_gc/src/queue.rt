@@ -37,9 +37,11 @@ impl Queue {
         }
     }
 
-    /// Makes room for this many items more; after want of memory the queue is as before.
+    /// Makes room for this many items more; after want of memory, which comes only where there was less room, the queue is as
+    /// before.
     pub fn reserve(&mut self, items: u32) -> Result<(), NoMemory>
         ensures room { OnOk result (length self.old.items + items ≤ self.new.room) }
+        ensures full { OnErr result (self.old.room < length self.old.items + items) }
         ensures items { self.new.items ≡ self.old.items }
         ensures not_less { self.old.room ≤ self.new.room }
     {

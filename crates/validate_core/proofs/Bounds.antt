@@ -48,8 +48,8 @@ within_case : (z : Size) (r p q : ℕ) (k : Counted) (bounds : ℕ → ℕ) (b :
 within_case z r p q k bounds true e h = within_more z p (known_of k r) (bounds r) (subst (λ (x : ℕ). IsWithin (known_of k x) (bounds x)) (sym (eqb-true r q e)) h)
 within_case z r p q k bounds false e h = h
 
-pub most_more : (records : ℕ) (z : Size) (r p n : ℕ) (k : Counted) → AtMost records (known_of k) n → AtMost records (known_of (counted_more z r p k)) (suc n)
-most_more records z r p n k h = record {
+pub most_more : (records : ℕ) (z : Size) (r t p n : ℕ) (k : Counted) → AtMost records (known_of k) n → AtMost records (known_of (counted_more z r t p k)) (suc n)
+most_more records z r t p n k h = record {
   bounds = at_number h.bounds r (suc (h.bounds r));
   within = λ q lt. within_case z r p q k h.bounds (eqb r q) refl (h.within q lt);
   sum = let more = total_more h.bounds r records in let had = h.sum in omega arith;
@@ -58,7 +58,7 @@ most_more records z r p n k h = record {
 -- ---- versions linked one after another
 
 module _ (records : ℕ) (z : Size) (stamp : ℕ) where
-  one_counts : (u : Write) (v w : View) → LinksOne z stamp u v w → w.counts ≡ counted_more v.size u.record_number u.place v.counts
+  one_counts : (u : Write) (v w : View) → LinksOne z stamp u v w → w.counts ≡ counted_more v.size u.record_number u.stamp u.place v.counts
   one_counts u v w l = ap (λ (x : View). x.counts) (one_view z stamp u v w l)
 
   pub most_linked : (us : List Write) (v w : View) → LinksEach z stamp us v w → (n : ℕ) → AtMost records (known_of v.counts) n → AtMost records (known_of w.counts) (n + length us)
@@ -67,7 +67,7 @@ module _ (records : ℕ) (z : Size) (stamp : ℕ) where
       let long = length-append us (u ∷ []) in
       let sum : suc (n + length us) ≡ n + length (us ++ u ∷ []) = omega arith in
       subst (AtMost records (known_of x.counts)) sum
-      (subst (λ (k : Counted). AtMost records (known_of k) (suc (n + length us))) (sym (one_counts u w x l)) (most_more records w.size u.record_number u.place (n + length us) w.counts (most_linked us v w each n h)))
+      (subst (λ (k : Counted). AtMost records (known_of k) (suc (n + length us))) (sym (one_counts u w x l)) (most_more records w.size u.record_number u.stamp u.place (n + length us) w.counts (most_linked us v w each n h)))
 
 take_short : (i : ℕ) (xs : List Write) → length (take i xs) ≤ i
 take_short zero xs = omega arith

@@ -1,8 +1,8 @@
 -- Writes installed one by one.
-use Rattle.std.proofs.Common.{◌≡◌, ◌≢◌, ℕ, ◌+◌, ◌<◌, ◌≤◌, false, Bool, cond, eq-eqb, ne_eqb, List, [], ◌∷◌, ◌++◌, append-nil, refl, sym, ap, ◌∙◌, subst, ⊎_elim, take, take_all, length, arith}
+use Rattle.std.proofs.Common.{◌≡◌, ◌≢◌, ℕ, ◌+◌, ◌<◌, ◌≤◌, false, Bool, cond, eqb, eq-eqb, ne_eqb, List, [], ◌∷◌, ◌++◌, append-nil, refl, sym, ap, ◌∙◌, subst, ⊎_elim, take, take_all, length, arith}
 use Rattle.std.proofs.lemmas.List.{take_more_set}
-use Rattle.word_layout.specs.Size.{Size, places}
-use Rattle.core_rule.specs.View.{View, writing, Read, Write, Seen, still, no_front, no_item}
+use Rattle.word_layout.specs.Size.{Size, places, kept_place}
+use Rattle.core_rule.specs.View.{View, writing, Read, Write, Seen, still, no_front, no_item, version_kept}
 use Rattle.core_rule.specs.Views.{Among, AllOf}
 use Rattle.core_rule.specs.Holding.{without, without_fill}
 use Rattle.core_rule.specs.Searching.{Rests, Ends, IsNotLinked, counted_more}
@@ -10,6 +10,7 @@ use Rattle.core_rule.specs.Deciding.{AreReads}
 use Rattle.core_rule.specs.Hands.{Shared, Seated, IsReady, StaysReady}
 use Rattle.version_pool.specs.Fills.{after_filling}
 use Rattle.version_pool.specs.Takes.{after_taking, after_losing}
+use Rattle.version_search.specs.Links.{IsLinked}
 use Rattle.validate_core.specs.Sets.{SetsView, Turn, Once, IsInside, SameWrites}
 use Rattle.validate_core.specs.Validating.{Stands, worked, Works, IsInstalled}
 use Rattle.validate_core.specs.Installing.{IsBegun, SameSets, installed_in, Puts, InstallsOne, FindsNoneFor, LinksOne, LinksEach, none_yet, one_more, Installs, InstallsHeld, FindsNoPlace}
@@ -30,7 +31,7 @@ abbrev pub linked_view : Write → View → Seen → View
 linked_view u v seen = record v {
   places = record v.places { held = without u.place v.places.held; fills = without_fill u.place v.places.fills };
   work = record v.work { search = still; linked = v.work.linked ++ u ∷ [] };
-  counts = counted_more v.size u.record_number u.place v.counts;
+  counts = counted_more v.size u.record_number u.stamp u.place v.counts;
   tops = record { record_number = u.record_number; stamp = u.stamp } ∷ v.tops;
   front = no_front;
   seen = seen;
@@ -51,6 +52,12 @@ module _ (z : Size) (stamp : ℕ) (u : Write) (v w : View) (l : LinksOne z stamp
 
   one_rests : Rests w.work.search
   one_rests = subst (λ (x : View). Rests x.work.search) (sym one_view) tt
+
+-- a version that is linked in a place other than the kept one
+pub linked_in_kept : (z : Size) (u : Write) (v w : View) → v.size ≡ z → u.place ≢ kept_place z → IsLinked u v w → w.counts.in_kept ≡ v.counts.in_kept
+linked_in_kept z u v w size ne l =
+    ap (λ (x : View). x.counts.in_kept) l.view
+    ∙ ap (λ (b : Bool). cond b (version_kept u.record_number u.stamp) v.counts.in_kept) (ap (λ (x : Size). eqb u.place (kept_place x)) size ∙ ne_eqb u.place (kept_place z) ne)
 
 -- ---- the sets, and what is in flight
 
@@ -79,9 +86,11 @@ begun_stage z s s' v w begun same only rests linked = record {
 pub record Placing (core : Shared) (before : Seated) (s0 : SetsView) (i : ℕ) (s : SetsView) (now : Seated) : Type 0 where
   pub stays : StaysReady core before now
   pub same : SameSets s0 s
+  pub room : (s0.read_room ≤ s.read_room) × (s0.write_room ≤ s.write_room)
   pub inside : (u : Write) → Among u (take i s.writes) → u.place < places core.size
   pub only : now.view ≡ installed_in before.view now.view
   pub held : now.view.places.held ≡ before.view.places.held
+  pub in_kept : now.view.counts.in_kept ≡ before.view.counts.in_kept
   pub rests : Rests now.view.work.search
   pub linked : now.view.work.linked ≡ take i s.writes
   pub each : LinksEach core.size before.view.published.write (take i s.writes) before.view now.view
@@ -90,9 +99,11 @@ pub placing_starts : (core : Shared) (before : Seated) (s : SetsView) → IsRead
 placing_starts core before s ready begun = record {
   stays = ready_none core before ready;
   same = record { reads = refl; writes = same_none s.writes };
+  room = (omega arith, omega arith);
   inside = λ u h. absurd h;
   only = refl;
   held = refl;
+  in_kept = refl;
   rests = begun.rests;
   linked = begun.linked;
   each = none_yet before.view;
@@ -122,8 +133,8 @@ module _ (core : Shared) (before : Seated) (s0 : SetsView) (i : ℕ) (s : SetsVi
   placing_new u t c h = once_turn (λ (w : Write). w.record_number) i s.writes u placing_once t c (subst (Among c) p.linked h)
 
   -- one write more
-  pub placing_next : (stamp : ℕ) (s' : SetsView) (at : Seated) → stamp ≡ before.view.published.write → i < length s.writes → InstallsOne core.size stamp i s s' now.view at.view → StaysReady core now at → Placing core before s0 (i + 1) s' at
-  placing_next stamp s' at same lt o stays =
+  pub placing_next : (stamp : ℕ) (s' : SetsView) (at : Seated) → stamp ≡ before.view.published.write → i < length s.writes → InstallsOne core.size stamp i s s' now.view at.view → at.view.counts.in_kept ≡ now.view.counts.in_kept → (s.read_room ≤ s'.read_room) × (s.write_room ≤ s'.write_room) → StaysReady core now at → Placing core before s0 (i + 1) s' at
+  placing_next stamp s' at same lt o in_kept room stays =
       let u : Write = record o.puts.write { place = o.place; stamp = stamp } in
       let l : LinksOne core.size before.view.published.write u now.view at.view = record { at = same; taken = o.taken; takes = o.takes; value = o.puts.value; value_is = o.puts.value_is; linked = o.puts.linked } in
       let more : take (i + 1) s'.writes ≡ take i s.writes ++ u ∷ [] = ap (λ (ws : List Write). take (i + 1) ws) o.puts.writes ∙ take_more_set s.writes i u lt in
@@ -134,10 +145,12 @@ module _ (core : Shared) (before : Seated) (s0 : SetsView) (i : ℕ) (s : SetsVi
           writes = same_both s0.writes s.writes s'.writes p.same.writes
               (subst (λ (ws : List Write). SameWrites s.writes ws) (sym o.puts.writes) (same_set s.writes i o.puts.write o.place stamp o.puts.turn lt));
         };
+        room = (omega arith, omega arith);
         inside = λ c h. ⊎_elim (λ (old : Among c (take i s.writes)). p.inside c old) (λ (new : u ≡ c). subst (λ (x : Write). x.place < places core.size) new o.puts.inside)
             (among_last c u (take i s.writes) (subst (Among c) more h));
         only = one_only core.size before.view.published.write u now.view at.view l ∙ ap (λ (x : View). installed_in x at.view) p.only;
         held = one_held core.size before.view.published.write u now.view at.view l ∙ p.held;
+        in_kept = in_kept ∙ p.in_kept;
         rests = one_rests core.size before.view.published.write u now.view at.view l;
         linked = one_linked core.size before.view.published.write u now.view at.view l ∙ ap (λ (ws : List Write). ws ++ u ∷ []) p.linked ∙ sym more;
         each = subst (λ (ws : List Write). LinksEach core.size before.view.published.write ws before.view at.view) (sym more) (one_more (take i s.writes) u before.view now.view at.view p.each l);
@@ -182,6 +195,9 @@ module _ (core : Shared) (before : Seated) (s0 : SetsView) (i : ℕ) (s : SetsVi
         stands_both before.view now.view w placing_stands (stands_both now.view x.view w
         (works_stands now.view x.view record { only = subst (λ (y : View). y ≡ worked now.view y.work y.seen) (sym f.none.view) refl; added = []; loads = ap (λ (y : View). y.seen.loads) f.none.view ∙ sym (append-nil now.view.seen.loads) })
         (works_stands x.view w a))
+
+    pub none_in_kept : (w : View) → Works x.view w → w.counts.in_kept ≡ before.view.counts.in_kept
+    none_in_kept w a = ap (λ (y : View). y.counts.in_kept) a.only ∙ ap (λ (y : View). y.counts.in_kept) f.none.view ∙ p.in_kept
 
     pub none_log : (w : View) → Works x.view w → w.log ≡ before.view.log
     none_log w a = ap (λ (y : View). y.log) a.only ∙ ap (λ (y : View). y.log) f.none.view ∙ ap (λ (y : View). y.log) p.only

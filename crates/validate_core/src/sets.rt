@@ -1,5 +1,5 @@
 //! What a transaction has read and what it writes.
-ghost use Rattle.std.specs.Prelude.{◌≡◌, ◌≢◌, ◌+◌, ◌<◌, ◌≤◌, [], ◌∷◌, ◌++◌, length, slice_set, OnOk};
+ghost use Rattle.std.specs.Prelude.{◌≡◌, ◌≢◌, ◌⊎◌, ◌+◌, ◌<◌, ◌≤◌, [], ◌∷◌, ◌++◌, length, slice_set, OnOk, OnErr};
 ghost use Rattle.core_rule.specs.View.{Read, Write};
 ghost use Rattle.core_rule.specs.Views.{Among};
 ghost use Rattle.core_rule.specs.Versions.{read_version, written_version};
@@ -39,12 +39,14 @@ impl Sets {
         }
     }
 
-    /// Makes room for so many reads and writes beyond what stands. The lists stay as they are, after a refusal too.
+    /// Makes room for so many reads and writes beyond what stands. The lists stay as they are, after a refusal too, which comes
+    /// only where there was less room.
     pub fn reserve(&mut self, reads: u32, writes: u32) -> Result<(), NoMemory>
         ensures reads { self.new.reads ≡ self.old.reads }
         ensures writes { self.new.writes ≡ self.old.writes }
         ensures read_room { OnOk result (length self.old.reads + reads ≤ self.new.read_room) }
         ensures write_room { OnOk result (length self.old.writes + writes ≤ self.new.write_room) }
+        ensures full { OnErr result ((self.old.read_room < length self.old.reads + reads) ⊎ (self.old.write_room < length self.old.writes + writes)) }
         ensures not_less { (self.old.read_room ≤ self.new.read_room) × (self.old.write_room ≤ self.new.write_room) }
     {
         self.reads.reserve(reads as usize)?;

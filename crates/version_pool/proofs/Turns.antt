@@ -200,6 +200,11 @@ WasMet-none place ps v w none has = was_met place v w none.lost (ap (λ (x : Vie
 pub WasMet-first : (place p : ℕ) (ps : List ℕ) (v w : View) → (t : TakesFirst ps v p w) → Has place t.earlier → WasMet place v w
 WasMet-first place p ps v w t has = was_met place v w t.lost (ap (λ (x : View). x.seen.lost) t.takes.view) (among place t.earlier t.lost t.not_free has)
 
+pub WasMet-missed : (place p : ℕ) (ps qs : List ℕ) (u v w : View) → FindsNone ps u v → TakesFirst qs v p w → Has place ps → WasMet place u w
+WasMet-missed place p ps qs u v w first t has = was_met place u w (first.lost ++ t.lost)
+    (ap (λ (x : View). x.seen.lost) t.takes.view ∙ ap (λ (x : View). x.seen.lost ++ t.lost) first.view ∙ append_assoc u.seen.lost first.lost t.lost)
+    (among place (ps ++ t.earlier) (first.lost ++ t.lost) (AreLostOn-append ps t.earlier first.lost t.lost first.not_free t.not_free) (Has-append_left place ps t.earlier has))
+
 -- the same, where a call answers whether it took one
 pub IfSome-after : (ps qs : List ℕ) (u v w : View) (r : Option ℕ) → FindsNone ps u v → IfSome r (λ place. TakesFirst qs v place w) → IfSome r (λ place. TakesFirst (ps ++ qs) u place w)
 IfSome-after ps qs u v w None first second = tt

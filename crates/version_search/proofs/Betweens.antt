@@ -133,9 +133,9 @@ module _ (core : Shared) (layout : Size) (layout_is : layout ≡ core.size) (bef
           search = cond (no i) still lost;
           linked = cond (no i) (po.view.work.linked ++ u ∷ []) po.view.work.linked;
         }) in
-        let known : (p : Stand) (q : Joint) → p ≡ between u above below b.under b.least true → cond (eqb n (suc p.place)) (counted_more po.view.size p.record_number q.write.place po.view.counts) po.view.counts ≡ po.view.counts =
-        λ p q is. ap (λ (x : Stand). cond (eqb n (suc x.place)) (counted_more po.view.size p.record_number q.write.place po.view.counts) po.view.counts) is
-        ∙ ap (λ (x : Bool). cond x (counted_more po.view.size p.record_number q.write.place po.view.counts) po.view.counts) no in
+        let known : (p : Stand) (q : Joint) → p ≡ between u above below b.under b.least true → cond (eqb n (suc p.place)) (counted_more po.view.size p.record_number q.write.stamp q.write.place po.view.counts) po.view.counts ≡ po.view.counts =
+        λ p q is. ap (λ (x : Stand). cond (eqb n (suc x.place)) (counted_more po.view.size p.record_number q.write.stamp q.write.place po.view.counts) po.view.counts) is
+        ∙ ap (λ (x : Bool). cond x (counted_more po.view.size p.record_number q.write.stamp q.write.place po.view.counts) po.view.counts) no in
         let same_counts : jo.view.counts ≡ po.view.counts = ap (λ (v : View). v.counts) joined ∙ known (stand_in po.view.work.search) (joint_in po.view.work.search) ps in
         let no_top : (p : Stand) (q : Joint) → p ≡ between u above below b.under b.least true → cond (eqb n (suc p.place)) (record { record_number = p.record_number; stamp = q.write.stamp } ∷ po.view.tops) po.view.tops ≡ po.view.tops =
         λ p q is. ap (λ (x : Stand). cond (eqb n (suc x.place)) (record { record_number = p.record_number; stamp = q.write.stamp } ∷ po.view.tops) po.view.tops) is
@@ -182,7 +182,7 @@ module _ (core : Shared) (layout : Size) (layout_is : layout ≡ core.size) (bef
           view =
               joined ∙ (λ i. record po.view {
                 work = linked_after (ps i) (pj i) (pl i) n po.view.work;
-                counts = cond (eqb n (suc (ps i).place)) (counted_more po.view.size (ps i).record_number (pj i).write.place po.view.counts) po.view.counts;
+                counts = cond (eqb n (suc (ps i).place)) (counted_more po.view.size (ps i).record_number (pj i).write.stamp (pj i).write.place po.view.counts) po.view.counts;
                 tops = cond (eqb n (suc (ps i).place)) (record { record_number = (ps i).record_number; stamp = (pj i).write.stamp } ∷ po.view.tops) po.view.tops;
                 front = cond (eqb n (suc (ps i).place)) no_front po.view.front;
                 seen = jo.view.seen;
@@ -191,13 +191,13 @@ module _ (core : Shared) (layout : Size) (layout_is : layout ≡ core.size) (bef
                   search = cond (won i) still (stands (between u above (n - 1) b.under (suc wts) false) blank);
                   linked = cond (won i) (po.view.work.linked ++ u ∷ []) po.view.work.linked;
                 };
-                counts = cond (won i) (counted_more po.view.size u.record_number u.place po.view.counts) po.view.counts;
+                counts = cond (won i) (counted_more po.view.size u.record_number u.stamp u.place po.view.counts) po.view.counts;
                 tops = cond (won i) (record { record_number = u.record_number; stamp = u.stamp } ∷ po.view.tops) po.view.tops;
                 front = cond (won i) no_front po.view.front;
                 seen = jo.view.seen;
               }) ∙ ap (λ (v : View). record v {
                 work = record v.work { search = still; linked = v.work.linked ++ u ∷ [] };
-                counts = counted_more v.size u.record_number u.place v.counts;
+                counts = counted_more v.size u.record_number u.stamp u.place v.counts;
                 tops = record { record_number = u.record_number; stamp = u.stamp } ∷ v.tops;
                 front = no_front;
                 seen = jo.view.seen;

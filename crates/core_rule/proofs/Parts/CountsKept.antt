@@ -141,7 +141,7 @@ module _ (kept : State → Type 0) (z : Size) (g : World) (m : Memory) (vs : Lis
     abbrev top : Top
     top = record { record_number = r; stamp = t }
 
-    links_kept : (b : Bool) → Alone → As (cond b (at_number g.lists r ys) g.lists) (cond b (counted_more v.size r p v.counts) v.counts) (cond b (top ∷ v.tops) v.tops)
+    links_kept : (b : Bool) → Alone → As (cond b (at_number g.lists r ys) g.lists) (cond b (counted_more v.size r t p v.counts) v.counts) (cond b (top ∷ v.tops) v.tops)
     links_kept false alone = knew s alone
     links_kept true alone = let h = knew s alone in rw (size_is s) record {
       bounded = λ q lt. at_both (known_of v.counts) g.lists r (one_more z p (known_of v.counts r)) ys q (IsBounded z) (λ same. bounded_more z p (known_of v.counts r) (g.lists r) ys long out (h.bounded r (rw same lt))) (λ ne. h.bounded q lt);

@@ -41,6 +41,7 @@ use Rattle.core_rule.proofs.Sought.{sought_next}
 use Rattle.core_rule.proofs.Cutting.{cut_work, cut_version, tail_linked, tail_low}
 use Rattle.core_rule.proofs.Tails.{spells_from}
 use Rattle.core_rule.proofs.Sources.{snapshot_obeys}
+use Rattle.core_rule.proofs.Spares.{spare_free}
 use Rattle.core_rule.proofs.Standing.{stood, lawful_log, value_left}
 use Rattle.core_rule.proofs.Snapshots.{reads_alike}
 use Rattle.core_rule.proofs.LeftBy.{search_left, cells_left}
@@ -281,6 +282,7 @@ module _ (kept : State → Type 0) (z : Size) (g : World) (m : Memory) (vs : Lis
     (s.rule.met id v s.at s.allowed.is_open).within,
     let w = after (take p) v (m (status p)) in
         reckons kept z (turned (take p) v (m (status p)) g) (changed (take p) v m) (set vs id w) (rule_kept kept z g m vs id v (take p) s) id w (set_here vs id w (at_below vs v id s.at)) s.allowed.is_open,
+    λ knows. spare_free kept z g m vs s.rule id v s.at s.allowed.is_open p knows,
   )
   learnt (load_head aim r) s =
       let lt : r < z.records = rw (← (s.rule.seats.each id v s.at s.allowed.is_open).size) s.allowed.can.0 in

@@ -8,6 +8,7 @@ use Rattle.rapid_gc.specs.Queues.{Waiting}
 use Rattle.rapid_gc.specs.Collections.{idled, Prepares, GoesThrough, after_collecting}
 use Rattle.rapid_gc.proofs.Alone.{idled_alone, nothing_stays}
 use Rattle.rapid_gc.proofs.Bounds.{are_kept, leaves_one}
+use Rattle.rapid_gc.proofs.InKept.{is_left, cuts_off}
 use Rattle.rapid_gc.proofs.Prepared.{idled_is, ends_idled, collects_view}
 use Rattle.rapid_gc.proofs.collecting.collect.Goals as goal
 
@@ -60,6 +61,12 @@ returns-clause-known g c = are_kept c.args.hand.now.view c.args.queue.now.items 
 
 pub returns-clause-one_left : goal.returns-clause-one_left
 returns-clause-one_left g c = leaves_one c.args.hand.now.view c.args.queue.now.items c.go_through.new.items.items c.go_through.new.hand.view c.go_through.result (returns-clause-collects g c)
+
+pub returns-clause-in_kept : goal.returns-clause-in_kept
+returns-clause-in_kept g c = is_left c.args.hand.now.view c.args.queue.now.items c.go_through.new.items.items c.go_through.new.hand.view c.go_through.result (returns-clause-collects g c)
+
+pub returns-clause-cut_off : goal.returns-clause-cut_off
+returns-clause-cut_off g c = cuts_off c.args.hand.now.view c.args.queue.now.items c.go_through.new.items.items c.go_through.new.hand.view c.go_through.result (returns-clause-collects g c)
 
 pub returns-clause-seen : goal.returns-clause-seen
 returns-clause-seen g c = λ alone.

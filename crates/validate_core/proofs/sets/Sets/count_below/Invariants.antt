@@ -1,4 +1,4 @@
-use Rattle.std.proofs.Common.{◌≡◌, ◌≤◌, take, length}
+use Rattle.std.proofs.Common.{◌≡◌, ◌≤◌, take}
 use Rattle.validate_core.specs.Sets.{count_below}
 use Rattle.validate_core.proofs.sets.Sets.count_below.Given as goal
 

@@ -1,0 +1,26 @@
+-- Which places a seat that is alone knows to be free.
+use Rattle.std.specs.Prelude.{◌≡◌, ◌⊎◌, ℕ, ◌<◌, ◌≤◌, Some}
+use Rattle.word_layout.specs.Size.{Size, kept_place}
+use Rattle.core_rule.specs.View.{View, Bound, Counted, nothing_kept, version_kept, no_item}
+use Rattle.core_rule.specs.Views.{Has, IsAlone}
+use Rattle.core_rule.specs.Searching.{Rests, known_of}
+
+-- the only version of record r stands in the kept place, as it is known
+pub record StandsKept (r : ℕ) (c : Counted) : Type 0 where
+  pub stamp : ℕ
+  pub kept : c.in_kept ≡ version_kept r stamp
+  pub bound : Bound
+  pub known : known_of c r ≡ Some bound
+  pub only : bound.linked ≤ 1
+
+-- the kept place, where the seat has nothing there; the inline place of a record whose only version stands there
+abbrev pub IsSpare : Size → (p : ℕ) → Counted → Type 0
+IsSpare z p c = ((p ≡ kept_place z) × (c.in_kept ≡ nothing_kept)) ⊎ ((p < z.records) × StandsKept p c)
+
+-- the seat is alone, marks and collects nothing, and does not hold it, so it is free
+pub record KnowsFree (v : View) (p : ℕ) : Type 0 where
+  pub alone : IsAlone v
+  pub rests : Rests v.work.search
+  pub collected : v.work.item ≡ no_item
+  pub not_held : Has p v.places.held → ⊥
+  pub spare : IsSpare v.size p v.counts

@@ -3,7 +3,7 @@ use Rattle.std.specs.Prelude.{◌≡◌, ℕ, ◌+◌, ◌<◌, ◌≤◌, ◌++
 use Rattle.record_store.specs.Meaning.{Meaning}
 use Rattle.record_store.specs.Store.{IsFresh}
 use Rattle.record_store.specs.States.{EachState}
-use Rattle.record_store.specs.Writes.{WritesAtMost}
+use Rattle.record_store.specs.Writes.{WritesAtMost, GivesAtMost}
 use Rattle.hash_index.specs.Chain.{EachChain, Tears, record_of, bucket_of}
 use Rattle.hash_index.specs.Changes.{IsPut, IsRemoved, NeedsNode}
 
@@ -17,10 +17,12 @@ pub record MayAsk (base key : ℕ) (before after : Meaning) (asks : ℕ) : Type 
   pub once : asks ≤ 1
   pub needs_node : EachChain base before after (λ _ rows. NeedsNode key rows)
 
--- how often `fresh` was asked: only where it may be, and where the pair is in, once for each record that was given
+-- how often `fresh` was asked: only where it may be, and where the pair is in, once for each record that was given; else at least so
+-- often
 pub record Asks {E : Type 0} (base key : ℕ) (before after : Meaning) (answer : Result (Unit {0}) E) (asked : ℕ) : Type 0 where
   pub may : 0 < asked → MayAsk base key before after asked
   pub exact : OnOk answer (length after.given ≡ length before.given + asked)
+  pub given : GivesAtMost asked before after
 
 -- a pair is put: one record is written, and where a new node is taken one more
 pub record PutsPair (base key rid : ℕ) (before after : Meaning) : Type 0 where

@@ -5,6 +5,7 @@ ghost use Rattle.record_store.specs.Calls.{Reads, ReadFault, Calls, CallFault};
 ghost use Rattle.record_store.specs.Limits.{record_limit};
 ghost use Rattle.record_store.specs.States.{EachState};
 ghost use Rattle.record_store.specs.Walks.{IfTorn, IfStore, IfNoMemory, OnlyReads, ReadsGrow};
+ghost use Rattle.record_store.specs.Writes.{WritesOnly, EachWritesKnown, GivesAtMost, GivesFewer};
 ghost use Rattle.record_store.specs.Meaning.{after_write};
 ghost use Rattle.hash_index.specs.Node.{words_of};
 ghost use Rattle.hash_index.specs.Chain.{EachChain, EndsWell, bucket_of, record_of};
@@ -53,10 +54,13 @@ pub fn put<S: RecordStore>(
     ensures walked { OnOk result (EachState (S.meaning store.old) (S.meaning store.new) (EndsWell (S.meaning store.old).size (base + bucket_of key) key)) }
     ensures torn { IfTorn result (IsTorn base key (S.meaning store.old) (S.meaning store.new)) }
 
-    // each ask of `fresh` is counted, and may be made
-    ensures fault { IfStore result (CallFault S.read_gives S.write_gives S.fresh_gives (MayAsk base key (S.meaning store.old) (S.meaning store.new)) store.old store.new) }
+    // each ask of `fresh` is counted, and may be made; one that is refused gave nothing
+    ensures fault { IfStore result (CallFault S.read_gives S.write_gives S.fresh_gives (λ asks. MayAsk base key (S.meaning store.old) (S.meaning store.new) asks × GivesFewer asks (S.meaning store.old) (S.meaning store.new)) store.old store.new) }
     ensures memory { IfNoMemory result ⊥ }
     ensures calls { (asked : ℕ) × Calls S.read_gives S.write_gives S.fresh_gives store.old asked store.new × Asks base key (S.meaning store.old) (S.meaning store.new) result asked }
+
+    // whatever it answers, no record is written but the bucket, one that is present, and one that was given
+    ensures writes { EachWritesKnown (S.meaning store.old) (S.meaning store.new) }
     ensures after { ReadsGrow (S.meaning store.old) (S.meaning store.new) }
     ensures rest { S.rest store.new ≡ S.rest store.old }
 {
@@ -86,9 +90,11 @@ fn add_node<S: RecordStore>(
     requires position { last.node.position < record_limit }
     ensures ok { OnOk result (AddsNode key rid last (S.meaning store.old) (S.meaning store.new)) }
     ensures torn { IfTorn result (λ _. ⊥) }
-    ensures fault { IfStore result (CallFault S.read_gives S.write_gives S.fresh_gives (λ asks. asks ≤ 1) store.old store.new) }
+    ensures fault { IfStore result (CallFault S.read_gives S.write_gives S.fresh_gives (λ asks. (asks ≤ 1) × GivesFewer asks (S.meaning store.old) (S.meaning store.new)) store.old store.new) }
     ensures memory { IfNoMemory result ⊥ }
     ensures calls { Calls S.read_gives S.write_gives S.fresh_gives store.old 1 store.new }
+    ensures writes { WritesOnly (λ rid. rid ≡ last.at) (S.meaning store.old) (S.meaning store.new) }
+    ensures given { GivesAtMost 1 (S.meaning store.old) (S.meaning store.new) }
     ensures after { ReadsGrow (S.meaning store.old) (S.meaning store.new) }
     ensures rest { S.rest store.new ≡ S.rest store.old }
 {
@@ -127,6 +133,10 @@ pub fn remove<S: RecordStore>(store: &mut S, base: u32, key: u64) -> Result<bool
 
     // `fresh` is never asked
     ensures calls { Calls S.read_gives S.write_gives S.fresh_gives store.old 0 store.new }
+    ensures given { GivesAtMost 0 (S.meaning store.old) (S.meaning store.new) }
+
+    // whatever it answers, no record is written but one that is present
+    ensures writes { EachWritesKnown (S.meaning store.old) (S.meaning store.new) }
     ensures after { ReadsGrow (S.meaning store.old) (S.meaning store.new) }
     ensures rest { S.rest store.new ≡ S.rest store.old }
 {

@@ -5,6 +5,7 @@ pub mod Paths
 pub mod Passed
 pub mod Rows
 pub mod Trees
+pub mod Going
 pub mod Grown
 pub mod Edits
 pub mod Leaves

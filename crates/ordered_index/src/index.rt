@@ -6,7 +6,7 @@ ghost use Rattle.record_store.specs.Meaning.{after_write};
 ghost use Rattle.ordered_index.specs.Node.{words_of};
 ghost use Rattle.ordered_index.specs.Held.{content_of};
 ghost use Rattle.ordered_index.specs.Changes.{RemovesEntry, InsertsEntry};
-ghost use Rattle.record_store.specs.Writes.{WritesAtMost};
+ghost use Rattle.record_store.specs.Writes.{WritesAtMost, EachWritesKnown, GivesAtMost, GivesFewer};
 ghost use Rattle.ordered_index.specs.Asks.{MayAsk, Asks};
 ghost use Rattle.record_store.specs.Walks.{IfTorn, IfStore, IfNoMemory, OnlyReads, ReadsGrow};
 ghost use Rattle.ordered_index.specs.Tree.{EachTree, record_of_key};
@@ -59,6 +59,10 @@ pub fn remove<S: RecordStore>(store: &mut S, root: u32, key: Key) -> Result<bool
 
     // `fresh` is never asked
     ensures calls { Calls S.read_gives S.write_gives S.fresh_gives store.old 0 store.new }
+    ensures given { GivesAtMost 0 (S.meaning store.old) (S.meaning store.new) }
+
+    // whatever it answers, no record is written but one that is present
+    ensures writes { EachWritesKnown (S.meaning store.old) (S.meaning store.new) }
     ensures rest { S.rest store.new ≡ S.rest store.old }
     ensures after { ReadsGrow (S.meaning store.old) (S.meaning store.new) }
 {
@@ -90,10 +94,13 @@ pub fn insert<S: RecordStore>(
     ensures walked { OnOk result (EachState (S.meaning store.old) (S.meaning store.new) (EndsWell (S.meaning store.old).size root key)) }
     ensures torn { IfTorn result (IsTorn root key (S.meaning store.old) (S.meaning store.new)) }
 
-    // `fresh` is asked where the key is not there, and so often at most as new records are due
-    ensures fault { IfStore result (CallFault S.read_gives S.write_gives S.fresh_gives (MayAsk root key (S.meaning store.old) (S.meaning store.new)) store.old store.new) }
+    // `fresh` is asked where the key is not there, and so often at most as new records are due; an ask that is refused gave nothing
+    ensures fault { IfStore result (CallFault S.read_gives S.write_gives S.fresh_gives (λ asks. MayAsk root key (S.meaning store.old) (S.meaning store.new) asks × GivesFewer asks (S.meaning store.old) (S.meaning store.new)) store.old store.new) }
     ensures memory { IfNoMemory result ⊥ }
-    ensures calls { (asked : ℕ) × Calls S.read_gives S.write_gives S.fresh_gives store.old asked store.new × Asks root key (S.meaning store.old) (S.meaning store.new) result asked }
+    ensures calls { (asked : ℕ) × Calls S.read_gives S.write_gives S.fresh_gives store.old asked store.new × Asks root key (S.meaning store.old) (S.meaning store.new) result asked × GivesAtMost asked (S.meaning store.old) (S.meaning store.new) }
+
+    // whatever it answers, no record is written but the root, one that is present, and one that was given
+    ensures writes { EachWritesKnown (S.meaning store.old) (S.meaning store.new) }
     ensures few { WritesAtMost 51 (S.meaning store.old) (S.meaning store.new) }
     ensures rest { S.rest store.new ≡ S.rest store.old }
     ensures after { ReadsGrow (S.meaning store.old) (S.meaning store.new) }

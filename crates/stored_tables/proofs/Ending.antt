@@ -5,6 +5,7 @@ use Rattle.plain_data.specs.State.{State, Agrees}
 use Rattle.record_store.specs.Calls.{CallFault}
 use Rattle.record_store.specs.Meaning.{Meaning, after_undo}
 use Rattle.record_store.specs.Walks.{IfTorn, IfStore, ReadsGrow}
+use Rattle.record_store.specs.Writes.{GivesFewer}
 use Rattle.record_store.specs.declared.walk.Walk.{Walk}
 use Rattle.record_store.proofs.Refusals.{IfTorn-map, IfStore-map, OnOk_then, fault_moved}
 use Rattle.replay_model.specs.declared.command.Command.{Command}
@@ -110,12 +111,13 @@ pub fault_tables : {S F : Type 0} (read_gives : S → ℕ → Result (Option (Li
     → Result (Unit {0}) F → S → Type 0) (fresh_gives : S → Result ℕ F → S → Type 0) (meaning : S → Meaning) (commands : List Command)
     (first last : S) (result other : Result Outcome (Walk F)) (walk : Walk F) → other ≡ Err walk → IsErrAnd result (λ w. w ≡ walk)
     → IfStore other (CallFault read_gives write_gives fresh_gives (λ asks. Each (Stands (meaning first)) (meaning last)
-    (MayAskAll commands asks)) first last)
-    → IfStore result (CallFault read_gives write_gives fresh_gives (MayAskOnce commands (meaning first) (meaning last)) first last)
+    (MayAskAll commands asks) × GivesFewer asks (meaning first) (meaning last)) first last)
+    → IfStore result (CallFault read_gives write_gives fresh_gives (λ asks. MayAskOnce commands (meaning first) (meaning last) asks
+    × GivesFewer asks (meaning first) (meaning last)) first last)
 fault_tables read_gives write_gives fresh_gives meaning commands first last result other walk was is fault =
     fault_moved result other walk _ was is
-    (IfStore-map other (λ f. fault_map _ _ first last f (λ asks each. may_tables commands (meaning first) (meaning last) asks each))
-    fault)
+    (IfStore-map other (λ f. fault_map _ _ first last f
+    (λ asks both. (may_tables commands (meaning first) (meaning last) asks both.0, both.1))) fault)
 
 module _ {S F : Type 0} {read_gives : S → ℕ → Result (Option (List ℕ)) F → S → Type 0} {write_gives : S → ℕ → Option (List ℕ)
     → Result (Unit {0}) F → S → Type 0} {fresh_gives : S → Result ℕ F → S → Type 0} {meaning : S → Meaning} (commands : List Command)
@@ -129,6 +131,8 @@ module _ {S F : Type 0} {read_gives : S → ℕ → Result (Option (List ℕ)) F
     calls = r.calls;
     may = λ some. may_tables commands (meaning first) (meaning last) r.asked (r.may some);
     few = never_ok result walk _ is;
+    given = r.given;
+    writes = λ state places tables agrees stands. r.writes state (places, tables) agrees stands;
     done = err_done result walk _ is;
     refused = err_refused result walk _ is;
     otherwise = on_err result _ refl;
@@ -148,6 +152,8 @@ module _ {S F : Type 0} {read_gives : S → ℕ → Result (Option (List ℕ)) F
         calls = r.calls;
         may = λ some. may_tables commands (meaning first) (meaning last) r.asked (r.may some);
         few = OnOk_then other r.few (Done answers) was;
+        given = r.given;
+        writes = λ state places tables agrees stands. r.writes state (places, tables) agrees stands;
         done = (
           refl,
           λ state places tables agrees stands. leaves commands answers (meaning last) r.asked state places tables
@@ -168,6 +174,10 @@ module _ {S F : Type 0} {read_gives : S → ℕ → Result (Option (List ℕ)) F
     may = λ some. may_after commands (meaning first) (meaning last) (meaning now) r.asked
         (undone_reads (meaning last) (meaning now) undone) (may_tables commands (meaning first) (meaning last) r.asked (r.may some));
     few = OnOk_then other r.few (Refused command cause) was;
+    given = r.given;
+    writes = λ state places tables agrees stands. r.writes state (places, tables)
+        (let A : List (ℕ × Option (List ℕ)) → Type 0 = Agrees state in subst A (undone_reads (meaning last) (meaning now) undone) agrees)
+        stands;
     done = tt;
     refused = undone;
     otherwise = tt;

@@ -1,3 +1,4 @@
+pub mod Knowing
 pub mod Runs
 pub mod Looking
 pub mod SixColumns

@@ -5,7 +5,8 @@ use Rattle.plain_data.specs.State.{State, overlay}
 use Rattle.record_store.specs.Calls.Calls.{none as no_calls}
 use Rattle.record_store.specs.Meaning.{Meaning}
 use Rattle.record_store.specs.declared.walk.Walk.{Walk}
-use Rattle.record_store.proofs.Agreement.{extends-refl}
+use Rattle.record_store.proofs.Agreement.{extends-refl, OnlyReads-refl}
+use Rattle.record_store.proofs.Known.{gives-none, known-reads}
 use Rattle.record_store.proofs.Writes.{writes-none}
 use Rattle.ordered_index.specs.Keys.{is_same}
 use Rattle.stored_tables.specs.Answers.{Held, AddsRow, HasRow, DropsRow, MayAskFor}
@@ -201,6 +202,8 @@ module _ {S F : Type 0} {read_gives : S → ℕ → Result (Option (List ℕ)) F
     torn = tt;
     fault = tt;
     few = writes-none (meaning first) (meaning first) refl;
+    given = gives-none (meaning first) (meaning first) refl;
+    writes = λ state x agrees stands. known-reads (meaning first) (meaning first) (OnlyReads-refl (meaning first)) state agrees;
     grow = record { reads = extends-refl (meaning first).reads; size = refl; fixed = refl };
   }
 

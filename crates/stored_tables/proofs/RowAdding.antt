@@ -1,10 +1,11 @@
 -- A row written to a new record.
-use Rattle.std.proofs.Common.{◌≡◌, ℕ, ◌+◌, ◌≤◌, List, Option, None, Some, Result, Ok, Err, refl, ap, subst, ◌∙◌, arith}
+use Rattle.std.proofs.Common.{◌≡◌, ℕ, ◌+◌, ◌≤◌, List, Option, None, Some, Result, Ok, Err, refl, ap, subst, ◌∙◌, arith, inl, inr}
 use Rattle.std.specs.Prelude.{IsErrAnd}
 use Rattle.plain_data.specs.State.{State, overlay}
 use Rattle.record_store.specs.Meaning.{Meaning, with_value, after_write, after_fresh}
 use Rattle.record_store.specs.Store.{IsFresh}
 use Rattle.record_store.specs.declared.walk.Walk.{Walk}
+use Rattle.record_store.proofs.Known.{fresh-given}
 use Rattle.record_store.specs.declared.walk.Walk.TheVariants.{Store}
 use Rattle.stored_tables.specs.Answers.{AddsRow, LacksRow}
 use Rattle.stored_tables.specs.Places.{Places, fixed_records}
@@ -50,6 +51,7 @@ module _ {S F : Type 0} {read_gives : S → ℕ → Result (Option (List ℕ)) F
       runs_then Did 0 1 first middle last (Ok rid) rid (Ok rid)
       (fresh_done (LacksRow (meaning first) table key) Few first middle rid gave new given (λ state places lacks. omega arith)) refl
       (write_done Inner (λ _ _ _. ⊥) Does middle last rid value rid gives is
+      (λ state places inner. inr (inl (fresh-given (meaning first) (meaning middle) rid given)))
       (λ state places agrees inner. (
         refl,
         adds_row table key rid words (meaning first) (meaning last) state places wrote

@@ -10,10 +10,12 @@ use Rattle.record_store.specs.Walks.{ReadsGrow}
 use Rattle.record_store.specs.declared.walk.Walk.{Walk}
 use Rattle.record_store.specs.declared.walk.Walk.TheVariants.{Torn, NoMemory}
 use Rattle.record_store.proofs.Agreement.{agrees-extends, extends-trans, OnlyReads-refl, OnlyReads-trans, ReadsGrow-only, writes_same}
+use Rattle.record_store.proofs.Known.{gives-reads, gives-trans, fewer-behind, known-reads}
 use Rattle.record_store.proofs.Paths.{Reads-trans, ReadFault-behind, Calls-reads, Calls-trans, CallFault-read, CallFault-behind}
 use Rattle.record_store.proofs.Refusals.{fault_moved, torn_moved, IfStore-map, IfTorn-map, OnOk-map, OnOk_then}
 use Rattle.record_store.proofs.Writes.{writes-none, writes-trans, writes-weaken}
 use Rattle.stored_tables.specs.Runs.{Each, Looks, Runs}
+use Rattle.stored_tables.proofs.Knowing.{known_trans}
 
 pub unlike : (b : Bool) → b ≡ true → b ≡ false → ⊥
 unlike b is other = cc
@@ -159,11 +161,13 @@ module _ {S F : Type 0} {read_gives : S → ℕ → Result (Option (List ℕ)) F
   runs_torn Other few most first last other value rid r was never = record {
     asked = r.asked;
     calls = r.calls;
+    given = r.given;
     may = r.may;
     did = tt;
     torn = λ state x agrees stands. never r.asked state x agrees stands (ok_of other _ value was r.did state x agrees stands);
     fault = tt;
     few = tt;
+    writes = r.writes;
     grow = r.grow;
   }
 
@@ -175,11 +179,13 @@ module _ {S F : Type 0} {read_gives : S → ℕ → Result (Option (List ℕ)) F
   runs_memory Other few most first last other r = record {
     asked = r.asked;
     calls = r.calls;
+    given = r.given;
     may = r.may;
     did = tt;
     torn = tt;
     fault = tt;
     few = tt;
+    writes = r.writes;
     grow = r.grow;
   }
 
@@ -192,6 +198,8 @@ module _ {S F : Type 0} {read_gives : S → ℕ → Result (Option (List ℕ)) F
   looks_runs Due Did most first last result l more = record {
     asked = 0;
     calls = Calls-reads first last l.calls;
+    given = gives-reads (meaning first) (meaning last) l.only;
+    writes = λ state x agrees stands. known-reads (meaning first) (meaning last) l.only state agrees;
     may = λ some. absurd (omega arith);
     did = IfOk-map result (λ value each state x agrees stands. more value state x agrees stands (each state x agrees stands)) l.found;
     torn = l.torn;
@@ -210,14 +218,18 @@ module _ {S F : Type 0} {read_gives : S → ℕ → Result (Option (List ℕ)) F
   runs_map Stands Due Other few most first last result less r glue = record {
     asked = r.asked;
     calls = r.calls;
+    given = r.given;
     may = λ some state x agrees stands. (let g = glue state x agrees stands in g.2 r.asked (r.may some state g.0 agrees g.1));
     did = IfOk-map result
         (λ value each state x agrees stands. (let g = glue state x agrees stands in g.3 value r.asked (each state g.0 agrees g.1))) r.did;
     torn = IfTorn-map result (λ rid none state x agrees stands. (let g = glue state x agrees stands in none state g.0 agrees g.1)) r.torn;
-    fault = IfStore-map result (λ fault f. CallFault-behind _ _ first first last 0 fault (no_calls first)
-        (λ asks each state x agrees stands. (let g = glue state x agrees stands in at_zero (λ k. Due k state x) asks
-        (g.2 asks (each state g.0 agrees g.1)))) f) r.fault;
+    fault = IfStore-map result (λ fault f. fault_map _ _ first last fault
+        (λ asks both. (
+          λ state x agrees stands. (let g = glue state x agrees stands in g.2 asks (both.0 state g.0 agrees g.1)),
+          both.1,
+        )) f) r.fault;
     few = OnOk-map result (writes-weaken few most (meaning first) (meaning last) less) r.few;
+    writes = λ state x agrees stands. (let g = glue state x agrees stands in r.writes state g.0 agrees g.1);
     grow = r.grow;
   }
 
@@ -229,11 +241,13 @@ module _ {S F : Type 0} {read_gives : S → ℕ → Result (Option (List ℕ)) F
   runs_at {T} {X} {Stands} {Due} Did most first last result value was r = record {
     asked = r.asked;
     calls = r.calls;
+    given = r.given;
     may = r.may;
     did = at_value result value (λ v. Each Stands (meaning last) (Did v r.asked)) was r.did;
     torn = r.torn;
     fault = r.fault;
     few = r.few;
+    writes = r.writes;
     grow = r.grow;
   }
 
@@ -254,11 +268,13 @@ module _ {S F : Type 0} {read_gives : S → ℕ → Result (Option (List ℕ)) F
   runs_moved Other few most first last result other walk r was is = record {
     asked = r.asked;
     calls = r.calls;
+    given = r.given;
     may = r.may;
     did = no_ok result walk _ is;
     torn = torn_moved result other walk _ was is r.torn;
     fault = fault_moved result other walk _ was is r.fault;
     few = never_ok result walk _ is;
+    writes = r.writes;
     grow = r.grow;
   }
 
@@ -270,11 +286,13 @@ module _ {S F : Type 0} {read_gives : S → ℕ → Result (Option (List ℕ)) F
   runs_value Other few most first last other value new less r was more = record {
     asked = r.asked;
     calls = r.calls;
+    given = r.given;
     may = r.may;
     did = λ state x agrees stands. more r.asked state x agrees stands (ok_of other _ value was r.did state x agrees stands);
     torn = tt;
     fault = tt;
     few = writes-weaken few most (meaning first) (meaning last) less (OnOk_then other r.few value was);
+    writes = r.writes;
     grow = r.grow;
   }
 
@@ -309,7 +327,13 @@ module _ {S F : Type 0} {read_gives : S → ℕ → Result (Option (List ℕ)) F
         torn = IfTorn-map result (λ rid none state x agrees stands. (let g = at state x agrees stands in none state g.0 agrees g.1))
             b.torn;
         fault = IfStore-map result (λ fault f. CallFault-behind _ _ first middle last a.asked fault a.calls
-            (λ asks each state x agrees stands. (let g = at state x agrees stands in g.2 asks (each state g.0 agrees g.1))) f) b.fault;
+            (λ asks both. (
+              λ state x agrees stands. (let g = at state x agrees stands in g.2 asks (both.0 state g.0 agrees g.1)),
+              fewer-behind a.asked asks (meaning first) (meaning middle) (meaning last) a.given both.1,
+            )) f) b.fault;
         few = OnOk-map result (writes-trans n m (meaning first) (meaning middle) (meaning last) (OnOk_then early a.few value was)) b.few;
+        given = gives-trans a.asked b.asked (meaning first) (meaning middle) (meaning last) a.given b.given;
+        writes = λ state x agrees stands. (let g = at state x agrees stands in known_trans b.asked (meaning first) (meaning middle)
+            (meaning last) state a.grow.fixed (a.writes state x (back state agrees) stands) b.given (b.writes state g.0 agrees g.1));
         grow = grow_trans (meaning first) (meaning middle) (meaning last) a.grow b.grow;
       }

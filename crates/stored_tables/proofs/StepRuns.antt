@@ -6,7 +6,7 @@ use Rattle.plain_data.specs.State.{State, Agrees, overlay}
 use Rattle.record_store.specs.Calls.{Calls, CallFault}
 use Rattle.record_store.specs.Meaning.{Meaning}
 use Rattle.record_store.specs.Walks.{IfTorn, IfStore, ReadsGrow}
-use Rattle.record_store.specs.Writes.{WritesAtMost}
+use Rattle.record_store.specs.Writes.{WritesAtMost, EachWritesKnown, GivesAtMost, GivesFewer}
 use Rattle.record_store.specs.declared.walk.Walk.{Walk}
 use Rattle.record_store.proofs.Refusals.{IfTorn-map, IfStore-map, OnOk-map}
 use Rattle.record_store.proofs.Writes.{writes-weaken}
@@ -111,13 +111,14 @@ module _ {S F : Type 0} {read_gives : S → ℕ → Result (Option (List ℕ)) F
       → base ≡ base_of table → fixed_records ≤ (meaning first).fixed
       → OnOk result (PutsPair base key rid (meaning first) (meaning last))
       → IfTorn result (IsTornChain base key (meaning first) (meaning last))
-      → IfStore result (CallFault read_gives write_gives fresh_gives (MayAskChain base key (meaning first) (meaning last)) first last)
+      → IfStore result (CallFault read_gives write_gives fresh_gives (λ asks. MayAskChain base key (meaning first) (meaning last) asks
+      × GivesFewer asks (meaning first) (meaning last)) first last)
       → ((asked : ℕ) × Calls read_gives write_gives fresh_gives first asked last × AsksChain base key (meaning first)
-      (meaning last) result asked) → ReadsGrow (meaning first) (meaning last)
+      (meaning last) result asked) → EachWritesKnown (meaning first) (meaning last) → ReadsGrow (meaning first) (meaning last)
       → Runs read_gives write_gives fresh_gives meaning (ChainHas (meaning first) table key None)
       (λ asks _ places. IsDue (pair_put table key) places asks) (λ _. Step rid (pair_put table key) (meaning first) (meaning last)) 2
       first last result
-  put_runs table base key rid first last result low is enough ok torn fault calls grow =
+  put_runs table base key rid first last result low is enough ok torn fault calls writes grow =
       let due : (asks : ℕ) → MayAskChain base key (meaning first) (meaning last) asks → (state : State) (places : Places)
       → Agrees state (meaning last).reads → ChainHas (meaning first) table key None state places
       → IsDue (pair_put table key) places asks = λ asks may state places agrees has. (
@@ -141,9 +142,12 @@ module _ {S F : Type 0} {read_gives : S → ℕ → Result (Option (List ℕ)) F
         torn = IfTorn-map result (λ r t state places agrees has. t.no_chain state (places.rows table) agrees
             (chain_at table base (meaning first) state places low is has.0)) torn;
         fault = IfStore-map result
-            (λ f. fault_map _ _ first last f (λ asks may state places agrees has. due asks may state places agrees has)) fault;
+            (λ f. fault_map _ _ first last f
+            (λ asks may. (λ state places agrees has. due asks may.0 state places agrees has, may.1))) fault;
         few = OnOk-map result (λ (puts : PutsPair base key rid (meaning first) (meaning last)). writes-weaken _ 2 (meaning first)
             (meaning last) (few_given puts.fresh) puts.few) ok;
+        given = calls.2.given;
+        writes = λ state places agrees has. writes state agrees;
         grow = grow;
       }
 
@@ -152,11 +156,12 @@ module _ {S F : Type 0} {read_gives : S → ℕ → Result (Option (List ℕ)) F
       → IfOk result (λ there. RemovesPair base key there (meaning first) (meaning last))
       → IfTorn result (IsTornChain base key (meaning first) (meaning last))
       → IfStore result (CallFault read_gives write_gives fresh_gives (λ _. ⊥) first last)
-      → Calls read_gives write_gives fresh_gives first 0 last → ReadsGrow (meaning first) (meaning last)
+      → Calls read_gives write_gives fresh_gives first 0 last → GivesAtMost 0 (meaning first) (meaning last)
+      → EachWritesKnown (meaning first) (meaning last) → ReadsGrow (meaning first) (meaning last)
       → Runs read_gives write_gives fresh_gives meaning (ChainHas (meaning first) table key (Some rid)) (λ _ _ _. ⊥)
       (λ there asked state places. (there ≡ true) × Step rid (pair_removed table key) (meaning first) (meaning last) asked state
       places) 1 first last result
-  removed_runs table base key rid first last result low is enough ok torn fault calls grow = record {
+  removed_runs table base key rid first last result low is enough ok torn fault calls given writes grow = record {
     asked = 0;
     calls = calls;
     may = λ some. absurd (omega arith);
@@ -175,6 +180,8 @@ module _ {S F : Type 0} {read_gives : S → ℕ → Result (Option (List ℕ)) F
         (chain_at table base (meaning first) state places low is has.0)) torn;
     fault = IfStore-map result (λ f. fault_map _ _ first last f (λ asks never. absurd never)) fault;
     few = few_removed base key (meaning first) (meaning last) result ok;
+    given = given;
+    writes = λ state places agrees has. writes state agrees;
     grow = grow;
   }
 
@@ -182,13 +189,14 @@ module _ {S F : Type 0} {read_gives : S → ℕ → Result (Option (List ℕ)) F
       → root ≡ root_of number → fixed_records ≤ (meaning first).fixed
       → IfOk result (λ done. InsertsEntry root key rid done (meaning first) (meaning last))
       → IfTorn result (IsTorn root key (meaning first) (meaning last))
-      → IfStore result (CallFault read_gives write_gives fresh_gives (MayAsk root key (meaning first) (meaning last)) first last)
+      → IfStore result (CallFault read_gives write_gives fresh_gives (λ asks. MayAsk root key (meaning first) (meaning last) asks
+      × GivesFewer asks (meaning first) (meaning last)) first last)
       → ((asked : ℕ) × Calls read_gives write_gives fresh_gives first asked last × Asks root key (meaning first) (meaning last) result
-      asked) → WritesAtMost 51 (meaning first) (meaning last) → ReadsGrow (meaning first) (meaning last)
+      asked × GivesAtMost asked (meaning first) (meaning last)) → EachWritesKnown (meaning first) (meaning last) → WritesAtMost 51 (meaning first) (meaning last) → ReadsGrow (meaning first) (meaning last)
       → Runs read_gives write_gives fresh_gives meaning (TreeHas (meaning first) number key None)
       (λ asks _ places. IsDue (entry_inserted number key) places asks) (λ done asked state places. (done ≡ true)
       × Step rid (entry_inserted number key) (meaning first) (meaning last) asked state places) 51 first last result
-  inserted_runs number root key rid first last result low is enough ok torn fault calls few grow =
+  inserted_runs number root key rid first last result low is enough ok torn fault calls writes few grow =
       let due : (asks : ℕ) → MayAsk root key (meaning first) (meaning last) asks → (state : State) (places : Places)
       → Agrees state (meaning last).reads → TreeHas (meaning first) number key None state places
       → IsDue (entry_inserted number key) places asks = λ asks may state places agrees has. may state (places.levels number)
@@ -201,8 +209,11 @@ module _ {S F : Type 0} {read_gives : S → ℕ → Result (Option (List ℕ)) F
         torn = IfTorn-map result (λ r t state places agrees has. t.no_tree state (places.levels number) (places.leaves number) agrees
             (tree_at number root (meaning first) state places low is has.1)) torn;
         fault = IfStore-map result
-            (λ f. fault_map _ _ first last f (λ asks may state places agrees has. due asks may state places agrees has)) fault;
+            (λ f. fault_map _ _ first last f
+            (λ asks may. (λ state places agrees has. due asks may.0 state places agrees has, may.1))) fault;
         few = always_ok result few;
+        given = calls.3;
+        writes = λ state places agrees has. writes state agrees;
         grow = grow;
       }
 
@@ -212,11 +223,12 @@ module _ {S F : Type 0} {read_gives : S → ℕ → Result (Option (List ℕ)) F
       → IfTorn result (IsTorn root key (meaning first) (meaning last))
       → IfStore result (CallFault read_gives write_gives fresh_gives (λ _. ⊥) first last)
       → WritesAtMost 1 (meaning first) (meaning last) → Calls read_gives write_gives fresh_gives first 0 last
+      → GivesAtMost 0 (meaning first) (meaning last) → EachWritesKnown (meaning first) (meaning last)
       → ReadsGrow (meaning first) (meaning last)
       → Runs read_gives write_gives fresh_gives meaning (TreeHas (meaning first) number key (Some rid)) (λ _ _ _. ⊥)
       (λ there asked state places. (there ≡ true) × Step rid (entry_removed number key) (meaning first) (meaning last) asked state
       places) 1 first last result
-  taken_runs number root key rid first last result low is enough ok torn fault few calls grow = record {
+  taken_runs number root key rid first last result low is enough ok torn fault few calls given writes grow = record {
     asked = 0;
     calls = calls;
     may = λ some. absurd (omega arith);
@@ -236,5 +248,7 @@ module _ {S F : Type 0} {read_gives : S → ℕ → Result (Option (List ℕ)) F
         (tree_at number root (meaning first) state places low is has.1)) torn;
     fault = IfStore-map result (λ f. fault_map _ _ first last f (λ asks never. absurd never)) fault;
     few = always_ok result few;
+    given = given;
+    writes = λ state places agrees has. writes state agrees;
     grow = grow;
   }

@@ -10,10 +10,13 @@ use Rattle.record_store.specs.Walks.{ReadsGrow}
 use Rattle.record_store.specs.declared.walk.Walk.{Walk}
 use Rattle.record_store.specs.declared.walk.Walk.TheVariants.{Store}
 use Rattle.record_store.proofs.Agreement.{extends-refl, extends-after_read, known-overlay}
+use Rattle.record_store.specs.Writes.{IsKnown}
+use Rattle.record_store.proofs.Known.{gives-none, gives-weaken, fewer-refused, goes-same, goes-fresh}
 use Rattle.record_store.proofs.Refusals.{store_fault}
 use Rattle.record_store.proofs.Steps.{known_unwritten}
 use Rattle.record_store.proofs.Writes.{writes-none, writes-one}
 use Rattle.stored_tables.specs.Runs.{Runs}
+use Rattle.stored_tables.proofs.Knowing.{MayWrite, known_write}
 use Rattle.stored_tables.proofs.Runs.{no_ok, never_ok}
 use Rattle.stored_tables.proofs.Looking.{no_torn}
 
@@ -42,14 +45,17 @@ module _ {S F : Type 0} {read_gives : S → ℕ → Result (Option (List ℕ)) F
     torn = no_torn result fault _ is;
     fault = store_fault result fault _ is (by_write first 0 rid value (none first) gives);
     few = never_ok result (Store fault) _ is;
+    given = (goes-same (λ _. ⊥) (meaning first) (meaning last) same).given;
+    writes = λ state x agrees stands. (goes-same (IsKnown (meaning first).fixed state) (meaning first) (meaning last) same).only;
     grow = same_grows (meaning first) (meaning last) same;
   }
 
   pub write_done : {T X : Type 0} (Stands : State → X → Type 0) (Due : ℕ → State → X → Type 0) (Did : T → ℕ → State → X → Type 0)
       (first last : S) (rid : ℕ) (value : Option (List ℕ)) (new : T) → write_gives first rid value (Ok tt) last
-      → meaning last ≡ after_write (meaning first) rid value → ((state : State) (x : X) → Agrees state (meaning first).reads
-      → Stands state x → Did new 0 state x) → Runs {F = F} read_gives write_gives fresh_gives meaning Stands Due Did 1 first last (Ok new)
-  write_done Stands Due Did first last rid value new gives is did =
+      → meaning last ≡ after_write (meaning first) rid value → ((state : State) (x : X) → Stands state x
+      → MayWrite (meaning first) state rid) → ((state : State) (x : X) → Agrees state (meaning first).reads → Stands state x
+      → Did new 0 state x) → Runs {F = F} read_gives write_gives fresh_gives meaning Stands Due Did 1 first last (Ok new)
+  write_done Stands Due Did first last rid value new gives is may_write did =
       let reads : (meaning last).reads ≡ (meaning first).reads = ap (λ (m : Meaning). m.reads) is in
       record {
         asked = 0;
@@ -60,6 +66,8 @@ module _ {S F : Type 0} {read_gives : S → ℕ → Result (Option (List ℕ)) F
         torn = tt;
         fault = tt;
         few = writes-one (meaning first) (meaning last) rid value (ap (λ (m : Meaning). m.writes) is);
+        given = gives-none (meaning first) (meaning last) (ap (λ (m : Meaning). m.given) is);
+        writes = λ state x agrees stands. known_write (meaning first) (meaning last) rid value state is (may_write state x stands);
         grow = let P : Meaning → Type 0 = λ m. ReadsGrow (meaning first) m in subst P (sym is)
             (record { reads = extends-refl (meaning first).reads; size = refl; fixed = refl });
       }
@@ -75,8 +83,15 @@ module _ {S F : Type 0} {read_gives : S → ℕ → Result (Option (List ℕ)) F
     may = λ some state x agrees stands. due state x stands;
     did = no_ok result (Store fault) _ is;
     torn = no_torn result fault _ is;
-    fault = store_fault result fault _ is (by_fresh first 0 (none first) gives (λ state x agrees stands. due state x stands));
+    fault = store_fault result fault _ is (by_fresh first 0 (none first) gives (
+      λ state x agrees stands. due state x stands,
+      fewer-refused 0 1 (meaning first) (meaning last) (omega arith)
+          (goes-same (λ _. ⊥) (meaning first) (meaning last) same).given,
+    ));
     few = never_ok result (Store fault) _ is;
+    given = gives-weaken 0 1 (meaning first) (meaning last) (omega arith)
+        (goes-same (λ _. ⊥) (meaning first) (meaning last) same).given;
+    writes = λ state x agrees stands. (goes-same (IsKnown (meaning first).fixed state) (meaning first) (meaning last) same).only;
     grow = same_grows (meaning first) (meaning last) same;
   }
 
@@ -92,6 +107,8 @@ module _ {S F : Type 0} {read_gives : S → ℕ → Result (Option (List ℕ)) F
     torn = tt;
     fault = tt;
     few = writes-none (meaning first) (meaning last) (ap (λ (m : Meaning). m.writes) is);
+    given = (goes-fresh (λ _. ⊥) (meaning first) (meaning last) rid is).given;
+    writes = λ state x agrees stands. (goes-fresh (IsKnown (meaning first).fixed state) (meaning first) (meaning last) rid is).only;
     grow = record {
       reads = rw (ap (λ (m : Meaning). m.reads) is) (extends-after_read (meaning first) rid None);
       size = ap (λ (m : Meaning). m.size) is;

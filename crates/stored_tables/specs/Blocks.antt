@@ -3,7 +3,7 @@ use Rattle.std.specs.Prelude.{◌≡◌, ℕ, ◌*◌, ◌<◌, List, length, Op
 use Rattle.plain_data.specs.State.{State}
 use Rattle.record_store.specs.Calls.{Calls}
 use Rattle.record_store.specs.Meaning.{Meaning, after_undo}
-use Rattle.record_store.specs.Writes.{WritesAtMost}
+use Rattle.record_store.specs.Writes.{WritesAtMost, WritesKnown, GivesAtMost}
 use Rattle.record_store.specs.declared.walk.Walk.{Walk}
 use Rattle.replay_model.specs.declared.command.Command.{Command}
 use Rattle.replay_model.specs.declared.outcome.Answer.{Answer}
@@ -36,7 +36,8 @@ IfRefused (Ok (Refused command cause)) P = P
 IfRefused (Err walk) P = ⊤
 
 -- The calls that a block made on its store, up to the store `before`, and how often it asked for a new record. A block that is done
--- left its tables, a refused one was undone, and any other answer came at once.
+-- left its tables, a refused one was undone, and any other answer came at once. Up to there it was given no more records than it asked for,
+-- and wrote only records that are never given out, that are present in the state, or that were given.
 pub record Called {S F : Type 0} (read_gives : S → ℕ → Result (Option (List ℕ)) F → S → Type 0) (write_gives : S → ℕ → Option (List ℕ)
     → Result (Unit {0}) F → S → Type 0) (fresh_gives : S → Result ℕ F → S → Type 0) (meaning : S → Meaning) (commands : List Command)
     (first last : S) (result : Result Outcome (Walk F)) : Type 0 where
@@ -45,6 +46,8 @@ pub record Called {S F : Type 0} (read_gives : S → ℕ → Result (Option (Lis
   pub calls : Calls read_gives write_gives fresh_gives first asked before
   pub may : 0 < asked → MayAskOnce commands (meaning first) (meaning last) asked
   pub few : OnOk result (WritesAtMost (128 * length commands) (meaning first) (meaning before))
+  pub given : GivesAtMost asked (meaning first) (meaning before)
+  pub writes : EachTables (meaning first) (meaning last) (λ state _ _. WritesKnown (meaning first) (meaning before) state)
   pub done : IfDone result ((meaning last ≡ meaning before) × EachTables (meaning first) (meaning last)
       (LeavesTables commands (meaning last) asked))
   pub refused : IfRefused result (meaning last ≡ after_undo (meaning before))

@@ -4,7 +4,7 @@ use Rattle.plain_data.specs.State.{State, Agrees}
 use Rattle.record_store.specs.Calls.{Reads, ReadFault, Calls, CallFault}
 use Rattle.record_store.specs.Meaning.{Meaning}
 use Rattle.record_store.specs.Walks.{IfTorn, IfStore, OnlyReads, ReadsGrow}
-use Rattle.record_store.specs.Writes.{WritesAtMost}
+use Rattle.record_store.specs.Writes.{WritesAtMost, WritesKnown, GivesAtMost, GivesFewer}
 use Rattle.record_store.specs.declared.walk.Walk.{Walk}
 
 -- what holds of each state that agrees with the reads and stands so; beside a state stands where its parts are and what it holds
@@ -20,7 +20,9 @@ pub record Looks {S F T X : Type 0} (read_gives : S → ℕ → Result (Option (
   pub fault : IfStore result (ReadFault read_gives first last)
   pub only : OnlyReads (meaning first) (meaning last)
 
--- a part that changes: what it did, in each such state, when it asked so often for a new record; each ask may be made
+-- a part that changes: what it did, in each such state, when it asked so often for a new record; each ask may be made, and one that was
+-- refused gave nothing. Whatever it answers, it wrote no record but those that are never given out, that are present in such a state, or that
+-- were given.
 pub record Runs {S F T X : Type 0} (read_gives : S → ℕ → Result (Option (List ℕ)) F → S → Type 0) (write_gives : S → ℕ → Option (List ℕ)
     → Result (Unit {0}) F → S → Type 0) (fresh_gives : S → Result ℕ F → S → Type 0) (meaning : S → Meaning) (Stands : State → X → Type 0)
     (Due : ℕ → State → X → Type 0) (Did : T → ℕ → State → X → Type 0) (most : ℕ) (first last : S) (result : Result T (Walk F)) : Type 0
@@ -30,6 +32,9 @@ pub record Runs {S F T X : Type 0} (read_gives : S → ℕ → Result (Option (L
     pub may : 0 < asked → Each Stands (meaning last) (Due asked)
     pub did : IfOk result (λ value. Each Stands (meaning last) (Did value asked))
     pub torn : IfTorn result (λ _. (state : State) (x : X) → Agrees state (meaning last).reads → Stands state x → ⊥)
-    pub fault : IfStore result (CallFault read_gives write_gives fresh_gives (λ asks. Each Stands (meaning last) (Due asks)) first last)
+    pub fault : IfStore result (CallFault read_gives write_gives fresh_gives
+        (λ asks. Each Stands (meaning last) (Due asks) × GivesFewer asks (meaning first) (meaning last)) first last)
     pub few : OnOk result (WritesAtMost most (meaning first) (meaning last))
+    pub given : GivesAtMost asked (meaning first) (meaning last)
+    pub writes : Each Stands (meaning last) (λ state _. WritesKnown (meaning first) (meaning last) state)
     pub grow : ReadsGrow (meaning first) (meaning last)

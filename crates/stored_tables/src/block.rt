@@ -3,6 +3,7 @@
 ghost use Rattle.std.specs.Prelude.{◌≡◌, ℕ, ◌*◌, ◌<◌, ◌≤◌, IfOk, All, length};
 ghost use Rattle.record_store.specs.Calls.{Reads, ReadFault, CallFault};
 ghost use Rattle.record_store.specs.Walks.{IfTorn, IfStore, OnlyReads, ReadsGrow};
+ghost use Rattle.record_store.specs.Writes.{GivesFewer};
 ghost use Rattle.replay_model.specs.Input.{AreCommands};
 ghost use Rattle.replay_model.specs.Running.{outcome_of};
 ghost use Rattle.stored_tables.specs.Answers.{IsIdle, IsShort, ReadsAlone, Stands};
@@ -31,8 +32,8 @@ pub fn exec_txn<S: RecordStore>(
     ensures called { Called S.read_gives S.write_gives S.fresh_gives S.meaning commands.now store.old store.new result }
     ensures torn { IfTorn result (λ _. EachTables (S.meaning store.old) (S.meaning store.new) (λ _ _ _. ⊥)) }
 
-    // each ask of `fresh` is counted, and may be made
-    ensures fault { IfStore result (CallFault S.read_gives S.write_gives S.fresh_gives (MayAskOnce commands.now (S.meaning store.old) (S.meaning store.new)) store.old store.new) }
+    // each ask of `fresh` is counted, and may be made; one that is refused gave nothing
+    ensures fault { IfStore result (CallFault S.read_gives S.write_gives S.fresh_gives (λ asks. MayAskOnce commands.now (S.meaning store.old) (S.meaning store.new) asks × GivesFewer asks (S.meaning store.old) (S.meaning store.new)) store.old store.new) }
     ensures after { ReadsGrow (S.meaning store.old) (S.meaning store.new) }
 
     // a scan that lists nothing by its arguments reads nothing

@@ -1,7 +1,8 @@
-use Rattle.std.proofs.Common.{Some, ap, ◌∙◌, arith}
+use Rattle.std.proofs.Common.{◌≡◌, Some, ap, refl, ◌∙◌, arith}
 use Rattle.record_store.specs.Meaning.{after_write, after_fresh}
 use Rattle.record_store.specs.Calls.Calls.{none, fresh}
 use Rattle.record_store.specs.Calls.CallFault.{by_fresh}
+use Rattle.record_store.proofs.Known.{tries, fewer-refused, gives-weaken, goes-same, goes-added, goes-tried, goes-trans}
 use Rattle.record_store.proofs.Refusals.{store_fault, fault_moved, IfStore-map, OnOk-map}
 use Rattle.record_store.proofs.Paths.{Calls-trans, CallFault-never}
 use Rattle.hash_index.specs.Node.{words_of}
@@ -10,7 +11,7 @@ use Rattle.hash_index.proofs.index.add_node.Goals as goal
 
 pub returns-in_err-fresh-clause-fault : goal.returns-in_err-fresh-clause-fault
 returns-in_err-fresh-clause-fault g c =
-    store_fault c.from_residual.result c.in_err-fresh.field-0.0 _ c.from_residual.ensures.1 (by_fresh c.args.store.now 0 (none c.args.store.now) c.in_err-fresh.ensures.gives (omega arith))
+    store_fault c.from_residual.result c.in_err-fresh.field-0.0 _ c.from_residual.ensures.1 (by_fresh c.args.store.now 0 (none c.args.store.now) c.in_err-fresh.ensures.gives (omega arith, fewer-refused 0 1 _ _ (omega arith) (goes-same (λ _. ⊥) _ _ c.in_err-fresh.ensures.err).given))
 
 pub returns-in_err-fresh-clause-calls : goal.returns-in_err-fresh-clause-calls
 returns-in_err-fresh-clause-calls g c = fresh _ _ _ 0 _ (none _) c.fresh.ensures.gives
@@ -41,3 +42,26 @@ returns-clause-fault g c =
 
 pub returns-clause-calls : goal.returns-clause-calls
 returns-clause-calls g c = Calls-trans _ _ _ 1 0 (Calls-trans _ _ _ 1 0 (fresh _ _ _ 0 _ (none _) c.fresh.ensures.gives) c.write_node.ensures.calls) c.write_node-2.ensures.calls
+
+-- what is written and given: the new node, then the last one
+pub returns-in_err-write_node-clause-writes : goal.returns-in_err-write_node-clause-writes
+returns-in_err-write_node-clause-writes g c =
+    (goes-added (λ rid. rid ≡ c.args.last.at) (g.S.RecordRead.meaning c.args.store.now) (g.S.RecordRead.meaning c.fresh.new.self) (g.S.RecordRead.meaning c.write_node.new.store) c.in_ok-fresh.fresh c.in_ok-fresh.ensures.ok (tries c.write_node.result (g.S.RecordRead.meaning c.fresh.new.self) (g.S.RecordRead.meaning c.write_node.new.store) c.in_ok-fresh.fresh _ c.write_node.ensures.ok c.write_node.ensures.err)).only
+
+pub returns-in_err-write_node-clause-given : goal.returns-in_err-write_node-clause-given
+returns-in_err-write_node-clause-given g c =
+    (goes-added (λ rid. rid ≡ c.args.last.at) (g.S.RecordRead.meaning c.args.store.now) (g.S.RecordRead.meaning c.fresh.new.self) (g.S.RecordRead.meaning c.write_node.new.store) c.in_ok-fresh.fresh c.in_ok-fresh.ensures.ok (tries c.write_node.result (g.S.RecordRead.meaning c.fresh.new.self) (g.S.RecordRead.meaning c.write_node.new.store) c.in_ok-fresh.fresh _ c.write_node.ensures.ok c.write_node.ensures.err)).given
+
+pub returns-clause-writes : goal.returns-clause-writes
+returns-clause-writes g c =
+    (goes-trans 1 0 (λ rid. rid ≡ c.args.last.at) (g.S.RecordRead.meaning c.args.store.now) (g.S.RecordRead.meaning c.write_node.new.store) (g.S.RecordRead.meaning c.write_node-2.new.store) (goes-added (λ rid. rid ≡ c.args.last.at) (g.S.RecordRead.meaning c.args.store.now) (g.S.RecordRead.meaning c.fresh.new.self) (g.S.RecordRead.meaning c.write_node.new.store) c.in_ok-fresh.fresh c.in_ok-fresh.ensures.ok (tries c.write_node.result (g.S.RecordRead.meaning c.fresh.new.self) (g.S.RecordRead.meaning c.write_node.new.store) c.in_ok-fresh.fresh _ c.write_node.ensures.ok c.write_node.ensures.err)) (goes-tried (λ rid. rid ≡ c.args.last.at) (g.S.RecordRead.meaning c.write_node.new.store) (g.S.RecordRead.meaning c.write_node-2.new.store) c.args.last.at (tries c.write_node-2.result (g.S.RecordRead.meaning c.write_node.new.store) (g.S.RecordRead.meaning c.write_node-2.new.store) c.args.last.at _ c.write_node-2.ensures.ok c.write_node-2.ensures.err) refl)).only
+
+pub returns-clause-given : goal.returns-clause-given
+returns-clause-given g c =
+    (goes-trans 1 0 (λ rid. rid ≡ c.args.last.at) (g.S.RecordRead.meaning c.args.store.now) (g.S.RecordRead.meaning c.write_node.new.store) (g.S.RecordRead.meaning c.write_node-2.new.store) (goes-added (λ rid. rid ≡ c.args.last.at) (g.S.RecordRead.meaning c.args.store.now) (g.S.RecordRead.meaning c.fresh.new.self) (g.S.RecordRead.meaning c.write_node.new.store) c.in_ok-fresh.fresh c.in_ok-fresh.ensures.ok (tries c.write_node.result (g.S.RecordRead.meaning c.fresh.new.self) (g.S.RecordRead.meaning c.write_node.new.store) c.in_ok-fresh.fresh _ c.write_node.ensures.ok c.write_node.ensures.err)) (goes-tried (λ rid. rid ≡ c.args.last.at) (g.S.RecordRead.meaning c.write_node.new.store) (g.S.RecordRead.meaning c.write_node-2.new.store) c.args.last.at (tries c.write_node-2.result (g.S.RecordRead.meaning c.write_node.new.store) (g.S.RecordRead.meaning c.write_node-2.new.store) c.args.last.at _ c.write_node-2.ensures.ok c.write_node-2.ensures.err) refl)).given
+
+pub returns-in_err-fresh-clause-writes : goal.returns-in_err-fresh-clause-writes
+returns-in_err-fresh-clause-writes g c = (goes-same (λ rid. rid ≡ c.args.last.at) (g.S.RecordRead.meaning c.args.store.now) (g.S.RecordRead.meaning c.fresh.new.self) c.in_err-fresh.ensures.err).only
+
+pub returns-in_err-fresh-clause-given : goal.returns-in_err-fresh-clause-given
+returns-in_err-fresh-clause-given g c = gives-weaken 0 1 (g.S.RecordRead.meaning c.args.store.now) (g.S.RecordRead.meaning c.fresh.new.self) (omega arith) (goes-same (λ rid. rid ≡ c.args.last.at) (g.S.RecordRead.meaning c.args.store.now) (g.S.RecordRead.meaning c.fresh.new.self) c.in_err-fresh.ensures.err).given

@@ -1,9 +1,10 @@
 use Rattle.std.proofs.Common.{arith}
 use Rattle.record_store.proofs.Refusals.{fault_moved, torn_moved, IfStore-map, IfTorn-map, OnOk-map}
 use Rattle.record_store.proofs.Paths.{Calls-reads, Calls-trans, CallFault-read, CallFault-behind, CallFault-never}
+use Rattle.record_store.proofs.Known.{tries, gives-reads, gives-tried, gives-trans, fewer-behind, known-reads, known-found, known-fixed}
 use Rattle.hash_index.proofs.Words.{words_alike}
 use Rattle.hash_index.proofs.Pairs.{position-found}
-use Rattle.hash_index.proofs.Chains.{is_torn}
+use Rattle.hash_index.proofs.Chains.{bucket_below, is_torn}
 use Rattle.hash_index.proofs.Stored.{puts_found, puts_room, puts_empty, puts_full, needs_node, edited_pairs}
 use Rattle.hash_index.proofs.Ends.{walked_on, walked_written}
 use Rattle.hash_index.proofs.Asked.{never_ok, asked_none, asked_one}
@@ -20,7 +21,7 @@ returns-in_err-link-clause-fault g c =
     (IfStore-map c.search.result (λ fault. CallFault-read _ _ _ fault) c.search.ensures.fault)
 
 pub returns-in_err-link-clause-calls : goal.returns-in_err-link-clause-calls
-returns-in_err-link-clause-calls g c = (0, Calls-reads _ _ c.search.ensures.calls, record { may = λ asked. absurd (omega arith); exact = never_ok c.from_residual.result _ _ c.from_residual.ensures.1 })
+returns-in_err-link-clause-calls g c = (0, Calls-reads _ _ c.search.ensures.calls, record { may = λ asked. absurd (omega arith); exact = never_ok c.from_residual.result _ _ c.from_residual.ensures.1; given = gives-reads (g.S.RecordRead.meaning c.args.store.now) (g.S.RecordRead.meaning c.search.new.store) c.search.ensures.after })
 
 -- the key is there
 pub returns-in-Found-clause-ok : goal.returns-in-Found-clause-ok
@@ -35,7 +36,7 @@ returns-in-Found-clause-fault g c = IfStore-map c.write_node.result (λ fault. C
 
 pub returns-in-Found-clause-calls : goal.returns-in-Found-clause-calls
 returns-in-Found-clause-calls g c =
-    (0, Calls-trans _ _ _ 0 0 (Calls-reads _ _ c.search.ensures.calls) c.write_node.ensures.calls, record { may = λ asked. absurd (omega arith); exact = OnOk-map c.write_node.result (asked_none (g.S.RecordRead.meaning c.args.store.now) (g.S.RecordRead.meaning c.search.new.store) (g.S.RecordRead.meaning c.write_node.new.store) _ _ c.in_ok-link.ensures.after) c.write_node.ensures.ok })
+    (0, Calls-trans _ _ _ 0 0 (Calls-reads _ _ c.search.ensures.calls) c.write_node.ensures.calls, record { may = λ asked. absurd (omega arith); exact = OnOk-map c.write_node.result (asked_none (g.S.RecordRead.meaning c.args.store.now) (g.S.RecordRead.meaning c.search.new.store) (g.S.RecordRead.meaning c.write_node.new.store) _ _ c.in_ok-link.ensures.after) c.write_node.ensures.ok; given = gives-tried (g.S.RecordRead.meaning c.args.store.now) (g.S.RecordRead.meaning c.search.new.store) (g.S.RecordRead.meaning c.write_node.new.store) c.in-Found.link.at c.in_ok-link.ensures.after (tries c.write_node.result (g.S.RecordRead.meaning c.search.new.store) (g.S.RecordRead.meaning c.write_node.new.store) c.in-Found.link.at _ c.write_node.ensures.ok c.write_node.ensures.err) })
 
 -- a node has room
 pub returns-in-Room-clause-ok : goal.returns-in-Room-clause-ok
@@ -49,7 +50,7 @@ returns-in-Room-clause-fault g c = IfStore-map c.write_node-in-Room.result (λ f
 
 pub returns-in-Room-clause-calls : goal.returns-in-Room-clause-calls
 returns-in-Room-clause-calls g c =
-    (0, Calls-trans _ _ _ 0 0 (Calls-reads _ _ c.search.ensures.calls) c.write_node-in-Room.ensures.calls, record { may = λ asked. absurd (omega arith); exact = OnOk-map c.write_node-in-Room.result (asked_none (g.S.RecordRead.meaning c.args.store.now) (g.S.RecordRead.meaning c.search.new.store) (g.S.RecordRead.meaning c.write_node-in-Room.new.store) _ _ c.in_ok-link.ensures.after) c.write_node-in-Room.ensures.ok })
+    (0, Calls-trans _ _ _ 0 0 (Calls-reads _ _ c.search.ensures.calls) c.write_node-in-Room.ensures.calls, record { may = λ asked. absurd (omega arith); exact = OnOk-map c.write_node-in-Room.result (asked_none (g.S.RecordRead.meaning c.args.store.now) (g.S.RecordRead.meaning c.search.new.store) (g.S.RecordRead.meaning c.write_node-in-Room.new.store) _ _ c.in_ok-link.ensures.after) c.write_node-in-Room.ensures.ok; given = gives-tried (g.S.RecordRead.meaning c.args.store.now) (g.S.RecordRead.meaning c.search.new.store) (g.S.RecordRead.meaning c.write_node-in-Room.new.store) c.in-Room.link.at c.in_ok-link.ensures.after (tries c.write_node-in-Room.result (g.S.RecordRead.meaning c.search.new.store) (g.S.RecordRead.meaning c.write_node-in-Room.new.store) c.in-Room.link.at _ c.write_node-in-Room.ensures.ok c.write_node-in-Room.ensures.err) })
 
 -- every node is full
 pub returns-in-Full-clause-ok : goal.returns-in-Full-clause-ok
@@ -60,12 +61,12 @@ returns-in-Full-clause-ok g c =
 pub returns-in-Full-clause-fault : goal.returns-in-Full-clause-fault
 returns-in-Full-clause-fault g c =
     let needs = needs_node c.size-size.result c.args.base c.args.key (g.S.RecordRead.meaning c.args.store.now) (g.S.RecordRead.meaning c.search.new.store) (g.S.RecordRead.meaning c.add_node.new.store) c.in-Full.link c.size-size.ensures.size c.add_node.ensures.after.reads (λ state agrees. rw c.in-Full.is at (c.in_ok-link.ensures.place state agrees)) in
-    IfStore-map c.add_node.result (λ fault. CallFault-behind _ _ _ _ _ 0 fault (Calls-reads _ _ c.search.ensures.calls) (λ asks once. record { once = omega (arith, once); needs_node = needs })) c.add_node.ensures.fault
+    IfStore-map c.add_node.result (λ fault. CallFault-behind _ _ _ _ _ 0 fault (Calls-reads _ _ c.search.ensures.calls) (λ asks once. (record { once = omega (arith, once.0); needs_node = needs }, fewer-behind 0 asks (g.S.RecordRead.meaning c.args.store.now) (g.S.RecordRead.meaning c.search.new.store) (g.S.RecordRead.meaning c.add_node.new.store) (gives-reads (g.S.RecordRead.meaning c.args.store.now) (g.S.RecordRead.meaning c.search.new.store) c.in_ok-link.ensures.after) once.1))) c.add_node.ensures.fault
 
 pub returns-in-Full-clause-calls : goal.returns-in-Full-clause-calls
 returns-in-Full-clause-calls g c =
     let needs = needs_node c.size-size.result c.args.base c.args.key (g.S.RecordRead.meaning c.args.store.now) (g.S.RecordRead.meaning c.search.new.store) (g.S.RecordRead.meaning c.add_node.new.store) c.in-Full.link c.size-size.ensures.size c.add_node.ensures.after.reads (λ state agrees. rw c.in-Full.is at (c.in_ok-link.ensures.place state agrees)) in
-    (1, Calls-trans _ _ _ 0 1 (Calls-reads _ _ c.search.ensures.calls) c.add_node.ensures.calls, record { may = λ asked. record { once = omega arith; needs_node = needs }; exact = OnOk-map c.add_node.result (asked_one c.args.key c.args.rid c.in-Full.link (g.S.RecordRead.meaning c.args.store.now) (g.S.RecordRead.meaning c.search.new.store) (g.S.RecordRead.meaning c.add_node.new.store) c.in_ok-link.ensures.after) c.add_node.ensures.ok })
+    (1, Calls-trans _ _ _ 0 1 (Calls-reads _ _ c.search.ensures.calls) c.add_node.ensures.calls, record { may = λ asked. record { once = omega arith; needs_node = needs }; exact = OnOk-map c.add_node.result (asked_one c.args.key c.args.rid c.in-Full.link (g.S.RecordRead.meaning c.args.store.now) (g.S.RecordRead.meaning c.search.new.store) (g.S.RecordRead.meaning c.add_node.new.store) c.in_ok-link.ensures.after) c.add_node.ensures.ok; given = gives-trans 0 1 (g.S.RecordRead.meaning c.args.store.now) (g.S.RecordRead.meaning c.search.new.store) (g.S.RecordRead.meaning c.add_node.new.store) (gives-reads (g.S.RecordRead.meaning c.args.store.now) (g.S.RecordRead.meaning c.search.new.store) c.in_ok-link.ensures.after) c.add_node.ensures.given })
 
 -- the bucket is absent
 pub returns-in-Empty-clause-ok : goal.returns-in-Empty-clause-ok
@@ -79,7 +80,7 @@ returns-in-Empty-clause-fault g c = IfStore-map c.write_node-in-Empty.result (λ
 
 pub returns-in-Empty-clause-calls : goal.returns-in-Empty-clause-calls
 returns-in-Empty-clause-calls g c =
-    (0, Calls-trans _ _ _ 0 0 (Calls-reads _ _ c.search.ensures.calls) c.write_node-in-Empty.ensures.calls, record { may = λ asked. absurd (omega arith); exact = OnOk-map c.write_node-in-Empty.result (asked_none (g.S.RecordRead.meaning c.args.store.now) (g.S.RecordRead.meaning c.search.new.store) (g.S.RecordRead.meaning c.write_node-in-Empty.new.store) _ _ c.in_ok-link.ensures.after) c.write_node-in-Empty.ensures.ok })
+    (0, Calls-trans _ _ _ 0 0 (Calls-reads _ _ c.search.ensures.calls) c.write_node-in-Empty.ensures.calls, record { may = λ asked. absurd (omega arith); exact = OnOk-map c.write_node-in-Empty.result (asked_none (g.S.RecordRead.meaning c.args.store.now) (g.S.RecordRead.meaning c.search.new.store) (g.S.RecordRead.meaning c.write_node-in-Empty.new.store) _ _ c.in_ok-link.ensures.after) c.write_node-in-Empty.ensures.ok; given = gives-tried (g.S.RecordRead.meaning c.args.store.now) (g.S.RecordRead.meaning c.search.new.store) (g.S.RecordRead.meaning c.write_node-in-Empty.new.store) c.in-Empty.bucket c.in_ok-link.ensures.after (tries c.write_node-in-Empty.result (g.S.RecordRead.meaning c.search.new.store) (g.S.RecordRead.meaning c.write_node-in-Empty.new.store) c.in-Empty.bucket _ c.write_node-in-Empty.ensures.ok c.write_node-in-Empty.ensures.err) })
 
 -- the walk ended well
 pub returns-in-Found-clause-walked : goal.returns-in-Found-clause-walked
@@ -93,3 +94,27 @@ returns-in-Full-clause-walked g c = OnOk-map c.add_node.result (λ _. walked_on 
 
 pub returns-in-Empty-clause-walked : goal.returns-in-Empty-clause-walked
 returns-in-Empty-clause-walked g c = OnOk-map c.write_node-in-Empty.result (walked_written c.size-size.result _ c.args.key _ _ (g.S.RecordRead.meaning c.args.store.now) (g.S.RecordRead.meaning c.search.new.store) (g.S.RecordRead.meaning c.write_node-in-Empty.new.store) c.size-size.ensures.size c.in_ok-link.ensures.walked) c.write_node-in-Empty.ensures.ok
+
+-- what is written
+pub returns-in-Found-clause-writes : goal.returns-in-Found-clause-writes
+returns-in-Found-clause-writes g c =
+    let tried = (tries c.write_node.result (g.S.RecordRead.meaning c.search.new.store) (g.S.RecordRead.meaning c.write_node.new.store) c.in-Found.link.at _ c.write_node.ensures.ok c.write_node.ensures.err) in
+    known-found 0 (g.S.RecordRead.meaning c.args.store.now) (g.S.RecordRead.meaning c.search.new.store) (g.S.RecordRead.meaning c.write_node.new.store) c.in-Found.link.at c.in_ok-link.ensures.after tried.reads tried.given tried.only (λ state agrees. (let here = rw c.in-Found.is at (c.in_ok-link.ensures.place state agrees) in (here.words, here.stands.here)))
+
+pub returns-in-Room-clause-writes : goal.returns-in-Room-clause-writes
+returns-in-Room-clause-writes g c =
+    let tried = (tries c.write_node-in-Room.result (g.S.RecordRead.meaning c.search.new.store) (g.S.RecordRead.meaning c.write_node-in-Room.new.store) c.in-Room.link.at _ c.write_node-in-Room.ensures.ok c.write_node-in-Room.ensures.err) in
+    known-found 0 (g.S.RecordRead.meaning c.args.store.now) (g.S.RecordRead.meaning c.search.new.store) (g.S.RecordRead.meaning c.write_node-in-Room.new.store) c.in-Room.link.at c.in_ok-link.ensures.after tried.reads tried.given tried.only (λ state agrees. (let here = rw c.in-Room.is at (c.in_ok-link.ensures.place state agrees) in (here.words, here.stands.here)))
+
+pub returns-in-Full-clause-writes : goal.returns-in-Full-clause-writes
+returns-in-Full-clause-writes g c =
+    known-found 1 (g.S.RecordRead.meaning c.args.store.now) (g.S.RecordRead.meaning c.search.new.store) (g.S.RecordRead.meaning c.add_node.new.store) c.in-Full.link.at c.in_ok-link.ensures.after c.add_node.ensures.after.reads c.add_node.ensures.given c.add_node.ensures.writes (λ state agrees. (let here = rw c.in-Full.is at (c.in_ok-link.ensures.place state agrees) in (here.0.words, here.0.stands.here)))
+
+pub returns-in-Empty-clause-writes : goal.returns-in-Empty-clause-writes
+returns-in-Empty-clause-writes g c =
+    let within = rw c.in-Empty.is at c.in_ok-link.ensures.within in
+    let tried = (tries c.write_node-in-Empty.result (g.S.RecordRead.meaning c.search.new.store) (g.S.RecordRead.meaning c.write_node-in-Empty.new.store) c.in-Empty.bucket _ c.write_node-in-Empty.ensures.ok c.write_node-in-Empty.ensures.err) in
+    known-fixed 0 (g.S.RecordRead.meaning c.args.store.now) (g.S.RecordRead.meaning c.search.new.store) (g.S.RecordRead.meaning c.write_node-in-Empty.new.store) c.in-Empty.bucket c.in_ok-link.ensures.after tried.reads tried.given tried.only (let below = bucket_below c.args.key in omega (arith, within, below, c.requires.buckets))
+
+pub returns-in_err-link-clause-writes : goal.returns-in_err-link-clause-writes
+returns-in_err-link-clause-writes g c = known-reads (g.S.RecordRead.meaning c.args.store.now) (g.S.RecordRead.meaning c.search.new.store) c.search.ensures.after

@@ -1,6 +1,7 @@
 use Rattle.record_store.proofs.Refusals.{fault_moved, torn_moved, IfStore-map, IfTorn-map}
 use Rattle.record_store.proofs.Paths.{Calls-reads, Calls-trans, CallFault-read, CallFault-never}
 use Rattle.record_store.proofs.Agreement.{ReadsGrow-only}
+use Rattle.record_store.proofs.Known.{tries, gives-reads, gives-tried, known-reads, known-found}
 use Rattle.hash_index.proofs.Chains.{each_absent, is_torn}
 use Rattle.hash_index.proofs.Removed.{removes_pair, removes_nothing}
 use Rattle.hash_index.proofs.Ends.{walked_written}
@@ -49,3 +50,32 @@ returns-in_err-link-clause-torn g c =
 pub returns-in_ok-write_node-in-Found-clause-walked : goal.returns-in_ok-write_node-in-Found-clause-walked
 returns-in_ok-write_node-in-Found-clause-walked g c =
     walked_written c.size-size.result _ c.args.key _ _ (g.S.RecordRead.meaning c.args.store.now) (g.S.RecordRead.meaning c.search.new.store) (g.S.RecordRead.meaning c.write_node.new.store) c.size-size.ensures.size c.in_ok-link.ensures.walked c.in_ok-write_node-in-Found.ensures.ok
+
+-- what is written and given
+pub returns-in_err-link-clause-writes : goal.returns-in_err-link-clause-writes
+returns-in_err-link-clause-writes g c = known-reads (g.S.RecordRead.meaning c.args.store.now) (g.S.RecordRead.meaning c.search.new.store) c.search.ensures.after
+
+pub returns-in_err-link-clause-given : goal.returns-in_err-link-clause-given
+returns-in_err-link-clause-given g c = gives-reads (g.S.RecordRead.meaning c.args.store.now) (g.S.RecordRead.meaning c.search.new.store) c.search.ensures.after
+
+pub returns-in_err-write_node-in-Found-clause-writes : goal.returns-in_err-write_node-in-Found-clause-writes
+returns-in_err-write_node-in-Found-clause-writes g c =
+    let tried = (tries c.write_node.result (g.S.RecordRead.meaning c.search.new.store) (g.S.RecordRead.meaning c.write_node.new.store) c.in-Found.link.at _ c.write_node.ensures.ok c.write_node.ensures.err) in
+    known-found 0 (g.S.RecordRead.meaning c.args.store.now) (g.S.RecordRead.meaning c.search.new.store) (g.S.RecordRead.meaning c.write_node.new.store) c.in-Found.link.at c.in_ok-link.ensures.after tried.reads tried.given tried.only (λ state agrees. (let here = rw c.in-Found.is at (c.in_ok-link.ensures.place state agrees) in (here.words, here.stands.here)))
+
+pub returns-in_err-write_node-in-Found-clause-given : goal.returns-in_err-write_node-in-Found-clause-given
+returns-in_err-write_node-in-Found-clause-given g c = gives-tried (g.S.RecordRead.meaning c.args.store.now) (g.S.RecordRead.meaning c.search.new.store) (g.S.RecordRead.meaning c.write_node.new.store) c.in-Found.link.at c.in_ok-link.ensures.after (tries c.write_node.result (g.S.RecordRead.meaning c.search.new.store) (g.S.RecordRead.meaning c.write_node.new.store) c.in-Found.link.at _ c.write_node.ensures.ok c.write_node.ensures.err)
+
+pub returns-in_ok-write_node-in-Found-clause-writes : goal.returns-in_ok-write_node-in-Found-clause-writes
+returns-in_ok-write_node-in-Found-clause-writes g c =
+    let tried = (tries c.write_node.result (g.S.RecordRead.meaning c.search.new.store) (g.S.RecordRead.meaning c.write_node.new.store) c.in-Found.link.at _ c.write_node.ensures.ok c.write_node.ensures.err) in
+    known-found 0 (g.S.RecordRead.meaning c.args.store.now) (g.S.RecordRead.meaning c.search.new.store) (g.S.RecordRead.meaning c.write_node.new.store) c.in-Found.link.at c.in_ok-link.ensures.after tried.reads tried.given tried.only (λ state agrees. (let here = rw c.in-Found.is at (c.in_ok-link.ensures.place state agrees) in (here.words, here.stands.here)))
+
+pub returns-in_ok-write_node-in-Found-clause-given : goal.returns-in_ok-write_node-in-Found-clause-given
+returns-in_ok-write_node-in-Found-clause-given g c = gives-tried (g.S.RecordRead.meaning c.args.store.now) (g.S.RecordRead.meaning c.search.new.store) (g.S.RecordRead.meaning c.write_node.new.store) c.in-Found.link.at c.in_ok-link.ensures.after (tries c.write_node.result (g.S.RecordRead.meaning c.search.new.store) (g.S.RecordRead.meaning c.write_node.new.store) c.in-Found.link.at _ c.write_node.ensures.ok c.write_node.ensures.err)
+
+pub returns-in-Room-clause-writes : goal.returns-in-Room-clause-writes
+returns-in-Room-clause-writes g c = known-reads (g.S.RecordRead.meaning c.args.store.now) (g.S.RecordRead.meaning c.search.new.store) c.in_ok-link.ensures.after
+
+pub returns-in-Room-clause-given : goal.returns-in-Room-clause-given
+returns-in-Room-clause-given g c = gives-reads (g.S.RecordRead.meaning c.args.store.now) (g.S.RecordRead.meaning c.search.new.store) c.in_ok-link.ensures.after

@@ -3,6 +3,7 @@ use Rattle.std.specs.Prelude.{is_some}
 use Rattle.record_store.specs.Calls.Calls.{none}
 use Rattle.record_store.proofs.Refusals.{fault_moved, torn_moved, IfStore-map, IfTorn-map}
 use Rattle.record_store.proofs.Agreement.{OnlyReads-refl, extends-refl, size_same}
+use Rattle.record_store.proofs.Known.{gives-reads, gives-behind, gives-trans, fewer-behind, known-reads, known-behind, known-then-found}
 use Rattle.record_store.proofs.Paths.{Calls-trans, Calls-reads, CallFault-read, CallFault-behind}
 use Rattle.ordered_index.specs.Keys.{first_key}
 use Rattle.ordered_index.specs.Held.{content_of}
@@ -26,11 +27,11 @@ returns-in-Some-clause-leaf g t c = λ kind.
 
 pub returns-in-Some-clause-calls : goal.returns-in-Some-clause-calls
 returns-in-Some-clause-calls g t c =
-    (0, none _, asks_leaf c.args.key c.args.here.now.kind c.args.here.now.entries.items c.args.depth (g.S.RecordRead.meaning c.args.store.now) _ (c.is_inner.ensures.leaf c.if-not-is_inner.true) c.requires.depth)
+    (0, none _, asks_leaf c.args.key c.args.here.now.kind c.args.here.now.entries.items c.args.depth (g.S.RecordRead.meaning c.args.store.now) _ (c.is_inner.ensures.leaf c.if-not-is_inner.true) c.requires.depth, gives-reads (g.S.RecordRead.meaning c.args.store.now) (g.S.RecordRead.meaning c.args.store.now) (OnlyReads-refl (g.S.RecordRead.meaning c.args.store.now)))
 
 pub returns-in-None-clause-calls : goal.returns-in-None-clause-calls
 returns-in-None-clause-calls g t c =
-    (0, none _, asks_leaf c.args.key c.args.here.now.kind c.args.here.now.entries.items c.args.depth (g.S.RecordRead.meaning c.args.store.now) _ (c.is_inner.ensures.leaf c.if-not-is_inner.true) c.requires.depth)
+    (0, none _, asks_leaf c.args.key c.args.here.now.kind c.args.here.now.entries.items c.args.depth (g.S.RecordRead.meaning c.args.store.now) _ (c.is_inner.ensures.leaf c.if-not-is_inner.true) c.requires.depth, gives-reads (g.S.RecordRead.meaning c.args.store.now) (g.S.RecordRead.meaning c.args.store.now) (OnlyReads-refl (g.S.RecordRead.meaning c.args.store.now)))
 
 pub returns-then-depth-eq-MOST_DEPTH-clause-torn : goal.returns-then-depth-eq-MOST_DEPTH-clause-torn
 returns-then-depth-eq-MOST_DEPTH-clause-torn g t c =
@@ -40,7 +41,7 @@ returns-then-depth-eq-MOST_DEPTH-clause-torn g t c =
 
 pub returns-then-depth-eq-MOST_DEPTH-clause-calls : goal.returns-then-depth-eq-MOST_DEPTH-clause-calls
 returns-then-depth-eq-MOST_DEPTH-clause-calls g t c =
-    (0, none _, asks_reads c.args.key c.args.here.now.kind c.args.here.now.entries.items c.args.depth (g.S.RecordRead.meaning c.args.store.now) (g.S.RecordRead.meaning c.args.store.now) _ refl c.requires.depth (OnlyReads-refl (g.S.RecordRead.meaning c.args.store.now)))
+    (0, none _, asks_reads c.args.key c.args.here.now.kind c.args.here.now.entries.items c.args.depth (g.S.RecordRead.meaning c.args.store.now) (g.S.RecordRead.meaning c.args.store.now) _ refl c.requires.depth (OnlyReads-refl (g.S.RecordRead.meaning c.args.store.now)), gives-reads (g.S.RecordRead.meaning c.args.store.now) (g.S.RecordRead.meaning c.args.store.now) (OnlyReads-refl (g.S.RecordRead.meaning c.args.store.now)))
 
 pub returns-in_err-child-clause-torn : goal.returns-in_err-child-clause-torn
 returns-in_err-child-clause-torn g t c =
@@ -58,7 +59,7 @@ returns-in_err-child-clause-fault g t c =
 
 pub returns-in_err-child-clause-calls : goal.returns-in_err-child-clause-calls
 returns-in_err-child-clause-calls g t c =
-    (0, Calls-reads _ _ c.read_node.ensures.calls, asks_reads c.args.key c.args.here.now.kind c.args.here.now.entries.items c.args.depth (g.S.RecordRead.meaning c.args.store.now) (g.S.RecordRead.meaning c.read_node.new.store) _ c.from_residual.ensures.0 c.requires.depth c.read_node.ensures.after)
+    (0, Calls-reads _ _ c.read_node.ensures.calls, asks_reads c.args.key c.args.here.now.kind c.args.here.now.entries.items c.args.depth (g.S.RecordRead.meaning c.args.store.now) (g.S.RecordRead.meaning c.read_node.new.store) _ c.from_residual.ensures.0 c.requires.depth c.read_node.ensures.after, gives-reads (g.S.RecordRead.meaning c.args.store.now) (g.S.RecordRead.meaning c.read_node.new.store) c.read_node.ensures.after)
 
 pub returns-in_default-clause-torn : goal.returns-in_default-clause-torn
 returns-in_default-clause-torn g t c =
@@ -68,7 +69,7 @@ returns-in_default-clause-torn g t c =
 
 pub returns-in_default-clause-calls : goal.returns-in_default-clause-calls
 returns-in_default-clause-calls g t c =
-    (0, Calls-reads _ _ c.read_node.ensures.calls, asks_reads c.args.key c.args.here.now.kind c.args.here.now.entries.items c.args.depth (g.S.RecordRead.meaning c.args.store.now) (g.S.RecordRead.meaning c.read_node.new.store) _ refl c.requires.depth c.read_node.ensures.after)
+    (0, Calls-reads _ _ c.read_node.ensures.calls, asks_reads c.args.key c.args.here.now.kind c.args.here.now.entries.items c.args.depth (g.S.RecordRead.meaning c.args.store.now) (g.S.RecordRead.meaning c.read_node.new.store) _ refl c.requires.depth c.read_node.ensures.after, gives-reads (g.S.RecordRead.meaning c.args.store.now) (g.S.RecordRead.meaning c.read_node.new.store) c.read_node.ensures.after)
 
 pub enter-requires : goal.enter-requires
 enter-requires g t c κs within =
@@ -103,7 +104,7 @@ returns-in_err-enter-clause-fault g t c =
     let C : ℕ → Type 0 = λ n. IsChild n c.args.key c.args.here.now.entries.items c.args.rank (c.in-Some-2.child.node.low, c.in-Some-2.child.at) (content_of c.in-Some-2.child.node) in
     let A : ℕ → Type 0 = λ n. EachState (g.S.RecordRead.meaning c.args.store.now) (g.S.RecordRead.meaning c.read_node.new.store) (λ state. IsAt n state (c.in-Some-2.child.at, content_of c.in-Some-2.child.node)) in
     fault_moved c.from_residual-in_err-enter.result c.enter.result c.in_err-enter.field-0.0 _ c.in_err-enter.was c.from_residual-in_err-enter.ensures.1
-    (IfStore-map c.enter.result (λ fault. CallFault-behind _ _ _ _ _ 0 fault (Calls-reads _ _ c.read_node.ensures.calls) (λ asks later. (kind, due_behind (g.S.RecordRead.meaning c.args.store.now) (g.S.RecordRead.meaning c.read_node.new.store) (g.S.RecordRead.meaning c.enter.new.store) c.args.key c.args.here.now.entries.items c.args.rank (c.in-Some-2.child.node.low, c.in-Some-2.child.at) (content_of c.in-Some-2.child.node) asks c.in_ok-child.ensures.after c.enter.ensures.after.reads (subst C c.requires.size child) (subst A c.requires.size at) later))) c.enter.ensures.fault)
+    (IfStore-map c.enter.result (λ fault. CallFault-behind _ _ _ _ _ 0 fault (Calls-reads _ _ c.read_node.ensures.calls) (λ asks later. (kind, due_behind (g.S.RecordRead.meaning c.args.store.now) (g.S.RecordRead.meaning c.read_node.new.store) (g.S.RecordRead.meaning c.enter.new.store) c.args.key c.args.here.now.entries.items c.args.rank (c.in-Some-2.child.node.low, c.in-Some-2.child.at) (content_of c.in-Some-2.child.node) asks c.in_ok-child.ensures.after c.enter.ensures.after.reads (subst C c.requires.size child) (subst A c.requires.size at) (later.0, later.1), fewer-behind 0 asks (g.S.RecordRead.meaning c.args.store.now) (g.S.RecordRead.meaning c.read_node.new.store) (g.S.RecordRead.meaning c.enter.new.store) (gives-reads (g.S.RecordRead.meaning c.args.store.now) (g.S.RecordRead.meaning c.read_node.new.store) c.in_ok-child.ensures.after) later.2))) c.enter.ensures.fault)
 
 pub returns-in_err-enter-clause-calls : goal.returns-in_err-enter-clause-calls
 returns-in_err-enter-clause-calls g t c =
@@ -115,7 +116,7 @@ returns-in_err-enter-clause-calls g t c =
     let at = child_at c.args.size _ (g.S.RecordRead.meaning c.args.store.now) (g.S.RecordRead.meaning c.read_node.new.store) c.in-Some-2.child c.in_ok-child.field-0 c.in-Some-2.is c.in_ok-child.ensures.read in
     let C : ℕ → Type 0 = λ n. IsChild n c.args.key c.args.here.now.entries.items c.args.rank (c.in-Some-2.child.node.low, c.in-Some-2.child.at) (content_of c.in-Some-2.child.node) in
     let A : ℕ → Type 0 = λ n. EachState (g.S.RecordRead.meaning c.args.store.now) (g.S.RecordRead.meaning c.read_node.new.store) (λ state. IsAt n state (c.in-Some-2.child.at, content_of c.in-Some-2.child.node)) in
-    (c.enter.ensures.calls.0, (Calls-behind _ _ _ c.enter.ensures.calls.0 c.read_node.ensures.calls c.enter.ensures.calls.1), below_err (g.S.RecordRead.meaning c.args.store.now) (g.S.RecordRead.meaning c.read_node.new.store) (g.S.RecordRead.meaning c.enter.new.store) (g.S.RecordRead.meaning c.enter.new.store) c.args.key c.args.here.now.entries.items c.args.rank (c.in-Some-2.child.node.low, c.in-Some-2.child.at) (content_of c.in-Some-2.child.node) c.enter.ensures.calls.0 c.args.depth c.args.here.now.kind kind c.in_ok-child.ensures.after c.enter.ensures.after.reads (extends-refl (g.S.RecordRead.meaning c.enter.new.store).reads) (subst C c.requires.size child) (subst A c.requires.size at) c.enter.result c.enter.ensures.calls.2 c.from_residual-in_err-enter.result c.from_residual-in_err-enter.ensures.0 refl)
+    (c.enter.ensures.calls.0, (Calls-behind _ _ _ c.enter.ensures.calls.0 c.read_node.ensures.calls c.enter.ensures.calls.1), below_err (g.S.RecordRead.meaning c.args.store.now) (g.S.RecordRead.meaning c.read_node.new.store) (g.S.RecordRead.meaning c.enter.new.store) (g.S.RecordRead.meaning c.enter.new.store) c.args.key c.args.here.now.entries.items c.args.rank (c.in-Some-2.child.node.low, c.in-Some-2.child.at) (content_of c.in-Some-2.child.node) c.enter.ensures.calls.0 c.args.depth c.args.here.now.kind kind c.in_ok-child.ensures.after c.enter.ensures.after.reads (extends-refl (g.S.RecordRead.meaning c.enter.new.store).reads) (subst C c.requires.size child) (subst A c.requires.size at) c.enter.result c.enter.ensures.calls.2 c.from_residual-in_err-enter.result c.from_residual-in_err-enter.ensures.0 refl, gives-behind c.enter.ensures.calls.0 (g.S.RecordRead.meaning c.args.store.now) (g.S.RecordRead.meaning c.read_node.new.store) (g.S.RecordRead.meaning c.enter.new.store) c.in_ok-child.ensures.after c.enter.ensures.calls.3)
 
 pub returns-in_err-new-in-Takes-clause-fault : goal.returns-in_err-new-in-Takes-clause-fault
 returns-in_err-new-in-Takes-clause-fault g t c =
@@ -128,7 +129,7 @@ returns-in_err-new-in-Takes-clause-fault g t c =
     let C : ℕ → Type 0 = λ n. IsChild n c.args.key c.args.here.now.entries.items c.args.rank (c.in-Some-2.child.node.low, c.in-Some-2.child.at) (content_of c.in-Some-2.child.node) in
     let A : ℕ → Type 0 = λ n. EachState (g.S.RecordRead.meaning c.args.store.now) (g.S.RecordRead.meaning c.read_node.new.store) (λ state. IsAt n state (c.in-Some-2.child.at, content_of c.in-Some-2.child.node)) in
     fault_moved c.from_residual-in_err-new-in-Takes.result c.put_entry.result c.in_err-new-in-Takes.field-0.0 _ c.in_err-new-in-Takes.was c.from_residual-in_err-new-in-Takes.ensures.1
-    (IfStore-map c.put_entry.result (λ fault. CallFault-behind _ _ _ _ _ c.enter.ensures.calls.0 fault (Calls-behind _ _ _ c.enter.ensures.calls.0 c.read_node.ensures.calls c.enter.ensures.calls.1) (λ asks one. (kind, put_due (g.S.RecordRead.meaning c.args.store.now) (g.S.RecordRead.meaning c.read_node.new.store) (g.S.RecordRead.meaning c.enter.new.store) (g.S.RecordRead.meaning c.put_entry.new.store) c.args.key c.args.here.now.entries.items c.args.rank (c.in-Some-2.child.node.low, c.in-Some-2.child.at) (content_of c.in-Some-2.child.node) c.enter.ensures.calls.0 c.args.depth c.args.here.now.kind kind c.in_ok-child.ensures.after c.enter.ensures.after.reads c.put_entry.ensures.after.reads (subst C c.requires.size child) (subst A c.requires.size at) c.enter.result c.enter.ensures.calls.2 c.args.rid c.rank-child_rank.result c.in-Takes.entry (c.in_ok-enter.was ∙ ap (λ e. Ok e) c.in-Takes.is) (λ leaf. (let l = rw c.in-Takes.is at (c.in_ok-enter.ensures.leaf leaf) in l.0.1)) (λ inner. from_reads (g.S.RecordRead.meaning c.args.store.now) (g.S.RecordRead.meaning c.read_node.new.store) (g.S.RecordRead.meaning c.enter.new.store) c.args.key c.args.rid c.in-Some-2.child.node.entries.items c.rank-child_rank.result c.in_ok-enter.field-0 _ c.in_ok-child.ensures.after c.in-Takes.is (c.in_ok-enter.ensures.inner inner)) asks (one_at c.in-Some-2.child.node.entries.items asks one)))) c.put_entry.ensures.fault)
+    (IfStore-map c.put_entry.result (λ fault. CallFault-behind _ _ _ _ _ c.enter.ensures.calls.0 fault (Calls-behind _ _ _ c.enter.ensures.calls.0 c.read_node.ensures.calls c.enter.ensures.calls.1) (λ asks one. (kind, put_due (g.S.RecordRead.meaning c.args.store.now) (g.S.RecordRead.meaning c.read_node.new.store) (g.S.RecordRead.meaning c.enter.new.store) (g.S.RecordRead.meaning c.put_entry.new.store) c.args.key c.args.here.now.entries.items c.args.rank (c.in-Some-2.child.node.low, c.in-Some-2.child.at) (content_of c.in-Some-2.child.node) c.enter.ensures.calls.0 c.args.depth c.args.here.now.kind kind c.in_ok-child.ensures.after c.enter.ensures.after.reads c.put_entry.ensures.after.reads (subst C c.requires.size child) (subst A c.requires.size at) c.enter.result c.enter.ensures.calls.2 c.args.rid c.rank-child_rank.result c.in-Takes.entry (c.in_ok-enter.was ∙ ap (λ e. Ok e) c.in-Takes.is) (λ leaf. (let l = rw c.in-Takes.is at (c.in_ok-enter.ensures.leaf leaf) in l.0.1)) (λ inner. from_reads (g.S.RecordRead.meaning c.args.store.now) (g.S.RecordRead.meaning c.read_node.new.store) (g.S.RecordRead.meaning c.enter.new.store) c.args.key c.args.rid c.in-Some-2.child.node.entries.items c.rank-child_rank.result c.in_ok-enter.field-0 _ c.in_ok-child.ensures.after c.in-Takes.is (c.in_ok-enter.ensures.inner inner)) asks (one_at c.in-Some-2.child.node.entries.items asks (one.0, one.1)), fewer-behind c.enter.ensures.calls.0 asks (g.S.RecordRead.meaning c.args.store.now) (g.S.RecordRead.meaning c.enter.new.store) (g.S.RecordRead.meaning c.put_entry.new.store) (gives-behind c.enter.ensures.calls.0 (g.S.RecordRead.meaning c.args.store.now) (g.S.RecordRead.meaning c.read_node.new.store) (g.S.RecordRead.meaning c.enter.new.store) c.in_ok-child.ensures.after c.enter.ensures.calls.3) one.2))) c.put_entry.ensures.fault)
 
 pub returns-in_err-new-in-Takes-clause-calls : goal.returns-in_err-new-in-Takes-clause-calls
 returns-in_err-new-in-Takes-clause-calls g t c =
@@ -140,7 +141,7 @@ returns-in_err-new-in-Takes-clause-calls g t c =
     let at = child_at c.args.size _ (g.S.RecordRead.meaning c.args.store.now) (g.S.RecordRead.meaning c.read_node.new.store) c.in-Some-2.child c.in_ok-child.field-0 c.in-Some-2.is c.in_ok-child.ensures.read in
     let C : ℕ → Type 0 = λ n. IsChild n c.args.key c.args.here.now.entries.items c.args.rank (c.in-Some-2.child.node.low, c.in-Some-2.child.at) (content_of c.in-Some-2.child.node) in
     let A : ℕ → Type 0 = λ n. EachState (g.S.RecordRead.meaning c.args.store.now) (g.S.RecordRead.meaning c.read_node.new.store) (λ state. IsAt n state (c.in-Some-2.child.at, content_of c.in-Some-2.child.node)) in
-    (c.enter.ensures.calls.0 + asks_at c.in-Some-2.child.node.entries.items, (Calls-trans _ _ _ c.enter.ensures.calls.0 (asks_at c.in-Some-2.child.node.entries.items) (Calls-behind _ _ _ c.enter.ensures.calls.0 c.read_node.ensures.calls c.enter.ensures.calls.1) c.put_entry.ensures.calls), takes_err (g.S.RecordRead.meaning c.args.store.now) (g.S.RecordRead.meaning c.read_node.new.store) (g.S.RecordRead.meaning c.enter.new.store) (g.S.RecordRead.meaning c.put_entry.new.store) c.args.key c.args.here.now.entries.items c.args.rank (c.in-Some-2.child.node.low, c.in-Some-2.child.at) (content_of c.in-Some-2.child.node) c.enter.ensures.calls.0 c.args.depth c.args.here.now.kind kind c.in_ok-child.ensures.after c.enter.ensures.after.reads c.put_entry.ensures.after.reads (subst C c.requires.size child) (subst A c.requires.size at) c.enter.result c.enter.ensures.calls.2 c.args.rid c.rank-child_rank.result c.in-Takes.entry (c.in_ok-enter.was ∙ ap (λ e. Ok e) c.in-Takes.is) (λ leaf. (let l = rw c.in-Takes.is at (c.in_ok-enter.ensures.leaf leaf) in l.0.1)) (λ inner. from_reads (g.S.RecordRead.meaning c.args.store.now) (g.S.RecordRead.meaning c.read_node.new.store) (g.S.RecordRead.meaning c.enter.new.store) c.args.key c.args.rid c.in-Some-2.child.node.entries.items c.rank-child_rank.result c.in_ok-enter.field-0 _ c.in_ok-child.ensures.after c.in-Takes.is (c.in_ok-enter.ensures.inner inner)) c.from_residual-in_err-new-in-Takes.result c.from_residual-in_err-new-in-Takes.ensures.0 c.put_entry.ensures.few)
+    (c.enter.ensures.calls.0 + asks_at c.in-Some-2.child.node.entries.items, (Calls-trans _ _ _ c.enter.ensures.calls.0 (asks_at c.in-Some-2.child.node.entries.items) (Calls-behind _ _ _ c.enter.ensures.calls.0 c.read_node.ensures.calls c.enter.ensures.calls.1) c.put_entry.ensures.calls), takes_err (g.S.RecordRead.meaning c.args.store.now) (g.S.RecordRead.meaning c.read_node.new.store) (g.S.RecordRead.meaning c.enter.new.store) (g.S.RecordRead.meaning c.put_entry.new.store) c.args.key c.args.here.now.entries.items c.args.rank (c.in-Some-2.child.node.low, c.in-Some-2.child.at) (content_of c.in-Some-2.child.node) c.enter.ensures.calls.0 c.args.depth c.args.here.now.kind kind c.in_ok-child.ensures.after c.enter.ensures.after.reads c.put_entry.ensures.after.reads (subst C c.requires.size child) (subst A c.requires.size at) c.enter.result c.enter.ensures.calls.2 c.args.rid c.rank-child_rank.result c.in-Takes.entry (c.in_ok-enter.was ∙ ap (λ e. Ok e) c.in-Takes.is) (λ leaf. (let l = rw c.in-Takes.is at (c.in_ok-enter.ensures.leaf leaf) in l.0.1)) (λ inner. from_reads (g.S.RecordRead.meaning c.args.store.now) (g.S.RecordRead.meaning c.read_node.new.store) (g.S.RecordRead.meaning c.enter.new.store) c.args.key c.args.rid c.in-Some-2.child.node.entries.items c.rank-child_rank.result c.in_ok-enter.field-0 _ c.in_ok-child.ensures.after c.in-Takes.is (c.in_ok-enter.ensures.inner inner)) c.from_residual-in_err-new-in-Takes.result c.from_residual-in_err-new-in-Takes.ensures.0 c.put_entry.ensures.few, gives-trans c.enter.ensures.calls.0 (asks_at c.in-Some-2.child.node.entries.items) (g.S.RecordRead.meaning c.args.store.now) (g.S.RecordRead.meaning c.enter.new.store) (g.S.RecordRead.meaning c.put_entry.new.store) (gives-behind c.enter.ensures.calls.0 (g.S.RecordRead.meaning c.args.store.now) (g.S.RecordRead.meaning c.read_node.new.store) (g.S.RecordRead.meaning c.enter.new.store) c.in_ok-child.ensures.after c.enter.ensures.calls.3) c.put_entry.ensures.given)
 
 pub returns-in-There-clause-inner : goal.returns-in-There-clause-inner
 returns-in-There-clause-inner g t c = λ kind.
@@ -166,7 +167,7 @@ returns-in-There-clause-calls g t c =
     let at = child_at c.args.size _ (g.S.RecordRead.meaning c.args.store.now) (g.S.RecordRead.meaning c.read_node.new.store) c.in-Some-2.child c.in_ok-child.field-0 c.in-Some-2.is c.in_ok-child.ensures.read in
     let C : ℕ → Type 0 = λ n. IsChild n c.args.key c.args.here.now.entries.items c.args.rank (c.in-Some-2.child.node.low, c.in-Some-2.child.at) (content_of c.in-Some-2.child.node) in
     let A : ℕ → Type 0 = λ n. EachState (g.S.RecordRead.meaning c.args.store.now) (g.S.RecordRead.meaning c.read_node.new.store) (λ state. IsAt n state (c.in-Some-2.child.at, content_of c.in-Some-2.child.node)) in
-    (c.enter.ensures.calls.0, (Calls-behind _ _ _ c.enter.ensures.calls.0 c.read_node.ensures.calls c.enter.ensures.calls.1), below_there (g.S.RecordRead.meaning c.args.store.now) (g.S.RecordRead.meaning c.read_node.new.store) (g.S.RecordRead.meaning c.enter.new.store) (g.S.RecordRead.meaning c.enter.new.store) c.args.key c.args.here.now.entries.items c.args.rank (c.in-Some-2.child.node.low, c.in-Some-2.child.at) (content_of c.in-Some-2.child.node) c.enter.ensures.calls.0 c.args.depth c.args.here.now.kind kind c.in_ok-child.ensures.after c.enter.ensures.after.reads (extends-refl (g.S.RecordRead.meaning c.enter.new.store).reads) (subst C c.requires.size child) (subst A c.requires.size at) c.enter.result c.enter.ensures.calls.2 (c.in_ok-enter.was ∙ ap (λ e. Ok e) c.in-There.is) refl)
+    (c.enter.ensures.calls.0, (Calls-behind _ _ _ c.enter.ensures.calls.0 c.read_node.ensures.calls c.enter.ensures.calls.1), below_there (g.S.RecordRead.meaning c.args.store.now) (g.S.RecordRead.meaning c.read_node.new.store) (g.S.RecordRead.meaning c.enter.new.store) (g.S.RecordRead.meaning c.enter.new.store) c.args.key c.args.here.now.entries.items c.args.rank (c.in-Some-2.child.node.low, c.in-Some-2.child.at) (content_of c.in-Some-2.child.node) c.enter.ensures.calls.0 c.args.depth c.args.here.now.kind kind c.in_ok-child.ensures.after c.enter.ensures.after.reads (extends-refl (g.S.RecordRead.meaning c.enter.new.store).reads) (subst C c.requires.size child) (subst A c.requires.size at) c.enter.result c.enter.ensures.calls.2 (c.in_ok-enter.was ∙ ap (λ e. Ok e) c.in-There.is) refl, gives-behind c.enter.ensures.calls.0 (g.S.RecordRead.meaning c.args.store.now) (g.S.RecordRead.meaning c.read_node.new.store) (g.S.RecordRead.meaning c.enter.new.store) c.in_ok-child.ensures.after c.enter.ensures.calls.3)
 
 pub returns-in-Done-clause-inner : goal.returns-in-Done-clause-inner
 returns-in-Done-clause-inner g t c = λ kind.
@@ -192,7 +193,7 @@ returns-in-Done-clause-calls g t c =
     let at = child_at c.args.size _ (g.S.RecordRead.meaning c.args.store.now) (g.S.RecordRead.meaning c.read_node.new.store) c.in-Some-2.child c.in_ok-child.field-0 c.in-Some-2.is c.in_ok-child.ensures.read in
     let C : ℕ → Type 0 = λ n. IsChild n c.args.key c.args.here.now.entries.items c.args.rank (c.in-Some-2.child.node.low, c.in-Some-2.child.at) (content_of c.in-Some-2.child.node) in
     let A : ℕ → Type 0 = λ n. EachState (g.S.RecordRead.meaning c.args.store.now) (g.S.RecordRead.meaning c.read_node.new.store) (λ state. IsAt n state (c.in-Some-2.child.at, content_of c.in-Some-2.child.node)) in
-    (c.enter.ensures.calls.0, (Calls-behind _ _ _ c.enter.ensures.calls.0 c.read_node.ensures.calls c.enter.ensures.calls.1), below_done (g.S.RecordRead.meaning c.args.store.now) (g.S.RecordRead.meaning c.read_node.new.store) (g.S.RecordRead.meaning c.enter.new.store) (g.S.RecordRead.meaning c.enter.new.store) c.args.key c.args.here.now.entries.items c.args.rank (c.in-Some-2.child.node.low, c.in-Some-2.child.at) (content_of c.in-Some-2.child.node) c.enter.ensures.calls.0 c.args.depth c.args.here.now.kind kind c.in_ok-child.ensures.after c.enter.ensures.after.reads (extends-refl (g.S.RecordRead.meaning c.enter.new.store).reads) (subst C c.requires.size child) (subst A c.requires.size at) c.enter.result c.enter.ensures.calls.2 (c.in_ok-enter.was ∙ ap (λ e. Ok e) c.in-Done.is) (λ leaf. (let l = c.in_ok-enter.ensures.leaf leaf in (rw c.in-Done.is at l).0)) refl)
+    (c.enter.ensures.calls.0, (Calls-behind _ _ _ c.enter.ensures.calls.0 c.read_node.ensures.calls c.enter.ensures.calls.1), below_done (g.S.RecordRead.meaning c.args.store.now) (g.S.RecordRead.meaning c.read_node.new.store) (g.S.RecordRead.meaning c.enter.new.store) (g.S.RecordRead.meaning c.enter.new.store) c.args.key c.args.here.now.entries.items c.args.rank (c.in-Some-2.child.node.low, c.in-Some-2.child.at) (content_of c.in-Some-2.child.node) c.enter.ensures.calls.0 c.args.depth c.args.here.now.kind kind c.in_ok-child.ensures.after c.enter.ensures.after.reads (extends-refl (g.S.RecordRead.meaning c.enter.new.store).reads) (subst C c.requires.size child) (subst A c.requires.size at) c.enter.result c.enter.ensures.calls.2 (c.in_ok-enter.was ∙ ap (λ e. Ok e) c.in-Done.is) (λ leaf. (let l = c.in_ok-enter.ensures.leaf leaf in (rw c.in-Done.is at l).0)) refl, gives-behind c.enter.ensures.calls.0 (g.S.RecordRead.meaning c.args.store.now) (g.S.RecordRead.meaning c.read_node.new.store) (g.S.RecordRead.meaning c.enter.new.store) c.in_ok-child.ensures.after c.enter.ensures.calls.3)
 
 pub returns-in-Some-3-clause-inner : goal.returns-in-Some-3-clause-inner
 returns-in-Some-3-clause-inner g t c = λ kind.
@@ -226,7 +227,7 @@ returns-in-Some-3-clause-calls g t c =
     let A : ℕ → Type 0 = λ n. EachState (g.S.RecordRead.meaning c.args.store.now) (g.S.RecordRead.meaning c.read_node.new.store) (λ state. IsAt n state (c.in-Some-2.child.at, content_of c.in-Some-2.child.node)) in
     let puts = rw c.in-Some-3.is at c.in_ok-new-in-Takes.ensures.ok in
     let two = rw c.in-Some-3.is at c.in_ok-new-in-Takes.ensures.parted in
-    (c.enter.ensures.calls.0 + asks_at c.in-Some-2.child.node.entries.items, (Calls-trans _ _ _ c.enter.ensures.calls.0 (asks_at c.in-Some-2.child.node.entries.items) (Calls-behind _ _ _ c.enter.ensures.calls.0 c.read_node.ensures.calls c.enter.ensures.calls.1) c.put_entry.ensures.calls), takes_more (g.S.RecordRead.meaning c.args.store.now) (g.S.RecordRead.meaning c.read_node.new.store) (g.S.RecordRead.meaning c.enter.new.store) (g.S.RecordRead.meaning c.put_entry.new.store) c.args.key c.args.here.now.entries.items c.args.rank (c.in-Some-2.child.node.low, c.in-Some-2.child.at) (content_of c.in-Some-2.child.node) c.enter.ensures.calls.0 c.args.depth c.args.here.now.kind kind c.in_ok-child.ensures.after c.enter.ensures.after.reads c.put_entry.ensures.after.reads (subst C c.requires.size child) (subst A c.requires.size at) c.enter.result c.enter.ensures.calls.2 c.args.rid c.rank-child_rank.result c.in-Takes.entry (c.in_ok-enter.was ∙ ap (λ e. Ok e) c.in-Takes.is) (λ leaf. (let l = rw c.in-Takes.is at (c.in_ok-enter.ensures.leaf leaf) in l.0.1)) (λ inner. from_reads (g.S.RecordRead.meaning c.args.store.now) (g.S.RecordRead.meaning c.read_node.new.store) (g.S.RecordRead.meaning c.enter.new.store) c.args.key c.args.rid c.in-Some-2.child.node.entries.items c.rank-child_rank.result c.in_ok-enter.field-0 _ c.in_ok-child.ensures.after c.in-Takes.is (c.in_ok-enter.ensures.inner inner)) c.in-Some-3.new (omega (arith, puts.0, length-with c.in-Some-2.child.node.entries.items c.rank-child_rank.result c.in-Takes.entry)) c.put_entry.ensures.few two)
+    (c.enter.ensures.calls.0 + asks_at c.in-Some-2.child.node.entries.items, (Calls-trans _ _ _ c.enter.ensures.calls.0 (asks_at c.in-Some-2.child.node.entries.items) (Calls-behind _ _ _ c.enter.ensures.calls.0 c.read_node.ensures.calls c.enter.ensures.calls.1) c.put_entry.ensures.calls), takes_more (g.S.RecordRead.meaning c.args.store.now) (g.S.RecordRead.meaning c.read_node.new.store) (g.S.RecordRead.meaning c.enter.new.store) (g.S.RecordRead.meaning c.put_entry.new.store) c.args.key c.args.here.now.entries.items c.args.rank (c.in-Some-2.child.node.low, c.in-Some-2.child.at) (content_of c.in-Some-2.child.node) c.enter.ensures.calls.0 c.args.depth c.args.here.now.kind kind c.in_ok-child.ensures.after c.enter.ensures.after.reads c.put_entry.ensures.after.reads (subst C c.requires.size child) (subst A c.requires.size at) c.enter.result c.enter.ensures.calls.2 c.args.rid c.rank-child_rank.result c.in-Takes.entry (c.in_ok-enter.was ∙ ap (λ e. Ok e) c.in-Takes.is) (λ leaf. (let l = rw c.in-Takes.is at (c.in_ok-enter.ensures.leaf leaf) in l.0.1)) (λ inner. from_reads (g.S.RecordRead.meaning c.args.store.now) (g.S.RecordRead.meaning c.read_node.new.store) (g.S.RecordRead.meaning c.enter.new.store) c.args.key c.args.rid c.in-Some-2.child.node.entries.items c.rank-child_rank.result c.in_ok-enter.field-0 _ c.in_ok-child.ensures.after c.in-Takes.is (c.in_ok-enter.ensures.inner inner)) c.in-Some-3.new (omega (arith, puts.0, length-with c.in-Some-2.child.node.entries.items c.rank-child_rank.result c.in-Takes.entry)) c.put_entry.ensures.few two, gives-trans c.enter.ensures.calls.0 (asks_at c.in-Some-2.child.node.entries.items) (g.S.RecordRead.meaning c.args.store.now) (g.S.RecordRead.meaning c.enter.new.store) (g.S.RecordRead.meaning c.put_entry.new.store) (gives-behind c.enter.ensures.calls.0 (g.S.RecordRead.meaning c.args.store.now) (g.S.RecordRead.meaning c.read_node.new.store) (g.S.RecordRead.meaning c.enter.new.store) c.in_ok-child.ensures.after c.enter.ensures.calls.3) c.put_entry.ensures.given)
 
 pub returns-in-None-2-clause-inner : goal.returns-in-None-2-clause-inner
 returns-in-None-2-clause-inner g t c = λ kind.
@@ -259,7 +260,7 @@ returns-in-None-2-clause-calls g t c =
     let C : ℕ → Type 0 = λ n. IsChild n c.args.key c.args.here.now.entries.items c.args.rank (c.in-Some-2.child.node.low, c.in-Some-2.child.at) (content_of c.in-Some-2.child.node) in
     let A : ℕ → Type 0 = λ n. EachState (g.S.RecordRead.meaning c.args.store.now) (g.S.RecordRead.meaning c.read_node.new.store) (λ state. IsAt n state (c.in-Some-2.child.at, content_of c.in-Some-2.child.node)) in
     let puts = rw c.in-None-2.is at c.in_ok-new-in-Takes.ensures.ok in
-    (c.enter.ensures.calls.0 + asks_at c.in-Some-2.child.node.entries.items, (Calls-trans _ _ _ c.enter.ensures.calls.0 (asks_at c.in-Some-2.child.node.entries.items) (Calls-behind _ _ _ c.enter.ensures.calls.0 c.read_node.ensures.calls c.enter.ensures.calls.1) c.put_entry.ensures.calls), takes_none (g.S.RecordRead.meaning c.args.store.now) (g.S.RecordRead.meaning c.read_node.new.store) (g.S.RecordRead.meaning c.enter.new.store) (g.S.RecordRead.meaning c.put_entry.new.store) c.args.key c.args.here.now.entries.items c.args.rank (c.in-Some-2.child.node.low, c.in-Some-2.child.at) (content_of c.in-Some-2.child.node) c.enter.ensures.calls.0 c.args.depth c.args.here.now.kind kind c.in_ok-child.ensures.after c.enter.ensures.after.reads c.put_entry.ensures.after.reads (subst C c.requires.size child) (subst A c.requires.size at) c.enter.result c.enter.ensures.calls.2 c.args.rid c.rank-child_rank.result c.in-Takes.entry (c.in_ok-enter.was ∙ ap (λ e. Ok e) c.in-Takes.is) (λ leaf. (let l = rw c.in-Takes.is at (c.in_ok-enter.ensures.leaf leaf) in l.0.1)) (λ inner. from_reads (g.S.RecordRead.meaning c.args.store.now) (g.S.RecordRead.meaning c.read_node.new.store) (g.S.RecordRead.meaning c.enter.new.store) c.args.key c.args.rid c.in-Some-2.child.node.entries.items c.rank-child_rank.result c.in_ok-enter.field-0 _ c.in_ok-child.ensures.after c.in-Takes.is (c.in_ok-enter.ensures.inner inner)) (λ nine. omega (arith, nine, puts.0, length-with c.in-Some-2.child.node.entries.items c.rank-child_rank.result c.in-Takes.entry)) c.put_entry.ensures.few)
+    (c.enter.ensures.calls.0 + asks_at c.in-Some-2.child.node.entries.items, (Calls-trans _ _ _ c.enter.ensures.calls.0 (asks_at c.in-Some-2.child.node.entries.items) (Calls-behind _ _ _ c.enter.ensures.calls.0 c.read_node.ensures.calls c.enter.ensures.calls.1) c.put_entry.ensures.calls), takes_none (g.S.RecordRead.meaning c.args.store.now) (g.S.RecordRead.meaning c.read_node.new.store) (g.S.RecordRead.meaning c.enter.new.store) (g.S.RecordRead.meaning c.put_entry.new.store) c.args.key c.args.here.now.entries.items c.args.rank (c.in-Some-2.child.node.low, c.in-Some-2.child.at) (content_of c.in-Some-2.child.node) c.enter.ensures.calls.0 c.args.depth c.args.here.now.kind kind c.in_ok-child.ensures.after c.enter.ensures.after.reads c.put_entry.ensures.after.reads (subst C c.requires.size child) (subst A c.requires.size at) c.enter.result c.enter.ensures.calls.2 c.args.rid c.rank-child_rank.result c.in-Takes.entry (c.in_ok-enter.was ∙ ap (λ e. Ok e) c.in-Takes.is) (λ leaf. (let l = rw c.in-Takes.is at (c.in_ok-enter.ensures.leaf leaf) in l.0.1)) (λ inner. from_reads (g.S.RecordRead.meaning c.args.store.now) (g.S.RecordRead.meaning c.read_node.new.store) (g.S.RecordRead.meaning c.enter.new.store) c.args.key c.args.rid c.in-Some-2.child.node.entries.items c.rank-child_rank.result c.in_ok-enter.field-0 _ c.in_ok-child.ensures.after c.in-Takes.is (c.in_ok-enter.ensures.inner inner)) (λ nine. omega (arith, nine, puts.0, length-with c.in-Some-2.child.node.entries.items c.rank-child_rank.result c.in-Takes.entry)) c.put_entry.ensures.few, gives-trans c.enter.ensures.calls.0 (asks_at c.in-Some-2.child.node.entries.items) (g.S.RecordRead.meaning c.args.store.now) (g.S.RecordRead.meaning c.enter.new.store) (g.S.RecordRead.meaning c.put_entry.new.store) (gives-behind c.enter.ensures.calls.0 (g.S.RecordRead.meaning c.args.store.now) (g.S.RecordRead.meaning c.read_node.new.store) (g.S.RecordRead.meaning c.enter.new.store) c.in_ok-child.ensures.after c.enter.ensures.calls.3) c.put_entry.ensures.given)
 
 pub returns-in-There-clause-walked : goal.returns-in-There-clause-walked
 returns-in-There-clause-walked g t c =
@@ -304,3 +305,51 @@ returns-in-None-2-clause-walked g t c =
     let child = child_is c.args.size c.args.key c.args.here.now.entries.items c.args.rank c.in-Some-2.child c.requires.rank some link in
     let at = child_at c.args.size _ (g.S.RecordRead.meaning c.args.store.now) (g.S.RecordRead.meaning c.read_node.new.store) c.in-Some-2.child c.in_ok-child.field-0 c.in-Some-2.is c.in_ok-child.ensures.read in
     each_reaches c.args.size c.args.depth c.args.key c.args.here.now.entries.items c.args.rank (c.in-Some-2.child.node.low, c.in-Some-2.child.at) (content_of c.in-Some-2.child.node) (g.S.RecordRead.meaning c.args.store.now) (g.S.RecordRead.meaning c.read_node.new.store) (g.S.RecordRead.meaning c.enter.new.store) (g.S.RecordRead.meaning c.put_entry.new.store) c.in_ok-child.ensures.after c.enter.ensures.after.reads c.put_entry.ensures.after.reads child at (omega (arith, c.requires.depth, c.if-depth-eq-MOST_DEPTH.false)) c.in_ok-enter.ensures.walked
+
+-- what is written
+pub returns-in-Some-clause-writes : goal.returns-in-Some-clause-writes
+returns-in-Some-clause-writes g t c =
+    known-reads (g.S.RecordRead.meaning c.args.store.now) (g.S.RecordRead.meaning c.args.store.now) (OnlyReads-refl (g.S.RecordRead.meaning c.args.store.now))
+
+pub returns-in-None-clause-writes : goal.returns-in-None-clause-writes
+returns-in-None-clause-writes g t c =
+    known-reads (g.S.RecordRead.meaning c.args.store.now) (g.S.RecordRead.meaning c.args.store.now) (OnlyReads-refl (g.S.RecordRead.meaning c.args.store.now))
+
+pub returns-then-depth-eq-MOST_DEPTH-clause-writes : goal.returns-then-depth-eq-MOST_DEPTH-clause-writes
+returns-then-depth-eq-MOST_DEPTH-clause-writes g t c =
+    known-reads (g.S.RecordRead.meaning c.args.store.now) (g.S.RecordRead.meaning c.args.store.now) (OnlyReads-refl (g.S.RecordRead.meaning c.args.store.now))
+
+pub returns-in_err-child-clause-writes : goal.returns-in_err-child-clause-writes
+returns-in_err-child-clause-writes g t c =
+    known-reads (g.S.RecordRead.meaning c.args.store.now) (g.S.RecordRead.meaning c.read_node.new.store) c.read_node.ensures.after
+
+pub returns-in_default-clause-writes : goal.returns-in_default-clause-writes
+returns-in_default-clause-writes g t c =
+    known-reads (g.S.RecordRead.meaning c.args.store.now) (g.S.RecordRead.meaning c.read_node.new.store) c.read_node.ensures.after
+
+pub returns-in_err-enter-clause-writes : goal.returns-in_err-enter-clause-writes
+returns-in_err-enter-clause-writes g t c =
+    known-behind (g.S.RecordRead.meaning c.args.store.now) (g.S.RecordRead.meaning c.read_node.new.store) (g.S.RecordRead.meaning c.enter.new.store) c.in_ok-child.ensures.after c.enter.ensures.writes
+
+pub returns-in-There-clause-writes : goal.returns-in-There-clause-writes
+returns-in-There-clause-writes g t c =
+    known-behind (g.S.RecordRead.meaning c.args.store.now) (g.S.RecordRead.meaning c.read_node.new.store) (g.S.RecordRead.meaning c.enter.new.store) c.in_ok-child.ensures.after c.enter.ensures.writes
+
+pub returns-in-Done-clause-writes : goal.returns-in-Done-clause-writes
+returns-in-Done-clause-writes g t c =
+    known-behind (g.S.RecordRead.meaning c.args.store.now) (g.S.RecordRead.meaning c.read_node.new.store) (g.S.RecordRead.meaning c.enter.new.store) c.in_ok-child.ensures.after c.enter.ensures.writes
+
+pub returns-in_err-new-in-Takes-clause-writes : goal.returns-in_err-new-in-Takes-clause-writes
+returns-in_err-new-in-Takes-clause-writes g t c =
+    let at = child_at c.args.size _ (g.S.RecordRead.meaning c.args.store.now) (g.S.RecordRead.meaning c.read_node.new.store) c.in-Some-2.child c.in_ok-child.field-0 c.in-Some-2.is c.in_ok-child.ensures.read in
+    known-then-found (asks_at c.in-Some-2.child.node.entries.items) (g.S.RecordRead.meaning c.args.store.now) (g.S.RecordRead.meaning c.read_node.new.store) (g.S.RecordRead.meaning c.enter.new.store) (g.S.RecordRead.meaning c.put_entry.new.store) c.in-Some-2.child.at (known-behind (g.S.RecordRead.meaning c.args.store.now) (g.S.RecordRead.meaning c.read_node.new.store) (g.S.RecordRead.meaning c.enter.new.store) c.in_ok-child.ensures.after c.enter.ensures.writes) c.enter.ensures.after.reads c.put_entry.ensures.after.reads c.put_entry.ensures.given c.put_entry.ensures.writes (λ state agrees. (let is = at state agrees in (is.words, is.here)))
+
+pub returns-in-Some-3-clause-writes : goal.returns-in-Some-3-clause-writes
+returns-in-Some-3-clause-writes g t c =
+    let at = child_at c.args.size _ (g.S.RecordRead.meaning c.args.store.now) (g.S.RecordRead.meaning c.read_node.new.store) c.in-Some-2.child c.in_ok-child.field-0 c.in-Some-2.is c.in_ok-child.ensures.read in
+    known-then-found (asks_at c.in-Some-2.child.node.entries.items) (g.S.RecordRead.meaning c.args.store.now) (g.S.RecordRead.meaning c.read_node.new.store) (g.S.RecordRead.meaning c.enter.new.store) (g.S.RecordRead.meaning c.put_entry.new.store) c.in-Some-2.child.at (known-behind (g.S.RecordRead.meaning c.args.store.now) (g.S.RecordRead.meaning c.read_node.new.store) (g.S.RecordRead.meaning c.enter.new.store) c.in_ok-child.ensures.after c.enter.ensures.writes) c.enter.ensures.after.reads c.put_entry.ensures.after.reads c.put_entry.ensures.given c.put_entry.ensures.writes (λ state agrees. (let is = at state agrees in (is.words, is.here)))
+
+pub returns-in-None-2-clause-writes : goal.returns-in-None-2-clause-writes
+returns-in-None-2-clause-writes g t c =
+    let at = child_at c.args.size _ (g.S.RecordRead.meaning c.args.store.now) (g.S.RecordRead.meaning c.read_node.new.store) c.in-Some-2.child c.in_ok-child.field-0 c.in-Some-2.is c.in_ok-child.ensures.read in
+    known-then-found (asks_at c.in-Some-2.child.node.entries.items) (g.S.RecordRead.meaning c.args.store.now) (g.S.RecordRead.meaning c.read_node.new.store) (g.S.RecordRead.meaning c.enter.new.store) (g.S.RecordRead.meaning c.put_entry.new.store) c.in-Some-2.child.at (known-behind (g.S.RecordRead.meaning c.args.store.now) (g.S.RecordRead.meaning c.read_node.new.store) (g.S.RecordRead.meaning c.enter.new.store) c.in_ok-child.ensures.after c.enter.ensures.writes) c.enter.ensures.after.reads c.put_entry.ensures.after.reads c.put_entry.ensures.given c.put_entry.ensures.writes (λ state agrees. (let is = at state agrees in (is.words, is.here)))

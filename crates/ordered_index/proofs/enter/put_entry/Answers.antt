@@ -1,9 +1,10 @@
-use Rattle.std.proofs.Common.{◌+◌, ◌*◌, refl, sym, ap, arith}
+use Rattle.std.proofs.Common.{◌≡◌, ◌+◌, ◌*◌, refl, sym, ap, arith}
 use Rattle.record_store.specs.Calls.Calls.{none, fresh}
 use Rattle.record_store.specs.Calls.CallFault.{by_fresh}
 use Rattle.record_store.specs.Meaning.{Meaning}
 use Rattle.record_store.proofs.Refusals.{store_fault, fault_moved, IfStore-map}
 use Rattle.record_store.proofs.Paths.{Calls-at, Calls-trans, CallFault-never}
+use Rattle.record_store.proofs.Known.{tries, gives-weaken, fewer-refused, goes-same, goes-added, goes-tried, goes-trans}
 use Rattle.record_store.proofs.Writes.{writes-none, writes-weaken}
 use Rattle.ordered_index.specs.Asks.{asks_at}
 use Rattle.ordered_index.proofs.Counting.{asks_nine}
@@ -38,7 +39,7 @@ returns-then-not-is_full-clause-few g c =
 pub returns-in_err-fresh-clause-fault : goal.returns-in_err-fresh-clause-fault
 returns-in_err-fresh-clause-fault g c =
     let nine = had_nine c.args.link.node.entries.items c.args.rank c.args.entry c.insert.new.self.items c.is_full.result c.insert.ensures.items c.is_full.ensures.value c.if-not-is_full.false in
-    store_fault c.from_residual-in_err-fresh.result c.in_err-fresh.field-0.0 _ c.from_residual-in_err-fresh.ensures.1 (by_fresh c.args.store.now 0 (none c.args.store.now) c.in_err-fresh.ensures.gives (omega arith, nine))
+    store_fault c.from_residual-in_err-fresh.result c.in_err-fresh.field-0.0 _ c.from_residual-in_err-fresh.ensures.1 (by_fresh c.args.store.now 0 (none c.args.store.now) c.in_err-fresh.ensures.gives (omega arith, nine, fewer-refused 0 1 (g.S.RecordRead.meaning c.args.store.now) (g.S.RecordRead.meaning c.fresh.new.self) (omega arith) (goes-same (λ rid. rid ≡ c.args.link.at) (g.S.RecordRead.meaning c.args.store.now) (g.S.RecordRead.meaning c.fresh.new.self) c.in_err-fresh.ensures.err).given))
 
 pub returns-in_err-fresh-clause-calls : goal.returns-in_err-fresh-clause-calls
 returns-in_err-fresh-clause-calls g c =
@@ -106,3 +107,46 @@ returns-clause-parted g c =
     let m2 = g.S.RecordRead.meaning c.write_node-2.new.store in
     let m3 = g.S.RecordRead.meaning c.write_node-3.new.store in
     writes-weaken (0 + 1 + 1) (2 * asks_at c.args.link.node.entries.items) m0 m3 (omega (arith, asks_nine c.args.link.node.entries.items nine)) (wrote_one (0 + 1) m0 m2 m3 _ _ (wrote_one 0 m0 m1 m2 _ _ (wrote_fresh m0 m1 _ c.in_ok-fresh.ensures.ok) c.in_ok-write_node-2.ensures.ok) c.in_ok-write_node-3.ensures.ok)
+
+-- what is written and given
+pub returns-in_err-write_node-clause-writes : goal.returns-in_err-write_node-clause-writes
+returns-in_err-write_node-clause-writes g c = (tries c.write_node.result (g.S.RecordRead.meaning c.args.store.now) (g.S.RecordRead.meaning c.write_node.new.store) c.args.link.at _ c.write_node.ensures.ok c.write_node.ensures.err).only
+
+pub returns-in_err-write_node-clause-given : goal.returns-in_err-write_node-clause-given
+returns-in_err-write_node-clause-given g c = gives-weaken 0 (asks_at c.args.link.node.entries.items) (g.S.RecordRead.meaning c.args.store.now) (g.S.RecordRead.meaning c.write_node.new.store) (omega arith) (tries c.write_node.result (g.S.RecordRead.meaning c.args.store.now) (g.S.RecordRead.meaning c.write_node.new.store) c.args.link.at _ c.write_node.ensures.ok c.write_node.ensures.err).given
+
+pub returns-then-not-is_full-clause-writes : goal.returns-then-not-is_full-clause-writes
+returns-then-not-is_full-clause-writes g c = (tries c.write_node.result (g.S.RecordRead.meaning c.args.store.now) (g.S.RecordRead.meaning c.write_node.new.store) c.args.link.at _ c.write_node.ensures.ok c.write_node.ensures.err).only
+
+pub returns-then-not-is_full-clause-given : goal.returns-then-not-is_full-clause-given
+returns-then-not-is_full-clause-given g c = gives-weaken 0 (asks_at c.args.link.node.entries.items) (g.S.RecordRead.meaning c.args.store.now) (g.S.RecordRead.meaning c.write_node.new.store) (omega arith) (tries c.write_node.result (g.S.RecordRead.meaning c.args.store.now) (g.S.RecordRead.meaning c.write_node.new.store) c.args.link.at _ c.write_node.ensures.ok c.write_node.ensures.err).given
+
+pub returns-in_err-fresh-clause-writes : goal.returns-in_err-fresh-clause-writes
+returns-in_err-fresh-clause-writes g c = (goes-same (λ rid. rid ≡ c.args.link.at) (g.S.RecordRead.meaning c.args.store.now) (g.S.RecordRead.meaning c.fresh.new.self) c.in_err-fresh.ensures.err).only
+
+pub returns-in_err-fresh-clause-given : goal.returns-in_err-fresh-clause-given
+returns-in_err-fresh-clause-given g c = gives-weaken 0 (asks_at c.args.link.node.entries.items) (g.S.RecordRead.meaning c.args.store.now) (g.S.RecordRead.meaning c.fresh.new.self) (omega arith) (goes-same (λ rid. rid ≡ c.args.link.at) (g.S.RecordRead.meaning c.args.store.now) (g.S.RecordRead.meaning c.fresh.new.self) c.in_err-fresh.ensures.err).given
+
+pub returns-in_err-write_node-2-clause-writes : goal.returns-in_err-write_node-2-clause-writes
+returns-in_err-write_node-2-clause-writes g c = (goes-added (λ rid. rid ≡ c.args.link.at) (g.S.RecordRead.meaning c.args.store.now) (g.S.RecordRead.meaning c.fresh.new.self) (g.S.RecordRead.meaning c.write_node-2.new.store) c.in_ok-fresh.fresh c.in_ok-fresh.ensures.ok (tries c.write_node-2.result (g.S.RecordRead.meaning c.fresh.new.self) (g.S.RecordRead.meaning c.write_node-2.new.store) c.in_ok-fresh.fresh _ c.write_node-2.ensures.ok c.write_node-2.ensures.err)).only
+
+pub returns-in_err-write_node-2-clause-given : goal.returns-in_err-write_node-2-clause-given
+returns-in_err-write_node-2-clause-given g c =
+    let nine = had_nine c.args.link.node.entries.items c.args.rank c.args.entry c.insert.new.self.items c.is_full.result c.insert.ensures.items c.is_full.ensures.value c.if-not-is_full.false in
+    gives-weaken 1 (asks_at c.args.link.node.entries.items) (g.S.RecordRead.meaning c.args.store.now) (g.S.RecordRead.meaning c.write_node-2.new.store) (omega (arith, asks_nine c.args.link.node.entries.items nine)) (goes-added (λ rid. rid ≡ c.args.link.at) (g.S.RecordRead.meaning c.args.store.now) (g.S.RecordRead.meaning c.fresh.new.self) (g.S.RecordRead.meaning c.write_node-2.new.store) c.in_ok-fresh.fresh c.in_ok-fresh.ensures.ok (tries c.write_node-2.result (g.S.RecordRead.meaning c.fresh.new.self) (g.S.RecordRead.meaning c.write_node-2.new.store) c.in_ok-fresh.fresh _ c.write_node-2.ensures.ok c.write_node-2.ensures.err)).given
+
+pub returns-in_err-write_node-3-clause-writes : goal.returns-in_err-write_node-3-clause-writes
+returns-in_err-write_node-3-clause-writes g c = (goes-trans 1 0 (λ rid. rid ≡ c.args.link.at) (g.S.RecordRead.meaning c.args.store.now) (g.S.RecordRead.meaning c.write_node-2.new.store) (g.S.RecordRead.meaning c.write_node-3.new.store) (goes-added (λ rid. rid ≡ c.args.link.at) (g.S.RecordRead.meaning c.args.store.now) (g.S.RecordRead.meaning c.fresh.new.self) (g.S.RecordRead.meaning c.write_node-2.new.store) c.in_ok-fresh.fresh c.in_ok-fresh.ensures.ok (tries c.write_node-2.result (g.S.RecordRead.meaning c.fresh.new.self) (g.S.RecordRead.meaning c.write_node-2.new.store) c.in_ok-fresh.fresh _ c.write_node-2.ensures.ok c.write_node-2.ensures.err)) (goes-tried (λ rid. rid ≡ c.args.link.at) (g.S.RecordRead.meaning c.write_node-2.new.store) (g.S.RecordRead.meaning c.write_node-3.new.store) c.args.link.at (tries c.write_node-3.result (g.S.RecordRead.meaning c.write_node-2.new.store) (g.S.RecordRead.meaning c.write_node-3.new.store) c.args.link.at _ c.write_node-3.ensures.ok c.write_node-3.ensures.err) refl)).only
+
+pub returns-in_err-write_node-3-clause-given : goal.returns-in_err-write_node-3-clause-given
+returns-in_err-write_node-3-clause-given g c =
+    let nine = had_nine c.args.link.node.entries.items c.args.rank c.args.entry c.insert.new.self.items c.is_full.result c.insert.ensures.items c.is_full.ensures.value c.if-not-is_full.false in
+    gives-weaken 1 (asks_at c.args.link.node.entries.items) (g.S.RecordRead.meaning c.args.store.now) (g.S.RecordRead.meaning c.write_node-3.new.store) (omega (arith, asks_nine c.args.link.node.entries.items nine)) (goes-trans 1 0 (λ rid. rid ≡ c.args.link.at) (g.S.RecordRead.meaning c.args.store.now) (g.S.RecordRead.meaning c.write_node-2.new.store) (g.S.RecordRead.meaning c.write_node-3.new.store) (goes-added (λ rid. rid ≡ c.args.link.at) (g.S.RecordRead.meaning c.args.store.now) (g.S.RecordRead.meaning c.fresh.new.self) (g.S.RecordRead.meaning c.write_node-2.new.store) c.in_ok-fresh.fresh c.in_ok-fresh.ensures.ok (tries c.write_node-2.result (g.S.RecordRead.meaning c.fresh.new.self) (g.S.RecordRead.meaning c.write_node-2.new.store) c.in_ok-fresh.fresh _ c.write_node-2.ensures.ok c.write_node-2.ensures.err)) (goes-tried (λ rid. rid ≡ c.args.link.at) (g.S.RecordRead.meaning c.write_node-2.new.store) (g.S.RecordRead.meaning c.write_node-3.new.store) c.args.link.at (tries c.write_node-3.result (g.S.RecordRead.meaning c.write_node-2.new.store) (g.S.RecordRead.meaning c.write_node-3.new.store) c.args.link.at _ c.write_node-3.ensures.ok c.write_node-3.ensures.err) refl)).given
+
+pub returns-clause-writes : goal.returns-clause-writes
+returns-clause-writes g c = (goes-trans 1 0 (λ rid. rid ≡ c.args.link.at) (g.S.RecordRead.meaning c.args.store.now) (g.S.RecordRead.meaning c.write_node-2.new.store) (g.S.RecordRead.meaning c.write_node-3.new.store) (goes-added (λ rid. rid ≡ c.args.link.at) (g.S.RecordRead.meaning c.args.store.now) (g.S.RecordRead.meaning c.fresh.new.self) (g.S.RecordRead.meaning c.write_node-2.new.store) c.in_ok-fresh.fresh c.in_ok-fresh.ensures.ok (tries c.write_node-2.result (g.S.RecordRead.meaning c.fresh.new.self) (g.S.RecordRead.meaning c.write_node-2.new.store) c.in_ok-fresh.fresh _ c.write_node-2.ensures.ok c.write_node-2.ensures.err)) (goes-tried (λ rid. rid ≡ c.args.link.at) (g.S.RecordRead.meaning c.write_node-2.new.store) (g.S.RecordRead.meaning c.write_node-3.new.store) c.args.link.at (tries c.write_node-3.result (g.S.RecordRead.meaning c.write_node-2.new.store) (g.S.RecordRead.meaning c.write_node-3.new.store) c.args.link.at _ c.write_node-3.ensures.ok c.write_node-3.ensures.err) refl)).only
+
+pub returns-clause-given : goal.returns-clause-given
+returns-clause-given g c =
+    let nine = had_nine c.args.link.node.entries.items c.args.rank c.args.entry c.insert.new.self.items c.is_full.result c.insert.ensures.items c.is_full.ensures.value c.if-not-is_full.false in
+    gives-weaken 1 (asks_at c.args.link.node.entries.items) (g.S.RecordRead.meaning c.args.store.now) (g.S.RecordRead.meaning c.write_node-3.new.store) (omega (arith, asks_nine c.args.link.node.entries.items nine)) (goes-trans 1 0 (λ rid. rid ≡ c.args.link.at) (g.S.RecordRead.meaning c.args.store.now) (g.S.RecordRead.meaning c.write_node-2.new.store) (g.S.RecordRead.meaning c.write_node-3.new.store) (goes-added (λ rid. rid ≡ c.args.link.at) (g.S.RecordRead.meaning c.args.store.now) (g.S.RecordRead.meaning c.fresh.new.self) (g.S.RecordRead.meaning c.write_node-2.new.store) c.in_ok-fresh.fresh c.in_ok-fresh.ensures.ok (tries c.write_node-2.result (g.S.RecordRead.meaning c.fresh.new.self) (g.S.RecordRead.meaning c.write_node-2.new.store) c.in_ok-fresh.fresh _ c.write_node-2.ensures.ok c.write_node-2.ensures.err)) (goes-tried (λ rid. rid ≡ c.args.link.at) (g.S.RecordRead.meaning c.write_node-2.new.store) (g.S.RecordRead.meaning c.write_node-3.new.store) c.args.link.at (tries c.write_node-3.result (g.S.RecordRead.meaning c.write_node-2.new.store) (g.S.RecordRead.meaning c.write_node-3.new.store) c.args.link.at _ c.write_node-3.ensures.ok c.write_node-3.ensures.err) refl)).given

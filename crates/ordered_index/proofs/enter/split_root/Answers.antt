@@ -9,23 +9,25 @@ use Rattle.record_store.proofs.Paths.{Calls-trans, CallFault-never}
 use Rattle.record_store.specs.Calls.CallFault.{by_fresh}
 use Rattle.ordered_index.specs.Enter.PutsRoot.{parted}
 use Rattle.ordered_index.proofs.Rooting.{grow_two, grow_write, grow_equal}
+use Rattle.record_store.proofs.Known.{tries, gives-weaken, fewer-refused, goes-same, goes-fresh, goes-trans}
+use Rattle.ordered_index.proofs.Going.{left_goes, right_goes, over_goes}
 use Rattle.record_store.proofs.Writes.{writes-none, writes-trans, writes-weaken}
 use Rattle.ordered_index.proofs.Asking.{wrote_none, wrote_fresh, wrote_one, on_err}
 use Rattle.ordered_index.proofs.enter.split_root.Goals as goal
 
 pub returns-in_err-left-clause-fault : goal.returns-in_err-left-clause-fault
 returns-in_err-left-clause-fault g c =
-    store_fault c.from_residual.result c.in_err-left.field-0.0 _ c.from_residual.ensures.1 (by_fresh c.args.store.now 0 (none c.args.store.now) c.in_err-left.ensures.gives (omega arith))
+    store_fault c.from_residual.result c.in_err-left.field-0.0 _ c.from_residual.ensures.1 (by_fresh c.args.store.now 0 (none c.args.store.now) c.in_err-left.ensures.gives (omega arith, fewer-refused 0 1 (g.S.RecordRead.meaning c.args.store.now) (g.S.RecordRead.meaning c.fresh.new.self) (omega arith) (goes-same (λ rid. rid ≡ c.args.top.at) (g.S.RecordRead.meaning c.args.store.now) (g.S.RecordRead.meaning c.fresh.new.self) c.in_err-left.ensures.err).given))
 
 pub returns-in_err-left-clause-calls : goal.returns-in_err-left-clause-calls
-returns-in_err-left-clause-calls g c = (1, fresh _ _ _ 0 _ (none _) c.fresh.ensures.gives, omega arith, on_err c.from_residual.result _ c.from_residual.ensures.0, omega arith)
+returns-in_err-left-clause-calls g c = (1, fresh _ _ _ 0 _ (none _) c.fresh.ensures.gives, omega arith, on_err c.from_residual.result _ c.from_residual.ensures.0, omega arith, gives-weaken 0 1 (g.S.RecordRead.meaning c.args.store.now) (g.S.RecordRead.meaning c.fresh.new.self) (omega arith) (goes-same (λ rid. rid ≡ c.args.top.at) (g.S.RecordRead.meaning c.args.store.now) (g.S.RecordRead.meaning c.fresh.new.self) c.in_err-left.ensures.err).given)
 
 pub returns-in_err-right-clause-fault : goal.returns-in_err-right-clause-fault
 returns-in_err-right-clause-fault g c =
-    store_fault c.from_residual-in_err-right.result c.in_err-right.field-0.0 _ c.from_residual-in_err-right.ensures.1 (by_fresh c.fresh.new.self 1 (fresh _ _ _ 0 _ (none _) c.fresh.ensures.gives) c.in_err-right.ensures.gives (omega arith))
+    store_fault c.from_residual-in_err-right.result c.in_err-right.field-0.0 _ c.from_residual-in_err-right.ensures.1 (by_fresh c.fresh.new.self 1 (fresh _ _ _ 0 _ (none _) c.fresh.ensures.gives) c.in_err-right.ensures.gives (omega arith, fewer-refused 1 2 (g.S.RecordRead.meaning c.args.store.now) (g.S.RecordRead.meaning c.fresh-2.new.self) (omega arith) (goes-trans 1 0 (λ rid. rid ≡ c.args.top.at) (g.S.RecordRead.meaning c.args.store.now) (g.S.RecordRead.meaning c.fresh.new.self) (g.S.RecordRead.meaning c.fresh-2.new.self) (goes-fresh (λ rid. rid ≡ c.args.top.at) (g.S.RecordRead.meaning c.args.store.now) (g.S.RecordRead.meaning c.fresh.new.self) c.in_ok-left.left c.in_ok-left.ensures.ok) (goes-same (λ rid. rid ≡ c.args.top.at) (g.S.RecordRead.meaning c.fresh.new.self) (g.S.RecordRead.meaning c.fresh-2.new.self) c.in_err-right.ensures.err)).given))
 
 pub returns-in_err-right-clause-calls : goal.returns-in_err-right-clause-calls
-returns-in_err-right-clause-calls g c = (2, fresh _ _ _ 1 _ (fresh _ _ _ 0 _ (none _) c.fresh.ensures.gives) c.fresh-2.ensures.gives, omega arith, on_err c.from_residual-in_err-right.result _ c.from_residual-in_err-right.ensures.0, omega arith)
+returns-in_err-right-clause-calls g c = (2, fresh _ _ _ 1 _ (fresh _ _ _ 0 _ (none _) c.fresh.ensures.gives) c.fresh-2.ensures.gives, omega arith, on_err c.from_residual-in_err-right.result _ c.from_residual-in_err-right.ensures.0, omega arith, gives-weaken 1 2 (g.S.RecordRead.meaning c.args.store.now) (g.S.RecordRead.meaning c.fresh-2.new.self) (omega arith) (goes-trans 1 0 (λ rid. rid ≡ c.args.top.at) (g.S.RecordRead.meaning c.args.store.now) (g.S.RecordRead.meaning c.fresh.new.self) (g.S.RecordRead.meaning c.fresh-2.new.self) (goes-fresh (λ rid. rid ≡ c.args.top.at) (g.S.RecordRead.meaning c.args.store.now) (g.S.RecordRead.meaning c.fresh.new.self) c.in_ok-left.left c.in_ok-left.ensures.ok) (goes-same (λ rid. rid ≡ c.args.top.at) (g.S.RecordRead.meaning c.fresh.new.self) (g.S.RecordRead.meaning c.fresh-2.new.self) c.in_err-right.ensures.err)).given)
 
 pub returns-in_err-write_node-clause-fault : goal.returns-in_err-write_node-clause-fault
 returns-in_err-write_node-clause-fault g c =
@@ -33,7 +35,7 @@ returns-in_err-write_node-clause-fault g c =
     (IfStore-map c.write_node.result (λ fault. CallFault-never _ _ _ _ 2 fault (fresh _ _ _ 1 _ (fresh _ _ _ 0 _ (none _) c.fresh.ensures.gives) c.fresh-2.ensures.gives)) c.write_node.ensures.fault)
 
 pub returns-in_err-write_node-clause-calls : goal.returns-in_err-write_node-clause-calls
-returns-in_err-write_node-clause-calls g c = (2, Calls-trans _ _ _ 2 0 (fresh _ _ _ 1 _ (fresh _ _ _ 0 _ (none _) c.fresh.ensures.gives) c.fresh-2.ensures.gives) c.write_node.ensures.calls, omega arith, on_err c.from_residual-in_err-write_node.result _ c.from_residual-in_err-write_node.ensures.0, omega arith)
+returns-in_err-write_node-clause-calls g c = (2, Calls-trans _ _ _ 2 0 (fresh _ _ _ 1 _ (fresh _ _ _ 0 _ (none _) c.fresh.ensures.gives) c.fresh-2.ensures.gives) c.write_node.ensures.calls, omega arith, on_err c.from_residual-in_err-write_node.result _ c.from_residual-in_err-write_node.ensures.0, omega arith, (left_goes (λ rid. rid ≡ c.args.top.at) (g.S.RecordRead.meaning c.args.store.now) (g.S.RecordRead.meaning c.fresh.new.self) (g.S.RecordRead.meaning c.fresh-2.new.self) (g.S.RecordRead.meaning c.write_node.new.store) c.in_ok-left.left c.in_ok-right.right c.in_ok-left.ensures.ok c.in_ok-right.ensures.ok (tries c.write_node.result (g.S.RecordRead.meaning c.fresh-2.new.self) (g.S.RecordRead.meaning c.write_node.new.store) c.in_ok-left.left _ c.write_node.ensures.ok c.write_node.ensures.err)).given)
 
 pub returns-in_err-write_node-2-clause-fault : goal.returns-in_err-write_node-2-clause-fault
 returns-in_err-write_node-2-clause-fault g c =
@@ -41,7 +43,7 @@ returns-in_err-write_node-2-clause-fault g c =
     (IfStore-map c.write_node-2.result (λ fault. CallFault-never _ _ _ _ 2 fault (Calls-trans _ _ _ 2 0 (fresh _ _ _ 1 _ (fresh _ _ _ 0 _ (none _) c.fresh.ensures.gives) c.fresh-2.ensures.gives) c.write_node.ensures.calls)) c.write_node-2.ensures.fault)
 
 pub returns-in_err-write_node-2-clause-calls : goal.returns-in_err-write_node-2-clause-calls
-returns-in_err-write_node-2-clause-calls g c = (2, Calls-trans _ _ _ 2 0 (Calls-trans _ _ _ 2 0 (fresh _ _ _ 1 _ (fresh _ _ _ 0 _ (none _) c.fresh.ensures.gives) c.fresh-2.ensures.gives) c.write_node.ensures.calls) c.write_node-2.ensures.calls, omega arith, on_err c.from_residual-in_err-write_node-2.result _ c.from_residual-in_err-write_node-2.ensures.0, omega arith)
+returns-in_err-write_node-2-clause-calls g c = (2, Calls-trans _ _ _ 2 0 (Calls-trans _ _ _ 2 0 (fresh _ _ _ 1 _ (fresh _ _ _ 0 _ (none _) c.fresh.ensures.gives) c.fresh-2.ensures.gives) c.write_node.ensures.calls) c.write_node-2.ensures.calls, omega arith, on_err c.from_residual-in_err-write_node-2.result _ c.from_residual-in_err-write_node-2.ensures.0, omega arith, (right_goes (λ rid. rid ≡ c.args.top.at) (g.S.RecordRead.meaning c.args.store.now) (g.S.RecordRead.meaning c.fresh.new.self) (g.S.RecordRead.meaning c.fresh-2.new.self) (g.S.RecordRead.meaning c.write_node.new.store) c.in_ok-left.left c.in_ok-right.right c.in_ok-left.ensures.ok c.in_ok-right.ensures.ok (tries c.write_node.result (g.S.RecordRead.meaning c.fresh-2.new.self) (g.S.RecordRead.meaning c.write_node.new.store) c.in_ok-left.left _ c.write_node.ensures.ok c.write_node.ensures.err) (g.S.RecordRead.meaning c.write_node-2.new.store) (tries c.write_node-2.result (g.S.RecordRead.meaning c.write_node.new.store) (g.S.RecordRead.meaning c.write_node-2.new.store) c.in_ok-right.right _ c.write_node-2.ensures.ok c.write_node-2.ensures.err)).given)
 
 pub returns-in_err-write_node-3-clause-fault : goal.returns-in_err-write_node-3-clause-fault
 returns-in_err-write_node-3-clause-fault g c =
@@ -49,10 +51,10 @@ returns-in_err-write_node-3-clause-fault g c =
     (IfStore-map c.write_node-3.result (λ fault. CallFault-never _ _ _ _ 2 fault (Calls-trans _ _ _ 2 0 (Calls-trans _ _ _ 2 0 (fresh _ _ _ 1 _ (fresh _ _ _ 0 _ (none _) c.fresh.ensures.gives) c.fresh-2.ensures.gives) c.write_node.ensures.calls) c.write_node-2.ensures.calls)) c.write_node-3.ensures.fault)
 
 pub returns-in_err-write_node-3-clause-calls : goal.returns-in_err-write_node-3-clause-calls
-returns-in_err-write_node-3-clause-calls g c = (2, Calls-trans _ _ _ 2 0 (Calls-trans _ _ _ 2 0 (Calls-trans _ _ _ 2 0 (fresh _ _ _ 1 _ (fresh _ _ _ 0 _ (none _) c.fresh.ensures.gives) c.fresh-2.ensures.gives) c.write_node.ensures.calls) c.write_node-2.ensures.calls) c.write_node-3.ensures.calls, omega arith, on_err c.from_residual-in_err-write_node-3.result _ c.from_residual-in_err-write_node-3.ensures.0, omega arith)
+returns-in_err-write_node-3-clause-calls g c = (2, Calls-trans _ _ _ 2 0 (Calls-trans _ _ _ 2 0 (Calls-trans _ _ _ 2 0 (fresh _ _ _ 1 _ (fresh _ _ _ 0 _ (none _) c.fresh.ensures.gives) c.fresh-2.ensures.gives) c.write_node.ensures.calls) c.write_node-2.ensures.calls) c.write_node-3.ensures.calls, omega arith, on_err c.from_residual-in_err-write_node-3.result _ c.from_residual-in_err-write_node-3.ensures.0, omega arith, (over_goes (λ rid. rid ≡ c.args.top.at) (g.S.RecordRead.meaning c.args.store.now) (g.S.RecordRead.meaning c.fresh.new.self) (g.S.RecordRead.meaning c.fresh-2.new.self) (g.S.RecordRead.meaning c.write_node.new.store) c.in_ok-left.left c.in_ok-right.right c.in_ok-left.ensures.ok c.in_ok-right.ensures.ok (tries c.write_node.result (g.S.RecordRead.meaning c.fresh-2.new.self) (g.S.RecordRead.meaning c.write_node.new.store) c.in_ok-left.left _ c.write_node.ensures.ok c.write_node.ensures.err) (g.S.RecordRead.meaning c.write_node-2.new.store) (tries c.write_node-2.result (g.S.RecordRead.meaning c.write_node.new.store) (g.S.RecordRead.meaning c.write_node-2.new.store) c.in_ok-right.right _ c.write_node-2.ensures.ok c.write_node-2.ensures.err) (g.S.RecordRead.meaning c.write_node-3.new.store) c.args.top.at refl (tries c.write_node-3.result (g.S.RecordRead.meaning c.write_node-2.new.store) (g.S.RecordRead.meaning c.write_node-3.new.store) c.args.top.at _ c.write_node-3.ensures.ok c.write_node-3.ensures.err)).given)
 
 pub returns-clause-calls : goal.returns-clause-calls
-returns-clause-calls g c = (2, Calls-trans _ _ _ 2 0 (Calls-trans _ _ _ 2 0 (Calls-trans _ _ _ 2 0 (fresh _ _ _ 1 _ (fresh _ _ _ 0 _ (none _) c.fresh.ensures.gives) c.fresh-2.ensures.gives) c.write_node.ensures.calls) c.write_node-2.ensures.calls) c.write_node-3.ensures.calls, omega arith, refl, omega arith)
+returns-clause-calls g c = (2, Calls-trans _ _ _ 2 0 (Calls-trans _ _ _ 2 0 (Calls-trans _ _ _ 2 0 (fresh _ _ _ 1 _ (fresh _ _ _ 0 _ (none _) c.fresh.ensures.gives) c.fresh-2.ensures.gives) c.write_node.ensures.calls) c.write_node-2.ensures.calls) c.write_node-3.ensures.calls, omega arith, refl, omega arith, (over_goes (λ rid. rid ≡ c.args.top.at) (g.S.RecordRead.meaning c.args.store.now) (g.S.RecordRead.meaning c.fresh.new.self) (g.S.RecordRead.meaning c.fresh-2.new.self) (g.S.RecordRead.meaning c.write_node.new.store) c.in_ok-left.left c.in_ok-right.right c.in_ok-left.ensures.ok c.in_ok-right.ensures.ok (tries c.write_node.result (g.S.RecordRead.meaning c.fresh-2.new.self) (g.S.RecordRead.meaning c.write_node.new.store) c.in_ok-left.left _ c.write_node.ensures.ok c.write_node.ensures.err) (g.S.RecordRead.meaning c.write_node-2.new.store) (tries c.write_node-2.result (g.S.RecordRead.meaning c.write_node.new.store) (g.S.RecordRead.meaning c.write_node-2.new.store) c.in_ok-right.right _ c.write_node-2.ensures.ok c.write_node-2.ensures.err) (g.S.RecordRead.meaning c.write_node-3.new.store) c.args.top.at refl (tries c.write_node-3.result (g.S.RecordRead.meaning c.write_node-2.new.store) (g.S.RecordRead.meaning c.write_node-3.new.store) c.args.top.at _ c.write_node-3.ensures.ok c.write_node-3.ensures.err)).given)
 
 pub returns-clause-ok : goal.returns-clause-ok
 returns-clause-ok g c =
@@ -145,3 +147,21 @@ returns-clause-few g c =
     let m4 = g.S.RecordRead.meaning c.write_node-2.new.store in
     let m5 = g.S.RecordRead.meaning c.write_node-3.new.store in
     wrote_one 2 m0 m4 m5 _ _ (wrote_one 1 m0 m3 m4 _ _ (wrote_one 0 m0 m2 m3 _ _ (writes-trans 0 0 m0 m1 m2 (wrote_fresh m0 m1 _ c.in_ok-left.ensures.ok) (wrote_fresh m1 m2 _ c.in_ok-right.ensures.ok)) c.in_ok-write_node.ensures.ok) c.in_ok-write_node-2.ensures.ok) c.in_ok-write_node-3.ensures.ok
+
+pub returns-in_err-left-clause-writes : goal.returns-in_err-left-clause-writes
+returns-in_err-left-clause-writes g c = (goes-same (λ rid. rid ≡ c.args.top.at) (g.S.RecordRead.meaning c.args.store.now) (g.S.RecordRead.meaning c.fresh.new.self) c.in_err-left.ensures.err).only
+
+pub returns-in_err-right-clause-writes : goal.returns-in_err-right-clause-writes
+returns-in_err-right-clause-writes g c = (goes-trans 1 0 (λ rid. rid ≡ c.args.top.at) (g.S.RecordRead.meaning c.args.store.now) (g.S.RecordRead.meaning c.fresh.new.self) (g.S.RecordRead.meaning c.fresh-2.new.self) (goes-fresh (λ rid. rid ≡ c.args.top.at) (g.S.RecordRead.meaning c.args.store.now) (g.S.RecordRead.meaning c.fresh.new.self) c.in_ok-left.left c.in_ok-left.ensures.ok) (goes-same (λ rid. rid ≡ c.args.top.at) (g.S.RecordRead.meaning c.fresh.new.self) (g.S.RecordRead.meaning c.fresh-2.new.self) c.in_err-right.ensures.err)).only
+
+pub returns-in_err-write_node-clause-writes : goal.returns-in_err-write_node-clause-writes
+returns-in_err-write_node-clause-writes g c = (left_goes (λ rid. rid ≡ c.args.top.at) (g.S.RecordRead.meaning c.args.store.now) (g.S.RecordRead.meaning c.fresh.new.self) (g.S.RecordRead.meaning c.fresh-2.new.self) (g.S.RecordRead.meaning c.write_node.new.store) c.in_ok-left.left c.in_ok-right.right c.in_ok-left.ensures.ok c.in_ok-right.ensures.ok (tries c.write_node.result (g.S.RecordRead.meaning c.fresh-2.new.self) (g.S.RecordRead.meaning c.write_node.new.store) c.in_ok-left.left _ c.write_node.ensures.ok c.write_node.ensures.err)).only
+
+pub returns-in_err-write_node-2-clause-writes : goal.returns-in_err-write_node-2-clause-writes
+returns-in_err-write_node-2-clause-writes g c = (right_goes (λ rid. rid ≡ c.args.top.at) (g.S.RecordRead.meaning c.args.store.now) (g.S.RecordRead.meaning c.fresh.new.self) (g.S.RecordRead.meaning c.fresh-2.new.self) (g.S.RecordRead.meaning c.write_node.new.store) c.in_ok-left.left c.in_ok-right.right c.in_ok-left.ensures.ok c.in_ok-right.ensures.ok (tries c.write_node.result (g.S.RecordRead.meaning c.fresh-2.new.self) (g.S.RecordRead.meaning c.write_node.new.store) c.in_ok-left.left _ c.write_node.ensures.ok c.write_node.ensures.err) (g.S.RecordRead.meaning c.write_node-2.new.store) (tries c.write_node-2.result (g.S.RecordRead.meaning c.write_node.new.store) (g.S.RecordRead.meaning c.write_node-2.new.store) c.in_ok-right.right _ c.write_node-2.ensures.ok c.write_node-2.ensures.err)).only
+
+pub returns-in_err-write_node-3-clause-writes : goal.returns-in_err-write_node-3-clause-writes
+returns-in_err-write_node-3-clause-writes g c = (over_goes (λ rid. rid ≡ c.args.top.at) (g.S.RecordRead.meaning c.args.store.now) (g.S.RecordRead.meaning c.fresh.new.self) (g.S.RecordRead.meaning c.fresh-2.new.self) (g.S.RecordRead.meaning c.write_node.new.store) c.in_ok-left.left c.in_ok-right.right c.in_ok-left.ensures.ok c.in_ok-right.ensures.ok (tries c.write_node.result (g.S.RecordRead.meaning c.fresh-2.new.self) (g.S.RecordRead.meaning c.write_node.new.store) c.in_ok-left.left _ c.write_node.ensures.ok c.write_node.ensures.err) (g.S.RecordRead.meaning c.write_node-2.new.store) (tries c.write_node-2.result (g.S.RecordRead.meaning c.write_node.new.store) (g.S.RecordRead.meaning c.write_node-2.new.store) c.in_ok-right.right _ c.write_node-2.ensures.ok c.write_node-2.ensures.err) (g.S.RecordRead.meaning c.write_node-3.new.store) c.args.top.at refl (tries c.write_node-3.result (g.S.RecordRead.meaning c.write_node-2.new.store) (g.S.RecordRead.meaning c.write_node-3.new.store) c.args.top.at _ c.write_node-3.ensures.ok c.write_node-3.ensures.err)).only
+
+pub returns-clause-writes : goal.returns-clause-writes
+returns-clause-writes g c = (over_goes (λ rid. rid ≡ c.args.top.at) (g.S.RecordRead.meaning c.args.store.now) (g.S.RecordRead.meaning c.fresh.new.self) (g.S.RecordRead.meaning c.fresh-2.new.self) (g.S.RecordRead.meaning c.write_node.new.store) c.in_ok-left.left c.in_ok-right.right c.in_ok-left.ensures.ok c.in_ok-right.ensures.ok (tries c.write_node.result (g.S.RecordRead.meaning c.fresh-2.new.self) (g.S.RecordRead.meaning c.write_node.new.store) c.in_ok-left.left _ c.write_node.ensures.ok c.write_node.ensures.err) (g.S.RecordRead.meaning c.write_node-2.new.store) (tries c.write_node-2.result (g.S.RecordRead.meaning c.write_node.new.store) (g.S.RecordRead.meaning c.write_node-2.new.store) c.in_ok-right.right _ c.write_node-2.ensures.ok c.write_node-2.ensures.err) (g.S.RecordRead.meaning c.write_node-3.new.store) c.args.top.at refl (tries c.write_node-3.result (g.S.RecordRead.meaning c.write_node-2.new.store) (g.S.RecordRead.meaning c.write_node-3.new.store) c.args.top.at _ c.write_node-3.ensures.ok c.write_node-3.ensures.err)).only

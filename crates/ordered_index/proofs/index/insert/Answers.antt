@@ -1,5 +1,6 @@
 use Rattle.std.proofs.Common.{◌+◌, ◌<◌, ◌≤◌, ℕ, Some, Ok, Err, refl, ◌∙◌, ap, arith, subst}
 use Rattle.record_store.proofs.Refusals.{fault_moved, torn_moved, IfStore-map, IfTorn-map}
+use Rattle.record_store.proofs.Known.{tries, gives-reads, gives-tried, gives-behind, gives-trans, fewer-behind, known-reads, known-behind, known-fixed, known-then-fixed}
 use Rattle.record_store.proofs.Paths.{Calls-trans, Calls-reads, CallFault-read, CallFault-behind, CallFault-never}
 use Rattle.ordered_index.proofs.Asking.{Calls-behind}
 use Rattle.ordered_index.proofs.Asks.{asks_first_err, asks_first, top_err, top_there, top_done, top_may, root_err, root_ok, top_behind, few_of}
@@ -35,7 +36,7 @@ returns-in_err-top-clause-fault g c =
 
 pub returns-in_err-top-clause-calls : goal.returns-in_err-top-clause-calls
 returns-in_err-top-clause-calls g c =
-    (0, Calls-reads _ _ c.read_node.ensures.calls, asks_first_err c.args.root c.args.key (g.S.RecordRead.meaning c.args.store.now) (g.S.RecordRead.meaning c.read_node.new.store) (g.S.RecordRead.meaning c.read_node.new.store) c.from_residual.result c.from_residual.ensures.0 c.read_node.ensures.after refl)
+    (0, Calls-reads _ _ c.read_node.ensures.calls, asks_first_err c.args.root c.args.key (g.S.RecordRead.meaning c.args.store.now) (g.S.RecordRead.meaning c.read_node.new.store) (g.S.RecordRead.meaning c.read_node.new.store) c.from_residual.result c.from_residual.ensures.0 c.read_node.ensures.after refl, gives-reads (g.S.RecordRead.meaning c.args.store.now) (g.S.RecordRead.meaning c.read_node.new.store) c.read_node.ensures.after)
 
 pub returns-in_err-write_node-clause-fault : goal.returns-in_err-write_node-clause-fault
 returns-in_err-write_node-clause-fault g c =
@@ -44,7 +45,7 @@ returns-in_err-write_node-clause-fault g c =
 
 pub returns-in_err-write_node-clause-calls : goal.returns-in_err-write_node-clause-calls
 returns-in_err-write_node-clause-calls g c =
-    (0, Calls-trans _ _ _ 0 0 (Calls-reads _ _ c.read_node.ensures.calls) c.write_node.ensures.calls, asks_first_err c.args.root c.args.key (g.S.RecordRead.meaning c.args.store.now) (g.S.RecordRead.meaning c.read_node.new.store) (g.S.RecordRead.meaning c.write_node.new.store) c.from_residual-in_err-write_node.result c.from_residual-in_err-write_node.ensures.0 c.read_node.ensures.after c.in_err-write_node.ensures.err)
+    (0, Calls-trans _ _ _ 0 0 (Calls-reads _ _ c.read_node.ensures.calls) c.write_node.ensures.calls, asks_first_err c.args.root c.args.key (g.S.RecordRead.meaning c.args.store.now) (g.S.RecordRead.meaning c.read_node.new.store) (g.S.RecordRead.meaning c.write_node.new.store) c.from_residual-in_err-write_node.result c.from_residual-in_err-write_node.ensures.0 c.read_node.ensures.after c.in_err-write_node.ensures.err, gives-tried (g.S.RecordRead.meaning c.args.store.now) (g.S.RecordRead.meaning c.read_node.new.store) (g.S.RecordRead.meaning c.write_node.new.store) c.args.root c.read_node.ensures.after (tries c.write_node.result (g.S.RecordRead.meaning c.read_node.new.store) (g.S.RecordRead.meaning c.write_node.new.store) c.args.root _ c.write_node.ensures.ok c.write_node.ensures.err))
 
 pub returns-in_default-clause-ok : goal.returns-in_default-clause-ok
 returns-in_default-clause-ok g c =
@@ -53,7 +54,7 @@ returns-in_default-clause-ok g c =
 
 pub returns-in_default-clause-calls : goal.returns-in_default-clause-calls
 returns-in_default-clause-calls g c =
-    (0, Calls-trans _ _ _ 0 0 (Calls-reads _ _ c.read_node.ensures.calls) c.write_node.ensures.calls, asks_first c.size-size.result c.args.root c.args.key (g.S.RecordRead.meaning c.args.store.now) (g.S.RecordRead.meaning c.read_node.new.store) (g.S.RecordRead.meaning c.write_node.new.store) c.args.root _ c.size-size.ensures.size c.in_ok-top.ensures.after (λ state agrees. rw c.in_default.is at (c.in_ok-top.ensures.read state agrees)) c.in_ok-write_node.ensures.ok)
+    (0, Calls-trans _ _ _ 0 0 (Calls-reads _ _ c.read_node.ensures.calls) c.write_node.ensures.calls, asks_first c.size-size.result c.args.root c.args.key (g.S.RecordRead.meaning c.args.store.now) (g.S.RecordRead.meaning c.read_node.new.store) (g.S.RecordRead.meaning c.write_node.new.store) c.args.root _ c.size-size.ensures.size c.in_ok-top.ensures.after (λ state agrees. rw c.in_default.is at (c.in_ok-top.ensures.read state agrees)) c.in_ok-write_node.ensures.ok, gives-tried (g.S.RecordRead.meaning c.args.store.now) (g.S.RecordRead.meaning c.read_node.new.store) (g.S.RecordRead.meaning c.write_node.new.store) c.args.root c.read_node.ensures.after (tries c.write_node.result (g.S.RecordRead.meaning c.read_node.new.store) (g.S.RecordRead.meaning c.write_node.new.store) c.args.root _ c.write_node.ensures.ok c.write_node.ensures.err))
 
 pub enter-requires-clause-sound : goal.enter-requires-clause-sound
 enter-requires-clause-sound g c =
@@ -81,14 +82,14 @@ returns-in_err-enter-clause-fault g c =
     let A : ℕ → ℕ → Type 0 = λ n r. EachState (g.S.RecordRead.meaning c.args.store.now) (g.S.RecordRead.meaning c.read_node.new.store) (λ state. IsAt n state (r, content_of c.in-Some.top.node)) in
     let at = subst (λ r. A (g.S.RecordRead.meaning c.args.store.now).size r) link.at (subst (λ n. A n c.in-Some.top.at) c.size-size.ensures.size (child_at c.size-size.result c.args.root (g.S.RecordRead.meaning c.args.store.now) (g.S.RecordRead.meaning c.read_node.new.store) c.in-Some.top c.in_ok-top.field-0 c.in-Some.is c.in_ok-top.ensures.read)) in
     fault_moved c.from_residual-in_err-enter.result c.enter.result c.in_err-enter.field-0.0 _ c.in_err-enter.was c.from_residual-in_err-enter.ensures.1
-    (IfStore-map c.enter.result (λ fault. CallFault-behind _ _ _ _ _ 0 fault (Calls-reads _ _ c.read_node.ensures.calls) (λ asks later. top_behind c.args.root c.args.key (content_of c.in-Some.top.node) (g.S.RecordRead.meaning c.args.store.now) (g.S.RecordRead.meaning c.read_node.new.store) (g.S.RecordRead.meaning c.enter.new.store) asks c.in_ok-top.ensures.after c.enter.ensures.after.reads link.low at later)) c.enter.ensures.fault)
+    (IfStore-map c.enter.result (λ fault. CallFault-behind _ _ _ _ _ 0 fault (Calls-reads _ _ c.read_node.ensures.calls) (λ asks later. (top_behind c.args.root c.args.key (content_of c.in-Some.top.node) (g.S.RecordRead.meaning c.args.store.now) (g.S.RecordRead.meaning c.read_node.new.store) (g.S.RecordRead.meaning c.enter.new.store) asks c.in_ok-top.ensures.after c.enter.ensures.after.reads link.low at (later.0, later.1), fewer-behind 0 asks (g.S.RecordRead.meaning c.args.store.now) (g.S.RecordRead.meaning c.read_node.new.store) (g.S.RecordRead.meaning c.enter.new.store) (gives-reads (g.S.RecordRead.meaning c.args.store.now) (g.S.RecordRead.meaning c.read_node.new.store) c.in_ok-top.ensures.after) later.2))) c.enter.ensures.fault)
 
 pub returns-in_err-enter-clause-calls : goal.returns-in_err-enter-clause-calls
 returns-in_err-enter-clause-calls g c =
     let link = at_some (IsLink c.size-size.result c.args.root first_key) c.in-Some.top c.in-Some.is c.in_ok-top.ensures.link in
     let A : ℕ → ℕ → Type 0 = λ n r. EachState (g.S.RecordRead.meaning c.args.store.now) (g.S.RecordRead.meaning c.read_node.new.store) (λ state. IsAt n state (r, content_of c.in-Some.top.node)) in
     let at = subst (λ r. A (g.S.RecordRead.meaning c.args.store.now).size r) link.at (subst (λ n. A n c.in-Some.top.at) c.size-size.ensures.size (child_at c.size-size.result c.args.root (g.S.RecordRead.meaning c.args.store.now) (g.S.RecordRead.meaning c.read_node.new.store) c.in-Some.top c.in_ok-top.field-0 c.in-Some.is c.in_ok-top.ensures.read)) in
-    (c.enter.ensures.calls.0, (Calls-behind _ _ _ c.enter.ensures.calls.0 c.read_node.ensures.calls c.enter.ensures.calls.1), top_err c.args.root c.args.key (content_of c.in-Some.top.node) (g.S.RecordRead.meaning c.args.store.now) (g.S.RecordRead.meaning c.read_node.new.store) (g.S.RecordRead.meaning c.enter.new.store) (g.S.RecordRead.meaning c.enter.new.store) c.enter.ensures.calls.0 c.in_ok-top.ensures.after c.enter.ensures.after.reads (extends-refl (g.S.RecordRead.meaning c.enter.new.store).reads) link.low at c.enter.result c.enter.ensures.calls.2 c.from_residual-in_err-enter.result (Err c.in_err-enter.field-0.0) c.from_residual-in_err-enter.ensures.0 refl refl)
+    (c.enter.ensures.calls.0, (Calls-behind _ _ _ c.enter.ensures.calls.0 c.read_node.ensures.calls c.enter.ensures.calls.1), top_err c.args.root c.args.key (content_of c.in-Some.top.node) (g.S.RecordRead.meaning c.args.store.now) (g.S.RecordRead.meaning c.read_node.new.store) (g.S.RecordRead.meaning c.enter.new.store) (g.S.RecordRead.meaning c.enter.new.store) c.enter.ensures.calls.0 c.in_ok-top.ensures.after c.enter.ensures.after.reads (extends-refl (g.S.RecordRead.meaning c.enter.new.store).reads) link.low at c.enter.result c.enter.ensures.calls.2 c.from_residual-in_err-enter.result (Err c.in_err-enter.field-0.0) c.from_residual-in_err-enter.ensures.0 refl refl, gives-behind c.enter.ensures.calls.0 (g.S.RecordRead.meaning c.args.store.now) (g.S.RecordRead.meaning c.read_node.new.store) (g.S.RecordRead.meaning c.enter.new.store) c.in_ok-top.ensures.after c.enter.ensures.calls.3)
 
 pub returns-in-There-clause-ok : goal.returns-in-There-clause-ok
 returns-in-There-clause-ok g c =
@@ -106,7 +107,7 @@ returns-in-There-clause-calls g c =
     let link = at_some (IsLink c.size-size.result c.args.root first_key) c.in-Some.top c.in-Some.is c.in_ok-top.ensures.link in
     let A : ℕ → ℕ → Type 0 = λ n r. EachState (g.S.RecordRead.meaning c.args.store.now) (g.S.RecordRead.meaning c.read_node.new.store) (λ state. IsAt n state (r, content_of c.in-Some.top.node)) in
     let at = subst (λ r. A (g.S.RecordRead.meaning c.args.store.now).size r) link.at (subst (λ n. A n c.in-Some.top.at) c.size-size.ensures.size (child_at c.size-size.result c.args.root (g.S.RecordRead.meaning c.args.store.now) (g.S.RecordRead.meaning c.read_node.new.store) c.in-Some.top c.in_ok-top.field-0 c.in-Some.is c.in_ok-top.ensures.read)) in
-    (c.enter.ensures.calls.0, (Calls-behind _ _ _ c.enter.ensures.calls.0 c.read_node.ensures.calls c.enter.ensures.calls.1), top_there c.args.root c.args.key (content_of c.in-Some.top.node) (g.S.RecordRead.meaning c.args.store.now) (g.S.RecordRead.meaning c.read_node.new.store) (g.S.RecordRead.meaning c.enter.new.store) (g.S.RecordRead.meaning c.enter.new.store) c.enter.ensures.calls.0 c.in_ok-top.ensures.after c.enter.ensures.after.reads (extends-refl (g.S.RecordRead.meaning c.enter.new.store).reads) link.low at c.enter.result c.enter.ensures.calls.2 (c.in_ok-enter.was ∙ ap (λ e. Ok e) c.in-There.is) refl)
+    (c.enter.ensures.calls.0, (Calls-behind _ _ _ c.enter.ensures.calls.0 c.read_node.ensures.calls c.enter.ensures.calls.1), top_there c.args.root c.args.key (content_of c.in-Some.top.node) (g.S.RecordRead.meaning c.args.store.now) (g.S.RecordRead.meaning c.read_node.new.store) (g.S.RecordRead.meaning c.enter.new.store) (g.S.RecordRead.meaning c.enter.new.store) c.enter.ensures.calls.0 c.in_ok-top.ensures.after c.enter.ensures.after.reads (extends-refl (g.S.RecordRead.meaning c.enter.new.store).reads) link.low at c.enter.result c.enter.ensures.calls.2 (c.in_ok-enter.was ∙ ap (λ e. Ok e) c.in-There.is) refl, gives-behind c.enter.ensures.calls.0 (g.S.RecordRead.meaning c.args.store.now) (g.S.RecordRead.meaning c.read_node.new.store) (g.S.RecordRead.meaning c.enter.new.store) c.in_ok-top.ensures.after c.enter.ensures.calls.3)
 
 pub returns-in-Done-clause-ok : goal.returns-in-Done-clause-ok
 returns-in-Done-clause-ok g c =
@@ -124,7 +125,7 @@ returns-in-Done-clause-calls g c =
     let link = at_some (IsLink c.size-size.result c.args.root first_key) c.in-Some.top c.in-Some.is c.in_ok-top.ensures.link in
     let A : ℕ → ℕ → Type 0 = λ n r. EachState (g.S.RecordRead.meaning c.args.store.now) (g.S.RecordRead.meaning c.read_node.new.store) (λ state. IsAt n state (r, content_of c.in-Some.top.node)) in
     let at = subst (λ r. A (g.S.RecordRead.meaning c.args.store.now).size r) link.at (subst (λ n. A n c.in-Some.top.at) c.size-size.ensures.size (child_at c.size-size.result c.args.root (g.S.RecordRead.meaning c.args.store.now) (g.S.RecordRead.meaning c.read_node.new.store) c.in-Some.top c.in_ok-top.field-0 c.in-Some.is c.in_ok-top.ensures.read)) in
-    (c.enter.ensures.calls.0, (Calls-behind _ _ _ c.enter.ensures.calls.0 c.read_node.ensures.calls c.enter.ensures.calls.1), top_done c.args.root c.args.key (content_of c.in-Some.top.node) (g.S.RecordRead.meaning c.args.store.now) (g.S.RecordRead.meaning c.read_node.new.store) (g.S.RecordRead.meaning c.enter.new.store) (g.S.RecordRead.meaning c.enter.new.store) c.enter.ensures.calls.0 c.in_ok-top.ensures.after c.enter.ensures.after.reads (extends-refl (g.S.RecordRead.meaning c.enter.new.store).reads) link.low at c.enter.result c.enter.ensures.calls.2 (c.in_ok-enter.was ∙ ap (λ e. Ok e) c.in-Done.is) (λ leaf. (let l = c.in_ok-enter.ensures.leaf leaf in (rw c.in-Done.is at l).0)) refl)
+    (c.enter.ensures.calls.0, (Calls-behind _ _ _ c.enter.ensures.calls.0 c.read_node.ensures.calls c.enter.ensures.calls.1), top_done c.args.root c.args.key (content_of c.in-Some.top.node) (g.S.RecordRead.meaning c.args.store.now) (g.S.RecordRead.meaning c.read_node.new.store) (g.S.RecordRead.meaning c.enter.new.store) (g.S.RecordRead.meaning c.enter.new.store) c.enter.ensures.calls.0 c.in_ok-top.ensures.after c.enter.ensures.after.reads (extends-refl (g.S.RecordRead.meaning c.enter.new.store).reads) link.low at c.enter.result c.enter.ensures.calls.2 (c.in_ok-enter.was ∙ ap (λ e. Ok e) c.in-Done.is) (λ leaf. (let l = c.in_ok-enter.ensures.leaf leaf in (rw c.in-Done.is at l).0)) refl, gives-behind c.enter.ensures.calls.0 (g.S.RecordRead.meaning c.args.store.now) (g.S.RecordRead.meaning c.read_node.new.store) (g.S.RecordRead.meaning c.enter.new.store) c.in_ok-top.ensures.after c.enter.ensures.calls.3)
 
 pub returns-in_err-put_root-in-Takes-clause-fault : goal.returns-in_err-put_root-in-Takes-clause-fault
 returns-in_err-put_root-in-Takes-clause-fault g c =
@@ -132,14 +133,14 @@ returns-in_err-put_root-in-Takes-clause-fault g c =
     let A : ℕ → ℕ → Type 0 = λ n r. EachState (g.S.RecordRead.meaning c.args.store.now) (g.S.RecordRead.meaning c.read_node.new.store) (λ state. IsAt n state (r, content_of c.in-Some.top.node)) in
     let at = subst (λ r. A (g.S.RecordRead.meaning c.args.store.now).size r) link.at (subst (λ n. A n c.in-Some.top.at) c.size-size.ensures.size (child_at c.size-size.result c.args.root (g.S.RecordRead.meaning c.args.store.now) (g.S.RecordRead.meaning c.read_node.new.store) c.in-Some.top c.in_ok-top.field-0 c.in-Some.is c.in_ok-top.ensures.read)) in
     fault_moved c.from_residual-in_err-put_root-in-Takes.result c.put_root.result c.in_err-put_root-in-Takes.field-0.0 _ c.in_err-put_root-in-Takes.was c.from_residual-in_err-put_root-in-Takes.ensures.1
-    (IfStore-map c.put_root.result (λ fault. CallFault-behind _ _ _ _ _ c.enter.ensures.calls.0 fault (Calls-behind _ _ _ c.enter.ensures.calls.0 c.read_node.ensures.calls c.enter.ensures.calls.1) (λ asks few. top_may c.args.root c.args.key (content_of c.in-Some.top.node) (g.S.RecordRead.meaning c.args.store.now) (g.S.RecordRead.meaning c.read_node.new.store) (g.S.RecordRead.meaning c.enter.new.store) (g.S.RecordRead.meaning c.put_root.new.store) c.enter.ensures.calls.0 c.in_ok-top.ensures.after c.enter.ensures.after.reads c.put_root.ensures.after.reads link.low at c.enter.result c.enter.ensures.calls.2 c.args.rid c.rank-rank.result c.in-Takes.entry (c.in_ok-enter.was ∙ ap (λ e. Ok e) c.in-Takes.is) (λ leaf. (let l = rw c.in-Takes.is at (c.in_ok-enter.ensures.leaf leaf) in l.0.1)) (λ inner. from_reads (g.S.RecordRead.meaning c.args.store.now) (g.S.RecordRead.meaning c.read_node.new.store) (g.S.RecordRead.meaning c.enter.new.store) c.args.key c.args.rid c.in-Some.top.node.entries.items c.rank-rank.result c.in_ok-enter.field-0 _ c.in_ok-top.ensures.after c.in-Takes.is (c.in_ok-enter.ensures.inner inner)) asks few)) c.put_root.ensures.fault)
+    (IfStore-map c.put_root.result (λ fault. CallFault-behind _ _ _ _ _ c.enter.ensures.calls.0 fault (Calls-behind _ _ _ c.enter.ensures.calls.0 c.read_node.ensures.calls c.enter.ensures.calls.1) (λ asks few. (top_may c.args.root c.args.key (content_of c.in-Some.top.node) (g.S.RecordRead.meaning c.args.store.now) (g.S.RecordRead.meaning c.read_node.new.store) (g.S.RecordRead.meaning c.enter.new.store) (g.S.RecordRead.meaning c.put_root.new.store) c.enter.ensures.calls.0 c.in_ok-top.ensures.after c.enter.ensures.after.reads c.put_root.ensures.after.reads link.low at c.enter.result c.enter.ensures.calls.2 c.args.rid c.rank-rank.result c.in-Takes.entry (c.in_ok-enter.was ∙ ap (λ e. Ok e) c.in-Takes.is) (λ leaf. (let l = rw c.in-Takes.is at (c.in_ok-enter.ensures.leaf leaf) in l.0.1)) (λ inner. from_reads (g.S.RecordRead.meaning c.args.store.now) (g.S.RecordRead.meaning c.read_node.new.store) (g.S.RecordRead.meaning c.enter.new.store) c.args.key c.args.rid c.in-Some.top.node.entries.items c.rank-rank.result c.in_ok-enter.field-0 _ c.in_ok-top.ensures.after c.in-Takes.is (c.in_ok-enter.ensures.inner inner)) asks (few.0, few.1), fewer-behind c.enter.ensures.calls.0 asks (g.S.RecordRead.meaning c.args.store.now) (g.S.RecordRead.meaning c.enter.new.store) (g.S.RecordRead.meaning c.put_root.new.store) (gives-behind c.enter.ensures.calls.0 (g.S.RecordRead.meaning c.args.store.now) (g.S.RecordRead.meaning c.read_node.new.store) (g.S.RecordRead.meaning c.enter.new.store) c.in_ok-top.ensures.after c.enter.ensures.calls.3) few.2))) c.put_root.ensures.fault)
 
 pub returns-in_err-put_root-in-Takes-clause-calls : goal.returns-in_err-put_root-in-Takes-clause-calls
 returns-in_err-put_root-in-Takes-clause-calls g c =
     let link = at_some (IsLink c.size-size.result c.args.root first_key) c.in-Some.top c.in-Some.is c.in_ok-top.ensures.link in
     let A : ℕ → ℕ → Type 0 = λ n r. EachState (g.S.RecordRead.meaning c.args.store.now) (g.S.RecordRead.meaning c.read_node.new.store) (λ state. IsAt n state (r, content_of c.in-Some.top.node)) in
     let at = subst (λ r. A (g.S.RecordRead.meaning c.args.store.now).size r) link.at (subst (λ n. A n c.in-Some.top.at) c.size-size.ensures.size (child_at c.size-size.result c.args.root (g.S.RecordRead.meaning c.args.store.now) (g.S.RecordRead.meaning c.read_node.new.store) c.in-Some.top c.in_ok-top.field-0 c.in-Some.is c.in_ok-top.ensures.read)) in
-    (c.enter.ensures.calls.0 + c.put_root.ensures.calls.0, (Calls-trans _ _ _ c.enter.ensures.calls.0 c.put_root.ensures.calls.0 (Calls-behind _ _ _ c.enter.ensures.calls.0 c.read_node.ensures.calls c.enter.ensures.calls.1) c.put_root.ensures.calls.1), root_err c.args.root c.args.key (content_of c.in-Some.top.node) (g.S.RecordRead.meaning c.args.store.now) (g.S.RecordRead.meaning c.read_node.new.store) (g.S.RecordRead.meaning c.enter.new.store) (g.S.RecordRead.meaning c.put_root.new.store) c.enter.ensures.calls.0 c.in_ok-top.ensures.after c.enter.ensures.after.reads c.put_root.ensures.after.reads link.low at c.enter.result c.enter.ensures.calls.2 c.args.rid c.rank-rank.result c.in-Takes.entry (c.in_ok-enter.was ∙ ap (λ e. Ok e) c.in-Takes.is) (λ leaf. (let l = rw c.in-Takes.is at (c.in_ok-enter.ensures.leaf leaf) in l.0.1)) (λ inner. from_reads (g.S.RecordRead.meaning c.args.store.now) (g.S.RecordRead.meaning c.read_node.new.store) (g.S.RecordRead.meaning c.enter.new.store) c.args.key c.args.rid c.in-Some.top.node.entries.items c.rank-rank.result c.in_ok-enter.field-0 _ c.in_ok-top.ensures.after c.in-Takes.is (c.in_ok-enter.ensures.inner inner)) c.put_root.result c.from_residual-in_err-put_root-in-Takes.result c.put_root.ensures.calls.0 c.from_residual-in_err-put_root-in-Takes.ensures.0 c.put_root.ensures.calls.2)
+    (c.enter.ensures.calls.0 + c.put_root.ensures.calls.0, (Calls-trans _ _ _ c.enter.ensures.calls.0 c.put_root.ensures.calls.0 (Calls-behind _ _ _ c.enter.ensures.calls.0 c.read_node.ensures.calls c.enter.ensures.calls.1) c.put_root.ensures.calls.1), root_err c.args.root c.args.key (content_of c.in-Some.top.node) (g.S.RecordRead.meaning c.args.store.now) (g.S.RecordRead.meaning c.read_node.new.store) (g.S.RecordRead.meaning c.enter.new.store) (g.S.RecordRead.meaning c.put_root.new.store) c.enter.ensures.calls.0 c.in_ok-top.ensures.after c.enter.ensures.after.reads c.put_root.ensures.after.reads link.low at c.enter.result c.enter.ensures.calls.2 c.args.rid c.rank-rank.result c.in-Takes.entry (c.in_ok-enter.was ∙ ap (λ e. Ok e) c.in-Takes.is) (λ leaf. (let l = rw c.in-Takes.is at (c.in_ok-enter.ensures.leaf leaf) in l.0.1)) (λ inner. from_reads (g.S.RecordRead.meaning c.args.store.now) (g.S.RecordRead.meaning c.read_node.new.store) (g.S.RecordRead.meaning c.enter.new.store) c.args.key c.args.rid c.in-Some.top.node.entries.items c.rank-rank.result c.in_ok-enter.field-0 _ c.in_ok-top.ensures.after c.in-Takes.is (c.in_ok-enter.ensures.inner inner)) c.put_root.result c.from_residual-in_err-put_root-in-Takes.result c.put_root.ensures.calls.0 c.from_residual-in_err-put_root-in-Takes.ensures.0 c.put_root.ensures.calls.2, gives-trans c.enter.ensures.calls.0 c.put_root.ensures.calls.0 (g.S.RecordRead.meaning c.args.store.now) (g.S.RecordRead.meaning c.enter.new.store) (g.S.RecordRead.meaning c.put_root.new.store) (gives-behind c.enter.ensures.calls.0 (g.S.RecordRead.meaning c.args.store.now) (g.S.RecordRead.meaning c.read_node.new.store) (g.S.RecordRead.meaning c.enter.new.store) c.in_ok-top.ensures.after c.enter.ensures.calls.3) c.put_root.ensures.calls.3)
 
 pub returns-in_ok-put_root-in-Takes-clause-ok : goal.returns-in_ok-put_root-in-Takes-clause-ok
 returns-in_ok-put_root-in-Takes-clause-ok g c =
@@ -161,7 +162,7 @@ returns-in_ok-put_root-in-Takes-clause-calls g c =
     let link = at_some (IsLink c.size-size.result c.args.root first_key) c.in-Some.top c.in-Some.is c.in_ok-top.ensures.link in
     let A : ℕ → ℕ → Type 0 = λ n r. EachState (g.S.RecordRead.meaning c.args.store.now) (g.S.RecordRead.meaning c.read_node.new.store) (λ state. IsAt n state (r, content_of c.in-Some.top.node)) in
     let at = subst (λ r. A (g.S.RecordRead.meaning c.args.store.now).size r) link.at (subst (λ n. A n c.in-Some.top.at) c.size-size.ensures.size (child_at c.size-size.result c.args.root (g.S.RecordRead.meaning c.args.store.now) (g.S.RecordRead.meaning c.read_node.new.store) c.in-Some.top c.in_ok-top.field-0 c.in-Some.is c.in_ok-top.ensures.read)) in
-    (c.enter.ensures.calls.0 + c.put_root.ensures.calls.0, (Calls-trans _ _ _ c.enter.ensures.calls.0 c.put_root.ensures.calls.0 (Calls-behind _ _ _ c.enter.ensures.calls.0 c.read_node.ensures.calls c.enter.ensures.calls.1) c.put_root.ensures.calls.1), root_ok c.args.root c.args.key (content_of c.in-Some.top.node) (g.S.RecordRead.meaning c.args.store.now) (g.S.RecordRead.meaning c.read_node.new.store) (g.S.RecordRead.meaning c.enter.new.store) (g.S.RecordRead.meaning c.put_root.new.store) c.enter.ensures.calls.0 c.in_ok-top.ensures.after c.enter.ensures.after.reads c.put_root.ensures.after.reads link.low at c.enter.result c.enter.ensures.calls.2 c.args.rid c.rank-rank.result c.in-Takes.entry (c.in_ok-enter.was ∙ ap (λ e. Ok e) c.in-Takes.is) (λ leaf. (let l = rw c.in-Takes.is at (c.in_ok-enter.ensures.leaf leaf) in l.0.1)) (λ inner. from_reads (g.S.RecordRead.meaning c.args.store.now) (g.S.RecordRead.meaning c.read_node.new.store) (g.S.RecordRead.meaning c.enter.new.store) c.args.key c.args.rid c.in-Some.top.node.entries.items c.rank-rank.result c.in_ok-enter.field-0 _ c.in_ok-top.ensures.after c.in-Takes.is (c.in_ok-enter.ensures.inner inner)) c.put_root.result c.put_root.ensures.calls.0 (rw c.in_ok-put_root-in-Takes.was at c.put_root.ensures.calls.2.exact) c.put_root.ensures.calls.2)
+    (c.enter.ensures.calls.0 + c.put_root.ensures.calls.0, (Calls-trans _ _ _ c.enter.ensures.calls.0 c.put_root.ensures.calls.0 (Calls-behind _ _ _ c.enter.ensures.calls.0 c.read_node.ensures.calls c.enter.ensures.calls.1) c.put_root.ensures.calls.1), root_ok c.args.root c.args.key (content_of c.in-Some.top.node) (g.S.RecordRead.meaning c.args.store.now) (g.S.RecordRead.meaning c.read_node.new.store) (g.S.RecordRead.meaning c.enter.new.store) (g.S.RecordRead.meaning c.put_root.new.store) c.enter.ensures.calls.0 c.in_ok-top.ensures.after c.enter.ensures.after.reads c.put_root.ensures.after.reads link.low at c.enter.result c.enter.ensures.calls.2 c.args.rid c.rank-rank.result c.in-Takes.entry (c.in_ok-enter.was ∙ ap (λ e. Ok e) c.in-Takes.is) (λ leaf. (let l = rw c.in-Takes.is at (c.in_ok-enter.ensures.leaf leaf) in l.0.1)) (λ inner. from_reads (g.S.RecordRead.meaning c.args.store.now) (g.S.RecordRead.meaning c.read_node.new.store) (g.S.RecordRead.meaning c.enter.new.store) c.args.key c.args.rid c.in-Some.top.node.entries.items c.rank-rank.result c.in_ok-enter.field-0 _ c.in_ok-top.ensures.after c.in-Takes.is (c.in_ok-enter.ensures.inner inner)) c.put_root.result c.put_root.ensures.calls.0 (rw c.in_ok-put_root-in-Takes.was at c.put_root.ensures.calls.2.exact) c.put_root.ensures.calls.2, gives-trans c.enter.ensures.calls.0 c.put_root.ensures.calls.0 (g.S.RecordRead.meaning c.args.store.now) (g.S.RecordRead.meaning c.enter.new.store) (g.S.RecordRead.meaning c.put_root.new.store) (gives-behind c.enter.ensures.calls.0 (g.S.RecordRead.meaning c.args.store.now) (g.S.RecordRead.meaning c.read_node.new.store) (g.S.RecordRead.meaning c.enter.new.store) c.in_ok-top.ensures.after c.enter.ensures.calls.3) c.put_root.ensures.calls.3)
 
 pub returns-in_err-top-clause-few : goal.returns-in_err-top-clause-few
 returns-in_err-top-clause-few g c =
@@ -219,3 +220,40 @@ returns-in_ok-put_root-in-Takes-clause-walked g c =
     let A : ℕ → ℕ → Type 0 = λ n r. EachState (g.S.RecordRead.meaning c.args.store.now) (g.S.RecordRead.meaning c.read_node.new.store) (λ state. IsAt n state (r, content_of c.in-Some.top.node)) in
     let at = subst (λ r. A (g.S.RecordRead.meaning c.args.store.now).size r) link.at (subst (λ n. A n c.in-Some.top.at) c.size-size.ensures.size (child_at c.size-size.result c.args.root (g.S.RecordRead.meaning c.args.store.now) (g.S.RecordRead.meaning c.read_node.new.store) c.in-Some.top c.in_ok-top.field-0 c.in-Some.is c.in_ok-top.ensures.read)) in
     each_ends_well (g.S.RecordRead.meaning c.args.store.now).size c.args.root c.args.key (content_of c.in-Some.top.node) (g.S.RecordRead.meaning c.args.store.now) (g.S.RecordRead.meaning c.read_node.new.store) (g.S.RecordRead.meaning c.enter.new.store) (g.S.RecordRead.meaning c.put_root.new.store) c.in_ok-top.ensures.after c.enter.ensures.after.reads c.put_root.ensures.after.reads link.low at (λ inner. rw c.size-size.ensures.size at (c.in_ok-enter.ensures.walked inner))
+
+-- what is written
+pub returns-in_err-top-clause-writes : goal.returns-in_err-top-clause-writes
+returns-in_err-top-clause-writes g c =
+    known-reads (g.S.RecordRead.meaning c.args.store.now) (g.S.RecordRead.meaning c.read_node.new.store) c.read_node.ensures.after
+
+pub returns-in_err-write_node-clause-writes : goal.returns-in_err-write_node-clause-writes
+returns-in_err-write_node-clause-writes g c =
+    let tried = (tries c.write_node.result (g.S.RecordRead.meaning c.read_node.new.store) (g.S.RecordRead.meaning c.write_node.new.store) c.args.root _ c.write_node.ensures.ok c.write_node.ensures.err) in
+    known-fixed 0 (g.S.RecordRead.meaning c.args.store.now) (g.S.RecordRead.meaning c.read_node.new.store) (g.S.RecordRead.meaning c.write_node.new.store) c.args.root c.in_ok-top.ensures.after tried.reads tried.given tried.only c.requires.root
+
+pub returns-in_default-clause-writes : goal.returns-in_default-clause-writes
+returns-in_default-clause-writes g c =
+    let tried = (tries c.write_node.result (g.S.RecordRead.meaning c.read_node.new.store) (g.S.RecordRead.meaning c.write_node.new.store) c.args.root _ c.write_node.ensures.ok c.write_node.ensures.err) in
+    known-fixed 0 (g.S.RecordRead.meaning c.args.store.now) (g.S.RecordRead.meaning c.read_node.new.store) (g.S.RecordRead.meaning c.write_node.new.store) c.args.root c.in_ok-top.ensures.after tried.reads tried.given tried.only c.requires.root
+
+pub returns-in_err-enter-clause-writes : goal.returns-in_err-enter-clause-writes
+returns-in_err-enter-clause-writes g c =
+    known-behind (g.S.RecordRead.meaning c.args.store.now) (g.S.RecordRead.meaning c.read_node.new.store) (g.S.RecordRead.meaning c.enter.new.store) c.in_ok-top.ensures.after c.enter.ensures.writes
+
+pub returns-in-There-clause-writes : goal.returns-in-There-clause-writes
+returns-in-There-clause-writes g c =
+    known-behind (g.S.RecordRead.meaning c.args.store.now) (g.S.RecordRead.meaning c.read_node.new.store) (g.S.RecordRead.meaning c.enter.new.store) c.in_ok-top.ensures.after c.enter.ensures.writes
+
+pub returns-in-Done-clause-writes : goal.returns-in-Done-clause-writes
+returns-in-Done-clause-writes g c =
+    known-behind (g.S.RecordRead.meaning c.args.store.now) (g.S.RecordRead.meaning c.read_node.new.store) (g.S.RecordRead.meaning c.enter.new.store) c.in_ok-top.ensures.after c.enter.ensures.writes
+
+pub returns-in_err-put_root-in-Takes-clause-writes : goal.returns-in_err-put_root-in-Takes-clause-writes
+returns-in_err-put_root-in-Takes-clause-writes g c =
+    let link = at_some (IsLink c.size-size.result c.args.root first_key) c.in-Some.top c.in-Some.is c.in_ok-top.ensures.link in
+    known-then-fixed c.put_root.ensures.calls.0 (g.S.RecordRead.meaning c.args.store.now) (g.S.RecordRead.meaning c.enter.new.store) (g.S.RecordRead.meaning c.put_root.new.store) c.in-Some.top.at (known-behind (g.S.RecordRead.meaning c.args.store.now) (g.S.RecordRead.meaning c.read_node.new.store) (g.S.RecordRead.meaning c.enter.new.store) c.in_ok-top.ensures.after c.enter.ensures.writes) c.put_root.ensures.after.reads c.put_root.ensures.calls.3 c.put_root.ensures.writes (rw link.at c.requires.root)
+
+pub returns-in_ok-put_root-in-Takes-clause-writes : goal.returns-in_ok-put_root-in-Takes-clause-writes
+returns-in_ok-put_root-in-Takes-clause-writes g c =
+    let link = at_some (IsLink c.size-size.result c.args.root first_key) c.in-Some.top c.in-Some.is c.in_ok-top.ensures.link in
+    known-then-fixed c.put_root.ensures.calls.0 (g.S.RecordRead.meaning c.args.store.now) (g.S.RecordRead.meaning c.enter.new.store) (g.S.RecordRead.meaning c.put_root.new.store) c.in-Some.top.at (known-behind (g.S.RecordRead.meaning c.args.store.now) (g.S.RecordRead.meaning c.read_node.new.store) (g.S.RecordRead.meaning c.enter.new.store) c.in_ok-top.ensures.after c.enter.ensures.writes) c.put_root.ensures.after.reads c.put_root.ensures.calls.3 c.put_root.ensures.writes (rw link.at c.requires.root)

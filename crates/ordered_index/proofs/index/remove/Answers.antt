@@ -3,6 +3,7 @@ use Rattle.record_store.proofs.Refusals.{fault_moved, torn_moved, IfStore-map, I
 use Rattle.record_store.specs.Meaning.{after_write}
 use Rattle.record_store.proofs.Paths.{Calls-reads, Calls-trans, CallFault-read, CallFault-never}
 use Rattle.record_store.proofs.Agreement.{writes_same}
+use Rattle.record_store.proofs.Known.{tries, gives-reads, gives-tried, known-reads, known-found}
 use Rattle.record_store.proofs.Writes.{writes-none}
 use Rattle.ordered_index.proofs.Asking.{read_few, wrote_none, wrote_one}
 use Rattle.ordered_index.specs.Node.{words_of, Content}
@@ -68,3 +69,46 @@ returns-in_err-write_node-clause-few g c = wrote_none 1 (g.S.RecordRead.meaning 
 
 pub returns-clause-few : goal.returns-clause-few
 returns-clause-few g c = wrote_one 0 (g.S.RecordRead.meaning c.args.store.now) (g.S.RecordRead.meaning c.leaf_for.new.store) (g.S.RecordRead.meaning c.write_node.new.store) _ _ (writes-none (g.S.RecordRead.meaning c.args.store.now) (g.S.RecordRead.meaning c.leaf_for.new.store) (writes_same (g.S.RecordRead.meaning c.args.store.now) (g.S.RecordRead.meaning c.leaf_for.new.store) c.leaf_for.ensures.after)) c.in_ok-write_node.ensures.ok
+
+-- what is written and given
+pub returns-in_err-leaf-clause-writes : goal.returns-in_err-leaf-clause-writes
+returns-in_err-leaf-clause-writes g c =
+    known-reads (g.S.RecordRead.meaning c.args.store.now) (g.S.RecordRead.meaning c.leaf_for.new.store) c.leaf_for.ensures.after
+
+pub returns-in_err-leaf-clause-given : goal.returns-in_err-leaf-clause-given
+returns-in_err-leaf-clause-given g c =
+    gives-reads (g.S.RecordRead.meaning c.args.store.now) (g.S.RecordRead.meaning c.leaf_for.new.store) c.leaf_for.ensures.after
+
+pub returns-in_default-clause-writes : goal.returns-in_default-clause-writes
+returns-in_default-clause-writes g c =
+    known-reads (g.S.RecordRead.meaning c.args.store.now) (g.S.RecordRead.meaning c.leaf_for.new.store) c.leaf_for.ensures.after
+
+pub returns-in_default-clause-given : goal.returns-in_default-clause-given
+returns-in_default-clause-given g c =
+    gives-reads (g.S.RecordRead.meaning c.args.store.now) (g.S.RecordRead.meaning c.leaf_for.new.store) c.leaf_for.ensures.after
+
+pub returns-in_default-place-clause-writes : goal.returns-in_default-place-clause-writes
+returns-in_default-place-clause-writes g c =
+    known-reads (g.S.RecordRead.meaning c.args.store.now) (g.S.RecordRead.meaning c.leaf_for.new.store) c.leaf_for.ensures.after
+
+pub returns-in_default-place-clause-given : goal.returns-in_default-place-clause-given
+returns-in_default-place-clause-given g c =
+    gives-reads (g.S.RecordRead.meaning c.args.store.now) (g.S.RecordRead.meaning c.leaf_for.new.store) c.leaf_for.ensures.after
+
+pub returns-in_err-write_node-clause-writes : goal.returns-in_err-write_node-clause-writes
+returns-in_err-write_node-clause-writes g c =
+    let tried = (tries c.write_node.result (g.S.RecordRead.meaning c.leaf_for.new.store) (g.S.RecordRead.meaning c.write_node.new.store) c.in-Some.leaf.at _ c.write_node.ensures.ok c.write_node.ensures.err) in
+    known-found 0 (g.S.RecordRead.meaning c.args.store.now) (g.S.RecordRead.meaning c.leaf_for.new.store) (g.S.RecordRead.meaning c.write_node.new.store) c.in-Some.leaf.at c.in_ok-leaf.ensures.after tried.reads tried.given tried.only (λ state agrees. (let is = rw c.in-Some.is at (c.in_ok-leaf.ensures.leaf state agrees) in (is.at.words, is.at.here)))
+
+pub returns-in_err-write_node-clause-given : goal.returns-in_err-write_node-clause-given
+returns-in_err-write_node-clause-given g c =
+    gives-tried (g.S.RecordRead.meaning c.args.store.now) (g.S.RecordRead.meaning c.leaf_for.new.store) (g.S.RecordRead.meaning c.write_node.new.store) c.in-Some.leaf.at c.in_ok-leaf.ensures.after (tries c.write_node.result (g.S.RecordRead.meaning c.leaf_for.new.store) (g.S.RecordRead.meaning c.write_node.new.store) c.in-Some.leaf.at _ c.write_node.ensures.ok c.write_node.ensures.err)
+
+pub returns-clause-writes : goal.returns-clause-writes
+returns-clause-writes g c =
+    let tried = (tries c.write_node.result (g.S.RecordRead.meaning c.leaf_for.new.store) (g.S.RecordRead.meaning c.write_node.new.store) c.in-Some.leaf.at _ c.write_node.ensures.ok c.write_node.ensures.err) in
+    known-found 0 (g.S.RecordRead.meaning c.args.store.now) (g.S.RecordRead.meaning c.leaf_for.new.store) (g.S.RecordRead.meaning c.write_node.new.store) c.in-Some.leaf.at c.in_ok-leaf.ensures.after tried.reads tried.given tried.only (λ state agrees. (let is = rw c.in-Some.is at (c.in_ok-leaf.ensures.leaf state agrees) in (is.at.words, is.at.here)))
+
+pub returns-clause-given : goal.returns-clause-given
+returns-clause-given g c =
+    gives-tried (g.S.RecordRead.meaning c.args.store.now) (g.S.RecordRead.meaning c.leaf_for.new.store) (g.S.RecordRead.meaning c.write_node.new.store) c.in-Some.leaf.at c.in_ok-leaf.ensures.after (tries c.write_node.result (g.S.RecordRead.meaning c.leaf_for.new.store) (g.S.RecordRead.meaning c.write_node.new.store) c.in-Some.leaf.at _ c.write_node.ensures.ok c.write_node.ensures.err)

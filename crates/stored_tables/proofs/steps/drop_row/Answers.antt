@@ -1,5 +1,6 @@
 use Rattle.std.proofs.Common.{refl, ap}
 use Rattle.record_store.specs.Meaning.{Meaning}
+use Rattle.stored_tables.proofs.Knowing.{row_may}
 use Rattle.stored_tables.proofs.Writing.{write_refused, write_done}
 use Rattle.stored_tables.proofs.RowSteps.{drops_row}
 use Rattle.stored_tables.proofs.steps.drop_row.Goals as goal
@@ -12,6 +13,7 @@ returns-in_err-write-clause-runs g c = λ table key.
 pub returns-clause-runs : goal.returns-clause-runs
 returns-clause-runs g c = λ table key.
     write_done _ _ _ c.args.store.now c.write.new.self c.args.rid _ _ c.in_ok-write.ensures.gives c.in_ok-write.ensures.ok
+    (λ state places has. row_may (g.S.RecordRead.meaning c.args.store.now) table key c.args.rid state places has)
     (λ state places agrees has. (
       refl,
       drops_row table key c.args.rid (g.S.RecordRead.meaning c.args.store.now)

@@ -8,7 +8,8 @@ returns-in_err-remove-clause-runs g c =
     runs_moved _ 1 1 c.args.store.now c.remove.new.store c.from_residual.result c.remove.result c.in_err-remove.field-0.0
     (taken_runs {meaning = g.S.RecordRead.meaning} c.args.tree c.root_of.result c.args.key c.args.rid c.args.store.now c.remove.new.store
     c.remove.result c.requires.tree c.root_of.ensures.root c.requires.fixed c.remove.ensures.ok c.remove.ensures.torn
-    c.remove.ensures.fault c.remove.ensures.few c.remove.ensures.calls c.remove.ensures.after)
+    c.remove.ensures.fault c.remove.ensures.few c.remove.ensures.calls c.remove.ensures.given c.remove.ensures.writes
+    c.remove.ensures.after)
     c.in_err-remove.was c.from_residual.ensures.1
 
 pub returns-then-branch-clause-runs : goal.returns-then-branch-clause-runs
@@ -16,7 +17,8 @@ returns-then-branch-clause-runs g c =
     runs_value _ 1 1 c.args.store.now c.remove.new.store c.remove.result _ _ (omega arith)
     (taken_runs {meaning = g.S.RecordRead.meaning} c.args.tree c.root_of.result c.args.key c.args.rid c.args.store.now c.remove.new.store
     c.remove.result c.requires.tree c.root_of.ensures.root c.requires.fixed c.remove.ensures.ok c.remove.ensures.torn
-    c.remove.ensures.fault c.remove.ensures.few c.remove.ensures.calls c.remove.ensures.after) c.in_ok-remove.was
+    c.remove.ensures.fault c.remove.ensures.few c.remove.ensures.calls c.remove.ensures.given c.remove.ensures.writes
+    c.remove.ensures.after) c.in_ok-remove.was
     (λ asked state places agrees has did. did.1)
 
 pub returns-else-branch-clause-runs : goal.returns-else-branch-clause-runs
@@ -24,5 +26,6 @@ returns-else-branch-clause-runs g c =
     runs_torn _ 1 1 c.args.store.now c.remove.new.store c.remove.result _ c.args.rid
     (taken_runs {meaning = g.S.RecordRead.meaning} c.args.tree c.root_of.result c.args.key c.args.rid c.args.store.now c.remove.new.store
     c.remove.result c.requires.tree c.root_of.ensures.root c.requires.fixed c.remove.ensures.ok c.remove.ensures.torn
-    c.remove.ensures.fault c.remove.ensures.few c.remove.ensures.calls c.remove.ensures.after) c.in_ok-remove.was
+    c.remove.ensures.fault c.remove.ensures.few c.remove.ensures.calls c.remove.ensures.given c.remove.ensures.writes
+    c.remove.ensures.after) c.in_ok-remove.was
     (λ asked state places agrees has did. unlike _ did.0 c.if-branch.false)

@@ -13,15 +13,17 @@ use Rattle.histories.specs.History.{Lawful, Leaves, Writes, IsLastWrite, IsValue
 use Rattle.histories.proofs.States.{IsValue-same}
 use Rattle.histories.proofs.Lists.{Contains-nil, Contains-head, Contains-tail, Contains-cases}
 use Rattle.record_store.specs.Meaning.{value_at}
-use Rattle.txn_engine.specs.Seats.{Known, is_alone_at}
-use Rattle.txn_engine.specs.Spare.{is_on, holds, is_deletion, unused, added, with_deleted, spare_after}
+use Rattle.seat_post.specs.Seats.{Known, is_alone_at}
+use Rattle.seat_post.specs.Spare.{is_on, holds, is_deletion, unused, added, with_deleted, spare_after}
 use Rattle.txn_engine.specs.Fresh.{AreWritten}
-use Rattle.txn_engine.specs.Pass.{PassView, IsAlone, IsAbove, first_pass, knowing, entry_of, decided, published, committed, Frame, EngineView}
-use Rattle.txn_engine.specs.Leaves.{IsPresent, HoldsAbsent, NoneLeft}
+use Rattle.txn_engine.specs.Pass.{PassView, IsAlone, first_pass, knowing, entry_of, decided, published, committed, Frame, EngineView}
+use Rattle.seat_post.specs.Logs.{IsAbove}
+use Rattle.seat_post.specs.Leaves.{IsPresent}
+use Rattle.txn_engine.specs.Leaves.{HoldsAbsent, NoneLeft}
 use Rattle.txn_engine.specs.Accounts.{writes_at, gives_at, is_present, accounted, Stays}
-use Rattle.txn_engine.proofs.AloneSeats.{both, either, and_of}
-use Rattle.txn_engine.proofs.Listed.{known_head, known_tail}
-use Rattle.txn_engine.proofs.Leaving.{among_of, leaves_one}
+use Rattle.seat_post.proofs.AloneSeats.{both, either, and_of}
+use Rattle.seat_post.proofs.Listed.{known_head, known_tail}
+use Rattle.seat_post.proofs.Leaving.{among_of, leaves_one}
 
 -- ---- booleans
 
@@ -312,12 +314,13 @@ module _ (log : List Entry) (e : Entry) (commit : e.snapshot ≡ false) (above :
     ),
   )
 
--- an entry that deletes nothing
-pub absent_entered : (p : PassView) (e : Entry) → e.snapshot ≡ false → IsAbove p.log e.stamp → ((r : ℕ) → value_at e.writes r ≡ Some None → ⊥) → HoldsAbsent p → HoldsAbsent (record p { log = p.log ++ e ∷ [] })
-absent_entered p e commit above whole absent r from within = by_write (value_at e.writes r) refl where
+-- a commit entry that deletes spare records alone
+pub absent_entered : (p : PassView) (e : Entry) → e.snapshot ≡ false → IsAbove p.log e.stamp
+    → ((r : ℕ) → p.engine.fixed ≤ r → r < p.engine.size.records → value_at e.writes r ≡ Some None → is_on (p.given ++ p.spare) r ≡ true) → HoldsAbsent p → HoldsAbsent (record p { log = p.log ++ e ∷ [] })
+absent_entered p e commit above spare absent r from within = by_write (value_at e.writes r) refl where
   by_write : (found : Option (Option (List ℕ))) → value_at e.writes r ≡ found → (is_on (p.given ++ p.spare) r ≡ true) ⊎ IsPresent (p.log ++ e ∷ []) r
   by_write None none = elim (absent r from within) as (λ _. (is_on (p.given ++ p.spare) r ≡ true) ⊎ IsPresent (p.log ++ e ∷ []) r) [ inl on ↦ inl on | inr present ↦ inr (still_present p.log e commit above r none present) ]
-  by_write (Some None) at = absurd (whole r at)
+  by_write (Some None) at = inl (spare r from within at)
   by_write (Some (Some words)) at = inr (now_present p.log e commit above r words at)
 
 -- a snapshot entry

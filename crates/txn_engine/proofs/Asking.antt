@@ -7,10 +7,10 @@ use Rattle.std.proofs.lemmas.List.Edits.{length-remove}
 use Rattle.rapid_gc.specs.Queues.{Waiting}
 use Rattle.record_store.specs.Meaning.{value_at}
 use Rattle.validate_core.specs.declared.conflict.Conflict.{Conflict}
-use Rattle.txn_engine.specs.declared.phase.Phase.TheVariants.{Open}
+use Rattle.seat_post.specs.declared.phase.Phase.TheVariants.{Open}
 use Rattle.txn_engine.specs.Pass.{PassView}
-use Rattle.txn_engine.specs.Post.{PostView, noted}
-use Rattle.txn_engine.specs.Spare.{NumbersView}
+use Rattle.seat_post.specs.Post.{PostView, noted}
+use Rattle.seat_post.specs.Spare.{NumbersView}
 use Rattle.txn_engine.specs.Fresh.{AreWritten, Asks}
 use Rattle.txn_engine.specs.declared.fresh.Asked.TheVariants.{Next}
 use Rattle.txn_engine.specs.Inside.{IsPass}

@@ -11,23 +11,27 @@ use Rattle.plain_data.specs.declared.entry.Entry.{Entry}
 use Rattle.stamp_base.specs.Stamp.{bound_of_clock}
 use Rattle.word_layout.specs.Size.{Size, IsSize}
 use Rattle.core_rule.specs.Views.{Has}
+use Rattle.core_rule.specs.Deciding as deciding
+use Rattle.core_rule.specs.Hands.{Seated}
 use Rattle.core_rule.specs.Offers.{made_within}
 use Rattle.rapid_gc.specs.Queues.{Waiting}
 use Rattle.rapid_gc.specs.declared.queue.Queued.{Queued}
 use Rattle.validate_core.specs.declared.conflict.Conflict.{Conflict}
-use Rattle.txn_engine.specs.declared.phase.Phase.TheVariants.{Idle, Decided}
+use Rattle.seat_post.specs.declared.phase.Phase.TheVariants.{Idle, Decided}
 use Rattle.txn_engine.specs.Desk.{no_desk}
-use Rattle.txn_engine.specs.Glance.{GlanceView}
-use Rattle.txn_engine.specs.Pass.{PassView, IsAbove, AreBelow, IsAlone, with_glance}
-use Rattle.txn_engine.specs.Post.{PostView}
+use Rattle.seat_post.specs.Glance.{GlanceView}
+use Rattle.txn_engine.specs.Pass.{PassView, IsAlone, with_glance}
+use Rattle.seat_post.specs.Logs.{IsAbove, AreBelow}
+use Rattle.seat_post.specs.Post.{PostView}
 use Rattle.txn_engine.specs.Retired.{RetiredView}
-use Rattle.txn_engine.specs.Sharing.{no_knowledge}
-use Rattle.txn_engine.specs.Spare.{NumbersView}
-use Rattle.txn_engine.specs.Inside.{IsPass, IsQueued}
-use Rattle.txn_engine.specs.Joining.{AreOthers, logs_of, taken_of, known_of, joined, joined_at, come_together}
-use Rattle.txn_engine.proofs.AloneSeats.{has_any, taken_all}
-use Rattle.txn_engine.proofs.Passes.{among_either}
-use Rattle.txn_engine.proofs.Making.{among_left, among_right}
+use Rattle.seat_post.specs.Sharing.{no_knowledge}
+use Rattle.seat_post.specs.Spare.{NumbersView}
+use Rattle.txn_engine.specs.Inside.{IsPass}
+use Rattle.seat_post.specs.Collecting.{IsQueued}
+use Rattle.txn_engine.specs.Joining.{AreOthers, logs_of, taken_of, known_of, joined, come_together}
+use Rattle.seat_post.specs.Joining.{joined_at}
+use Rattle.seat_post.proofs.AloneSeats.{has_any, taken_all}
+use Rattle.core_rule.proofs.Among.{Among-left, Among-right, Among-split}
 
 -- ---- the pass
 
@@ -35,7 +39,7 @@ joined_queue : (records : ℕ) (log more : List Entry) (i : Queued) → IsQueued
 joined_queue records log more i is = record {
   within = is.within;
   entry = is.entry;
-  among = among_left log more is.entry is.among;
+  among = Among-left is.entry log more is.among;
   commit = is.commit;
   at = is.at;
   writes = is.writes;
@@ -43,33 +47,33 @@ joined_queue records log more i is = record {
 
 above_both : (log more : List Entry) (c d : ℕ) → IsAbove log (bound_of_clock c) → IsAbove more (bound_of_clock d) → IsAbove (log ++ more) (bound_of_clock (max c d))
 above_both log more c d a b e among commit =
-    elim (among_either log more e among) as (λ _. e.stamp < bound_of_clock (max c d)) [ inl x ↦ (let h = a e x commit in omega arith) | inr y ↦ (let h = b e y commit in omega arith) ]
+    elim (Among-split e log more among) as (λ _. e.stamp < bound_of_clock (max c d)) [ inl x ↦ (let h = a e x commit in omega arith) | inr y ↦ (let h = b e y commit in omega arith) ]
 
 below_both : (log more : List Entry) (m n : ℕ) → AreBelow log m → AreBelow more n → AreBelow (log ++ more) (max m n)
 below_both log more m n a b e among snapshot =
-    elim (among_either log more e among) as (λ _. e.stamp < max m n) [ inl x ↦ (let h = a e x snapshot in omega arith) | inr y ↦ (let h = b e y snapshot in omega arith) ]
+    elim (Among-split e log more among) as (λ _. e.stamp < max m n) [ inl x ↦ (let h = a e x snapshot in omega arith) | inr y ↦ (let h = b e y snapshot in omega arith) ]
 
-joined_kept : (p : PostView) (glance : Option GlanceView) (r : RetiredView) (q : Waiting) (n n' : NumbersView) (refusals : ℕ) (counted : Bool) → IsPass p q n refusals None counted → p.phase ≡ Idle → IsAbove r.log (bound_of_clock r.clock) → AreBelow r.log r.met → n'.fixed ≡ n.fixed → n'.records ≡ n.records → IsPass (record (joined_at p r) { glance = glance }) q n' refusals None counted
-joined_kept p glance r q n n' refusals counted is idle above below fixed records = record {
+joined_kept : (p : PostView) (glance : Option GlanceView) (hand : Seated) (q : Waiting) (n n' : NumbersView) (refusals : ℕ) (counted : Bool) → IsPass p q n refusals None counted → p.phase ≡ Idle → IsAbove (map deciding.entry_of hand.view.log) (bound_of_clock hand.view.clock.clock) → AreBelow (map deciding.entry_of hand.view.log) hand.view.clock.met → n'.fixed ≡ n.fixed → n'.records ≡ n.records → IsPass (record (joined_at p hand) { glance = glance }) q n' refusals None counted
+joined_kept p glance hand q n n' refusals counted is idle above below fixed records = record {
   records = records ∙ is.records;
   fixed = rw (fixed, records) is.fixed;
   counts = let h = is.counts in omega arith;
   uncounted = λ off. let h = is.uncounted off in omega arith;
-  commits = above_both p.log r.log p.clock r.clock is.commits above;
+  commits = above_both p.log (map deciding.entry_of hand.view.log) p.clock hand.view.clock.clock is.commits above;
   stamped = let h = is.stamped in omega arith;
-  snapshots = below_both p.log r.log p.met r.met is.snapshots below;
+  snapshots = below_both p.log (map deciding.entry_of hand.view.log) p.met hand.view.clock.met is.snapshots below;
   stopped = tt;
   alive = λ not. refl;
-  queued = λ i among. joined_queue p.shared.size.records p.log r.log i (is.queued i among);
+  queued = λ i among. joined_queue p.shared.size.records p.log (map deciding.entry_of hand.view.log) i (is.queued i among);
   logged = λ decided. let e : Idle ≡ Decided = sym idle ∙ decided in cc;
   room = is.room;
 }
 
-pub pass_joined : (p p' : PostView) (glance : Option GlanceView) (r : RetiredView) (q : Waiting) (n n' : NumbersView) (refusals : ℕ) (dead : Option Conflict) (counted : Bool) → IsPass p q n refusals dead counted → dead ≡ None → p.phase ≡ Idle → IsAbove r.log (bound_of_clock r.clock) → AreBelow r.log r.met → n'.fixed ≡ n.fixed → n'.records ≡ n.records → p' ≡ record (joined_at p r) { glance = glance } → IsPass p' q n' refusals dead counted
-pass_joined p p' glance r q n n' refusals dead counted is alive idle above below fixed records same =
+pub pass_joined : (p p' : PostView) (glance : Option GlanceView) (hand : Seated) (q : Waiting) (n n' : NumbersView) (refusals : ℕ) (dead : Option Conflict) (counted : Bool) → IsPass p q n refusals dead counted → dead ≡ None → p.phase ≡ Idle → IsAbove (map deciding.entry_of hand.view.log) (bound_of_clock hand.view.clock.clock) → AreBelow (map deciding.entry_of hand.view.log) hand.view.clock.met → n'.fixed ≡ n.fixed → n'.records ≡ n.records → p' ≡ record (joined_at p hand) { glance = glance } → IsPass p' q n' refusals dead counted
+pass_joined p p' glance hand q n n' refusals dead counted is alive idle above below fixed records same =
     subst (λ (x : PostView). IsPass x q n' refusals dead counted) (sym same)
-    (subst (λ (d : Option Conflict). IsPass (record (joined_at p r) { glance = glance }) q n' refusals d counted) (sym alive)
-    (joined_kept p glance r q n n' refusals counted (subst (λ (d : Option Conflict). IsPass p q n refusals d counted) alive is) idle above below fixed records))
+    (subst (λ (d : Option Conflict). IsPass (record (joined_at p hand) { glance = glance }) q n' refusals d counted) (sym alive)
+    (joined_kept p glance hand q n n' refusals counted (subst (λ (d : Option Conflict). IsPass p q n refusals d counted) alive is) idle above below fixed records))
 
 -- ---- all of them
 
@@ -120,11 +124,11 @@ any_in_range a (suc n) s from below =
 
 still_taken : (s : ℕ) (taken : List ℕ) (rs : List RetiredView) → Has s taken → Has s (taken_of taken rs)
 still_taken s taken [] has = has
-still_taken s taken (r ∷ rs) has = still_taken s (taken ++ r.seat ∷ r.others.taken_in) rs (among_left taken (r.seat ∷ r.others.taken_in) s has)
+still_taken s taken (r ∷ rs) has = still_taken s (taken ++ r.seat ∷ r.others.taken_in) rs (Among-left s taken (r.seat ∷ r.others.taken_in) has)
 
 all_taken_in : (s : ℕ) (taken : List ℕ) (rs : List RetiredView) → Has s (map (λ (r : RetiredView). r.seat) rs) → Has s (taken_of taken rs)
 all_taken_in s taken [] has = absurd has
-all_taken_in s taken (r ∷ rs) (inl same) = still_taken s (taken ++ r.seat ∷ r.others.taken_in) rs (among_right taken (r.seat ∷ r.others.taken_in) s (inl same))
+all_taken_in s taken (r ∷ rs) (inl same) = still_taken s (taken ++ r.seat ∷ r.others.taken_in) rs (Among-right s taken (r.seat ∷ r.others.taken_in) (inl same))
 all_taken_in s taken (r ∷ rs) (inr more) = all_taken_in s (taken ++ r.seat ∷ r.others.taken_in) rs more
 
 other_taken : (size : Size) (rs : List RetiredView) (taken : List ℕ) (s : ℕ) → AreOthers size rs → 0 < s → s < size.seats → Has s (taken_of taken rs)

@@ -9,8 +9,9 @@ use Rattle.core_rule.specs.View.{single, sharing}
 use Rattle.core_rule.specs.Views.{Among}
 use Rattle.core_rule.specs.Offers.{MayOffer, made_of}
 use Rattle.txn_engine.specs.Pass.{PassView, with_glance, unglanced}
-use Rattle.txn_engine.specs.Seats.{Others}
-use Rattle.txn_engine.specs.Sharing.{no_knowledge, others_made, with_made, share_at, shares_of}
+use Rattle.seat_post.specs.Seats.{Others}
+use Rattle.seat_post.specs.Sharing.{no_knowledge}
+use Rattle.txn_engine.specs.Sharing.{others_made, with_made, share_at, shares_of}
 
 -- ---- making seats
 
@@ -63,20 +64,6 @@ among_unglanced (x ∷ xs) q (inr more) = inr (among_unglanced xs q more)
 
 pub met_shared : (p q : PassView) (passes : List PassView) → map unglanced passes ≡ shares_of p → Among q passes → q.met ≡ p.met
 met_shared p q passes are among = met_among p (unglanced q) (subst (λ xs. Among (unglanced q) xs) are (among_unglanced passes q among))
-
--- one of a list that is left when its last one is taken
-pub among_left : {A : Type 0} (xs ys : List A) (x : A) → Among x xs → Among x (xs ++ ys)
-among_left [] ys x among = absurd among
-among_left (z ∷ xs) ys x (inl same) = inl same
-among_left (z ∷ xs) ys x (inr more) = inr (among_left xs ys x more)
-
-pub among_right : {A : Type 0} (xs ys : List A) (x : A) → Among x ys → Among x (xs ++ ys)
-among_right [] ys x among = among
-among_right (z ∷ xs) ys x among = inr (among_right xs ys x among)
-
-pub among_last : {A : Type 0} (xs : List A) (y : A) → Among y (xs ++ y ∷ [])
-among_last [] y = inl refl
-among_last (z ∷ xs) y = inr (among_last xs y)
 
 -- what holds of each of a list holds with one more
 pub each_more : {A : Type 0} (P : A → Type 0) (xs ys : List A) (y : A) → ((x : A) → Among x xs → P x) → P y → ys ≡ xs ++ y ∷ [] → (x : A) → Among x ys → P x

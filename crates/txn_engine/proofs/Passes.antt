@@ -1,10 +1,10 @@
 -- What a pass keeps of its parts, from call to call.
 use Rattle.std.proofs.Common.{◌≡◌, ℕ, ◌<◌, ◌≤◌, ◌+◌, Bool, true, false, List, [], ◌∷◌, ◌++◌, Option, None, Some, refl, sym, ap, subst, ◌∙◌, arith, length, inl, inr, ◌⊎◌, cond, eqb, suc, eq-eqb, append_assoc, length-append}
-use Rattle.std.specs.Prelude.{IfSome, IsSome, is_some, if◌then◌else◌, max, min, ◌==◌}
+use Rattle.std.specs.Prelude.{IfSome, IsSome, is_some, max, min, ◌==◌, if◌then◌else◌}
 use Rattle.stamp_base.specs.Limits.{end_of_stamps, greatest_adopted_clock}
 use Rattle.word_layout.specs.Size.{Size, IsSize}
-use Rattle.stamp_base.specs.Stamp.{clock_of, stamp_of, bound_of_clock}
-use Rattle.txn_engine.specs.Pass.{IsAbove, AreBelow}
+use Rattle.stamp_base.specs.Stamp.{clock_of, bound_of_clock}
+use Rattle.seat_post.specs.Logs.{IsAbove, AreBelow}
 use Rattle.core_rule.specs.Stamps.{adopted}
 use Rattle.clock_stamps.specs.Clocks.{drawn_clock}
 use Rattle.plain_data.specs.declared.entry.Entry.{Entry}
@@ -16,12 +16,15 @@ use Rattle.record_store.proofs.Values.{value_at-append}
 use Rattle.txn_engine.specs.Pass.{queued}
 use Rattle.rapid_gc.specs.Queues.{Waiting}
 use Rattle.validate_core.specs.declared.conflict.Conflict.{Conflict}
-use Rattle.txn_engine.specs.declared.phase.Phase.TheVariants.{Open, Installed, Decided}
-use Rattle.txn_engine.specs.Conflicts.{ShowsPending}
-use Rattle.txn_engine.specs.Post.{PostView, known_at, with_clock, drawn_at, knowing, opened, closed, in_phase, noted, entered, entry_at}
-use Rattle.txn_engine.specs.Seats.{Known}
-use Rattle.txn_engine.specs.Spare.{NumbersView}
-use Rattle.txn_engine.specs.Inside.{IsPass, IsQueued, AreQueued}
+use Rattle.seat_post.specs.declared.phase.Phase.TheVariants.{Open, Installed, Decided}
+use Rattle.seat_post.specs.Conflicts.{ShowsPending}
+use Rattle.seat_post.specs.Post.{PostView, known_at, with_clock, drawn_at, knowing, opened, closed, in_phase, noted, entered, entry_at}
+use Rattle.seat_post.specs.Seats.{Known}
+use Rattle.seat_post.specs.Spare.{NumbersView}
+use Rattle.txn_engine.specs.Inside.{IsPass}
+use Rattle.seat_post.specs.Collecting.{IsQueued, AreQueued}
+use Rattle.seat_post.proofs.Bounds.{above_more, below_more, queued_more}
+use Rattle.core_rule.proofs.Among.{Among-last, Among-left, Among-split}
 
 -- another clock
 pub pass_clock : (p : PostView) (clock : ℕ) (q : Waiting) (n : NumbersView) (refusals : ℕ) (dead : Option Conflict) (counted : Bool) → IsPass p q n refusals dead counted → p.clock ≤ clock → IsPass (with_clock p clock) q n refusals dead counted
@@ -94,13 +97,6 @@ pass_room p q q' n refusals dead counted is items room = record {
 none_stopped : (p : PostView) (stamp : ℕ) (dead : Option Conflict) → dead ≡ None → IfSome dead (ShowsPending p.shared.size p.seat p.others stamp)
 none_stopped p stamp dead none = rw none tt
 
-pub seat_below : {size : Size} {seat : ℕ} → IsSize size → seat < size.seats → seat < 64
-seat_below {size} {seat} is within = let h = is.seats_in_range in omega arith
-
--- a stamp that is drawn is above each commit entry
-pub above_drawn : (log : List Entry) (clock reading seat : ℕ) → IsAbove log (bound_of_clock clock) → IsAbove log (stamp_of (drawn_clock clock reading) seat)
-above_drawn log clock reading seat above e among commit = let h = above e among commit in omega arith
-
 -- a transaction begins
 pub pass_opened : (p : PostView) (clock : ℕ) (q : Waiting) (n : NumbersView) (refusals : ℕ) (dead : Option Conflict) (counted : Bool) → IsPass p q n refusals dead counted → dead ≡ None → p.clock < clock → p.seat < 64 → IsPass (opened p clock) q n refusals dead false
 pass_opened p clock q n refusals dead counted is alive later seat = record {
@@ -125,13 +121,6 @@ later_of false clock other = omega arith
 -- a clock that is adopted is no lower
 pub adopted_later : (clock word : ℕ) → clock ≤ adopted clock word
 adopted_later clock word = later_of (word == end_of_stamps) clock (min (clock_of word) greatest_adopted_clock)
-
--- a clock that is drawn is later
-pub drawn_later : (clock reading : ℕ) → clock < drawn_clock clock reading
-drawn_later clock reading = omega arith
-
-pub less_is_most : (a b : ℕ) → a < b → a ≤ b
-less_is_most a b less = omega arith
 
 -- other spare numbers, and no conflict
 pub pass_cleared : (p : PostView) (q : Waiting) (n n' : NumbersView) (refusals : ℕ) (dead : Option Conflict) (counted : Bool) → IsPass p q n refusals dead counted → n'.fixed ≡ n.fixed → n'.records ≡ n.records → IsPass p q n' refusals None true
@@ -234,45 +223,6 @@ pass_written p writes q n refusals dead counted is phase room = record {
   room = room;
 }
 
--- its entry is in the log
-pub among_more : {A : Type 0} (xs : List A) (y x : A) → Among x xs → Among x (xs ++ y ∷ [])
-among_more [] y x among = absurd among
-among_more (z ∷ xs) y x (inl same) = inl same
-among_more (z ∷ xs) y x (inr among) = inr (among_more xs y x among)
-
-pub among_last : {A : Type 0} (xs : List A) (y : A) → Among y (xs ++ y ∷ [])
-among_last [] y = inl refl
-among_last (z ∷ xs) y = inr (among_last xs y)
-
-pub among_either : {A : Type 0} (xs ys : List A) (x : A) → Among x (xs ++ ys) → Among x xs ⊎ Among x ys
-among_either [] ys x among = inr among
-among_either (z ∷ xs) ys x (inl same) = inl (inl same)
-among_either (z ∷ xs) ys x (inr more) = elim (among_either xs ys x more) as (λ _. Among x (z ∷ xs) ⊎ Among x ys) [ inl a ↦ inl (inr a) | inr b ↦ inr b ]
-
-pub above_more : (log : List Entry) (e : Entry) (t : ℕ) → IsAbove log t → e.stamp < t → IsAbove (log ++ e ∷ []) t
-above_more log e t above below x among commit =
-    elim (among_either log (e ∷ []) x among) as (λ _. x.stamp < t) [
-      | inl a ↦ above x a commit
-      | inr b ↦ elim b as (λ _. x.stamp < t) [ inl same ↦ subst (λ (y : Entry). y.stamp < t) same below | inr none ↦ absurd none ]
-    ]
-
-pub below_more : (log : List Entry) (e : Entry) (t : ℕ) → AreBelow log t → e.snapshot ≡ false → AreBelow (log ++ e ∷ []) t
-below_more log e t before commit x among snapshot =
-    elim (among_either log (e ∷ []) x among) as (λ _. x.stamp < t) [
-      | inl a ↦ before x a snapshot
-      | inr b ↦ elim b as (λ _. x.stamp < t) [ inl same ↦ (let h : true ≡ false = sym snapshot ∙ ap (λ (y : Entry). y.snapshot) (sym same) ∙ commit in cc) | inr none ↦ absurd none ]
-    ]
-
-pub queued_more : (records : ℕ) (log : List Entry) (entry : Entry) (i : Queued) → IsQueued records log i → IsQueued records (log ++ entry ∷ []) i
-queued_more records log entry i is = record {
-  within = is.within;
-  entry = is.entry;
-  among = among_more log entry is.entry is.among;
-  commit = is.commit;
-  at = is.at;
-  writes = is.writes;
-}
-
 pub pass_entered : (p : PostView) (q : Waiting) (n : NumbersView) (refusals : ℕ) (dead : Option Conflict) (counted : Bool) → IsPass p q n refusals dead counted → IsPass (entered p) q n refusals dead counted
 pass_entered p q n refusals dead counted is = record {
   records = is.records;
@@ -285,7 +235,7 @@ pass_entered p q n refusals dead counted is = record {
   stopped = is.stopped;
   alive = λ not. cc;
   queued = λ i among. queued_more p.shared.size.records p.log (entry_at p) i (is.queued i among);
-  logged = λ decided. among_last p.log (entry_at p);
+  logged = λ decided. Among-last (entry_at p) p.log;
   room = is.room;
 }
 
@@ -316,7 +266,7 @@ length-queued stamp (w ∷ ws) = ap suc (length-queued stamp ws)
 
 all_queued : (p : PostView) (items items' : List Queued) → AreQueued p.shared.size.records p.log items → Among (entry_at p) p.log → ((rid : ℕ) → IsSome (value_at p.writes rid) → rid < p.shared.size.records) → items' ≡ items ++ queued p.stamp p.writes → AreQueued p.shared.size.records p.log items'
 all_queued p items items' before logged within more i among =
-    elim (among_either items (queued p.stamp p.writes) i (subst (λ (xs : List Queued). Among i xs) more among)) as (λ _. IsQueued p.shared.size.records p.log i) [
+    elim (Among-split i items (queued p.stamp p.writes) (subst (λ (xs : List Queued). Among i xs) more among)) as (λ _. IsQueued p.shared.size.records p.log i) [
       | inl a ↦ before i a
       | inr b ↦ (let new = newly_queued p.stamp p.writes i b in record { within = within i.rid new.1; entry = entry_at p; among = logged; commit = refl; at = sym new.0; writes = new.1 })
     ]

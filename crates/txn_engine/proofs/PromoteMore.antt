@@ -5,27 +5,30 @@ use Rattle.std.proofs.lemmas.Bool.{lt-ltb, eqb-true}
 use Rattle.word_layout.specs.Size.{Size}
 use Rattle.core_rule.specs.View.{Bound}
 use Rattle.core_rule.specs.Searching.{one_more, known_of}
-use Rattle.txn_engine.specs.Seats.{Known}
-use Rattle.txn_engine.specs.Lists.{HasOutside}
+use Rattle.seat_post.specs.Seats.{Known}
+use Rattle.seat_post.specs.Lists.{HasOutside}
 use Rattle.plain_data.specs.State.{State}
 use Rattle.stamp_base.specs.Stamp.{stamp_of, bound_of_clock}
 use Rattle.rapid_gc.specs.Queues.{Waiting}
 use Rattle.validate_core.specs.declared.conflict.Conflict.{Conflict}
-use Rattle.txn_engine.specs.declared.phase.Phase.TheVariants.{Idle, Decided}
-use Rattle.txn_engine.specs.declared.promoting.Promotion.{Promotion}
-use Rattle.txn_engine.specs.declared.promoting.Promotion.TheVariants.{Promoted, Inline, Absent, Occupied}
-use Rattle.txn_engine.specs.declared.promoting.PromoteFault.{PromoteFault}
-use Rattle.txn_engine.specs.declared.promoting.PromoteFault.TheVariants as fault
-use Rattle.txn_engine.specs.Post.{PostView, drawn_at}
-use Rattle.txn_engine.specs.Spare.{NumbersView}
+use Rattle.seat_post.specs.declared.phase.Phase.TheVariants.{Idle, Decided}
+use Rattle.seat_post.specs.declared.promoting.Promotion.{Promotion}
+use Rattle.seat_post.specs.declared.promoting.Promotion.TheVariants.{Promoted, Inline, Absent, Occupied}
+use Rattle.seat_post.specs.declared.promoting.PromoteFault.{PromoteFault}
+use Rattle.seat_post.specs.declared.promoting.PromoteFault.TheVariants as fault
+use Rattle.seat_post.specs.Post.{PostView, drawn_at}
+use Rattle.seat_post.specs.Spare.{NumbersView}
 use Rattle.record_store.specs.Meaning.{value_at}
-use Rattle.txn_engine.specs.Pass.{PassView, IsAbove}
+use Rattle.txn_engine.specs.Pass.{PassView}
+use Rattle.seat_post.specs.Logs.{IsAbove}
 use Rattle.txn_engine.specs.Leaves.{HoldsAbsent}
 use Rattle.txn_engine.specs.Inside.{IsPass, pass_view}
-use Rattle.txn_engine.specs.Rewriting.{rewriting, linked_in}
-use Rattle.txn_engine.specs.Promoting.{boost_after, rewritten_at, PromotesPost, FailsPost, Promotes, FailsToPromote}
+use Rattle.seat_post.specs.Rewriting.{rewriting, linked_in}
+use Rattle.txn_engine.specs.Promoting.{boost_after, Promotes, FailsToPromote}
+use Rattle.seat_post.specs.Promoting.{rewritten_at, PromotesPost, FailsPost}
 use Rattle.txn_engine.proofs.Accounting.{absent_entered}
-use Rattle.txn_engine.proofs.Passes.{pass_drawn, pass_knowing, above_more, below_more, queued_more}
+use Rattle.txn_engine.proofs.Passes.{pass_drawn, pass_knowing}
+use Rattle.seat_post.proofs.Bounds.{above_more, below_more, queued_more}
 
 -- the log has one more entry, whose stamp was drawn
 pub pass_rewritten : (p : PostView) (clock rid place : ℕ) (value : Option (List ℕ)) (q : Waiting) (n : NumbersView) (refusals : ℕ) (dead : Option Conflict) (counted : Bool) → IsPass p q n refusals dead counted → p.phase ≡ Idle → p.clock ≤ clock → p.seat < 64 → IsPass (rewritten_at p clock rid place value) q n refusals dead counted
@@ -115,7 +118,7 @@ no_deletion stamp rid words r = by_bool (eqb r rid) where
 pub absent_after : (kept : State → Type 0) (p q : PassView) (clock rid : ℕ) (told : Result Promotion PromoteFault) → IfOk told (Promotes kept rid clock p q) → IfErr told (FailsToPromote rid clock p q) → HoldsAbsent p → HoldsAbsent q
 absent_after kept p q clock rid (Ok (Promoted at)) ok err absent =
     let above = subst (λ (t : ℕ). IsAbove p.log t) ok.at ok.above in
-    rw ok.after (absent_entered p (rewriting (stamp_of clock p.seat) rid (Some ok.words)) refl above (no_deletion (stamp_of clock p.seat) rid ok.words) absent)
+    rw ok.after (absent_entered p (rewriting (stamp_of clock p.seat) rid (Some ok.words)) refl above (λ r from within at. absurd (no_deletion (stamp_of clock p.seat) rid ok.words r at)) absent)
 absent_after kept p q clock rid (Ok Inline) ok err absent = rw ok absent
 absent_after kept p q clock rid (Ok Absent) ok err absent = rw ok absent
 absent_after kept p q clock rid (Ok Occupied) ok err absent = rw ok absent

@@ -2,10 +2,10 @@
 use Rattle.std.proofs.Common.{◌≡◌, ℕ, ◌≤◌, Bool, Option, None, sym, subst, arith}
 use Rattle.validate_core.specs.declared.conflict.Conflict.{Conflict}
 use Rattle.rapid_gc.specs.Queues.{Waiting}
-use Rattle.txn_engine.specs.Glance.{GlanceView}
-use Rattle.txn_engine.specs.Post.{PostView}
-use Rattle.txn_engine.specs.Sharing.{announced_at, one_more}
-use Rattle.txn_engine.specs.Spare.{NumbersView}
+use Rattle.seat_post.specs.Glance.{GlanceView}
+use Rattle.seat_post.specs.Post.{PostView}
+use Rattle.seat_post.specs.Sharing.{announced_at, one_more}
+use Rattle.seat_post.specs.Spare.{NumbersView}
 use Rattle.txn_engine.specs.Inside.{IsPass}
 
 -- the bound of its clock is published and met

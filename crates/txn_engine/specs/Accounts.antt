@@ -2,8 +2,8 @@
 use Rattle.std.specs.Prelude.{◌≡◌, ℕ, Bool, not, is_some, ◌==◌, ◌&&◌, ◌||◌, nat_lt, List, ◌++◌}
 use Rattle.std.specs.List.{list_any}
 use Rattle.plain_data.specs.declared.entry.Entry.{Entry}
-use Rattle.txn_engine.specs.Seats.{is_alone_at}
-use Rattle.txn_engine.specs.Spare.{is_on}
+use Rattle.seat_post.specs.Seats.{is_alone_at}
+use Rattle.seat_post.specs.Spare.{is_on}
 use Rattle.txn_engine.specs.Pass.{PassView, frame}
 
 -- a commit entry writes the record; and writes a value there

@@ -7,7 +7,7 @@ use Rattle.txn_engine.specs.declared.faults.AloneFault.{AloneFault}
 use Rattle.txn_engine.specs.declared.faults.AloneFault.TheVariants as fault
 use Rattle.txn_engine.specs.Fresh.{AreWritten}
 use Rattle.txn_engine.specs.Pass.{PassView, Frame, IsAlone}
-use Rattle.txn_engine.specs.Spare.{NumbersView}
+use Rattle.seat_post.specs.Spare.{NumbersView, no_numbers}
 
 -- seat 0 while no other seat is open, as a pass; and whether the other seats were made and have retired
 pub record AloneView : Type 0 where
@@ -23,9 +23,6 @@ with_pass a p = record a { pass = p }
 pub record PartsView : Type 0 where
   pub lists : List NumbersView
   pub room : ℕ
-
-abbrev pub no_numbers : (fixed records : ℕ) → NumbersView
-no_numbers fixed records = record { fixed = fixed; records = records; spare = []; given = [] }
 
 -- there is room for a pass of each seat, and an empty list for each
 pub record HasParts (seats fixed records : ℕ) (parts : PartsView) : Type 0 where

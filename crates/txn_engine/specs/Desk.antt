@@ -1,8 +1,8 @@
 -- What a transaction in flight holds.
 use Rattle.std.specs.Prelude.{ℕ, Bool, true, false, List, [], Option, None}
 use Rattle.validate_core.specs.declared.conflict.Conflict.{Conflict}
-use Rattle.txn_engine.specs.declared.phase.Phase.{Phase}
-use Rattle.txn_engine.specs.declared.phase.Phase.TheVariants.{Idle, Open}
+use Rattle.seat_post.specs.declared.phase.Phase.{Phase}
+use Rattle.seat_post.specs.declared.phase.Phase.TheVariants.{Idle, Open}
 
 -- how far it is, its stamp, what it has read and written, the conflict that it met, and whether it counts among the refusals
 -- already

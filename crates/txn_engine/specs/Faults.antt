@@ -6,7 +6,7 @@ use Rattle.txn_engine.specs.declared.faults.TxnFault.{TxnFault}
 use Rattle.txn_engine.specs.declared.faults.TxnFault.TheVariants as txn
 use Rattle.txn_engine.specs.declared.faults.CommitFault.{CommitFault}
 use Rattle.txn_engine.specs.declared.faults.CommitFault.TheVariants as commit
-use Rattle.txn_engine.specs.Conflicts.{Shows, ShowsPending}
+use Rattle.seat_post.specs.Conflicts.{Shows, ShowsPending}
 use Rattle.txn_engine.specs.Pass.{PassView}
 
 -- want of memory is no refusal

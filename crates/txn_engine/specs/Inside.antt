@@ -1,17 +1,16 @@
 -- How a pass shows its parts, and what it keeps of them.
-use Rattle.std.specs.Prelude.{◌≡◌, ℕ, ◌+◌, ◌<◌, ◌≤◌, Bool, false, List, Option, None, IsSome, IfSome, length}
-use Rattle.plain_data.specs.declared.entry.Entry.{Entry}
-use Rattle.record_store.specs.Meaning.{value_at}
+use Rattle.std.specs.Prelude.{◌≡◌, ℕ, ◌+◌, ◌<◌, ◌≤◌, Bool, false, Option, None, IfSome, length}
 use Rattle.core_rule.specs.Views.{Among}
 use Rattle.rapid_gc.specs.Queues.{Waiting}
-use Rattle.rapid_gc.specs.declared.queue.Queued.{Queued}
 use Rattle.validate_core.specs.declared.conflict.Conflict.{Conflict}
-use Rattle.txn_engine.specs.declared.phase.Phase.TheVariants.{Installed, Decided}
-use Rattle.txn_engine.specs.Conflicts.{ShowsPending}
-use Rattle.txn_engine.specs.Post.{PostView, entry_at}
-use Rattle.txn_engine.specs.Spare.{NumbersView}
+use Rattle.seat_post.specs.declared.phase.Phase.TheVariants.{Installed, Decided}
+use Rattle.seat_post.specs.Conflicts.{ShowsPending}
+use Rattle.seat_post.specs.Post.{PostView, entry_at}
+use Rattle.seat_post.specs.Spare.{NumbersView}
 use Rattle.stamp_base.specs.Stamp.{bound_of_clock}
-use Rattle.txn_engine.specs.Pass.{PassView, IsAbove, AreBelow}
+use Rattle.txn_engine.specs.Pass.{PassView}
+use Rattle.seat_post.specs.Logs.{IsAbove, AreBelow}
+use Rattle.seat_post.specs.Collecting.{AreQueued}
 
 abbrev pub pass_view : PostView → (boost : ℕ) → Waiting → NumbersView → (refusals : ℕ) → Option Conflict → Bool → PassView
 pass_view p boost q n refusals dead counted = record {
@@ -31,18 +30,6 @@ pass_view p boost q n refusals dead counted = record {
   refusals = refusals;
   desk = record { phase = p.phase; stamp = p.stamp; reads = p.reads; writes = p.writes; dead = dead; counted = counted };
 }
-
--- a commit entry of the log writes the record at the stamp
-pub record IsQueued (records : ℕ) (log : List Entry) (i : Queued) : Type 0 where
-  pub within : i.rid < records
-  pub entry : Entry
-  pub among : Among entry log
-  pub commit : entry.snapshot ≡ false
-  pub at : entry.stamp ≡ i.stamp
-  pub writes : IsSome (value_at entry.writes i.rid)
-
-abbrev pub AreQueued : (records : ℕ) → List Entry → List Queued → Type 0
-AreQueued records log items = (i : Queued) → Among i items → IsQueued records log i
 
 pub record IsPass (p : PostView) (q : Waiting) (n : NumbersView) (refusals : ℕ) (dead : Option Conflict) (counted : Bool) : Type 0 where
   pub records : n.records ≡ p.shared.size.records

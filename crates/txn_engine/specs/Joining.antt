@@ -5,16 +5,10 @@ use Rattle.std.specs.List.Sorted.{IsPermutation}
 use Rattle.plain_data.specs.declared.entry.Entry.{Entry}
 use Rattle.word_layout.specs.Size.{Size}
 use Rattle.txn_engine.specs.Pass.{EngineView, PassView}
-use Rattle.txn_engine.specs.Post.{PostView}
 use Rattle.txn_engine.specs.Retired.{RetiredView}
-use Rattle.txn_engine.specs.Seats.{Known}
-use Rattle.txn_engine.specs.Sharing.{no_knowledge}
-use Rattle.txn_engine.specs.Spare.{NumbersView, added}
-
--- each of these numbers at the end of the list, where it is not on it
-abbrev pub with_all : List ℕ → List ℕ → List ℕ
-with_all rids [] = rids
-with_all rids (x ∷ xs) = with_all (added rids x) xs
+use Rattle.seat_post.specs.Seats.{Known}
+use Rattle.seat_post.specs.Sharing.{no_knowledge}
+use Rattle.seat_post.specs.Spare.{with_all}
 
 -- ---- what they leave together
 
@@ -81,18 +75,4 @@ come_together p rs = record p {
   spare = spare_of (p.given ++ p.spare) rs;
   given = [];
   refusals = p.refusals + refusals_of rs;
-}
-
--- ---- the same of a post, with what its hand alone tells of a seat
-
-abbrev pub no_part : NumbersView
-no_part = record { fixed = 0; records = 0; spare = []; given = [] }
-
-abbrev pub joined_at : PostView → RetiredView → PostView
-joined_at p r = record p {
-  clock = max p.clock r.clock;
-  others = record p.others { taken_in = p.others.taken_in ++ r.seat ∷ r.others.taken_in };
-  known = no_knowledge;
-  log = p.log ++ r.log;
-  met = max p.met r.met;
 }

@@ -1,58 +1,12 @@
 -- What a seat that is alone knows of the records' lists of versions: after a commit, after a collection, and where no commit may want for
 -- a place.
-use Rattle.std.specs.Prelude.{◌≡◌, ◌⊎◌, ℕ, suc, ◌+◌, ◌<◌, ◌≤◌, Bool, false, nat_lt, List, length, take, drop, count_by}
-use Rattle.std.specs.Prelude.{Option, None, Some, IsSome}
-use Rattle.word_layout.specs.Size.{Size, usable_places}
-use Rattle.core_rule.specs.View.{Bound}
+use Rattle.std.specs.Prelude.{◌≡◌, ◌⊎◌, ℕ, suc, ◌≤◌, List, length, Some}
 use Rattle.core_rule.specs.Views.{Among}
 use Rattle.core_rule.specs.Searching.{known_of, newest_stamp}
-use Rattle.core_rule.specs.Reckoning.{AtMost}
-use Rattle.record_store.specs.Meaning.{value_at}
 use Rattle.rapid_gc.specs.declared.queue.Queued.{Queued}
-use Rattle.txn_engine.specs.Seats.{Known}
+use Rattle.seat_post.specs.Seats.{Known}
 use Rattle.txn_engine.specs.Pass.{PassView}
-
--- so many versions of a list at most are known to be linked; and to be linked outside the record's inline place
-abbrev pub HasLinked : ℕ → Option Bound → Type 0
-HasLinked n None = ⊥
-HasLinked n (Some b) = b.linked ≤ n
-
-abbrev pub HasOutside : ℕ → Option Bound → Type 0
-HasOutside n None = ⊥
-HasOutside n (Some b) = b.outside ≤ n
-
--- one more version than before may be linked, and lie outside
-abbrev pub IsOneMore : Option Bound → Option Bound → Type 0
-IsOneMore None known = known ≡ None
-IsOneMore (Some b) None = ⊥
-IsOneMore (Some b) (Some c) = (c.linked ≤ suc b.linked) × (c.outside ≤ suc b.outside)
-
--- versions of these writes were linked at this stamp
-pub record AreLinked (writes : List (ℕ × Option (List ℕ))) (stamp : ℕ) (before after' : Known) : Type 0 where
-  pub written : (r : ℕ) → IsSome (value_at writes r) → IsOneMore (known_of before.counts r) (known_of after'.counts r) × (newest_stamp after'.tops r ≡ Some stamp)
-  pub others : (r : ℕ) → value_at writes r ≡ None → (known_of after'.counts r ≡ known_of before.counts r) × (newest_stamp after'.tops r ≡ newest_stamp before.tops r)
-
--- versions of the first few of these writes were
-pub record AreSomeLinked (writes : List (ℕ × Option (List ℕ))) (stamp : ℕ) (before after' : Known) : Type 0 where
-  pub count : ℕ
-  pub linked : AreLinked (take count writes) stamp before after'
-
--- what was known before the last so many versions were linked
-abbrev pub known_before : ℕ → Known → Known
-known_before count known = record { counts = record known.counts { listed = drop count known.counts.listed }; tops = drop count known.tops }
-
--- of each record that is written a bound is known
-abbrev pub AreKnown : Known → List (ℕ × Option (List ℕ)) → Type 0
-AreKnown known writes = (r : ℕ) → IsSome (value_at writes r) → IsSome (known_of known.counts r)
-
--- more versions may lie outside the inline place than before; and of how many of these writes' records
-abbrev pub is_raised : Option Bound → Option Bound → Bool
-is_raised (Some b) (Some c) = nat_lt b.outside c.outside
-is_raised (Some b) None = false
-is_raised None known = false
-
-abbrev pub count_raised : (before after' : Known) → List (ℕ × Option (List ℕ)) → ℕ
-count_raised before after' writes = count_by (λ write. is_raised (known_of before.counts write.0) (known_of after'.counts write.0)) writes
+use Rattle.seat_post.specs.Lists.{HasOutside, IsFullAt, HasLinked, IsRoomyAt}
 
 -- the newest version of the record is queued to be collected below
 pub record IsQueuedNewest (queue : List Queued) (known : Known) (r : ℕ) : Type 0 where
@@ -68,9 +22,6 @@ pub record IsQueuedNewest (queue : List Queued) (known : Known) (r : ℕ) : Type
 abbrev pub IsTidy : PassView → Type 0
 IsTidy p = (r : ℕ) → suc r ≤ p.engine.size.records → HasLinked 1 (known_of p.known.counts r)
 
-abbrev pub IsRoomyAt : Size → Known → Type 0
-IsRoomyAt size known = (r : ℕ) → suc r ≤ size.records → HasOutside 1 (known_of known.counts r)
-
 abbrev pub IsRoomy : PassView → Type 0
 IsRoomy p = IsRoomyAt p.engine.size p.known
 
@@ -79,13 +30,6 @@ IsTidyOnceCollected p = (r : ℕ) → suc r ≤ p.engine.size.records → HasLin
 
 abbrev pub IsRoomyOnceCollected : PassView → Type 0
 IsRoomyOnceCollected p = (r : ℕ) → suc r ≤ p.engine.size.records → HasOutside 1 (known_of p.known.counts r) ⊎ IsQueuedNewest p.queue p.known r
-
--- A seat that is alone finds no place for one of so many writes: there are fewer usable pool places than linked versions outside inline
--- places, by the bounds that it knows, and writes. So where one at most is known to lie outside each inline place, the spare places are
--- no more than records and writes.
-pub record IsFullAt (size : Size) (known : Known) (writes : ℕ) : Type 0 where
-  pub by_bounds : (n : ℕ) → AtMost size.records (known_of known.counts) n → usable_places size < n + writes
-  pub roomy : IsRoomyAt size known → size.spare ≤ size.records + writes
 
 abbrev pub IsFull : PassView → Type 0
 IsFull p = IsFullAt p.engine.size p.known (length p.desk.writes)

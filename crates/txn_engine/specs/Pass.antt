@@ -1,5 +1,5 @@
 -- What contracts see of an engine and of a pass, and what the calls of a pass and of its transactions make of it.
-use Rattle.std.specs.Prelude.{◌≡◌, ℕ, ◌+◌, ◌-◌, max, ◌<◌, true, false, if◌then◌else◌, List, [], ◌∷◌, ◌++◌, Option, None, Some, map}
+use Rattle.std.specs.Prelude.{◌≡◌, ℕ, ◌+◌, ◌-◌, max, true, false, List, [], ◌∷◌, ◌++◌, Option, None, Some, map, if◌then◌else◌}
 use Rattle.std.specs.List.{range_with_len}
 use Rattle.atomic_table.specs.Seated.{TableId}
 use Rattle.plain_data.specs.declared.entry.Entry.{Entry}
@@ -10,14 +10,13 @@ use Rattle.clock_stamps.specs.Clocks.{drawn_clock}
 use Rattle.record_store.specs.Meaning.{Meaning}
 use Rattle.validate_core.specs.declared.conflict.Conflict.{Conflict}
 use Rattle.rapid_gc.specs.declared.queue.Queued.{Queued}
-use Rattle.txn_engine.specs.declared.phase.Phase.{Phase}
-use Rattle.txn_engine.specs.declared.phase.Phase.TheVariants.{Idle, Open, Installed, Decided}
-use Rattle.core_rule.specs.Views.{Among}
+use Rattle.seat_post.specs.declared.phase.Phase.{Phase}
+use Rattle.seat_post.specs.declared.phase.Phase.TheVariants.{Idle, Open, Installed, Decided}
 use Rattle.core_rule.specs.View.{single, one_each}
-use Rattle.txn_engine.specs.Seats.{Others, Known, IsAloneAt}
-use Rattle.txn_engine.specs.Glance.{GlanceView, first_glance}
+use Rattle.seat_post.specs.Seats.{Others, Known, IsAloneAt}
+use Rattle.seat_post.specs.Glance.{GlanceView, first_glance}
 use Rattle.txn_engine.specs.Desk.{DeskView, no_desk, open_desk}
-use Rattle.txn_engine.specs.Spare.{spare_after}
+use Rattle.seat_post.specs.Spare.{spare_after}
 
 -- which table an engine has, its size, and how many of its records are never given out
 pub record EngineView : Type 0 where
@@ -84,13 +83,6 @@ first_pass e = record {
   refusals = 0;
   desk = no_desk;
 }
-
--- every commit entry of the log is stamped below this number; and every snapshot entry is
-abbrev pub IsAbove : List Entry → ℕ → Type 0
-IsAbove log t = (e : Entry) → Among e log → e.snapshot ≡ false → e.stamp < t
-
-abbrev pub AreBelow : List Entry → ℕ → Type 0
-AreBelow log t = (e : Entry) → Among e log → e.snapshot ≡ true → e.stamp < t
 
 -- ---- clocks
 

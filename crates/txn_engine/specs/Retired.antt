@@ -1,15 +1,14 @@
--- What contracts see of a seat that has retired, and what its retired hand keeps.
+-- What contracts see of a seat that has retired, and what it keeps.
 use Rattle.std.specs.Prelude.{◌≡◌, ℕ, ◌≤◌, List, [], ◌++◌, map}
 use Rattle.plain_data.specs.declared.entry.Entry.{Entry}
 use Rattle.stamp_base.specs.Stamp.{bound_of_clock}
-use Rattle.word_layout.specs.Size.{IsSize}
 use Rattle.core_rule.specs.Deciding as deciding
-use Rattle.core_rule.specs.Hands.{Seated, IsHandOf, IsRetired}
-use Rattle.core_rule.specs.Searching.{Ends}
-use Rattle.txn_engine.specs.Pass.{EngineView, PassView, IsAbove, AreBelow}
-use Rattle.txn_engine.specs.Post.{shared_of}
-use Rattle.txn_engine.specs.Seats.{Others}
-use Rattle.txn_engine.specs.Spare.{NumbersView}
+use Rattle.core_rule.specs.Hands.{Seated}
+use Rattle.txn_engine.specs.Pass.{EngineView, PassView}
+use Rattle.seat_post.specs.Logs.{IsAbove, AreBelow}
+use Rattle.seat_post.specs.Seats.{Others}
+use Rattle.seat_post.specs.Spare.{NumbersView}
+use Rattle.seat_post.specs.Joining.{IsDone}
 
 -- a seat that has retired: what a pass leaves, and which seats it took as open
 pub record RetiredView : Type 0 where
@@ -36,14 +35,6 @@ retired_view hand n refusals = record {
   spare = n.spare;
   refusals = refusals;
 }
-
--- the hand may be joined, and nothing is given out
-pub record IsDone (hand : Seated) : Type 0 where
-  pub hand_of : IsHandOf (shared_of hand) hand
-  pub size : IsSize hand.view.size
-  pub retired : IsRetired hand.view
-  pub ends : Ends hand.view.work
-  pub holds_none : hand.view.places.held ≡ []
 
 pub record IsRetiredSeat (hand : Seated) (n : NumbersView) (refusals : ℕ) : Type 0 where
   pub done : IsDone hand

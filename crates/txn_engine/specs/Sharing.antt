@@ -1,23 +1,13 @@
 -- What becomes of the seat that is alone where it is shared: one pass for each seat.
-use Rattle.std.specs.Prelude.{ℕ, None, zero, suc, ◌+◌, ◌-◌, max, nat_lt, if◌then◌else◌, List, [], ◌∷◌, ◌++◌, map}
+use Rattle.std.specs.Prelude.{ℕ, None, ◌-◌, max, nat_lt, List, [], ◌∷◌, ◌++◌, map, if◌then◌else◌}
 use Rattle.std.specs.List.{range_with_len}
 use Rattle.stamp_base.specs.Stamp.{bound_of_clock}
-use Rattle.core_rule.specs.View.{sharing, shared, nothing_known}
-use Rattle.core_rule.specs.Offers.{made_of}
-use Rattle.txn_engine.specs.declared.phase.Phase.TheVariants.{Idle}
+use Rattle.core_rule.specs.View.{sharing, shared}
 use Rattle.txn_engine.specs.Desk.{no_desk}
 use Rattle.txn_engine.specs.Pass.{PassView}
-use Rattle.txn_engine.specs.Post.{PostView}
-use Rattle.txn_engine.specs.Seats.{Others, Known}
-
--- every so many-th of the list, from this place on
-abbrev pub every : (step from : ℕ) → List ℕ → List ℕ
-every step from [] = []
-every step zero (x ∷ xs) = x ∷ every step (step - 1) xs
-every step (suc from) (x ∷ xs) = every step from xs
-
-abbrev pub no_knowledge : Known
-no_knowledge = record { counts = nothing_known; tops = [] }
+use Rattle.seat_post.specs.Seats.{Others, Known}
+use Rattle.seat_post.specs.Sharing.{no_knowledge}
+use Rattle.seat_post.specs.Spare.{every}
 
 -- ---- the pass before it makes others
 
@@ -73,28 +63,3 @@ shares_of p = first_share p ∷ map (share_at p) (range_with_len 1 (p.engine.siz
 
 abbrev pub shares : PassView → List PassView
 shares p = shares_of (announced p)
-
--- ---- the same of a post, but for its glance
-
-abbrev pub announced_at : PostView → PostView
-announced_at p = record p { published = max p.published (bound_of_clock p.clock); met = max p.published (bound_of_clock p.clock) }
-
-abbrev pub one_more : PostView → PostView
-one_more p = record p { others = record p.others { splitting = sharing (made_of p.others.splitting + 1) }; known = no_knowledge }
-
-abbrev pub made_next : PostView → PostView
-made_next p = record {
-  shared = p.shared;
-  seat = made_of p.others.splitting;
-  clock = p.clock;
-  published = p.published;
-  others = record { splitting = shared; taken_in = [] };
-  known = no_knowledge;
-  met = p.met;
-  log = [];
-  glance = None;
-  phase = Idle;
-  stamp = 0;
-  reads = [];
-  writes = [];
-}

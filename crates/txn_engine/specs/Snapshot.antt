@@ -1,18 +1,14 @@
 -- A snapshot of a pass: how it begins, what it means as a store, what one read makes of it, and how it ends.
 use Rattle.std.specs.Prelude.{◌≡◌, ℕ, ◌+◌, ◌<◌, ◌≤◌, Bool, true, false, nat_lt, List, [], ◌∷◌, ◌++◌, Option, None, Some, option_map, IfSome}
 use Rattle.std.specs.Borrow.{GName}
-use Rattle.plain_data.specs.declared.entry.Entry.{Entry}
 use Rattle.stamp_base.specs.Stamp.{stamp_of}
 use Rattle.histories.specs.History.{IsValue, UpTo}
 use Rattle.record_store.specs.Meaning.{Meaning}
-use Rattle.txn_engine.specs.declared.phase.Phase.{Phase}
-use Rattle.txn_engine.specs.declared.phase.Phase.TheVariants.{Idle, Open, Installed, Decided}
-use Rattle.txn_engine.specs.Glance.{GlanceView, first_glance, with_read}
-use Rattle.txn_engine.specs.Pass.{PassView, IsAlone, AreBelow, no_store}
-
--- the entry of a snapshot
-abbrev pub entry_of_glance : GlanceView → Entry
-entry_of_glance g = record { stamp = g.stamp; snapshot = true; reads = g.reads; writes = [] }
+use Rattle.seat_post.specs.declared.phase.Phase.{Phase}
+use Rattle.seat_post.specs.declared.phase.Phase.TheVariants.{Idle, Open, Installed, Decided}
+use Rattle.seat_post.specs.Glance.{GlanceView, first_glance, with_read, entry_of_glance}
+use Rattle.txn_engine.specs.Pass.{PassView, IsAlone, no_store}
+use Rattle.seat_post.specs.Logs.{AreBelow}
 
 -- one begins at this stamp, one less than the minimum met; it ends with its entry
 abbrev pub looking : PassView → ℕ → PassView

@@ -35,7 +35,8 @@ impl<J> Model for Alone<J> {
 
 impl<J: Keeps> Alone<J> {
     ghost use Rattle.txn_engine.specs.Alone.{AloneView, with_pass, HasParts};
-    ghost use Rattle.txn_engine.specs.Pass.{PassView, IsIdle, IsAbove, IsAlone, first_pass, next_clock, ticked, heard, begun, meaning_of_pass};
+    ghost use Rattle.txn_engine.specs.Pass.{PassView, IsIdle, IsAlone, first_pass, next_clock, ticked, heard, begun, meaning_of_pass};
+    ghost use Rattle.seat_post.specs.Logs.{IsAbove};
 
     /// Seat 0 of a new engine.
     pub(crate) fn first(pass: Pass<J>, parts: Parts<J>) -> Self

@@ -4,9 +4,10 @@ ghost use Rattle.std.proofs.Props.{props};
 ghost use Rattle.record_store.specs.Limits.{record_limit};
 ghost use Rattle.record_store.specs.Meaning.{known, after_read};
 ghost use Rattle.txn_engine.specs.Alone.{AloneView, with_pass};
-ghost use Rattle.txn_engine.specs.Ends.{Stood};
+ghost use Rattle.seat_post.specs.Ends.{Stood};
 ghost use Rattle.txn_engine.specs.Pass.{PassView, IsIdle};
-ghost use Rattle.txn_engine.specs.Snapshot.{meaning_of_glance, entry_of_glance, Begins, IsLooking, looked, unread, finished, ReadsLeft};
+ghost use Rattle.txn_engine.specs.Snapshot.{meaning_of_glance, Begins, IsLooking, looked, unread, finished, ReadsLeft};
+ghost use Rattle.seat_post.specs.Glance.{entry_of_glance};
 
 use crate::alone::Alone;
 use crate::engine::Engine;

@@ -5,18 +5,19 @@ ghost use Rattle.record_store.specs.Meaning.{known, after_read, after_write, aft
 ghost use Rattle.record_store.specs.Store.{IsFresh};
 ghost use Rattle.txn_engine.specs.Accounts.{accounted};
 ghost use Rattle.txn_engine.specs.Alone.{AloneView, with_pass, Lacks};
-ghost use Rattle.txn_engine.specs.Ends.{Stood};
-ghost use Rattle.txn_engine.specs.Leaves.{ReadsLeft, AreLeft, HoldsAbsent, NoneLeft};
+ghost use Rattle.seat_post.specs.Ends.{Stood};
+ghost use Rattle.txn_engine.specs.Leaves.{ReadsLeft, HoldsAbsent, NoneLeft};
+ghost use Rattle.seat_post.specs.Leaves.{AreLeft};
 ghost use Rattle.txn_engine.specs.Lists.{IsFull, IsTidyOnceCollected, IsRoomyOnceCollected};
 ghost use Rattle.txn_engine.specs.Pass.{PassView, knowing, store_of, entry_of, meaning_of_pass, frame, aborted, refused, committed};
 
 use crate::alone::Alone;
 use crate::engine::Engine;
 use crate::faults::{AloneFault, CommitFault, TxnFault};
-use crate::phase::Phase;
 use crate::transacting::Committed;
 use core_rule::Keeps;
 use plain_data::Cells;
+use seat_post::Phase;
 use version_pool::PlacesOut;
 
 impl<J: Keeps> Alone<J> {

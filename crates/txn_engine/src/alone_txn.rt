@@ -6,19 +6,21 @@ ghost use Rattle.plain_data.specs.State.{Fits};
 ghost use Rattle.stamp_base.specs.Limits.{greatest_clock};
 ghost use Rattle.txn_engine.specs.contracts.alone.Alone.{the_row};
 ghost use Rattle.txn_engine.specs.Alone.{with_pass};
-ghost use Rattle.txn_engine.specs.Ends.{Stood};
-ghost use Rattle.txn_engine.specs.Leaves.{AreLeft, HoldsAbsent};
+ghost use Rattle.seat_post.specs.Ends.{Stood};
+ghost use Rattle.seat_post.specs.Leaves.{AreLeft};
+ghost use Rattle.txn_engine.specs.Leaves.{HoldsAbsent};
 ghost use Rattle.txn_engine.specs.Lists.{IsFull, IsTidyOnceCollected, IsRoomyOnceCollected};
-ghost use Rattle.txn_engine.specs.Pass.{IsIdle, IsAbove, knowing, next_clock, begun, entry_of, committed, refused, aborted};
+ghost use Rattle.txn_engine.specs.Pass.{IsIdle, knowing, next_clock, begun, entry_of, committed, refused, aborted};
+ghost use Rattle.seat_post.specs.Logs.{IsAbove};
 
 use crate::alone::Alone;
 use crate::engine::{Engine, Lent};
 use crate::faults::{AloneFault, BeginFault};
-use crate::phase::Phase;
 use crate::transacting::Committed;
 use core_rule::Keeps;
 use plain_data::Cells;
 use record_store::{RecordRead, RecordStore};
+use seat_post::Phase;
 use stamp_base::Stamp;
 use version_pool::PlacesOut;
 

@@ -3,18 +3,18 @@ ghost use Rattle.std.specs.Prelude.{◌≡◌, ◌≢◌, ◌<◌, ◌≤◌, �
 ghost use Rattle.record_store.specs.Meaning.{value_at, after_fresh};
 ghost use Rattle.record_store.specs.Store.{IsFresh};
 ghost use Rattle.txn_engine.specs.Pass.{PassView, IsAlone, store_of, frame};
-ghost use Rattle.txn_engine.specs.Leaves.{IsPresent, HoldsAbsent, NoneLeft};
+ghost use Rattle.seat_post.specs.Leaves.{IsPresent};
+ghost use Rattle.txn_engine.specs.Leaves.{HoldsAbsent, NoneLeft};
 ghost use Rattle.txn_engine.specs.Accounts.{accounted};
-ghost use Rattle.txn_engine.specs.Spare.{is_on};
+ghost use Rattle.seat_post.specs.Spare.{is_on};
 ghost use Rattle.txn_engine.specs.Txn.{Fails};
 ghost use Rattle.txn_engine.specs.Fresh.{read_absent, given_out, AreWritten, Asks};
 
 use crate::engine::Engine;
 use crate::faults::TxnFault;
 use crate::pass::Pass;
-use crate::phase::Phase;
-use crate::reading::ReadFault;
 use core_rule::Keeps;
+use seat_post::{Phase, ReadFault};
 
 /// What became of a spare number that a transaction asked for.
 #[derive(Clone, Copy, Drop)]

@@ -1,40 +1,15 @@
 //! Coming together: a pass takes in the seats that have retired, and is alone.
-ghost use Rattle.std.specs.Prelude.{◌≡◌, ◌≤◌, ◌+◌, ◌*◌, ◌++◌, [], true, length};
-ghost use Rattle.core_rule.specs.Offers.{made_within};
+ghost use Rattle.std.specs.Prelude.{◌≡◌, ◌≤◌, ◌+◌, ◌++◌, [], true};
 ghost use Rattle.stamp_base.specs.Limits.{greatest_clock};
 ghost use Rattle.txn_engine.specs.Alone.{AloneView};
-ghost use Rattle.txn_engine.specs.Joining.{AreOfEngine, AreOthers, joined, joined_at, no_part, come_together};
+ghost use Rattle.txn_engine.specs.Joining.{AreOfEngine, AreOthers, joined, come_together};
 ghost use Rattle.txn_engine.specs.Pass.{PassView, IsIdle, IsAlone, with_glance};
-ghost use Rattle.txn_engine.specs.Post.{PostView, shared_of};
-ghost use Rattle.txn_engine.specs.Retired.{RetiredView, IsDone, retired_view};
 
 use crate::alone::Alone;
 use crate::engine::Engine;
 use crate::pass::Pass;
-use crate::phase::Phase;
-use crate::post::Post;
 use crate::retired::Retired;
-use core_rule::{Core, Hand, Keeps};
-
-impl<J: Keeps> Post<J> {
-    /// Takes in the hand of a seat that has retired.
-    pub(crate) fn join(&mut self, core: &Core<J>, other: Hand<J>)
-        requires core { self.old.shared ≡ core.now }
-        requires idle { self.old.phase ≡ Phase.Idle }
-        requires done { IsDone other }
-        requires same { shared_of other ≡ core.now }
-        ensures { self.new ≡ record (joined_at self.old (retired_view other no_part 0)) { glance = self.new.glance } }
-    {
-        core.join(&mut self.hand, other);
-    }
-
-    /// Tells that no more seats were made than the table has.
-    pub(crate) fn tell_made(&self)
-        ensures { made_within self.now.shared.size.seats self.now.others.splitting ≤ self.now.shared.size.seats }
-    {
-        self.hand.tell_made();
-    }
-}
+use core_rule::Keeps;
 
 impl<J: Keeps> Pass<J> {
     // Takes in a seat that has retired, and gives the count of its refusals.

@@ -11,8 +11,8 @@ ghost use Rattle.txn_engine.specs.Accounts.{accounted};
 use crate::engine::Engine;
 use crate::faults::TxnFault;
 use crate::pass::Pass;
-use crate::phase::Phase;
 use core_rule::Keeps;
+use seat_post::Phase;
 
 impl<J: Keeps> Pass<J> {
     pub(crate) fn size(&self) -> u32

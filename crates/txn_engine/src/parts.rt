@@ -1,11 +1,11 @@
 //! What the passes are made of that a share gives.
 ghost use Rattle.std.specs.Prelude.{◌≡◌, IfOk};
-ghost use Rattle.txn_engine.specs.Alone.{HasParts, no_numbers};
+ghost use Rattle.txn_engine.specs.Alone.{HasParts};
+ghost use Rattle.seat_post.specs.Spare.{no_numbers};
 
-use crate::numbers::Numbers;
 use crate::pass::Pass;
-use crate::rewriting::Room;
 use plain_data::NoMemory;
+use seat_post::{Numbers, Room};
 use std::alloc::Global;
 use std::marker::Model;
 
@@ -17,7 +17,7 @@ pub(crate) struct Part {
 }
 
 impl Model for Part {
-    ghost use Rattle.txn_engine.specs.Spare.{NumbersView};
+    ghost use Rattle.seat_post.specs.Spare.{NumbersView};
 
     ghost Value = { NumbersView };
 

@@ -4,18 +4,15 @@ ghost use Rattle.stamp_base.specs.Limits.{greatest_clock};
 ghost use Rattle.stamp_base.specs.Stamp.{stamp_of};
 ghost use Rattle.core_rule.specs.View.{first_view};
 ghost use Rattle.core_rule.specs.Hands.{IsReady};
-ghost use Rattle.txn_engine.specs.Post.{shared_of};
+ghost use Rattle.seat_post.specs.Post.{shared_of};
 
 use crate::engine::Engine;
 use crate::faults::BeginFault;
-use crate::numbers::Numbers;
-use crate::phase::Phase;
-use crate::post::Post;
-use crate::rewriting::Room;
 use clock_stamps::ClockOut;
 use core_rule::{Hand, Keeps};
 use plain_data::NoMemory;
 use rapid_gc::Queue;
+use seat_post::{Numbers, Phase, Post, Room};
 use stamp_base::Stamp;
 use std::alloc::Global;
 use std::marker::Model;
@@ -49,7 +46,8 @@ impl<J> Model for Pass<J> {
 }
 
 impl<J: Keeps> Pass<J> {
-    ghost use Rattle.txn_engine.specs.Pass.{PassView, IsIdle, IsAbove, first_pass, next_clock, ticked, heard, synchronised, begun};
+    ghost use Rattle.txn_engine.specs.Pass.{PassView, IsIdle, first_pass, next_clock, ticked, heard, synchronised, begun};
+    ghost use Rattle.seat_post.specs.Logs.{IsAbove};
 
     /// The pass of seat 0 of a new table.
     pub(crate) fn first(

@@ -1,74 +1,18 @@
 //! Promoting a version: what is visible of a record is written again into its inline place.
-ghost use Rattle.std.specs.Prelude.{◌≡◌, ◌≢◌, ◌+◌, ◌<◌, ◌↔◌, None, Err, IfOk, IfErr, IfSome, length};
+ghost use Rattle.std.specs.Prelude.{◌≡◌, ◌+◌, ◌<◌, ◌↔◌, Err, IfOk, IfErr};
 ghost use Rattle.stamp_base.specs.Limits.{greatest_clock};
-ghost use Rattle.word_layout.specs.Size.{places};
-ghost use Rattle.core_rule.specs.Hands.{IsReady, StaysReady};
-ghost use Rattle.core_rule.specs.Searching.{IsLoading, read_place, read_cells};
-ghost use Rattle.version_search.specs.Loading.{with_value};
-ghost use Rattle.clock_stamps.specs.Clocks.{drawn_clock};
 ghost use Rattle.txn_engine.specs.Pass.{IsIdle, next_clock};
 ghost use Rattle.txn_engine.specs.Leaves.{HoldsAbsent};
 ghost use Rattle.txn_engine.specs.Lists.{IsRoomy};
-ghost use Rattle.txn_engine.specs.Promoting.{boost_after, Promotes, FailsToPromote, PromotesPost, FailsPost, IsDrawn, PromotesAt, FailsAt};
+ghost use Rattle.txn_engine.specs.Promoting.{boost_after, Promotes, FailsToPromote};
 
 use crate::engine::Engine;
 use crate::pass::Pass;
-use crate::phase::Phase;
-use crate::post::Post;
-use crate::rewriting::Room;
-use crate::search::Read;
 use crate::transacting::BOOST;
-use clock_stamps::{ClockOut, draw};
-use core_rule::{Core, Hand, Keeps};
-use plain_data::Cells;
-use stamp_base::Stamp;
+use clock_stamps::ClockOut;
+use core_rule::Keeps;
+use seat_post::{PromoteFault, Promotion};
 use validate_core::Conflict;
-use version_pool::take_inline;
-use version_search::{Found, find, load_value};
-
-/// What became of a promotion.
-#[derive(Clone, Copy, PartialEq, Eq, Debug)]
-pub enum Promotion {
-    /// What is visible was written again into the inline place, at this stamp.
-    Promoted(Stamp),
-    /// What is visible stands in the inline place.
-    Inline,
-    /// The record is absent.
-    Absent,
-    /// The inline place is not free.
-    Occupied,
-}
-
-/// Why a record is not promoted.
-#[derive(Clone, Copy, PartialEq, Eq, Debug)]
-pub enum PromoteFault {
-    /// The clock of the pass has come to its end.
-    ClockOut,
-    /// Another transaction is in the way.
-    Conflict(Conflict),
-}
-
-impl From<ClockOut> for PromoteFault {
-    ghost use Rattle.std.specs.Prelude.{◌≡◌};
-    ghost use Rattle.txn_engine.specs.declared.promoting.PromoteFault.TheVariants as fault;
-
-    ghost from_gives = { λ _ answer. answer ≡ fault.ClockOut };
-
-    fn from(_error: ClockOut) -> Self {
-        PromoteFault::ClockOut
-    }
-}
-
-impl From<Conflict> for PromoteFault {
-    ghost use Rattle.std.specs.Prelude.{◌≡◌};
-    ghost use Rattle.txn_engine.specs.declared.promoting.PromoteFault.TheVariants as fault;
-
-    ghost from_gives = { λ conflict answer. answer ≡ fault.Conflict conflict };
-
-    fn from(conflict: Conflict) -> Self {
-        PromoteFault::Conflict(conflict)
-    }
-}
 
 impl<J: Keeps> Pass<J> {
     /// Writes what is visible of a record into its inline place, as a transaction of its own. `Inline` comes exactly where the
@@ -107,85 +51,5 @@ fn next_boost(told: &Result<Promotion, PromoteFault>, boost: u64) -> u64
         Ok(Promotion::Promoted(_)) => 0,
         Err(PromoteFault::Conflict(_)) => BOOST,
         Ok(_) | Err(PromoteFault::ClockOut) => boost,
-    }
-}
-
-impl<J: Keeps> Post<J> {
-    /// Draws a stamp, and promotes a record at it.
-    pub(crate) fn promote(
-        &mut self,
-        core: &Core<J>,
-        rid: u32,
-        reading: u64,
-    ) -> Result<Promotion, PromoteFault>
-        requires core { self.old.shared ≡ core.now }
-        requires idle { self.old.phase ≡ Phase.Idle }
-        requires rid { rid < self.old.shared.size.records }
-        ensures ok { IfOk result (PromotesPost J.kept rid (drawn_clock self.old.clock reading) self.old self.new) }
-        ensures err { IfErr result (FailsPost rid (drawn_clock self.old.clock reading) self.old self.new) }
-        ensures clock_out { (result ≡ Err PromoteFault.ClockOut) ↔ (drawn_clock self.old.clock reading ≡ greatest_clock + 1) }
-    {
-        let stamp = draw(core, &mut self.hand, reading)?;
-        let told = promote_at(core, &mut self.hand, &mut self.room, rid, stamp)?;
-        Ok(told)
-    }
-}
-
-// Promotes a record at the stamp that was drawn.
-fn promote_at<J: Keeps>(
-    core: &Core<J>,
-    hand: &mut Hand<J>,
-    room: &mut Room,
-    rid: u32,
-    stamp: Stamp,
-) -> Result<Promotion, Conflict>
-    requires ready { IsReady core.now hand.old }
-    requires rid { rid < core.now.size.records }
-    requires drawn { IsDrawn stamp hand.old.view }
-    ensures ok { IfOk result (PromotesAt J.kept core.now.size.records stamp rid hand.old.view hand.new.view) }
-    ensures err { IfErr result (FailsAt stamp rid hand.old.view hand.new.view) }
-    ensures stays { StaysReady core.now hand.old hand.new }
-{
-    match find(core, hand, rid, stamp.number(), false) {
-        Found::Pending { wts } => Err(Conflict::Pending { rid, wts }),
-        Found::Version { absent: true, .. } => Ok(Promotion::Absent),
-        Found::Version {
-            place,
-            wts,
-            absent: false,
-        } => {
-            if place == rid {
-                return Ok(Promotion::Inline);
-            }
-            if !take_inline(core, hand, rid) {
-                return Ok(Promotion::Occupied);
-            }
-            let read = load(core, hand, place, wts);
-            match room.rewrite(core, hand, rid, &read, rid) {
-                Ok(()) => Ok(Promotion::Promoted(stamp)),
-                Err(conflict) => Err(conflict),
-            }
-        }
-    }
-}
-
-// Loads the value of the version that was found last.
-fn load<J: Keeps>(core: &Core<J>, hand: &mut Hand<J>, place: u32, wts: u64) -> Read
-    requires ready { IsReady core.now hand.old }
-    requires loading { IsLoading hand.old.view.work.reads }
-    requires place { place ≡ read_place hand.old.view.work.reads }
-    requires inside { place < places core.now.size }
-    requires begins { read_cells hand.old.view.work.reads ≡ 0 }
-    ensures place { result.place ≡ place }
-    ensures wts { result.wts ≡ wts }
-    ensures value { IfSome result.value (λ words. (length words ≡ 32) × (hand.new.view ≡ with_value hand.old.view words hand.new.view.seen)) }
-    ensures present { result.value ≢ None }
-    ensures stays { StaysReady core.now hand.old hand.new }
-{
-    let cells = load_value(core, hand, place);
-    Read {
-        place,
-        wts,
-        value: Some(Cells::new(cells.words())),
     }
 }

@@ -1,19 +1,13 @@
 //! A seat that has retired.
 ghost use Rattle.std.specs.Prelude.{◌≡◌, ◌<◌};
-ghost use Rattle.stamp_base.specs.Limits.{end_of_stamps};
 ghost use Rattle.stamp_base.specs.Stamp.{stamp_of};
 ghost use Rattle.txn_engine.specs.Pass.{IsIdle};
-ghost use Rattle.txn_engine.specs.Glance.{first_glance};
-ghost use Rattle.txn_engine.specs.Post.{post_view};
-ghost use Rattle.txn_engine.specs.Retired.{RetiredView, IsDone, retired};
+ghost use Rattle.txn_engine.specs.Retired.{RetiredView, retired};
 
 use crate::engine::Engine;
-use crate::numbers::Numbers;
 use crate::pass::Pass;
-use crate::phase::Phase;
-use crate::post::Post;
-use clock_stamps::retire;
-use core_rule::{Core, Hand, Keeps};
+use core_rule::{Hand, Keeps};
+use seat_post::Numbers;
 use stamp_base::Stamp;
 use std::marker::Model;
 
@@ -49,28 +43,6 @@ impl<J> Retired<J> {
         ensures { result ≡ stamp_of self.now.clock self.now.seat }
     {
         Stamp::make(self.hand.clock(), self.hand.number())
-    }
-}
-
-impl<J: Keeps> Post<J> {
-    /// Publishes that the seat is not open any more, and gives its hand.
-    pub(crate) fn retire(self, core: &Core<J>) -> Hand<J>
-        requires core { self.shared ≡ core.now }
-        requires idle { self.phase ≡ Phase.Idle }
-        ensures hand { post_view result Phase.Idle self.stamp self.reads self.writes ≡ record self { published = end_of_stamps; glance = first_glance end_of_stamps } }
-        ensures done { IsDone result }
-    {
-        let Post {
-            mut hand,
-            phase: _,
-            stamp: _,
-            reads: _,
-            writes: _,
-            sets: _,
-            room: _,
-        } = self;
-        retire(core, &mut hand);
-        hand
     }
 }
 

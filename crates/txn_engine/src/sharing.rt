@@ -1,53 +1,22 @@
 //! Sharing: the seat that is alone makes the other seats of its engine.
-ghost use Rattle.std.specs.Prelude.{◌≡◌, ◌+◌, ◌<◌, ◌≤◌, [], length, map, false};
+ghost use Rattle.std.specs.Prelude.{◌≡◌, ◌+◌, ◌<◌, [], length, map, false};
 ghost use Rattle.core_rule.specs.Offers.{MayOffer, made_of};
 ghost use Rattle.core_rule.specs.View.{single, sharing};
 ghost use Rattle.core_rule.specs.Views.{Among};
 ghost use Rattle.stamp_base.specs.Stamp.{stamp_of};
-ghost use Rattle.txn_engine.specs.Alone.{AloneView, HasParts, no_numbers};
+ghost use Rattle.txn_engine.specs.Alone.{AloneView, HasParts};
+ghost use Rattle.seat_post.specs.Spare.{no_numbers, every};
 ghost use Rattle.txn_engine.specs.Pass.{PassView, IsIdle, IsAlone, with_glance, unglanced};
-ghost use Rattle.txn_engine.specs.Post.{PostView};
-ghost use Rattle.txn_engine.specs.Seats.{IsAloneAt};
-ghost use Rattle.txn_engine.specs.Sharing.{every, no_knowledge, announced, share_at, shares_of, shares, announced_at, one_more, made_next};
+ghost use Rattle.seat_post.specs.Sharing.{no_knowledge};
+ghost use Rattle.txn_engine.specs.Sharing.{announced, share_at, shares_of, shares};
 
 use crate::alone::Alone;
 use crate::engine::Engine;
 use crate::parts::{Part, Parts};
 use crate::pass::Pass;
-use crate::phase::Phase;
-use crate::post::Post;
-use crate::rewriting::Room;
-use clock_stamps::{idle, raise_min_write};
-use core_rule::{Core, Keeps};
+use core_rule::Keeps;
 use rapid_gc::Queue;
 use std::alloc::Global;
-
-impl<J: Keeps> Post<J> {
-    /// Publishes the bound of its clock, and raises `min_wts` to it, which no other seat holds back.
-    pub(crate) fn announce(&mut self, core: &Core<J>)
-        requires core { self.old.shared ≡ core.now }
-        requires idle { self.old.phase ≡ Phase.Idle }
-        requires alone { IsAloneAt self.old.shared.size self.old.seat self.old.others }
-        ensures value { self.new ≡ record (announced_at self.old) { glance = self.new.glance } }
-        ensures not_back { self.old.met ≤ self.new.met }
-    {
-        idle(core, &mut self.hand);
-        raise_min_write(core, &mut self.hand);
-    }
-
-    /// Makes the next seat.
-    pub(crate) fn split(&mut self, alloc: Global, core: &Core<J>, room: Room) -> Post<J>
-        requires core { self.old.shared ≡ core.now }
-        requires idle { self.old.phase ≡ Phase.Idle }
-        requires makes { MayOffer self.old.others.splitting }
-        requires room { made_of self.old.others.splitting < core.now.size.seats }
-        ensures left { self.new ≡ record (one_more self.old) { glance = self.new.glance } }
-        ensures right { result ≡ record (made_next self.old) { glance = result.glance } }
-    {
-        let hand = core.split(&mut self.hand);
-        Post::new(alloc, hand, room)
-    }
-}
 
 impl<J: Keeps> Pass<J> {
     // Publishes the bound of its clock, and raises `min_wts` to it. What was given out is spare again.

@@ -1,72 +1,19 @@
 //! Snapshots: a pass reads records at one stamp, and each read answers.
-ghost use Rattle.std.specs.Prelude.{◌≡◌, ◌+◌, ◌<◌, ◌≤◌, Some, IsSome, IfSome};
+ghost use Rattle.std.specs.Prelude.{◌≡◌, ◌<◌, ◌≤◌, Some, IfSome};
 ghost use Rattle.std.specs.Borrow.{sem};
 ghost use Rattle.std.proofs.Props.{props};
-ghost use Rattle.stamp_base.specs.Stamp.{stamp_of};
-ghost use Rattle.histories.specs.History.{IsValue, UpTo};
 ghost use Rattle.record_store.specs.Limits.{record_limit};
-ghost use Rattle.record_store.specs.Meaning.{value_at, known, after_read};
-ghost use Rattle.txn_engine.specs.Ends.{Stood};
-ghost use Rattle.txn_engine.specs.Pass.{PassView, IsIdle, AreBelow};
-ghost use Rattle.txn_engine.specs.Post.{PostView, IsAlonePost, looking_at, looked_at, finished_at};
-ghost use Rattle.txn_engine.specs.Snapshot.{meaning_of_glance, entry_of_glance, Begins, IsLooking, looked, unread, finished, ReadsLeft};
+ghost use Rattle.record_store.specs.Meaning.{known, after_read};
+ghost use Rattle.seat_post.specs.Ends.{Stood};
+ghost use Rattle.txn_engine.specs.Pass.{PassView, IsIdle};
+ghost use Rattle.txn_engine.specs.Snapshot.{meaning_of_glance, Begins, IsLooking, looked, unread, finished, ReadsLeft};
+ghost use Rattle.seat_post.specs.Glance.{entry_of_glance};
 
 use crate::engine::Engine;
-use crate::glancing::{begin_glances, end_glances, glance};
 use crate::pass::Pass;
-use crate::phase::Phase;
-use crate::post::Post;
-use core_rule::{Core, Keeps};
+use core_rule::Keeps;
 use plain_data::Cells;
 use record_store::RecordRead;
-
-impl<J: Keeps> Post<J> {
-    /// Begins a snapshot, and gives its stamp.
-    pub(crate) fn begin_snapshot(&mut self, core: &Core<J>) -> u64
-        requires core { self.old.shared ≡ core.now }
-        requires idle { self.old.phase ≡ Phase.Idle }
-        ensures after { self.new ≡ looking_at self.old result }
-        ensures met { self.old.met ≤ result + 1 }
-        ensures snapshots { AreBelow self.old.log (result + 1) }
-        ensures below { result < self.old.published }
-        ensures below_next { result < stamp_of (self.old.clock + 1) self.old.seat }
-        ensures alone { IsAlonePost self.old → self.old.published ≤ result + 1 }
-    {
-        begin_glances(core, &mut self.hand)
-    }
-
-    /// The stamp of the snapshot.
-    pub(crate) fn snapshot_stamp(&self) -> u64
-        ensures { IfSome self.now.glance (λ g. result ≡ g.stamp) }
-    {
-        self.hand.published_read()
-    }
-
-    /// Reads a record for the snapshot. What was read of it before is read again.
-    pub(crate) fn look(&mut self, core: &Core<J>, rid: u32) -> Option<Cells>
-        requires core { self.old.shared ≡ core.now }
-        requires idle { self.old.phase ≡ Phase.Idle }
-        requires looks { IsSome self.old.glance }
-        requires rid { rid < self.old.shared.size.records }
-        ensures after { self.new ≡ looked_at self.old rid result }
-        ensures answer { IfSome self.new.glance (λ g. value_at g.reads rid ≡ Some result) }
-        ensures left { IsAlonePost self.old → IfSome self.old.glance (λ g. IsValue (UpTo self.old.log g.stamp) rid result) }
-    {
-        glance(core, &mut self.hand, rid)
-    }
-
-    /// Ends the snapshot: its entry enters the log. Gives its stamp.
-    pub(crate) fn end_snapshot(&mut self, core: &Core<J>) -> u64
-        requires core { self.old.shared ≡ core.now }
-        requires idle { self.old.phase ≡ Phase.Idle }
-        requires looks { IsSome self.old.glance }
-        ensures after { IfSome self.old.glance (λ g. self.new ≡ finished_at self.old g) }
-        ensures stamp { IfSome self.old.glance (λ g. result ≡ g.stamp) }
-        ensures stood { IfSome self.old.glance (λ g. Stood J.kept self.old.shared.size.records self.old.log (entry_of_glance g)) }
-    {
-        end_glances(core, &mut self.hand)
-    }
-}
 
 /// A fault that never comes: it has no values.
 #[derive(Clone, Copy, Drop)]

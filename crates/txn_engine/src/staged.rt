@@ -5,20 +5,23 @@ ghost use Rattle.plain_data.specs.declared.entry.Entry.{Entry};
 ghost use Rattle.std.proofs.Props.{props};
 ghost use Rattle.plain_data.specs.State.{Fits};
 ghost use Rattle.txn_engine.specs.contracts.pass.Pass.{the_row};
-ghost use Rattle.txn_engine.specs.Seats.{Known};
-ghost use Rattle.txn_engine.specs.Leaves.{AreLeft, HoldsAbsent};
-ghost use Rattle.txn_engine.specs.Lists.{AreLinked, AreSomeLinked, known_before, AreKnown, count_raised, IsFull, IsTidyOnceCollected, IsRoomyOnceCollected};
-ghost use Rattle.txn_engine.specs.Pass.{IsAlone, IsAbove, knowing, entry_of, installed, decided, published, refused, aborted};
-ghost use Rattle.txn_engine.specs.Ends.{Stood};
+ghost use Rattle.seat_post.specs.Seats.{Known};
+ghost use Rattle.seat_post.specs.Leaves.{AreLeft};
+ghost use Rattle.txn_engine.specs.Leaves.{HoldsAbsent};
+ghost use Rattle.seat_post.specs.Lists.{AreLinked, AreSomeLinked, known_before, AreKnown, count_raised};
+ghost use Rattle.txn_engine.specs.Lists.{IsFull, IsTidyOnceCollected, IsRoomyOnceCollected};
+ghost use Rattle.txn_engine.specs.Pass.{IsAlone, knowing, entry_of, installed, decided, published, refused, aborted};
+ghost use Rattle.seat_post.specs.Logs.{IsAbove};
+ghost use Rattle.seat_post.specs.Ends.{Stood};
 ghost use Rattle.txn_engine.specs.Faults.{IsShown, MatchStopped};
 
 use crate::engine::{Engine, Lent};
 use crate::faults::CommitFault;
 use crate::pass::Pass;
-use crate::phase::Phase;
 use crate::transacting::Committed;
 use crate::txn::TxnOver;
 use core_rule::Keeps;
+use seat_post::Phase;
 use validate_core::{Conflict, Decided, Installed};
 
 /// A transaction whose versions are linked as pending ones. It must be spent.

@@ -3,29 +3,11 @@ ghost use Rattle.std.specs.Prelude.{◌≡◌, ◌≤◌};
 ghost use Rattle.histories.specs.History.{Lawful};
 ghost use Rattle.txn_engine.specs.Alone.{AloneView, with_pass};
 ghost use Rattle.txn_engine.specs.Pass.{PassView, IsIdle, IsAlone};
-ghost use Rattle.txn_engine.specs.Post.{PostView};
-ghost use Rattle.txn_engine.specs.Seats.{IsAloneAt};
 
 use crate::alone::Alone;
 use crate::engine::Engine;
 use crate::pass::Pass;
-use crate::phase::Phase;
-use crate::post::Post;
-use core_rule::{Core, Keeps};
-
-impl<J: Keeps> Post<J> {
-    /// Loads `min_wts`.
-    pub(crate) fn tell(&mut self, core: &Core<J>)
-        requires core { self.old.shared ≡ core.now }
-        requires idle { self.old.phase ≡ Phase.Idle }
-        requires alone { IsAloneAt self.old.shared.size self.old.seat self.old.others }
-        ensures value { self.new ≡ record self.old { met = self.new.met } }
-        ensures not_back { self.old.met ≤ self.new.met }
-        ensures lawful { Lawful J.kept self.old.shared.size.records self.old.log }
-    {
-        core.load_min_write(&mut self.hand);
-    }
-}
+use core_rule::Keeps;
 
 impl<J: Keeps> Pass<J> {
     fn tell(&mut self, engine: &Engine<J>)

@@ -4,24 +4,27 @@ ghost use Rattle.plain_data.specs.State.{Fits};
 ghost use Rattle.record_store.specs.Limits.{record_limit};
 ghost use Rattle.record_store.specs.Meaning.{known, after_read, after_write, after_fresh, after_undo};
 ghost use Rattle.record_store.specs.Store.{IsFresh};
-ghost use Rattle.txn_engine.specs.Leaves.{ReadsLeft, AreLeft, HoldsAbsent};
+ghost use Rattle.txn_engine.specs.Leaves.{ReadsLeft, HoldsAbsent};
+ghost use Rattle.seat_post.specs.Leaves.{AreLeft};
 ghost use Rattle.txn_engine.specs.Accounts.{accounted};
-ghost use Rattle.txn_engine.specs.Lists.{AreLinked, AreSomeLinked, known_before, AreKnown, count_raised, IsFull, IsTidyOnceCollected, IsRoomyOnceCollected};
-ghost use Rattle.txn_engine.specs.Pass.{PassView, IsAlone, IsAbove, knowing, store_of, entry_of, counted, doomed, cleared, aborted, refused, installed, decided, queued, published, committed, frame};
-ghost use Rattle.txn_engine.specs.Ends.{Stood};
+ghost use Rattle.seat_post.specs.Lists.{AreLinked, AreSomeLinked, known_before, AreKnown, count_raised};
+ghost use Rattle.txn_engine.specs.Lists.{IsFull, IsTidyOnceCollected, IsRoomyOnceCollected};
+ghost use Rattle.txn_engine.specs.Pass.{PassView, IsAlone, knowing, store_of, entry_of, counted, doomed, cleared, aborted, refused, installed, decided, queued, published, committed, frame};
+ghost use Rattle.seat_post.specs.Logs.{IsAbove};
+ghost use Rattle.seat_post.specs.Ends.{Stood};
 ghost use Rattle.txn_engine.specs.Faults.{IsShown, MatchStopped, IfConflict, MeetsAt};
 ghost use Rattle.txn_engine.specs.Txn.{Fails};
-ghost use Rattle.txn_engine.specs.Conflicts.{ShowsPending};
+ghost use Rattle.seat_post.specs.Conflicts.{ShowsPending};
+ghost use Rattle.seat_post.specs.FirstRead.{first_record};
 
 use crate::engine::Engine;
 use crate::faults::{CommitFault, TxnFault};
 use crate::pass::Pass;
-use crate::phase::Phase;
-use crate::reading::ReadFault;
 use core_rule::Keeps;
 use indexmap::IndexMap;
 use plain_data::Cells;
 use rapid_gc::Queue;
+use seat_post::{Phase, ReadFault};
 use stamp_base::Stamp;
 use validate_core::{Conflict, Decided, Installed};
 
@@ -68,6 +71,12 @@ impl<J> Pass<J> {
         ensures { result ≡ self.now.desk.stamp }
     {
         self.post.stamp()
+    }
+
+    pub(crate) fn first_read(&self) -> Option<u32>
+        ensures { result ≡ first_record self.now.desk.reads }
+    {
+        self.post.first_read()
     }
 
     // Takes back what was given out, and forgets the conflict and the count.

@@ -5,20 +5,24 @@ ghost use Rattle.std.proofs.Props.{props};
 ghost use Rattle.plain_data.specs.State.{Fits};
 ghost use Rattle.stamp_base.specs.Limits.{greatest_clock};
 ghost use Rattle.txn_engine.specs.contracts.pass.Pass.{the_row};
-ghost use Rattle.txn_engine.specs.Leaves.{AreLeft, HoldsAbsent};
-ghost use Rattle.txn_engine.specs.Lists.{AreLinked, AreSomeLinked, AreKnown, count_raised, IsFull, IsTidyOnceCollected, IsRoomyOnceCollected};
-ghost use Rattle.txn_engine.specs.Pass.{IsIdle, IsAlone, IsAbove, knowing, next_clock, begun, entry_of, installed, decided, published, committed, refused, aborted};
-ghost use Rattle.txn_engine.specs.Ends.{Stood};
+ghost use Rattle.seat_post.specs.Leaves.{AreLeft};
+ghost use Rattle.txn_engine.specs.Leaves.{HoldsAbsent};
+ghost use Rattle.seat_post.specs.Lists.{AreLinked, AreSomeLinked, AreKnown, count_raised};
+ghost use Rattle.txn_engine.specs.Lists.{IsFull, IsTidyOnceCollected, IsRoomyOnceCollected};
+ghost use Rattle.txn_engine.specs.Pass.{IsIdle, IsAlone, knowing, next_clock, begun, entry_of, installed, decided, published, committed, refused, aborted};
+ghost use Rattle.seat_post.specs.Logs.{IsAbove};
+ghost use Rattle.seat_post.specs.Ends.{Stood};
 ghost use Rattle.txn_engine.specs.Faults.{IsShown, MatchStopped};
+ghost use Rattle.seat_post.specs.FirstRead.{first_record};
 
 use crate::engine::{Engine, Lent};
 use crate::faults::{BeginFault, CommitFault, TxnFault};
 use crate::pass::Pass;
-use crate::phase::Phase;
 use crate::transacting::Committed;
 use core_rule::Keeps;
 use plain_data::Cells;
 use record_store::{RecordRead, RecordStore};
+use seat_post::Phase;
 use stamp_base::Stamp;
 use validate_core::{Conflict, Decided, Installed};
 
@@ -62,6 +66,13 @@ impl<'a, J: Keeps, E: Lent<J>> TxnOver<'a, J, E> {
         ensures { result ≡ self.now.pass.now.desk.stamp }
     {
         self.pass.stamp()
+    }
+
+    /// The number of the record that it read first, if it has read any. A number that `fresh` gave counts as read.
+    pub fn first_read(&self) -> Option<u32>
+        ensures { result ≡ first_record self.now.pass.now.desk.reads }
+    {
+        self.pass.first_read()
     }
 
     /// Ends the transaction without an entry.

@@ -2,9 +2,10 @@ use Rattle.std.proofs.Common.{◌≡◌, ◌≤◌, [], ◌∷◌, List, length,
 use Rattle.core_rule.specs.Views.{Among}
 use Rattle.txn_engine.specs.Alone.{PartsView}
 use Rattle.txn_engine.specs.Pass.{PassView, unglanced}
-use Rattle.txn_engine.specs.Seats.{Others}
-use Rattle.txn_engine.specs.Spare.{NumbersView}
-use Rattle.txn_engine.proofs.Making.{among_left, among_last, next_share, next_made, pushed_share, count_shares}
+use Rattle.seat_post.specs.Seats.{Others}
+use Rattle.seat_post.specs.Spare.{NumbersView}
+use Rattle.txn_engine.proofs.Making.{next_share, next_made, pushed_share, count_shares}
+use Rattle.core_rule.proofs.Among.{Among-last, Among-left}
 use Rattle.txn_engine.proofs.sharing.share_out.Goals as goal
 
 pub loop-seat-init : goal.loop-seat-init
@@ -25,7 +26,7 @@ pub split-requires-clause-list : goal.split-requires-clause-list
 split-requires-clause-list g c =
     let i = c.loop-seat.invariant in
     let engine : c.loop-seat.pass.engine ≡ c.args.engine.now = ap (λ (p : PassView). p.engine) i.pass ∙ c.requires.engine in
-    let is = i.empty c.in-Some.list (subst (λ (ns : List NumbersView). Among c.in-Some.list ns) (sym c.in-Some.ensures.items) (among_last c.pop.new.self.items c.in-Some.list)) in
+    let is = i.empty c.in-Some.list (subst (λ (ns : List NumbersView). Among c.in-Some.list ns) (sym c.in-Some.ensures.items) (Among-last c.in-Some.list c.pop.new.self.items)) in
     rw engine is
 
 pub unreachable-requires-in_default-push : goal.unreachable-requires-in_default-push
@@ -55,7 +56,7 @@ loop-seat-preserved g c =
       pass = next_made c.args.pass c.loop-seat.pass c.split.new.self c.loop-seat._seat some plain i.pass c.split.ensures.left;
       passes = pushed_share c.args.pass c.loop-seat.passes.items c.push.new.self.items c.loop-seat._seat c.split.result some i.passes made c.in-Ok.ensures.items;
       lists = omega arith;
-      empty = λ n among. i.empty n (subst (λ (ns : List NumbersView). Among n ns) (sym popped) (among_left c.pop.new.self.items (c.in-Some.list ∷ []) n among));
+      empty = λ n among. i.empty n (subst (λ (ns : List NumbersView). Among n ns) (sym popped) (Among-left n c.pop.new.self.items (c.in-Some.list ∷ []) among));
       room = omega arith;
     }
 
@@ -63,7 +64,7 @@ pub keep_share-requires-clause-list : goal.keep_share-requires-clause-list
 keep_share-requires-clause-list g c =
     let i = c.loop-seat.invariant in
     let engine : c.loop-seat.pass.engine ≡ c.args.engine.now = ap (λ (p : PassView). p.engine) i.pass ∙ c.requires.engine in
-    let is = i.empty c.in-Some-pop.list (subst (λ (ns : List NumbersView). Among c.in-Some-pop.list ns) (sym c.in-Some-pop.ensures.items) (among_last c.pop-2.new.self.items c.in-Some-pop.list)) in
+    let is = i.empty c.in-Some-pop.list (subst (λ (ns : List NumbersView). Among c.in-Some-pop.list ns) (sym c.in-Some-pop.ensures.items) (Among-last c.in-Some-pop.list c.pop-2.new.self.items)) in
     rw engine is
 
 pub unreachable-requires-in_default-insert : goal.unreachable-requires-in_default-insert

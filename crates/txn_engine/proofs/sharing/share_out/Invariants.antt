@@ -2,10 +2,9 @@ use Rattle.std.proofs.Common.{◌≡◌, ◌+◌, ◌-◌, ◌≤◌, length, ma
 use Rattle.std.specs.List.{range_with_len}
 use Rattle.std.specs.Vec.{vec_capacity}
 use Rattle.core_rule.specs.Views.{Among}
-use Rattle.txn_engine.specs.Alone.{no_numbers}
+use Rattle.seat_post.specs.Spare.{no_numbers, NumbersView}
 use Rattle.txn_engine.specs.Pass.{with_glance, unglanced}
 use Rattle.txn_engine.specs.Sharing.{with_made, share_at}
-use Rattle.txn_engine.specs.Spare.{NumbersView}
 use Rattle.txn_engine.proofs.sharing.share_out.Given as goal
 
 abbrev pub invariant-loop-seat : goal.invariant-loop-seat

@@ -1,7 +1,7 @@
 use Rattle.std.proofs.Common.{◌≡◌, ℕ, ap, ◌∙◌, sym, Some, Option, List, take, ◌++◌, arith}
 use Rattle.std.specs.Prelude.{slice_get}
 use Rattle.txn_engine.specs.Pass.{queued}
-use Rattle.txn_engine.proofs.Listed.{take_more}
+use Rattle.seat_post.proofs.Listed.{take_more}
 use Rattle.txn_engine.proofs.Passes.{queued-more}
 use Rattle.txn_engine.proofs.transacting.queue_all.Goals as goal
 

@@ -1,7 +1,7 @@
 use Rattle.std.proofs.Common.{sym, subst}
 use Rattle.txn_engine.specs.Alone.{AloneView}
 use Rattle.txn_engine.specs.Lists.{IsTidyOnceCollected, IsRoomyOnceCollected}
-use Rattle.txn_engine.specs.Pass.{IsAbove}
+use Rattle.seat_post.specs.Logs.{IsAbove}
 use Rattle.txn_engine.proofs.alone.Alone.collect.Goals as goal
 
 pub returns-clause-above : goal.returns-clause-above

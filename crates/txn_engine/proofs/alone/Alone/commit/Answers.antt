@@ -1,6 +1,7 @@
 use Rattle.std.proofs.Common.{sym, subst, OnOk}
 use Rattle.txn_engine.specs.Alone.{AloneView, counting}
-use Rattle.txn_engine.specs.Leaves.{AreLeft, HoldsAbsent}
+use Rattle.seat_post.specs.Leaves.{AreLeft}
+use Rattle.txn_engine.specs.Leaves.{HoldsAbsent}
 use Rattle.txn_engine.specs.Lists.{IsTidyOnceCollected, IsRoomyOnceCollected}
 use Rattle.txn_engine.proofs.alone.Alone.commit.Goals as goal
 use Rattle.txn_engine.proofs.alone.Alone.commit.Goals.{in-Ok, in-Err-PlacesOut}

@@ -1,6 +1,6 @@
 use Rattle.std.proofs.Common.{subst}
 use Rattle.txn_engine.specs.Alone.{AloneView}
-use Rattle.txn_engine.specs.Pass.{IsAbove}
+use Rattle.seat_post.specs.Logs.{IsAbove}
 use Rattle.txn_engine.proofs.alone.Alone.tick.Goals as goal
 
 pub returns-clause-above : goal.returns-clause-above

@@ -3,7 +3,7 @@ use Rattle.txn_engine.specs.Alone.{AloneView}
 use Rattle.txn_engine.specs.Pass.{PassView}
 use Rattle.txn_engine.specs.Leaves.{HoldsAbsent}
 use Rattle.txn_engine.specs.Lists.{IsTidy, IsRoomy}
-use Rattle.txn_engine.proofs.Linked.{tidy_first, roomy_first}
+use Rattle.txn_engine.proofs.Tidying.{tidy_first, roomy_first}
 use Rattle.txn_engine.proofs.Accounting.{absent_first}
 use Rattle.txn_engine.proofs.engine.Engine.start.Goals as goal
 

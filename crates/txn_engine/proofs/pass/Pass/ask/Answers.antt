@@ -4,7 +4,7 @@ use Rattle.std.proofs.lemmas.Option.{slice_get_within}
 use Rattle.record_store.specs.Meaning.{value_at}
 use Rattle.txn_engine.specs.Pass.{PassView}
 use Rattle.txn_engine.specs.Inside.{pass_view}
-use Rattle.txn_engine.specs.Spare.{NumbersView}
+use Rattle.seat_post.specs.Spare.{NumbersView}
 use Rattle.txn_engine.specs.Accounts.{accounted}
 use Rattle.txn_engine.proofs.Accounting.{accounted_given, accounted_struck}
 use Rattle.txn_engine.proofs.Asking.{passed_written, asks_struck}

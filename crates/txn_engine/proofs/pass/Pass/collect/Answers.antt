@@ -1,5 +1,6 @@
 use Rattle.std.proofs.Common.{ap, subst, arith}
-use Rattle.txn_engine.specs.Pass.{PassView, IsAbove}
+use Rattle.txn_engine.specs.Pass.{PassView}
+use Rattle.seat_post.specs.Logs.{IsAbove}
 use Rattle.txn_engine.proofs.CollectMore.{all_below, pass_collected}
 use Rattle.txn_engine.proofs.pass.Pass.collect.Goals as goal
 

@@ -1,7 +1,7 @@
 use Rattle.std.proofs.Common.{sym, subst}
 use Rattle.txn_engine.specs.Pass.{PassView}
 use Rattle.txn_engine.specs.Snapshot.{IsLooking}
-use Rattle.txn_engine.proofs.Looking.{pass_ended}
+use Rattle.txn_engine.proofs.Snapshots.{pass_ended}
 use Rattle.txn_engine.proofs.pass.Pass.end_look.Goals as goal
 
 pub invariant_of-self : goal.invariant_of-self

@@ -1,7 +1,8 @@
 use Rattle.std.proofs.Common.{sym, subst}
-use Rattle.txn_engine.specs.Pass.{PassView, IsAlone, IsAbove}
-use Rattle.txn_engine.specs.Leaves.{AreLeft}
-use Rattle.txn_engine.specs.Post.{knowing}
+use Rattle.txn_engine.specs.Pass.{PassView, IsAlone}
+use Rattle.seat_post.specs.Logs.{IsAbove}
+use Rattle.seat_post.specs.Leaves.{AreLeft}
+use Rattle.seat_post.specs.Post.{knowing}
 use Rattle.txn_engine.proofs.Passes.{pass_knowing, pass_closed, pass_installed, no_conflict}
 use Rattle.txn_engine.proofs.pass.Pass.install.Goals as goal
 

@@ -1,8 +1,8 @@
 use Rattle.std.proofs.Common.{ℕ, List, Option, not, sym, subst, ap, ◌∙◌}
 use Rattle.record_store.specs.Meaning.{value_at}
 use Rattle.txn_engine.specs.Pass.{PassView, IsAlone}
-use Rattle.txn_engine.specs.Leaves.{LeavesValue, LeavesSome, IsPresent}
-use Rattle.txn_engine.proofs.Leaving.{some_words, present_all}
+use Rattle.seat_post.specs.Leaves.{LeavesValue, LeavesSome, IsPresent}
+use Rattle.seat_post.proofs.Leaving.{some_words, present_all}
 use Rattle.txn_engine.proofs.Asking.{pass_asked}
 use Rattle.txn_engine.proofs.pass.Pass.is_absent.Goals as goal
 

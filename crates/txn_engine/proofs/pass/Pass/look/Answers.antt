@@ -1,4 +1,4 @@
-use Rattle.txn_engine.proofs.Looking.{pass_glanced}
+use Rattle.txn_engine.proofs.Snapshots.{pass_glanced}
 use Rattle.txn_engine.proofs.pass.Pass.look.Goals as goal
 
 pub invariant_of-self : goal.invariant_of-self

@@ -1,9 +1,9 @@
 use Rattle.std.proofs.Common.{ap, subst}
 use Rattle.txn_engine.specs.Pass.{PassView}
 use Rattle.txn_engine.specs.Inside.{pass_view}
-use Rattle.txn_engine.specs.Post.{PostView}
+use Rattle.seat_post.specs.Post.{PostView}
 use Rattle.txn_engine.specs.Snapshot.{Begins}
-use Rattle.txn_engine.proofs.Looking.{pass_looking}
+use Rattle.txn_engine.proofs.Snapshots.{pass_looking}
 use Rattle.txn_engine.proofs.pass.Pass.look_from_now.Goals as goal
 
 pub invariant_of-self : goal.invariant_of-self

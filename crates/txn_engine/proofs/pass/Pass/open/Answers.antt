@@ -1,8 +1,10 @@
 use Rattle.std.proofs.Common.{ℕ, ◌<◌, ap, ◌∙◌, subst}
 use Rattle.txn_engine.specs.Desk.{DeskView}
-use Rattle.txn_engine.specs.Pass.{PassView, IsAbove}
-use Rattle.txn_engine.specs.Spare.{NumbersView}
-use Rattle.txn_engine.proofs.Passes.{pass_room, pass_opened, pass_numbers, drawn_later, seat_below, above_drawn}
+use Rattle.txn_engine.specs.Pass.{PassView}
+use Rattle.seat_post.specs.Logs.{IsAbove}
+use Rattle.seat_post.specs.Spare.{NumbersView}
+use Rattle.txn_engine.proofs.Passes.{pass_room, pass_opened, pass_numbers}
+use Rattle.seat_post.proofs.Bounds.{above_drawn, drawn_later, seat_below}
 use Rattle.txn_engine.proofs.pass.Pass.open.Goals as goal
 
 pub invariant_of-self : goal.invariant_of-self

@@ -4,8 +4,8 @@ use Rattle.txn_engine.specs.Desk.{DeskView}
 use Rattle.txn_engine.specs.Inside.{pass_view}
 use Rattle.txn_engine.specs.Pass.{PassView, next_clock}
 use Rattle.txn_engine.specs.Lists.{IsRoomy}
-use Rattle.txn_engine.proofs.Passes.{above_drawn, drawn_later, less_is_most, seat_below}
 use Rattle.txn_engine.proofs.PromoteMore.{pass_promoted, promotes_told, fails_told, roomy_after, absent_after}
+use Rattle.seat_post.proofs.Bounds.{above_drawn, drawn_later, less_is_most, seat_below}
 use Rattle.txn_engine.proofs.pass.Pass.promote.Goals as goal
 
 pub invariant_of-self : goal.invariant_of-self

@@ -2,7 +2,7 @@ use Rattle.std.proofs.Common.{◌≡◌, ◌<◌, ℕ, ◌++◌, List, Option, a
 use Rattle.std.specs.Prelude.{IsSome}
 use Rattle.record_store.specs.Meaning.{value_at}
 use Rattle.txn_engine.specs.Pass.{PassView, queued}
-use Rattle.txn_engine.specs.Spare.{NumbersView}
+use Rattle.seat_post.specs.Spare.{NumbersView}
 use Rattle.txn_engine.proofs.Passes.{pass_published}
 use Rattle.txn_engine.proofs.pass.Pass.publish.Goals as goal
 

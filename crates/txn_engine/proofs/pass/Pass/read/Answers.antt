@@ -1,6 +1,6 @@
 use Rattle.std.proofs.Common.{◌≡◌, None, ap, ◌∙◌, sym}
 use Rattle.txn_engine.specs.Pass.{PassView}
-use Rattle.txn_engine.specs.Post.{PostView, known_at}
+use Rattle.seat_post.specs.Post.{PostView, known_at}
 use Rattle.txn_engine.proofs.Passes.{pass_read, none_known, known_noted}
 use Rattle.txn_engine.proofs.pass.Pass.read.Goals as goal
 

@@ -1,5 +1,5 @@
 use Rattle.std.proofs.Common.{ap, ◌∙◌}
-use Rattle.txn_engine.specs.Spare.{NumbersView}
+use Rattle.seat_post.specs.Spare.{NumbersView}
 use Rattle.txn_engine.proofs.Passes.{pass_numbers}
 use Rattle.txn_engine.proofs.Together.{pass_announced}
 use Rattle.txn_engine.proofs.pass.Pass.rescan.Goals as goal

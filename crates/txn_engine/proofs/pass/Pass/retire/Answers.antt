@@ -1,6 +1,6 @@
 use Rattle.std.proofs.Common.{ap, ◌∙◌, sym}
-use Rattle.txn_engine.specs.Post.{PostView}
-use Rattle.txn_engine.specs.Spare.{NumbersView}
+use Rattle.seat_post.specs.Post.{PostView}
+use Rattle.seat_post.specs.Spare.{NumbersView}
 use Rattle.txn_engine.proofs.pass.Pass.retire.Goals as goal
 
 pub invariant_of-result : goal.invariant_of-result

@@ -1,6 +1,8 @@
 use Rattle.std.proofs.Common.{subst}
-use Rattle.txn_engine.specs.Pass.{PassView, IsAbove}
-use Rattle.txn_engine.proofs.Passes.{above_drawn, pass_drawn, drawn_later, less_is_most}
+use Rattle.txn_engine.specs.Pass.{PassView}
+use Rattle.seat_post.specs.Logs.{IsAbove}
+use Rattle.txn_engine.proofs.Passes.{pass_drawn}
+use Rattle.seat_post.proofs.Bounds.{above_drawn, drawn_later, less_is_most}
 use Rattle.txn_engine.proofs.pass.Pass.tick.Goals as goal
 
 pub invariant_of-self-2 : goal.invariant_of-self-2

@@ -1,6 +1,6 @@
 use Rattle.std.proofs.Common.{ap, ◌∙◌, arith, []}
 use Rattle.txn_engine.specs.Pass.{PassView}
-use Rattle.txn_engine.specs.Spare.{NumbersView}
+use Rattle.seat_post.specs.Spare.{NumbersView}
 use Rattle.txn_engine.proofs.Passes.{pass_written, pass_numbers}
 use Rattle.txn_engine.proofs.pass.Pass.undo.Goals as goal
 

@@ -1,7 +1,7 @@
 use Rattle.std.proofs.Common.{◌≤◌, ◌+◌, ap, ◌∙◌, arith, length}
 use Rattle.record_store.specs.Meaning.{with_value}
 use Rattle.txn_engine.specs.Pass.{PassView}
-use Rattle.txn_engine.proofs.Listed.{longer}
+use Rattle.seat_post.proofs.Listed.{longer}
 use Rattle.txn_engine.proofs.Passes.{pass_written, pass_room}
 use Rattle.txn_engine.proofs.pass.Pass.write.Goals as goal
 

@@ -3,7 +3,7 @@ use Rattle.txn_engine.specs.Lists.{IsTidyOnceCollected, IsRoomyOnceCollected}
 use Rattle.txn_engine.specs.Pass.{PassView}
 use Rattle.txn_engine.specs.Leaves.{HoldsAbsent}
 use Rattle.txn_engine.proofs.Accounting.{absent_published}
-use Rattle.txn_engine.proofs.Linked.{tidy_published, roomy_published}
+use Rattle.txn_engine.proofs.Tidying.{tidy_published, roomy_published}
 use Rattle.txn_engine.proofs.staged.DecidedOver.publish.Goals as goal
 
 pub returns-clause-tidy : goal.returns-clause-tidy

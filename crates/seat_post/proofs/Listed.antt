@@ -1,0 +1,175 @@
+-- Lists of records with values: how lists of versions and maps agree with them.
+use Rattle.std.proofs.Common.{◌||◌, ◌<◌, ◌≤◌, ◌+◌, zero, suc, take, drop, add-one, take-suc, drop-cons, ◌⊎◌, arith, length, ◌≡◌, ◌≢◌, ℕ, true, false, cond, Bool, eqb, List, [], ◌∷◌, ◌++◌, Option, None, Some, refl, sym, ap, ◌∙◌, eq-eqb, inl, inr, subst}
+use Rattle.std.specs.Prelude.{is_some, IsSome, IfSome, slice_get}
+use Rattle.std.specs.List.{list_any, IsDistinct, AllByRecursion}
+use Rattle.std.specs.Map.{keys_of, lookup}
+use Rattle.std.proofs.lemmas.Option.{slice_get_within, get_or_from_slice_get}
+use Rattle.std.proofs.lemmas.Bool.{eqb-false}
+use Rattle.std.proofs.lemmas.Bool.Decides.{eqb_tells}
+use Rattle.std.proofs.lemmas.Map.Keys.{IsDistinct-head, IsDistinct-tail}
+use Rattle.std.proofs.lemmas.Map.Steps.{length-le_from_distinct_below}
+use Rattle.indexmap.specs.IndexMap.{insert_entry}
+use Rattle.seat_post.specs.Spare.{holds}
+use Rattle.record_store.specs.Meaning.{value_at, with_value}
+use Rattle.record_store.proofs.Values.{lookup-value_at}
+use Rattle.core_rule.specs.Versions.{read_version, written_version, cells_of}
+use Rattle.core_rule.specs.View.{Read, Write}
+use Rattle.core_rule.specs.Views.{Among}
+use Rattle.core_rule.specs.Deciding.{read_values, read_value, written_values, value_of}
+
+-- what is among the reads is known by them
+pub known_head : (b : Bool) (x : Option (List ℕ)) (found : Option (Option (List ℕ))) → b ≡ true → cond b (Some x) found ≡ None → ⊥
+known_head b x found is none = let h : Some x ≡ None = subst (λ (c : Bool). cond c (Some x) found ≡ None) is none in cc
+
+pub known_tail : (b : Bool) (x : Option (List ℕ)) (found : Option (Option (List ℕ))) → cond b (Some x) found ≡ None → found ≡ None
+known_tail true x found none = cc
+known_tail false x found none = none
+
+pub unread : (ds : List Read) (rid : ℕ) → value_at (read_values ds) rid ≡ None → (d : Read) → Among d ds → d.record_number ≢ rid
+unread [] rid none d among = absurd among
+unread (e ∷ ds) rid none d (inl same) = λ at. known_head (eqb rid e.record_number) _ (value_at (read_values ds) rid) (eq-eqb rid e.record_number (sym at ∙ ap (λ (x : Read). x.record_number) (sym same))) none
+unread (e ∷ ds) rid none d (inr among) = unread ds rid (known_tail (eqb rid e.record_number) _ (value_at (read_values ds) rid) none) d among
+
+new_at : (b : Bool) (rid : ℕ) (value : Option (List ℕ)) (e : ℕ × Option (List ℕ)) (es : List (ℕ × Option (List ℕ))) (found : Option (Option (List ℕ))) → cond b (Some e.1) found ≡ None → (found ≡ None → insert_entry eqb es rid value ≡ es ++ (rid, value) ∷ []) → cond b ((e.0, value) ∷ es) (e ∷ insert_entry eqb es rid value) ≡ e ∷ (es ++ (rid, value) ∷ [])
+new_at true rid value e es found none more = cc
+new_at false rid value e es found none more = ap (λ xs. e ∷ xs) (more none)
+
+-- a record that is not there is added at the end
+pub insert_new : (entries : List (ℕ × Option (List ℕ))) (rid : ℕ) (value : Option (List ℕ)) → value_at entries rid ≡ None → insert_entry eqb entries rid value ≡ entries ++ (rid, value) ∷ []
+insert_new [] rid value none = refl
+insert_new (e ∷ es) rid value none = new_at (eqb rid e.0) rid value e es (value_at es rid) none (insert_new es rid value)
+
+-- reads and their values, with one more
+pub read_values-append : (ds : List Read) (d : Read) → read_values (ds ++ d ∷ []) ≡ read_values ds ++ read_values (d ∷ [])
+read_values-append [] d = refl
+read_values-append (e ∷ ds) d = ap (λ vs. (e.record_number, read_value e) ∷ vs) (read_values-append ds d)
+
+-- the value of a version as it was read
+pub read_value-version : (rid place wts : ℕ) (value : Option (List ℕ)) → read_value (read_version rid place wts value) ≡ value
+read_value-version rid place wts None = refl
+read_value-version rid place wts (Some words) = refl
+
+-- what is known of a record, by what a look at its write found
+pub known_by_write : (found written read : Option (Option (List ℕ))) (value : Option (List ℕ)) → written ≡ found → found ≡ Some value → Some value ≡ cond (is_some written) written read
+known_by_write found written read value same is = rw (same, is) refl
+
+pub known_by_read : (written read answer : Option (Option (List ℕ))) → written ≡ None → answer ≡ read → answer ≡ cond (is_some written) written read
+known_by_read written read answer none is = rw (none, is) refl
+
+-- ---- writes
+
+-- the records of a list, by its keys
+listed_step : (b : Bool) (x : Option (List ℕ)) (found : Option (Option (List ℕ))) (any : Bool) → any ≡ is_some found → (b || any) ≡ is_some (cond b (Some x) found)
+listed_step true x found any same = refl
+listed_step false x found any same = same
+
+pub list_any-keys : (entries : List (ℕ × Option (List ℕ))) (rid : ℕ) → list_any (eqb rid) (keys_of entries) ≡ is_some (value_at entries rid)
+list_any-keys [] rid = refl
+list_any-keys (e ∷ es) rid = listed_step (eqb rid e.0) e.1 (value_at es rid) (list_any (eqb rid) (keys_of es)) (list_any-keys es rid)
+
+length-keys : (entries : List (ℕ × Option (List ℕ))) → length (keys_of entries) ≡ length entries
+length-keys [] = refl
+length-keys (e ∷ es) = ap suc (length-keys es)
+
+-- a list of records below a number, each once, is no longer than that
+pub few : (entries : List (ℕ × Option (List ℕ))) (records : ℕ) → IsDistinct eqb (keys_of entries) → ((rid : ℕ) → IsSome (value_at entries rid) → rid < records) → length entries ≤ records
+few entries records distinct below =
+    let h = length-le_from_distinct_below (keys_of entries) records distinct (λ q any. below q (sym (list_any-keys entries q) ∙ any)) in
+    let k = length-keys entries in
+    omega arith
+
+longer_step : (b : Bool) (x : ℕ × Option (List ℕ)) (e : ℕ × Option (List ℕ)) (es more : List (ℕ × Option (List ℕ))) → length more ≤ length es + 1 → length (cond b (x ∷ es) (e ∷ more)) ≤ length (e ∷ es) + 1
+longer_step true x e es more h = omega arith
+longer_step false x e es more h = omega arith
+
+-- a write makes the list longer by one at most
+pub longer : (entries : List (ℕ × Option (List ℕ))) (rid : ℕ) (value : Option (List ℕ)) → length (with_value entries rid value) ≤ length entries + 1
+longer [] rid value = omega arith
+longer (e ∷ es) rid value = longer_step (eqb rid e.0) (e.0, value) e es (with_value es rid value) (longer es rid value)
+
+-- ---- writes put into sets, one after another
+
+pub length-written : (us : List Write) → length (written_values us) ≡ length us
+length-written [] = refl
+length-written (u ∷ us) = ap suc (length-written us)
+
+pub written_values-append : (us : List Write) (u : Write) → written_values (us ++ u ∷ []) ≡ written_values us ++ (u.record_number, value_of u.cells) ∷ []
+written_values-append [] u = refl
+written_values-append (w ∷ us) u = ap (λ vs. (w.record_number, value_of w.cells) ∷ vs) (written_values-append us u)
+
+-- the value of a version as it is written
+pub value_of-cells : (value : Option (List ℕ)) → IfSome value (λ words. length words ≡ 32) → value_of (cells_of value) ≡ value
+value_of-cells None whole = refl
+value_of-cells (Some []) whole = cc
+value_of-cells (Some (x ∷ xs)) whole = refl
+
+pub unwritten_yet : (us : List Write) (rid : ℕ) → value_at (written_values us) rid ≡ None → (u : Write) → Among u us → u.record_number ≢ rid
+unwritten_yet [] rid none u among = absurd among
+unwritten_yet (w ∷ us) rid none u (inl same) = λ at. known_head (eqb rid w.record_number) _ (value_at (written_values us) rid) (eq-eqb rid w.record_number (sym at ∙ ap (λ (x : Write). x.record_number) (sym same))) none
+unwritten_yet (w ∷ us) rid none u (inr among) = unwritten_yet us rid (known_tail (eqb rid w.record_number) _ (value_at (written_values us) rid) none) u among
+
+-- the entries before one do not have its key
+other_key : (P : ℕ → Type 0) (es : List (ℕ × Option (List ℕ))) (i rid : ℕ) (value : Option (List ℕ)) → AllByRecursion P (keys_of es) → slice_get es i ≡ Some (rid, value) → P rid
+other_key P [] i rid value all at = cc
+other_key P (e ∷ es) zero rid value all at = let same : e ≡ (rid, value) = cc in subst (λ (x : ℕ × Option (List ℕ)). P x.0) same all.0
+other_key P (e ∷ es) (suc i) rid value all at = other_key P es i rid value all.1 at
+
+pub unheld : (b : Bool) (x : Option (List ℕ)) (found : Option (Option (List ℕ))) → b ≡ false → found ≡ None → cond b (Some x) found ≡ None
+unheld true x found off none = cc
+unheld false x found off none = none
+
+pub eqb_not : (a b : ℕ) → (a ≡ b → ⊥) → eqb a b ≡ false
+eqb_not a b apart = elim (eqb_tells a b) as (λ _. eqb a b ≡ false) [ inl t ↦ absurd (apart t.1) | inr t ↦ t.0 ]
+
+pub not_before : (es : List (ℕ × Option (List ℕ))) (i rid : ℕ) (value : Option (List ℕ)) → IsDistinct eqb (keys_of es) → slice_get es i ≡ Some (rid, value) → value_at (take i es) rid ≡ None
+not_before [] i rid value distinct at = cc
+not_before (e ∷ es) zero rid value distinct at = refl
+not_before (e ∷ es) (suc i) rid value distinct at =
+    let other = other_key (λ k. eqb e.0 k ≡ false) es i rid value (IsDistinct-head eqb e.0 (keys_of es) distinct) at in
+    unheld (eqb rid e.0) e.1 (value_at (take i es) rid) (eqb_not rid e.0 (λ same. eqb-false e.0 rid other (sym same))) (not_before es i rid value (IsDistinct-tail eqb e.0 (keys_of es) distinct) at)
+
+-- the first entries, with one more
+pub take_more : (es : List (ℕ × Option (List ℕ))) (i : ℕ) (e : ℕ × Option (List ℕ)) → slice_get es i ≡ Some e → take (i + 1) es ≡ take i es ++ e ∷ []
+take_more es i e at =
+    let h : i < length es = slice_get_within es i e at in
+    rw (add-one, take-suc es i e h) (ap (λ x. take i es ++ x ∷ []) (get_or_from_slice_get es i e e at))
+
+-- the sets after one more write is put there
+pub put_more : (us us' : List Write) (es : List (ℕ × Option (List ℕ))) (i rid : ℕ) (value copied : Option (List ℕ)) → written_values us ≡ take i es → us' ≡ us ++ written_version rid 0 0 copied ∷ [] → slice_get es i ≡ Some (rid, value) → copied ≡ value → IfSome copied (λ words. length words ≡ 32) → written_values us' ≡ take (i + 1) es
+put_more us us' es i rid value copied written more at same whole =
+    ap written_values more
+    ∙ written_values-append us (written_version rid 0 0 copied)
+    ∙ ap (λ v. written_values us ++ (rid, v) ∷ []) (value_of-cells copied whole ∙ same)
+    ∙ ap (λ vs. vs ++ (rid, value) ∷ []) written
+    ∙ sym (take_more es i (rid, value) at)
+
+some_or : (b : Bool) (x : Option (List ℕ)) (found : Option (Option (List ℕ))) → (b ≡ true) ⊎ IsSome found → IsSome (cond b (Some x) found)
+some_or true x found some = refl
+some_or false x found (inl off) = cc
+some_or false x found (inr some) = some
+
+-- what a look at a record finds
+pub looked : (entries : List (ℕ × Option (List ℕ))) (rid : ℕ) (found : Option (Option (List ℕ))) → found ≡ lookup (eqb rid) entries → value_at entries rid ≡ found
+looked entries rid found is = sym (lookup-value_at entries rid) ∙ sym is
+
+-- a record with a write, at its place
+pub some_at : (es : List (ℕ × Option (List ℕ))) (i : ℕ) (e : ℕ × Option (List ℕ)) → slice_get es i ≡ Some e → IsSome (value_at es e.0)
+some_at [] i e at = cc
+some_at (x ∷ es) zero e at = let same : x ≡ e = cc in some_or (eqb e.0 x.0) x.1 (value_at es e.0) (inl (eq-eqb e.0 x.0 (ap (λ (y : ℕ × Option (List ℕ)). y.0) (sym same))))
+some_at (x ∷ es) (suc i) e at = some_or (eqb e.0 x.0) x.1 (value_at es e.0) (inr (some_at es i e at))
+
+-- the entries from one on
+pub drop_one : (es : List (ℕ × Option (List ℕ))) (i : ℕ) (e : ℕ × Option (List ℕ)) → slice_get es i ≡ Some e → drop i es ≡ e ∷ drop (i + 1) es
+drop_one es i e at =
+    let h : i < length es = slice_get_within es i e at in
+    rw (add-one) (drop-cons es i e h ∙ ap (λ x. x ∷ drop (suc i) es) (get_or_from_slice_get es i e e at))
+
+pub held : (value : Option (List ℕ)) → is_some value ≡ holds (Some value)
+held None = refl
+held (Some words) = refl
+
+-- a write that is listed has a value there
+pub among_written : (us : List Write) (u : Write) → Among u us → IsSome (value_at (written_values us) u.record_number)
+among_written [] u among = absurd among
+among_written (w ∷ us) u (inl same) = some_or (eqb u.record_number w.record_number) _ (value_at (written_values us) u.record_number) (inl (eq-eqb u.record_number w.record_number (ap (λ (x : Write). x.record_number) (sym same))))
+among_written (w ∷ us) u (inr among) = some_or (eqb u.record_number w.record_number) _ (value_at (written_values us) u.record_number) (inr (among_written us u among))

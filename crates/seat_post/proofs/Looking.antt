@@ -1,0 +1,90 @@
+-- A snapshot at a post and at a pass: what both keep while it reads, and what its end tells.
+use Rattle.std.proofs.Common.{◌≡◌, ℕ, ◌≤◌, ◌+◌, true, List, Option, refl, ap, ◌∙◌, arith, map}
+use Rattle.std.specs.Prelude.{IsSome, IfSome}
+use Rattle.plain_data.specs.declared.entry.Entry.{Entry}
+use Rattle.plain_data.specs.State.{State}
+use Rattle.histories.specs.History.{IsValue, UpTo}
+use Rattle.core_rule.specs.View.{View, Flight, resting, writing, Read, Logged, no_work}
+use Rattle.core_rule.specs.Views.{Among, IsAlone}
+use Rattle.core_rule.specs.Hands.{Shared, Seated, IsReady}
+use Rattle.core_rule.specs.Deciding.{entry_of, StoodAt}
+use Rattle.validate_core.specs.Sets.{SetsView}
+use Rattle.seat_post.specs.declared.phase.Phase.{Phase}
+use Rattle.seat_post.specs.declared.phase.Phase.TheVariants.{Idle}
+use Rattle.seat_post.specs.Ends.{Stood}
+use Rattle.seat_post.specs.Glance.{glance_of, entry_of_glance}
+use Rattle.seat_post.specs.Glancing.{IsGlancing, Opens, IsLeftAt, entry_of_glances, glances_ended}
+use Rattle.seat_post.specs.Logs.{AreBelow}
+use Rattle.seat_post.specs.Post.{IsPost, IsIdleAt}
+use Rattle.seat_post.proofs.Queued.{entry_logged}
+use Rattle.seat_post.proofs.EndMore.{stood_same}
+use Rattle.seat_post.proofs.Posts.{post_idle}
+
+-- a seat that shows a snapshot rests
+rests_of : (f : Flight) (bound : ℕ) (ds : List Read) → IsSome (glance_of f bound ds) → f ≡ resting
+rests_of resting bound ds some = refl
+rests_of (writing t) bound ds some = cc
+
+pub glancing_of : (hand : Seated) (stamp : ℕ) (reads writes : List (ℕ × Option (List ℕ))) (sets : SetsView) → IsIdleAt hand stamp reads writes sets → IsSome (glance_of hand.view.flight hand.view.published.read hand.view.work.reads) → IsGlancing hand.view
+glancing_of hand stamp reads writes sets idle some =
+    let rests = rests_of hand.view.flight hand.view.published.read hand.view.work.reads some in
+    record { rests = rests; ends = idle.ends; whole = idle.whole rests }
+
+-- an idle post at another hand that reads for a snapshot
+pub post_glancing : (core : Shared) (phase : Phase) (hand hand' : Seated) (stamp : ℕ) (reads writes : List (ℕ × Option (List ℕ))) (sets : SetsView) → IsPost hand phase stamp reads writes sets → IsIdleAt hand stamp reads writes sets → phase ≡ Idle → IsReady core hand' → hand'.view.size ≡ hand.view.size → hand'.view.places.held ≡ hand.view.places.held → hand'.view.counts.in_kept ≡ hand.view.counts.in_kept → IsGlancing hand'.view → IsPost hand' phase stamp reads writes sets
+post_glancing core phase hand hand' stamp reads writes sets is idle same ready size held kept glancing =
+    post_idle core phase hand' stamp reads writes sets same ready (rw size is.size) (held ∙ is.holds_none) (kept ∙ is.keeps_none) (record {
+      ends = glancing.ends;
+      whole = λ at. glancing.whole;
+      no_stamp = idle.no_stamp;
+      no_reads = idle.no_reads;
+      no_writes = idle.no_writes;
+      none_read = idle.none_read;
+      none_written = idle.none_written;
+    })
+
+-- a snapshot has ended there
+pub post_ended : (core : Shared) (phase : Phase) (hand hand' : Seated) (stamp : ℕ) (reads writes : List (ℕ × Option (List ℕ))) (sets : SetsView) → IsPost hand phase stamp reads writes sets → IsIdleAt hand stamp reads writes sets → phase ≡ Idle → IsReady core hand' → hand'.view ≡ glances_ended hand.view hand'.view.seen → IsPost hand' phase stamp reads writes sets
+post_ended core phase hand hand' stamp reads writes sets is idle same ready view =
+    let work : hand'.view.work ≡ no_work = ap (λ (v : View). v.work) view in
+    post_idle core phase hand' stamp reads writes sets same ready (rw view is.size) (ap (λ (v : View). v.places.held) view ∙ is.holds_none) (ap (λ (v : View). v.counts.in_kept) view ∙ is.keeps_none) (record {
+      ends = rw work (record { rests = tt; settled = λ u among. absurd among; collected = refl });
+      whole = λ at. rw work (λ d among. absurd among);
+      no_stamp = idle.no_stamp;
+      no_reads = idle.no_reads;
+      no_writes = idle.no_writes;
+      none_read = idle.none_read;
+      none_written = idle.none_written;
+    })
+
+pub opened_size : (stamp : ℕ) (v w : View) → Opens stamp v w → w.size ≡ v.size
+opened_size stamp v w opens = ap (λ (x : View). x.size) opens.bound ∙ ap (λ (x : View). x.size) opens.raised
+
+pub opened_held : (stamp : ℕ) (v w : View) → Opens stamp v w → w.places.held ≡ v.places.held
+opened_held stamp v w opens = ap (λ (x : View). x.places.held) opens.bound ∙ ap (λ (x : View). x.places.held) opens.raised
+
+pub opened_kept : (stamp : ℕ) (v w : View) → Opens stamp v w → w.counts.in_kept ≡ v.counts.in_kept
+opened_kept stamp v w opens = ap (λ (x : View). x.counts.in_kept) opens.bound ∙ ap (λ (x : View). x.counts.in_kept) opens.raised
+
+-- of a seat that is alone the stamp is at least one less than what it has published
+pub opened_alone : (stamp : ℕ) (v w : View) → Opens stamp v w → IsAlone v → v.published.write ≤ stamp + 1
+opened_alone stamp v w opens alone =
+    let own = opens.raises.alone alone in
+    let value = opens.raises.value in
+    let reached = opens.reached in
+    omega arith
+
+-- no snapshot of the log is above it
+pub below_logged : (log : List Logged) (t : ℕ) → ((e : Logged) → Among e log → e.snapshot ≡ true → e.stamp ≤ t) → AreBelow (map entry_of log) (t + 1)
+below_logged log t low e among snapshot =
+    let c = entry_logged log e among in
+    let h = low c.0 c.1 (ap (λ (y : Entry). y.snapshot) c.2 ∙ snapshot) in
+    let s : c.0.stamp ≡ e.stamp = ap (λ (y : Entry). y.stamp) c.2 in
+    omega arith
+
+-- what the end tells
+pub stood_glance : (kept : State → Type 0) (records : ℕ) (v : View) → v.flight ≡ resting → StoodAt kept records v.log (entry_of_glances v) → IfSome (glance_of v.flight v.published.read v.work.reads) (λ g. Stood kept records (map entry_of v.log) (entry_of_glance g))
+stood_glance kept records v rests stood = rw rests (stood_same kept records v.log (entry_of_glances v) _ refl stood)
+
+pub left_glance : (v : View) (rid : ℕ) (value : Option (List ℕ)) → v.flight ≡ resting → IsLeftAt v rid value → IfSome (glance_of v.flight v.published.read v.work.reads) (λ g. IsValue (UpTo (map entry_of v.log) g.stamp) rid value)
+left_glance v rid value rests left = rw rests left

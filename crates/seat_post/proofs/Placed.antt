@@ -1,0 +1,112 @@
+-- How many of the versions that were linked stand in inline places, as what is known of lists tells.
+use Rattle.std.proofs.Common.{◌≡◌, ℕ, ◌+◌, suc, true, false, Bool, cond, not, List, [], ◌∷◌, ◌++◌, Option, None, Some, refl, sym, ap, ◌∙◌, subst, inl, inr, arith, length, length-append, lt-ltb, le-ltb}
+use Rattle.std.specs.Prelude.{IsSome, nat_lt}
+use Rattle.word_layout.specs.Size.{Size}
+use Rattle.core_rule.specs.View.{View, Write, Bound, Counted, Kept}
+use Rattle.core_rule.specs.Views.{Among}
+use Rattle.core_rule.specs.Searching.{known_of, one_more, counted_more}
+use Rattle.core_rule.specs.Deciding.{written_values, value_of}
+use Rattle.std.proofs.lemmas.List.Sums.{sum_by-cons}
+use Rattle.core_rule.specs.Hands.{Seated}
+use Rattle.validate_core.specs.Sets.{Once, count_below}
+use Rattle.validate_core.specs.Installing.{LinksEach, none_yet, one_more as one_more_linked}
+use Rattle.validate_core.proofs.Placing.{one_view}
+use Rattle.seat_post.specs.Seats.{Known}
+use Rattle.seat_post.specs.Lists.{known_before, AreKnown, is_raised, count_raised}
+use Rattle.seat_post.specs.Post.{known_in, ArePlaced}
+use Rattle.seat_post.proofs.Listed.{among_written, length-written}
+use Rattle.core_rule.proofs.Among.{Among-split}
+use Rattle.seat_post.proofs.Linked.{known_by, number_of, once_front, once_end, not_written, known_here, known_there, each_linked}
+
+-- what is known, with this of the kept place
+abbrev keeping : Kept → Known → Known
+keeping k known = record { counts = record known.counts { in_kept = k }; tops = known.tops }
+
+module _ (z : Size) (stamp : ℕ) where
+  each_sized : (us : List Write) (v w : View) → LinksEach z stamp us v w → w.size ≡ v.size
+  each_sized _ _ _ (none_yet v) = refl
+  each_sized _ _ _ (one_more_linked us u v w x each l) = ap (λ (y : View). y.size) (one_view z stamp u w x l) ∙ each_sized us v w each
+
+  -- what was known of lists before
+  each_known : (us : List Write) (v w : View) → LinksEach z stamp us v w → known_before (length us) (known_by w) ≡ keeping w.counts.in_kept (known_by v)
+  each_known _ _ _ (none_yet v) = refl
+  each_known _ _ _ (one_more_linked us u v w x each l) =
+      let long : length (us ++ u ∷ []) ≡ suc (length us) = let h = length-append us (u ∷ []) in omega arith in
+      let one = one_view z stamp u w x l in
+      ap (λ n. known_before n (known_by x)) long
+      ∙ ap (λ (y : View). keeping x.counts.in_kept (known_before (suc (length us)) (known_by y))) one
+      ∙ ap (λ k. keeping x.counts.in_kept k) (each_known us v w each)
+
+  -- and of the kept place, where nothing was linked there
+  pub each_before : (us : List Write) (v w : View) → LinksEach z stamp us v w → w.counts.in_kept ≡ v.counts.in_kept → known_before (length us) (known_by w) ≡ known_by v
+  each_before us v w each same = each_known us v w each ∙ ap (λ (k : Kept). keeping k (known_by v)) same
+
+  -- the bounds after it
+  each_more : (us : List Write) (v w : View) → LinksEach z stamp us v w → Once number_of us → (u : Write) → Among u us → known_of w.counts u.record_number ≡ one_more v.size u.place (known_of v.counts u.record_number)
+  each_more _ _ _ (none_yet v) once u among = absurd among
+  each_more _ _ _ (one_more_linked us u v w x each l) once c among =
+      let counts : x.counts ≡ counted_more w.size u.record_number u.stamp u.place w.counts = ap (λ (y : View). y.counts) (one_view z stamp u w x l) in
+      let size = each_sized us v w each in
+      elim (Among-split c us (u ∷ []) among) as (λ _. known_of x.counts c.record_number ≡ one_more v.size c.place (known_of v.counts c.record_number)) [
+        | inl old ↦ (
+            let apart = once_end us u once c old in
+            ap (λ (k : Counted). known_of k c.record_number) counts ∙ known_there w.size u.record_number u.stamp u.place w.counts c.record_number apart ∙ each_more us v w each (once_front us u once) c old)
+        | inr new ↦ elim new as (λ _. known_of x.counts c.record_number ≡ one_more v.size c.place (known_of v.counts c.record_number)) [
+          | inr none ↦ absurd none
+          | inl same ↦ (
+              let before = (each_linked z stamp us v w each (once_front us u once)).others u.record_number (not_written us u.record_number (once_end us u once)) in
+              let here : known_of x.counts u.record_number ≡ one_more v.size u.place (known_of v.counts u.record_number) =
+              ap (λ (k : Counted). known_of k u.record_number) counts ∙ known_here w.size u.record_number u.stamp u.place w.counts u.record_number refl ∙ ap (λ s. one_more s u.place (known_of w.counts u.record_number)) size ∙ ap (λ o. one_more v.size u.place o) before.0 in
+              subst (λ (y : Write). known_of x.counts y.record_number ≡ one_more v.size y.place (known_of v.counts y.record_number)) same here)
+        ]
+      ]
+
+raised_bool : (b : Bool) (n : ℕ) → nat_lt n (cond b n (suc n)) ≡ not b
+raised_bool true n = le-ltb n n (omega arith)
+raised_bool false n = lt-ltb n (suc n) (omega arith)
+
+raised_one : (z : Size) (p : ℕ) (o : Option Bound) → IsSome o → is_raised o (one_more z p o) ≡ not (nat_lt p z.records)
+raised_one z p None some = let e : false ≡ true = some in cc
+raised_one z p (Some b) some = raised_bool (nat_lt p z.records) b.outside
+
+sum_step : (a b x y l : ℕ) (raised inline : Bool) → a ≡ cond inline 1 0 + x → b ≡ cond raised 1 0 + y → raised ≡ not inline → x + y ≡ l → a + b ≡ suc l
+sum_step a b x y l true true first second same rest = cc
+sum_step a b x y l true false first second same rest = omega arith
+sum_step a b x y l false true first second same rest = omega arith
+sum_step a b x y l false false first second same rest = cc
+
+all_counted : (records : ℕ) (before after' : Known) (us : List Write) → ((u : Write) → Among u us → is_raised (known_of before.counts u.record_number) (known_of after'.counts u.record_number) ≡ not (nat_lt u.place records)) → count_below records us + count_raised before after' (written_values us) ≡ length us
+all_counted records before after' [] each = refl
+all_counted records before after' (u ∷ us) each =
+    sum_step _ _ (count_below records us) (count_raised before after' (written_values us)) (length us) (is_raised (known_of before.counts u.record_number) (known_of after'.counts u.record_number)) (nat_lt u.place records)
+    (sum_by-cons (λ (c : Write). cond (nat_lt c.place records) 1 0) u us)
+    (sum_by-cons (λ (w : ℕ × Option (List ℕ)). cond (is_raised (known_of before.counts w.0) (known_of after'.counts w.0)) 1 0) (u.record_number, value_of u.cells) (written_values us)) (each u (inl refl))
+    (all_counted records before after' us (λ c among. each c (inr among)))
+
+pub each_counted : (z : Size) (stamp : ℕ) (us : List Write) (hand hand' : Seated) → LinksEach z stamp us hand.view hand'.view → hand'.view.counts.in_kept ≡ hand.view.counts.in_kept → Once number_of us → ArePlaced hand' us
+each_counted z stamp us hand hand' each kept once = λ known.
+    let before : known_before (length us) (known_in hand') ≡ known_in hand = each_before z stamp us hand.view hand'.view each kept in
+    let had : AreKnown (known_in hand) (written_values us) = subst (λ (k : Known). AreKnown k (written_values us)) before known in
+    let size = each_sized z stamp us hand.view hand'.view each in
+    let all : count_below hand.view.size.records us + count_raised (known_in hand) (known_in hand') (written_values us) ≡ length us =
+    all_counted hand.view.size.records (known_in hand) (known_in hand') us
+    (λ u among.
+    let o = known_of hand.view.counts u.record_number in
+    ap (λ after'. is_raised o after') (each_more z stamp us hand.view hand'.view each once u among) ∙ raised_one hand.view.size u.place o (had u.record_number (among_written us u among))) in
+    subst (λ (s : Size). count_below s.records us + count_raised (known_before (length us) (known_in hand')) (known_in hand') (written_values us) ≡ length us) (sym size)
+    (subst (λ (k : Known). count_below hand.view.size.records us + count_raised k (known_in hand') (written_values us) ≡ length us) (sym before) all)
+
+-- nothing of it has changed
+pub placed_kept : (hand hand' : Seated) (us : List Write) → hand'.view.size ≡ hand.view.size → hand'.view.counts ≡ hand.view.counts → ArePlaced hand us → ArePlaced hand' us
+placed_kept hand hand' us size counts is = rw (size, counts) is
+
+-- as a post shows it
+pub placed_shown : (hand : Seated) (us : List Write) (records inlined : ℕ) (writes : List (ℕ × Option (List ℕ))) (known : Known) → ArePlaced hand us → written_values us ≡ writes → known_in hand ≡ known → records ≡ hand.view.size.records → inlined ≡ count_below records us
+    → AreKnown (known_before (length writes) known) writes → inlined + count_raised (known_before (length writes) known) known writes ≡ length writes
+placed_shown hand us records inlined writes known placed values is size count =
+    let P : ℕ → Type 0 = λ n. AreKnown (known_before n (known_in hand)) (written_values us) → count_below hand.view.size.records us + count_raised (known_before n (known_in hand)) (known_in hand) (written_values us) ≡ n in
+    let long : P (length (written_values us)) = subst P (sym (length-written us)) placed in
+    let Q : List (ℕ × Option (List ℕ)) → Known → Type 0 = λ ws k. AreKnown (known_before (length ws) k) ws → inlined + count_raised (known_before (length ws) k) k ws ≡ length ws in
+    let counted : inlined ≡ count_below hand.view.size.records us = count ∙ ap (λ n. count_below n us) size in
+    let first : Q (written_values us) (known_in hand) = λ had. ap (λ n. n + count_raised (known_before (length (written_values us)) (known_in hand)) (known_in hand) (written_values us)) counted ∙ long had in
+    subst (λ k. Q writes k) is (subst (λ ws. Q ws (known_in hand)) values first)

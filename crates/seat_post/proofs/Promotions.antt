@@ -1,0 +1,176 @@
+-- What a promotion leaves of a hand, of a post and of a pass.
+use Rattle.std.proofs.Common.{◌≡◌, ◌≢◌, ℕ, ◌<◌, List, [], ◌∷◌, length, Option, Some, None, refl, sym, ap, ◌∙◌, subst, inl, inr, eq-eqb, ne_eqb, eqb, Bool, cond, arith}
+use Rattle.std.specs.Prelude.{IfSome}
+use Rattle.word_layout.specs.Size.{Size, IsSize, kept_place}
+use Rattle.core_rule.specs.View.{View, Work, Write, no_work, writing, version_kept}
+use Rattle.core_rule.specs.Views.{Among}
+use Rattle.core_rule.specs.Searching.{Ends, Rests, counted_more}
+use Rattle.core_rule.specs.Holding.{without}
+use Rattle.core_rule.specs.Hands.{Shared, Seated, IsReady}
+use Rattle.clock_stamps.specs.Clocks.{drawn}
+use Rattle.validate_core.specs.Sets.{SetsView}
+use Rattle.plain_data.specs.State.{State}
+use Rattle.version_pool.specs.Takes.{TakesFree, after_taking, after_losing}
+use Rattle.version_search.specs.Finding.{Reads}
+use Rattle.version_search.specs.Loading.{with_value}
+use Rattle.validate_core.specs.Validating.{worked}
+use Rattle.validate_core.specs.declared.conflict.Conflict.{Conflict}
+use Rattle.validate_core.specs.declared.conflict.Conflict.TheVariants.{Pending}
+use Rattle.seat_post.specs.Searched.{Stops}
+use Rattle.seat_post.specs.Promoting.{IsDrawn, MeetsPending, IsStoppedWriting, LoadsElsewhere, FindsOccupied, WritesInline, PromotesAt, FailsAt}
+use Rattle.seat_post.specs.Rewriting.{IsStopped, LinksOne}
+use Rattle.seat_post.specs.declared.promoting.Promotion.{Promotion}
+use Rattle.seat_post.specs.declared.promoting.Promotion.TheVariants.{Promoted, Inline, Absent, Occupied}
+use Rattle.seat_post.specs.Post.{IsPost}
+use Rattle.stamp_base.specs.Stamp.{stamp_of}
+use Rattle.seat_post.specs.declared.phase.Phase.{Phase}
+use Rattle.seat_post.specs.declared.phase.Phase.TheVariants.{Idle}
+use Rattle.seat_post.proofs.Posts.{at_phase, post_idle}
+use Rattle.seat_post.proofs.ReadMore.{met_at}
+use Rattle.seat_post.proofs.Over.{none_resting}
+
+-- nothing is left to be done where nothing is linked
+ends_none : (work : Work) → Rests work.search → work.linked ≡ [] → work.item ≡ no_work.item → Ends work
+ends_none work rests linked item = record {
+  rests = rests;
+  settled = λ u among. absurd (subst (λ (us : List Write). Among u us) linked among);
+  collected = item;
+}
+
+pub pending_at : (hand hand' : Seated) (stamp rid wts : ℕ) → Stops stamp wts hand.view hand'.view → hand.view.number < hand.view.size.seats → IsDrawn stamp hand.view → MeetsPending stamp rid hand.view hand'.view (Pending rid wts)
+pending_at hand hand' stamp rid wts stops inside drawn =
+    let met = met_at hand hand' Idle stamp wts [] [] stops inside in
+    record {
+      only = subst (λ (y : View). y ≡ worked hand.view y.work y.seen) (sym stops.view) refl;
+      ends = ends_none hand'.view.work (rw stops.view stops.rests) (ap (λ (y : View). y.work.linked) stops.view ∙ ap (λ (w : Work). w.linked) drawn.work) (ap (λ (y : View). y.work.item) stops.view ∙ ap (λ (w : Work). w.item) drawn.work);
+      shown = (refl, met.0, met.1);
+    }
+
+-- the stamp is published still
+pub still_published : (stamp rid place wts : ℕ) (words : List ℕ) (v b t l : View) → IsDrawn stamp v → Reads stamp rid place wts 3 v b → TakesFree rid b t → l ≡ with_value t words l.seen → l.published.write ≡ stamp
+still_published stamp rid place wts words v b t l drawn found takes loads =
+    ap (λ (y : View). y.published.write) loads ∙ ap (λ (y : View). y.published.write) takes.view ∙ ap (λ (y : View). y.published.write) found.view ∙ drawn.published
+
+pub stopped_writing : (value : Option (List ℕ)) (stamp rid place wts : ℕ) (v b t l w : View) (conflict : Conflict) → IsDrawn stamp v → value ≢ None → IfSome value (λ words. (length words ≡ 32) × (l ≡ with_value t words l.seen)) → place ≢ rid → Reads stamp rid place wts 3 v b → TakesFree rid b t → IsStopped rid rid l.published.write l w conflict → IsStoppedWriting stamp rid v w conflict
+stopped_writing None stamp rid place wts v b t l w conflict drawn present loads elsewhere found takes stops = absurd (present refl)
+stopped_writing (Some words) stamp rid place wts v b t l w conflict drawn present loads elsewhere found takes stops = record {
+  words = words;
+  loaded = l;
+  loads = record { between = b; finds = record { place = place; elsewhere = elsewhere; wts = wts; found = found }; taken = t; takes = takes; loads = loads.1 };
+  stops = subst (λ (n : ℕ). IsStopped rid rid n l w conflict) (still_published stamp rid place wts words v b t l drawn found takes loads.1) stops;
+}
+
+-- ---- one version linked since a view from which places, loads and what is in flight differ alone
+
+-- the hand has one place more, and else the same
+pub record Holds (place : ℕ) (v w : View) : Type 0 where
+  pub only : w ≡ record v { places = w.places; work = w.work; seen = w.seen }
+  pub held : w.places.held ≡ place ∷ v.places.held
+
+-- nothing is in flight, no place is held, and no version more stands in the kept one; of the log nothing is said
+pub record Rested (v w : View) : Type 0 where
+  pub only : w ≡ record v { places = w.places; work = w.work; counts = w.counts; tops = w.tops; front = w.front; log = w.log; seen = w.seen }
+  pub held : w.places.held ≡ []
+  pub in_kept : w.counts.in_kept ≡ v.counts.in_kept
+  pub ends : Ends w.work
+
+pub without_only : (place : ℕ) → without place (place ∷ []) ≡ []
+without_only place = rw (eq-eqb place place refl) refl
+
+-- an inline place is not the kept one
+pub inline_apart : (z : Size) (rid : ℕ) → IsSize z → rid < z.records → rid ≢ kept_place z
+inline_apart z rid size lt same = let spare = size.has_spare in omega arith
+
+-- the one place that was held was linked
+linked_since : (rid place stamp : ℕ) (v l w : View) → place ≢ kept_place v.size → v.places.held ≡ [] → Holds place v l → LinksOne rid place stamp l w → Rested v w
+linked_since rid place stamp v l w apart none holds links =
+    let held : l.places.held ≡ place ∷ [] = holds.held ∙ ap (λ ps. place ∷ ps) none in
+    record {
+      only = subst (λ (y : View). y ≡ record v { places = y.places; work = y.work; counts = y.counts; tops = y.tops; front = y.front; log = y.log; seen = y.seen })
+          (sym (links.only ∙ ap (λ (y : View). record y { places = w.places; work = w.work; counts = counted_more y.size rid stamp place y.counts; tops = record { record_number = rid; stamp = stamp } ∷ y.tops; front = w.front; log = w.log; seen = w.seen }) holds.only)) refl;
+      held = links.held ∙ ap (λ ps. without place ps) held ∙ without_only place;
+      in_kept = ap (λ (y : View). y.counts.in_kept) links.only
+          ∙ ap (λ (y : View). cond (eqb place (kept_place y.size)) (version_kept rid stamp) y.counts.in_kept) holds.only
+          ∙ ap (λ (b : Bool). cond b (version_kept rid stamp) v.counts.in_kept) (ne_eqb place (kept_place v.size) apart);
+      ends = links.ends;
+    }
+
+-- a search alone
+pub searched_since : (stamp rid place wts status : ℕ) (v w : View) → IsDrawn stamp v → Reads stamp rid place wts status v w → Ends w.work
+searched_since stamp rid place wts status v w drawn found =
+    ends_none w.work (rw found.view tt) (ap (λ (y : View). y.work.linked) found.view ∙ ap (λ (x : Work). x.linked) drawn.work) (ap (λ (y : View). y.work.item) found.view ∙ ap (λ (x : Work). x.item) drawn.work)
+
+worked_since : (stamp rid place wts status : ℕ) (v w : View) → Reads stamp rid place wts status v w → w ≡ worked v w.work w.seen
+worked_since stamp rid place wts status v w found = subst (λ (y : View). y ≡ worked v y.work y.seen) (sym found.view) refl
+
+-- the place was taken, and the value was loaded
+pub loaded_since : (stamp rid : ℕ) (words : List ℕ) (v l : View) → LoadsElsewhere stamp rid words v l → Holds rid v l
+loaded_since stamp rid words v l loads =
+    let b = loads.between in let t = loads.taken in
+    let found = worked_since stamp rid loads.finds.place loads.finds.wts 3 v b loads.finds.found in
+    record {
+      only = subst (λ (y : View). y ≡ record v { places = y.places; work = y.work; seen = y.seen }) (sym (loads.loads ∙ ap (λ (y : View). with_value y words l.seen) (loads.takes.view ∙ ap (λ (y : View). after_taking y rid) found))) refl;
+      held = ap (λ (y : View). y.places.held) loads.loads ∙ ap (λ (y : View). y.places.held) loads.takes.view ∙ ap (λ (y : View). rid ∷ y.places.held) found;
+    }
+
+works_rested : (v w : View) → v.places.held ≡ [] → w ≡ worked v w.work w.seen → Ends w.work → Rested v w
+works_rested v w none only ends = record {
+  only = subst (λ (y : View). y ≡ record v { places = y.places; work = y.work; counts = y.counts; tops = y.tops; front = y.front; log = y.log; seen = y.seen }) (sym only) refl;
+  held = ap (λ (y : View). y.places.held) only ∙ none;
+  in_kept = ap (λ (y : View). y.counts.in_kept) only;
+  ends = ends;
+}
+
+lost_works : (stamp rid : ℕ) (v w : View) → FindsOccupied stamp rid v w → w ≡ worked v w.work w.seen
+lost_works stamp rid v w f =
+    subst (λ (y : View). y ≡ worked v y.work y.seen) (sym (f.lost.view ∙ ap (λ (y : View). after_losing y f.lost.lost) (worked_since stamp rid f.finds.place f.finds.wts 3 v f.between f.finds.found))) refl
+
+lost_ends : (stamp rid : ℕ) (v w : View) → IsDrawn stamp v → FindsOccupied stamp rid v w → Ends w.work
+lost_ends stamp rid v w drawn f = subst (λ (x : Work). Ends x) (sym (ap (λ (y : View). y.work) f.lost.view)) (searched_since stamp rid f.finds.place f.finds.wts 3 v f.between drawn f.finds.found)
+
+-- ---- each answer
+
+written_inline : (kept : State → Type 0) (records stamp rid : ℕ) (v w : View) → rid ≢ kept_place v.size → IsDrawn stamp v → WritesInline kept records stamp rid v w → Rested v w
+written_inline kept records stamp rid v w apart drawn wrote = linked_since rid rid stamp v wrote.loaded w apart drawn.holds_none (loaded_since stamp rid wrote.words v wrote.loaded wrote.loads) wrote.rewrites.links
+
+pub promotes_rested : (kept : State → Type 0) (records stamp rid : ℕ) (v w : View) (told : Promotion) → rid ≢ kept_place v.size → IsDrawn stamp v → PromotesAt kept records stamp rid v w told → Rested v w
+promotes_rested kept records stamp rid v w (Promoted at) apart drawn told = written_inline kept records stamp rid v w apart drawn told.1
+promotes_rested kept records stamp rid v w Inline apart drawn found = works_rested v w drawn.holds_none (worked_since stamp rid rid found.wts 3 v w found.found) (searched_since stamp rid rid found.wts 3 v w drawn found.found)
+promotes_rested kept records stamp rid v w Absent apart drawn found = works_rested v w drawn.holds_none (worked_since stamp rid found.place found.wts 4 v w found.found) (searched_since stamp rid found.place found.wts 4 v w drawn found.found)
+promotes_rested kept records stamp rid v w Occupied apart drawn found = works_rested v w drawn.holds_none (lost_works stamp rid v w found) (lost_ends stamp rid v w drawn found)
+
+stopped_linked : (stamp rid : ℕ) (v w : View) (conflict : Conflict) → rid ≢ kept_place v.size → IsDrawn stamp v → IsStoppedWriting stamp rid v w conflict → Rested v w
+stopped_linked stamp rid v w conflict apart drawn stops = linked_since rid rid stamp v stops.loaded w apart drawn.holds_none (loaded_since stamp rid stops.words v stops.loaded stops.loads) stops.stops.links
+
+pub fails_rested : (stamp rid : ℕ) (v w : View) (conflict : Conflict) → rid ≢ kept_place v.size → IsDrawn stamp v → FailsAt stamp rid v w conflict → Rested v w
+fails_rested stamp rid v w conflict apart drawn (inl met) = works_rested v w drawn.holds_none met.only met.ends
+fails_rested stamp rid v w conflict apart drawn (inr stops) = stopped_linked stamp rid v w conflict apart drawn stops
+
+-- ---- the post
+
+-- the stamp that was drawn is in flight still
+still_drawn : (hand hand' : Seated) (v : View) (clock : ℕ) → v ≡ drawn hand.view clock → Rested v hand'.view → hand'.view.flight ≡ writing (stamp_of clock hand.view.number)
+still_drawn hand hand' v clock view rested = ap (λ (y : View). y.flight) rested.only ∙ ap (λ (y : View). y.flight) view
+
+-- a post whose hand has rested again is idle
+pub post_rested : (core : Shared) (phase : Phase) (hand hand' : Seated) (v : View) (clock stamp : ℕ) (reads writes : List (ℕ × Option (List ℕ))) (sets : SetsView) → phase ≡ Idle → IsPost hand phase stamp reads writes sets → v ≡ drawn hand.view clock → Rested v hand'.view → IsReady core hand' → IsPost hand' phase stamp reads writes sets
+post_rested core phase hand hand' v clock stamp reads writes sets same is view rested ready =
+    let idle = at_phase phase Idle hand stamp reads writes sets is same in
+    let size : hand'.view.size ≡ hand.view.size = ap (λ (y : View). y.size) rested.only ∙ ap (λ (y : View). y.size) view in
+    post_idle core phase hand' stamp reads writes sets same ready (rw size is.size) rested.held (rested.in_kept ∙ ap (λ (y : View). y.counts.in_kept) view ∙ is.keeps_none) (record {
+      ends = rested.ends;
+      whole = none_resting hand'.view.flight (stamp_of clock hand.view.number) hand'.view.work.reads (still_drawn hand hand' v clock view rested);
+      no_stamp = idle.no_stamp;
+      no_reads = idle.no_reads;
+      no_writes = idle.no_writes;
+      none_read = idle.none_read;
+      none_written = idle.none_written;
+    })
+
+pub is_drawn : (stamp clock : ℕ) (v w : View) → v.places.held ≡ [] → w ≡ drawn v clock → w.published.write ≡ stamp → IsDrawn stamp w
+is_drawn stamp clock v w none view published = record {
+  in_flight = ap (λ (y : View). y.flight) view ∙ ap writing (sym (ap (λ (y : View). y.published.write) view) ∙ published);
+  published = published;
+  work = ap (λ (y : View). y.work) view;
+  holds_none = ap (λ (y : View). y.places.held) view ∙ none;
+}

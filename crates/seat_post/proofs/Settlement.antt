@@ -1,0 +1,91 @@
+-- What settling comes to: of a record, of all of them, and of a post.
+use Rattle.std.proofs.Common.{◌≡◌, ℕ, true, false, ◌+◌, ◌-◌, ◌<◌, ◌≤◌, ◌⊎◌, List, [], ◌∷◌, Option, refl, sym, ap, ◌∙◌, subst, inl, inr, map, arith}
+use Rattle.std.specs.Prelude.{nat_lt}
+use Rattle.std.proofs.lemmas.Bool.{cases_lt}
+use Rattle.plain_data.specs.State.{State}
+use Rattle.stamp_base.specs.Stamp.{bound_of_clock}
+use Rattle.core_rule.specs.View.{View, Logged, Bound}
+use Rattle.core_rule.specs.Views.{Among, IsAlone}
+use Rattle.core_rule.specs.Searching.{known_of}
+use Rattle.core_rule.specs.Left.{IsLeft}
+use Rattle.core_rule.specs.Collecting.{HasEntry}
+use Rattle.core_rule.specs.Hands.{Shared, Seated, StaysReady}
+use Rattle.core_rule.specs.Deciding as deciding
+use Rattle.clock_stamps.specs.Minima.{bounded}
+use Rattle.version_search.specs.Finding.{Reads}
+use Rattle.rapid_gc.specs.Bounds.{IsOneLeft}
+use Rattle.seat_post.specs.declared.phase.Phase.{Phase}
+use Rattle.seat_post.specs.Glance.{first_glance}
+use Rattle.seat_post.specs.Post.{post_view}
+use Rattle.seat_post.specs.Rewriting.{Rewritings}
+use Rattle.seat_post.specs.Settling.{entries_of, IsSettling, Settles, AreSettled, KeepsOthers, Draws, SettlesPost}
+
+-- ---- a record
+
+-- the version that a seat that is alone sees, beside the first one, is that of an entry
+left_entered : (log : List Logged) (rid limit wts status : ℕ) → nat_lt 0 wts ≡ true → IsLeft log rid limit wts status → HasEntry rid wts log
+left_entered log rid limit wts status above left = elim left.from as (λ _. HasEntry rid wts log) [ inl none ↦ (let h : true ≡ false = sym above ∙ ap (λ (n : ℕ). nat_lt 0 n) none.0 in cc) | inr written ↦ written.entry ]
+
+pub visible_entered : (limit rid place found wts status : ℕ) (v w : View) → IsAlone w → found ≡ wts → nat_lt 0 wts ≡ true → Reads limit rid place found status v w → HasEntry rid wts w.log
+visible_entered limit rid place found wts status v w alone same above reads = subst (λ (n : ℕ). nat_lt 0 n ≡ true → HasEntry rid n w.log) same (λ up. left_entered w.log rid limit found status up (reads.left alone)) above
+
+-- an entry of the log is below the bound of the clock
+among_entries : (log : List Logged) (e : Logged) → Among e log → Among (deciding.entry_of e) (map deciding.entry_of log)
+among_entries [] e among = absurd among
+among_entries (x ∷ xs) e (inl same) = inl (ap deciding.entry_of same)
+among_entries (x ∷ xs) e (inr more) = inr (among_entries xs e more)
+
+pub entry_below : (v : View) (rid stamp : ℕ) → IsSettling v → HasEntry rid stamp v.log → stamp < bound_of_clock v.clock.clock
+entry_below v rid stamp is entry = let h = is.above (deciding.entry_of entry.entry) (among_entries v.log entry.entry entry.among) entry.commit in let k = entry.at in omega arith
+
+-- ---- all of them
+
+-- what is known of other lists stays, so those settled before are settled still
+pub settled_still : (count rid : ℕ) (v w : View) → count ≤ rid → AreSettled count v.counts → KeepsOthers rid v w → AreSettled count w.counts
+settled_still count rid v w within before others r below = subst (λ (b : Option Bound). IsOneLeft b) (sym (others r (λ same. omega arith))) (before r below)
+
+settled_last : (rid r : ℕ) (w : View) → (r < rid) ⊎ (rid ≤ r) → r < rid + 1 → (r < rid → IsOneLeft (known_of w.counts r)) → IsOneLeft (known_of w.counts rid) → IsOneLeft (known_of w.counts r)
+settled_last rid r w (inl less) below before last = before less
+settled_last rid r w (inr most) below before last = let same : rid ≡ r = omega arith in subst (λ (n : ℕ). IsOneLeft (known_of w.counts n)) same last
+
+pub settled_more : (rid : ℕ) (v w : View) → AreSettled rid v.counts → KeepsOthers rid v w → IsOneLeft (known_of w.counts rid) → AreSettled (rid + 1) w.counts
+settled_more rid v w before others last r below = settled_last rid r w (cases_lt r rid) below (λ less. settled_still rid rid v w (omega arith) before others r less) last
+
+pub draws_both : (a b : ℕ) (u v w : View) → Draws a u v → Draws b v w → Draws (a + b) u w
+draws_both a b u v w first second = record {
+  entries = let h = first.entries in let k = second.entries in omega arith;
+  clock = let h = first.clock in let k = second.clock in omega arith;
+}
+
+pub stays_both : (core : Shared) (a b c : Seated) → StaysReady core a b → StaysReady core b c → StaysReady core a c
+stays_both core a b c first second = record {
+  seat = record { same_table = second.seat.same_table ∙ first.seat.same_table; same_id = second.seat.same_id ∙ first.seat.same_id };
+  ready = second.ready;
+}
+
+-- ---- a post
+
+-- the post after settling, with its read stamp published once more
+pub settles_post : (kept : State → Type 0) (hand hand' last : Seated) (phase : Phase) (stamp bound : ℕ) (reads writes : List (ℕ × Option (List ℕ))) → hand'.table ≡ hand.table → last.table ≡ hand'.table → Settles kept hand.view hand'.view → IsSettling hand'.view → last.view ≡ bounded hand'.view bound → hand'.view.clock.met ≤ bound + 1 → SettlesPost kept (post_view hand phase stamp reads writes) (post_view last phase stamp reads writes)
+settles_post kept hand hand' last phase stamp bound reads writes table table' settles settling view low =
+    let number : last.view.number ≡ hand.view.number = ap (λ (v : View). v.number) view ∙ settles.number in
+    let size : last.view.size ≡ hand.view.size = ap (λ (v : View). v.size) view ∙ settles.size in
+    let splitting : last.view.splitting ≡ hand.view.splitting = ap (λ (v : View). v.splitting) view ∙ settles.splitting in
+    let taken : last.view.clock.taken_in ≡ hand.view.clock.taken_in = ap (λ (v : View). v.clock.taken_in) view ∙ settles.taken_in in
+    let clock : last.view.clock.clock ≡ hand'.view.clock.clock = ap (λ (v : View). v.clock.clock) view in
+    let met : last.view.clock.met ≡ bound + 1 = ap (λ (v : View). v.clock.met) view in
+    let log : last.view.log ≡ hand'.view.log = ap (λ (v : View). v.log) view in
+    let later = settles.later in
+    let reached = settles.met in
+    let before = post_view hand phase stamp reads writes in
+    let after' = post_view last phase stamp reads writes in
+    let is : bound ≡ bound + 1 - 1 = omega arith in
+    let glance : after'.glance ≡ first_glance (last.view.clock.met - 1) = rw view (ap first_glance is) in
+    let rest : record after' { glance = first_glance (last.view.clock.met - 1) } ≡ record before { clock = after'.clock; published = after'.published; met = after'.met; known = after'.known; log = after'.log; glance = first_glance (after'.met - 1) } = rw (table' ∙ table, number, size, splitting, taken) refl in
+    record {
+      only = ap (λ g. record after' { glance = g }) glance ∙ rest;
+      later = omega arith;
+      met = omega arith;
+      log = subst (λ (es : List Logged). Rewritings kept hand.view.size.records (entries_of hand.view) (map deciding.entry_of es)) (sym log) settles.log;
+      above = rw (log, clock) settling.above;
+    }

@@ -1,0 +1,28 @@
+use Rattle.std.proofs.Common.{◌≡◌, ◌<◌, ◌+◌, ◌∙◌, ℕ, Bool, List, Some, length, subst, sym, rules}
+use Rattle.word_layout.specs.Size.{Size, places}
+use Rattle.version_search.specs.Finding.{Reads, status_of}
+use Rattle.seat_post.specs.Searched.{Finds}
+use Rattle.seat_post.proofs.Leaving.{limit_rests, finds_absent, finds_present}
+use Rattle.seat_post.proofs.glancing.look.Goals as goal
+
+pub returns-in-Version-default-default-true-clause-finds : goal.returns-in-Version-default-default-true-clause-finds
+returns-in-Version-default-default-true-clause-finds g c =
+    let a = c.in-Version-default-default-true in
+    let v = c.args.hand.now.view in
+    let stamp = c.published_read-stamp.result in
+    let inside = subst (λ (z : Size). a.place < places z) (sym c.requires.ready.hand_of.same_size) a.ensures.place in
+    let limit = limit_rests v stamp c.requires.resting c.published_read-stamp.ensures in
+    finds_absent (stamp + 1) c.args.rid a.place a.wts v c.find.new.hand.view (subst (λ (b : Bool). Reads (stamp + 1) c.args.rid a.place a.wts (status_of b) v c.find.new.hand.view) a.absent-test a.ensures.version) inside limit
+
+pub returns-in-Version-default-default-false-clause-finds : goal.returns-in-Version-default-default-false-clause-finds
+returns-in-Version-default-default-false-clause-finds g c =
+    let a = c.in-Version-default-default-false in
+    let v = c.args.hand.now.view in
+    let stamp = c.published_read-stamp.result in
+    let inside = subst (λ (z : Size). a.place < places z) (sym c.requires.ready.hand_of.same_size) a.ensures.place in
+    let limit = limit_rests v stamp c.requires.resting c.published_read-stamp.ensures in
+    let found = subst (λ (b : Bool). Reads (stamp + 1) c.args.rid a.place a.wts (status_of b) v c.find.new.hand.view) a.absent-test a.ensures.version in
+    let same : c.new.result ≡ c.load_value-cells.result = c.new.ensures ∙ c.words.ensures in
+    let long : length c.load_value-cells.result ≡ 32 = search rules in
+    subst (λ (cells : List ℕ). Finds c.args.rid a.place a.wts (Some cells) v c.load_value-cells.new.hand.view) (sym same)
+    (finds_present (stamp + 1) c.args.rid a.place a.wts c.load_value-cells.result v c.find.new.hand.view c.load_value-cells.new.hand.view found c.load_value-cells.ensures.view c.load_value-cells.ensures.left long inside limit)

@@ -1,0 +1,13 @@
+use Rattle.std.proofs.Common.{◌≡◌, ◌++◌, length}
+use Rattle.seat_post.specs.Spare.{unused}
+use Rattle.seat_post.proofs.numbers.Numbers.put_back_unused.Given as goal
+
+abbrev pub invariant-loop-self : goal.invariant-loop-self
+invariant-loop-self l = record {
+  fixed : l.self.fixed ≡ l.fn.self.fixed;
+  records : l.self.records ≡ l.fn.self.records;
+  spare : unused l.writes.entries l.self.given ++ l.self.spare ≡ unused l.writes.entries l.fn.self.given ++ l.fn.self.spare;
+}
+
+abbrev pub decreases-loop-self : goal.decreases-loop-self
+decreases-loop-self l = length l.self.given

@@ -1,0 +1,11 @@
+use Rattle.std.proofs.Common.{◌≡◌, ◌++◌, [], drop}
+use Rattle.seat_post.specs.Spare.{unused, with_deleted}
+use Rattle.seat_post.proofs.numbers.Numbers.settle.Given as goal
+
+abbrev pub invariant-loop-i : goal.invariant-loop-i
+invariant-loop-i l = record {
+  fixed : l.self.fixed ≡ l.fn.self.fixed;
+  records : l.self.records ≡ l.fn.self.records;
+  given : l.self.given ≡ [];
+  spare : with_deleted l.fn.self.fixed l.self.spare (drop l.i l.writes.entries) ≡ with_deleted l.fn.self.fixed (unused l.writes.entries l.fn.self.given ++ l.fn.self.spare) l.writes.entries;
+}

@@ -1,0 +1,26 @@
+use Rattle.std.proofs.Common.{ap, subst, ◌∙◌, ◌≤◌, ◌+◌}
+use Rattle.seat_post.specs.declared.phase.Phase.TheVariants.{Idle}
+use Rattle.seat_post.specs.Logs.{AreBelow}
+use Rattle.seat_post.specs.Post.{PostView, IsAlonePost}
+use Rattle.seat_post.proofs.AloneSeats.{alone_told}
+use Rattle.seat_post.proofs.Looking.{post_glancing, opened_size, opened_held, opened_kept, opened_alone, below_logged}
+use Rattle.seat_post.proofs.Posts.{at_phase}
+use Rattle.seat_post.proofs.post.Post.begin_snapshot.Goals as goal
+
+pub begin_glances-requires-clause-ends : goal.begin_glances-requires-clause-ends
+begin_glances-requires-clause-ends g c = (at_phase _ Idle _ _ _ _ _ c.self.invariant (ap (λ (p : PostView). p.phase) c.self.view_is ∙ c.requires.idle)).ends
+
+pub invariant_of-self : goal.invariant_of-self
+invariant_of-self g c =
+    let phase = ap (λ (p : PostView). p.phase) c.self.view_is ∙ c.requires.idle in
+    let idle = at_phase _ Idle _ _ _ _ _ c.self.invariant phase in
+    let e = c.begin_glances.ensures in
+    post_glancing c.args.core.now _ _ _ _ _ _ _ c.self.invariant idle phase e.stays.ready (opened_size _ _ _ e.opens) (opened_held _ _ _ e.opens) (opened_kept _ _ _ e.opens) e.glancing
+
+pub returns-clause-snapshots : goal.returns-clause-snapshots
+returns-clause-snapshots g c = subst (λ (p : PostView). AreBelow p.log (c.begin_glances.result + 1)) c.self.view_is (below_logged c.self.inside.hand.view.log c.begin_glances.result c.begin_glances.ensures.snapshots)
+
+pub returns-clause-alone : goal.returns-clause-alone
+returns-clause-alone g c =
+    let v = c.self.inside.hand.view in
+    subst (λ (p : PostView). IsAlonePost p → p.published ≤ c.begin_glances.result + 1) c.self.view_is (λ alone. opened_alone c.begin_glances.result v c.begin_glances.new.hand.view c.begin_glances.ensures.opens (alone_told v alone))

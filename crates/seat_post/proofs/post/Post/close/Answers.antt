@@ -1,0 +1,14 @@
+use Rattle.std.proofs.Common.{ap, ◌∙◌}
+use Rattle.seat_post.specs.Post.{PostView}
+use Rattle.seat_post.proofs.ReadMore.{is_open}
+use Rattle.seat_post.proofs.Over.{none_resting}
+use Rattle.seat_post.proofs.WriteMore.{post_closed, open_ends}
+use Rattle.seat_post.proofs.post.Post.close.Goals as goal
+
+pub invariant_of-self : goal.invariant_of-self
+invariant_of-self g c =
+    let phase = ap (λ (p : PostView). p.phase) c.self.view_is ∙ c.requires in
+    let i = c.self.invariant in
+    let e = c.clear.ensures in
+    let begun = is_open _ _ _ _ _ _ phase i in
+    rw c.make-self-inside.ensures.number (post_closed c.self.inside.hand c.clear.new.reads.entries c.clear.new.writes.entries c.clear.new.sets i.ready i.size i.holds_none i.keeps_none (open_ends _ _ _ _ _ begun) (none_resting _ _ _ begun.at.begun.in_flight) e.no_reads e.no_writes e.none_read e.none_written)

@@ -1,0 +1,112 @@
+use Rattle.std.proofs.Common.{◌≡◌, ap, sym, subst, ◌∙◌, length}
+use Rattle.core_rule.specs.Hands.{Shared}
+use Rattle.validate_core.specs.Installing.{IsBegun, Installs}
+use Rattle.seat_post.specs.Post.{PostView, closed, knowing, known_in}
+use Rattle.seat_post.proofs.EndMore.{at_known, begun_filled, post_installed, turned_written, same_values}
+use Rattle.seat_post.proofs.Over.{view_over, post_over}
+use Rattle.seat_post.specs.Seats.{IsAloneAt}
+use Rattle.seat_post.specs.Lists.{known_before, IsFullAt}
+use Rattle.validate_core.proofs.Writes.{same_once}
+use Rattle.seat_post.proofs.ReadMore.{open_left, open_above}
+use Rattle.seat_post.proofs.AloneSeats.{alone_told}
+use Rattle.seat_post.proofs.Listed.{length-written}
+use Rattle.seat_post.proofs.Placed.{each_before}
+use Rattle.seat_post.proofs.Linked.{post_linked, post_stuck, post_full}
+use Rattle.seat_post.proofs.post.Post.install.Goals as goal
+
+pub fill-requires-clause-none : goal.fill-requires-clause-none
+fill-requires-clause-none g c =
+    let is = at_known _ _ _ _ _ _ _ (ap (λ (p : PostView). p.phase) c.self.view_is ∙ c.requires.open) c.self.invariant in
+    is.at.none_written
+
+pub fill-requires-clause-room : goal.fill-requires-clause-room
+fill-requires-clause-room g c =
+    let is = at_known _ _ _ _ _ _ _ (ap (λ (p : PostView). p.phase) c.self.view_is ∙ c.requires.open) c.self.invariant in
+    is.at.room
+
+pub install-requires-clause-begun : goal.install-requires-clause-begun
+install-requires-clause-begun g c =
+    let is = at_known _ _ _ _ _ _ _ (ap (λ (p : PostView). p.phase) c.self.view_is ∙ c.requires.open) c.self.invariant in
+    let f = c.fill.ensures in
+    subst (λ (x : Shared). IsBegun x.size c.fill.new.sets c.self.inside.hand.view) (ap (λ (p : PostView). p.shared) c.self.view_is ∙ c.requires.core) (begun_filled _ _ _ _ _ _ is f.reads f.written f.once)
+
+pub invariant_of-self : goal.invariant_of-self
+invariant_of-self g c =
+    let is = at_known _ _ _ _ _ _ _ (ap (λ (p : PostView). p.phase) c.self.view_is ∙ c.requires.open) c.self.invariant in
+    let f = c.fill.ensures in
+    let n = c.install.ensures in
+    let installs = subst (λ (x : Shared). Installs x.size c.install.new.sets c.self.inside.hand.view c.install.new.hand.view) (sym (ap (λ (p : PostView). p.shared) c.self.view_is ∙ c.requires.core)) c.in-Ok.ensures.ok in
+    post_installed c.args.core.now _ _ _ _ _ _ _ _ is f.reads f.written n.same installs n.stands n.in_kept n.stays.ready
+
+pub returns-in-Ok-clause-stamp : goal.returns-in-Ok-clause-stamp
+returns-in-Ok-clause-stamp g c =
+    let is = at_known _ _ _ _ _ _ _ (ap (λ (p : PostView). p.phase) c.self.view_is ∙ c.requires.open) c.self.invariant in
+    c.in-Ok.ensures.stamp ∙ sym is.at.at ∙ ap (λ (p : PostView). p.stamp) c.self.view_is
+
+pub returns-in-Err-clause-written : goal.returns-in-Err-clause-written
+returns-in-Err-clause-written g c = λ none.
+    let e = c.in-Err.ensures.err in
+    turned_written e.number c.fill.new.sets.writes c.install.new.sets.writes e.write c.install.ensures.same.writes e.turn (c.fill.ensures.written ∙ ap (λ (p : PostView). p.writes) c.self.view_is ∙ none)
+
+pub invariant_of-self-in-Err : goal.invariant_of-self-in-Err
+invariant_of-self-in-Err g c =
+    let is = at_known _ _ _ _ _ _ _ (ap (λ (p : PostView). p.phase) c.self.view_is ∙ c.requires.open) c.self.invariant in
+    let n = c.install.ensures in
+    let e = c.clear.ensures in
+    post_over c.args.core.now _ _ _ _ _ _ _ _ _ _ _ _ is n.stands n.in_kept is.at.begun.in_flight n.stays.ready c.in-Err.ensures.err.ends c.make-self-inside.ensures.number e.no_reads e.no_writes e.none_read e.none_written
+
+pub returns-in-Err-clause-err : goal.returns-in-Err-clause-err
+returns-in-Err-clause-err g c =
+    let i = c.self.inside in
+    let is = at_known _ _ _ _ _ _ _ (ap (λ (p : PostView). p.phase) c.self.view_is ∙ c.requires.open) c.self.invariant in
+    let n = c.install.ensures in
+    let e = c.clear.ensures in
+    view_over i.hand c.install.new.hand i.phase i.stamp _ _ i.reads.entries _ i.writes.entries _ n.stays.seat.same_table n.stands is.at.begun.in_flight n.log c.make-self-inside.ensures.number e.no_reads e.no_writes
+    ∙ ap (λ (p : PostView). closed (knowing p record { counts = c.install.new.hand.view.counts; tops = c.install.new.hand.view.tops })) c.self.view_is
+
+pub returns-in-Ok-clause-linked : goal.returns-in-Ok-clause-linked
+returns-in-Ok-clause-linked g c =
+    let is = at_known _ _ _ _ _ _ _ (ap (λ (p : PostView). p.phase) c.self.view_is ∙ c.requires.open) c.self.invariant in
+    let f = c.fill.ensures in
+    let n = c.install.ensures in
+    let once = same_once c.fill.new.sets.writes c.install.new.sets.writes n.same.writes f.once in
+    let values = same_values c.fill.new.sets.writes c.install.new.sets.writes n.same.writes ∙ f.written ∙ ap (λ (p : PostView). p.writes) c.self.view_is in
+    post_linked c.args.core.now.size c.self.inside.hand.view.published.write c.install.new.sets.writes c.self.inside.hand.view c.install.new.hand.view c.args.self.now.writes c.args.self.now.stamp c.args.self.now.known c.in-Ok.ensures.ok.each once values (sym is.at.at ∙ ap (λ (p : PostView). p.stamp) c.self.view_is) (ap (λ (p : PostView). p.known) c.self.view_is)
+
+pub returns-in-Err-clause-some_linked : goal.returns-in-Err-clause-some_linked
+returns-in-Err-clause-some_linked g c =
+    let is = at_known _ _ _ _ _ _ _ (ap (λ (p : PostView). p.phase) c.self.view_is ∙ c.requires.open) c.self.invariant in
+    let f = c.fill.ensures in
+    let n = c.install.ensures in
+    let once = same_once c.fill.new.sets.writes c.install.new.sets.writes n.same.writes f.once in
+    let values = same_values c.fill.new.sets.writes c.install.new.sets.writes n.same.writes ∙ f.written ∙ ap (λ (p : PostView). p.writes) c.self.view_is in
+    post_stuck c.args.core.now.size c.install.new.sets c.self.inside.hand.view c.install.new.hand.view c.args.self.now.writes c.args.self.now.stamp c.args.self.now.known c.in-Err.ensures.err once values (sym is.at.at ∙ ap (λ (p : PostView). p.stamp) c.self.view_is) (ap (λ (p : PostView). p.known) c.self.view_is)
+
+pub returns-in-Err-clause-full : goal.returns-in-Err-clause-full
+returns-in-Err-clause-full g c = λ on.
+    let i = c.self.inside in
+    let f = c.fill.ensures in
+    let alone = alone_told i.hand.view (subst (λ (p : PostView). IsAloneAt p.shared.size p.seat p.others) (sym c.self.view_is) on) in
+    let same : length c.fill.new.sets.writes ≡ length c.args.self.now.writes = sym (length-written c.fill.new.sets.writes) ∙ ap length (f.written ∙ ap (λ (p : PostView). p.writes) c.self.view_is) in
+    let at = post_full c.args.core.now.size i.hand.view c.args.self.now.known (length c.args.self.now.writes) (length c.fill.new.sets.writes) c.in-Err.ensures.full alone c.self.invariant.holds_none same (ap (λ (p : PostView). p.known) c.self.view_is) in
+    subst (λ (x : Shared). IsFullAt x.size c.args.self.now.known (length c.args.self.now.writes)) (sym c.requires.core) at
+
+pub returns-in-Ok-clause-read_left : goal.returns-in-Ok-clause-read_left
+returns-in-Ok-clause-read_left g c = let i = c.self.inside in open_left i.hand i.phase i.stamp i.reads.entries i.writes.entries i.sets c.args.self.now c.self.invariant c.self.view_is c.requires.open
+
+pub returns-in-Err-clause-read_left : goal.returns-in-Err-clause-read_left
+returns-in-Err-clause-read_left g c = let i = c.self.inside in open_left i.hand i.phase i.stamp i.reads.entries i.writes.entries i.sets c.args.self.now c.self.invariant c.self.view_is c.requires.open
+
+pub returns-in-Ok-clause-above : goal.returns-in-Ok-clause-above
+returns-in-Ok-clause-above g c = let i = c.self.inside in open_above i.hand i.phase i.stamp i.reads.entries i.writes.entries i.sets c.args.self.now c.self.invariant c.self.view_is c.requires.open
+
+pub returns-in-Err-clause-above : goal.returns-in-Err-clause-above
+returns-in-Err-clause-above g c = let i = c.self.inside in open_above i.hand i.phase i.stamp i.reads.entries i.writes.entries i.sets c.args.self.now c.self.invariant c.self.view_is c.requires.open
+
+pub returns-in-Ok-clause-before : goal.returns-in-Ok-clause-before
+returns-in-Ok-clause-before g c =
+    let n = c.install.ensures in
+    let us = c.install.new.sets.writes in
+    let values = same_values c.fill.new.sets.writes us n.same.writes ∙ c.fill.ensures.written ∙ ap (λ (p : PostView). p.writes) c.self.view_is in
+    let long : length us ≡ length c.args.self.now.writes = sym (length-written us) ∙ ap length values in
+    ap (λ k. known_before k (known_in c.install.new.hand)) (sym long) ∙ each_before c.args.core.now.size c.self.inside.hand.view.published.write us c.self.inside.hand.view c.install.new.hand.view c.in-Ok.ensures.ok.each c.install.ensures.in_kept ∙ ap (λ (p : PostView). p.known) c.self.view_is

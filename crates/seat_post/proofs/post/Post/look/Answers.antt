@@ -1,0 +1,30 @@
+use Rattle.std.proofs.Common.{sym, ap, subst, ◌∙◌}
+use Rattle.std.specs.Prelude.{IsSome, IfSome}
+use Rattle.core_rule.specs.View.{View}
+use Rattle.histories.specs.History.{IsValue, UpTo}
+use Rattle.seat_post.specs.declared.phase.Phase.TheVariants.{Idle}
+use Rattle.seat_post.specs.Post.{PostView, IsAlonePost}
+use Rattle.seat_post.proofs.AloneSeats.{alone_told}
+use Rattle.seat_post.proofs.Looking.{glancing_of, post_glancing, left_glance}
+use Rattle.seat_post.proofs.Posts.{at_phase}
+use Rattle.seat_post.proofs.post.Post.look.Goals as goal
+
+pub glance-requires-clause-glancing : goal.glance-requires-clause-glancing
+glance-requires-clause-glancing g c =
+    let idle = at_phase _ Idle _ _ _ _ _ c.self.invariant (ap (λ (p : PostView). p.phase) c.self.view_is ∙ c.requires.idle) in
+    glancing_of _ _ _ _ _ idle (subst (λ (p : PostView). IsSome p.glance) (sym c.self.view_is) c.requires.looks)
+
+pub invariant_of-self : goal.invariant_of-self
+invariant_of-self g c =
+    let phase = ap (λ (p : PostView). p.phase) c.self.view_is ∙ c.requires.idle in
+    let idle = at_phase _ Idle _ _ _ _ _ c.self.invariant phase in
+    let e = c.glance.ensures in
+    let view = e.glances.finds.view in
+    post_glancing c.args.core.now _ _ _ _ _ _ _ c.self.invariant idle phase e.stays.ready (ap (λ (v : View). v.size) view) (ap (λ (v : View). v.places.held) view) (ap (λ (v : View). v.counts.in_kept) view) e.glancing
+
+pub returns-clause-left : goal.returns-clause-left
+returns-clause-left g c =
+    let v = c.self.inside.hand.view in
+    let idle = at_phase _ Idle _ _ _ _ _ c.self.invariant (ap (λ (p : PostView). p.phase) c.self.view_is ∙ c.requires.idle) in
+    let rests = (glancing_of _ _ _ _ _ idle (subst (λ (p : PostView). IsSome p.glance) (sym c.self.view_is) c.requires.looks)).rests in
+    subst (λ (p : PostView). IsAlonePost p → IfSome p.glance (λ o. IsValue (UpTo p.log o.stamp) c.args.rid c.glance.result)) c.self.view_is (λ alone. left_glance v c.args.rid c.glance.result rests (c.glance.ensures.left (alone_told v alone)))

@@ -1,0 +1,71 @@
+use Rattle.std.proofs.Common.{◌≡◌, ◌<◌, subst, sym, ap, ◌∙◌, None, [], ◌∷◌, ◌++◌}
+use Rattle.core_rule.specs.View.{writing}
+use Rattle.record_store.specs.Meaning.{value_at}
+use Rattle.seat_post.specs.Conflicts.{IsOfAnother}
+use Rattle.seat_post.specs.Post.{PostView, post_view, noted}
+use Rattle.seat_post.proofs.ReadMore.{met_at, is_open, open_at, post_room, post_read, post_stopped, not_read, found_left}
+use Rattle.seat_post.proofs.Over.{view_found}
+use Rattle.seat_post.proofs.post.Post.read.Goals as goal
+
+pub invariant_of-self : goal.invariant_of-self
+invariant_of-self g c =
+    let phase = ap (λ (p : PostView). p.phase) c.self.view_is ∙ c.requires.open in
+    let m = c.make_room.ensures in
+    open_at _ _ _ _ _ _ phase (post_room _ _ _ _ _ _ _ (is_open _ _ _ _ _ _ phase c.self.invariant) m.entries m.reads m.writes m.not_less)
+
+pub search-requires-clause-rests : goal.search-requires-clause-rests
+search-requires-clause-rests g c =
+    let phase = ap (λ (p : PostView). p.phase) c.self.view_is ∙ c.requires.open in
+    (is_open _ _ _ _ _ _ phase c.self.invariant).at.begun.rests
+
+pub search-requires-clause-in_flight : goal.search-requires-clause-in_flight
+search-requires-clause-in_flight g c =
+    let phase = ap (λ (p : PostView). p.phase) c.self.view_is ∙ c.requires.open in
+    let now = (is_open _ _ _ _ _ _ phase c.self.invariant).at in
+    now.begun.in_flight ∙ ap writing (sym (c.number.ensures.value ∙ now.at))
+
+pub invariant_of-self-in-Err : goal.invariant_of-self-in-Err
+invariant_of-self-in-Err g c =
+    let phase = ap (λ (p : PostView). p.phase) c.self.view_is ∙ c.requires.open in
+    let m = c.make_room.ensures in
+    let room = post_room c.self.inside.hand c.self.inside.stamp c.self.inside.reads.entries c.make_room.new.reads.entries c.self.inside.writes.entries c.self.inside.sets c.make_room.new.sets (is_open _ _ _ _ _ _ phase c.self.invariant) m.entries m.reads m.writes m.not_less in
+    open_at _ _ _ _ _ _ phase (post_stopped c.args.core.now _ _ _ _ _ _ _ room c.search.ensures.stays.ready (rw c.number.ensures.value at c.in-Err.ensures.err))
+
+pub note-requires-clause-same : goal.note-requires-clause-same
+note-requires-clause-same g c =
+    let phase = ap (λ (p : PostView). p.phase) c.self.view_is ∙ c.requires.open in
+    let m = c.make_room.ensures in
+    (post_room c.self.inside.hand c.self.inside.stamp c.self.inside.reads.entries c.make_room.new.reads.entries c.self.inside.writes.entries c.self.inside.sets c.make_room.new.sets (is_open _ _ _ _ _ _ phase c.self.invariant) m.entries m.reads m.writes m.not_less).at.as_read
+
+pub invariant_of-self-in-Ok : goal.invariant_of-self-in-Ok
+invariant_of-self-in-Ok g c =
+    let phase = ap (λ (p : PostView). p.phase) c.self.view_is ∙ c.requires.open in
+    let m = c.make_room.ensures in
+    let room = post_room c.self.inside.hand c.self.inside.stamp c.self.inside.reads.entries c.make_room.new.reads.entries c.self.inside.writes.entries c.self.inside.sets c.make_room.new.sets (is_open _ _ _ _ _ _ phase c.self.invariant) m.entries m.reads m.writes m.not_less in
+    let n = c.note.ensures in
+    let within = subst (λ (p : PostView). c.args.rid < p.shared.size.records) (sym c.self.view_is) c.requires.rid in
+    let unread : value_at c.args.self.now.reads c.args.rid ≡ None = not_read (value_at c.args.self.now.writes c.args.rid) (value_at c.args.self.now.reads c.args.rid) c.requires.first in
+    let first = ap (λ vs. value_at vs c.args.rid) m.entries ∙ ap (λ (p : PostView). value_at p.reads c.args.rid) c.self.view_is ∙ unread in
+    open_at _ _ _ _ _ _ phase (post_read c.args.core.now _ _ _ c.args.rid _ _ _ _ _ _ _ _ room c.search.ensures.stays.ready c.in-Ok.ensures.ok within first n.entries n.reads n.writes n.not_less)
+
+pub returns-in-Err-clause-met : goal.returns-in-Err-clause-met
+returns-in-Err-clause-met g c =
+    let i = c.self.inside in
+    let met = met_at i.hand c.search.new.hand i.phase i.stamp c.in-Err.met.wts i.reads.entries i.writes.entries (rw c.number.ensures.value at c.in-Err.ensures.err) c.self.invariant.ready.hand_of.in_range in
+    subst (λ (p : PostView). (c.in-Err.met.wts < p.stamp) × IsOfAnother p.shared.size p.seat p.others c.in-Err.met.wts) c.self.view_is met
+
+pub returns-in-Ok-clause-ok : goal.returns-in-Ok-clause-ok
+returns-in-Ok-clause-ok g c =
+    let i = c.self.inside in
+    let phase = ap (λ (p : PostView). p.phase) c.self.view_is ∙ c.requires.open in
+    let flight = (is_open _ _ _ _ _ _ phase c.self.invariant).at.begun.in_flight in
+    let read = c.in-Ok.read in
+    let more = c.note.ensures.entries ∙ ap (λ es. es ++ (c.args.rid, read.value) ∷ []) c.make_room.ensures.entries in
+    view_found i.hand c.search.new.hand i.phase i.stamp _ _ _ _ _ c.note.new.reads.entries i.writes.entries c.search.ensures.stays.seat.same_table c.in-Ok.ensures.ok flight
+    ∙ ap (λ es. post_view i.hand i.phase i.stamp es i.writes.entries) more
+    ∙ ap (λ (p : PostView). noted p c.args.rid read.value) c.self.view_is
+
+pub returns-in-Ok-clause-left : goal.returns-in-Ok-clause-left
+returns-in-Ok-clause-left g c =
+    let i = c.self.inside in
+    found_left i.hand c.search.new.hand i.phase i.stamp c.args.rid _ _ _ i.reads.entries i.writes.entries i.sets c.args.self.now c.self.invariant c.self.view_is c.requires.open c.in-Ok.ensures.ok

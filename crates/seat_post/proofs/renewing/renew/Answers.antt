@@ -1,0 +1,88 @@
+use Rattle.std.proofs.Common.{◌≡◌, ◌<◌, ◌+◌, ℕ, sym, ap, ◌∙◌, subst, inr, arith}
+use Rattle.stamp_base.specs.Stamp.{stamp_of}
+use Rattle.core_rule.specs.Hands.{Seated}
+use Rattle.clock_stamps.specs.Clocks.{drawn_clock}
+use Rattle.seat_post.specs.Rewriting.{Rewrites}
+use Rattle.seat_post.specs.Settling.{IsRewrittenAt}
+use Rattle.seat_post.proofs.Bounds.{drawn_later, less_is_most, seat_below}
+use Rattle.seat_post.proofs.Steady.{steady_same, steady_settles}
+use Rattle.seat_post.proofs.Renewed.{alone_drawn, none_taken, taken_alone, rewritten_settling, rewritten_settles, rewritten_at, none_stops, spare_found, free_found}
+use Rattle.seat_post.proofs.renewing.renew.Goals as goal
+
+pub returns-in_err-stamp-clause-settles : goal.returns-in_err-stamp-clause-settles
+returns-in_err-stamp-clause-settles g c = steady_settles g.J.Keeps.kept c.args.hand.now.view c.draw.new.hand.view (steady_same c.args.hand.now.view c.draw.new.hand.view (ap (λ (h : Seated). h.view) c.in_err-stamp.ensures.unchanged) c.requires.settling.ends)
+
+pub unreachable-requires : goal.unreachable-requires
+unreachable-requires g c = c.in-Err.ensures.err.not_alone (alone_drawn c.args.hand.now.view c.draw.new.hand.view _ c.in_ok-stamp.ensures.view c.requires.settling.alone)
+
+pub returns-in_err-taken-clause-settling : goal.returns-in_err-taken-clause-settling
+returns-in_err-taken-clause-settling g c =
+    let v = c.args.hand.now.view in
+    let r = c.in-Ok.read in
+    (none_taken g.J.Keeps.kept v c.draw.new.hand.view c.search.new.hand.view c.take_place.new.hand.view (drawn_clock v.clock.clock 0) c.args.rid r.place r.wts r.value c.requires.settling (less_is_most _ _ (drawn_later v.clock.clock 0)) c.in_ok-stamp.ensures.view c.in-Ok.ensures.ok c.in_err-taken.ensures.none).0
+
+pub returns-in_err-taken-clause-settles : goal.returns-in_err-taken-clause-settles
+returns-in_err-taken-clause-settles g c =
+    let v = c.args.hand.now.view in
+    let r = c.in-Ok.read in
+    (none_taken g.J.Keeps.kept v c.draw.new.hand.view c.search.new.hand.view c.take_place.new.hand.view (drawn_clock v.clock.clock 0) c.args.rid r.place r.wts r.value c.requires.settling (less_is_most _ _ (drawn_later v.clock.clock 0)) c.in_ok-stamp.ensures.view c.in-Ok.ensures.ok c.in_err-taken.ensures.none).1
+
+pub unreachable-requires-in-Err-rewrite : goal.unreachable-requires-in-Err-rewrite
+unreachable-requires-in-Err-rewrite g c =
+    let v = c.args.hand.now.view in
+    let r = c.in-Ok.read in
+    none_stops c.args.rid c.in_ok-taken.taken.place _ c.take_place.new.hand.view c.rewrite.new.hand.view c.in-Err-rewrite._conflict
+    (taken_alone v c.draw.new.hand.view c.search.new.hand.view c.take_place.new.hand.view (drawn_clock v.clock.clock 0) c.args.rid r.place r.wts c.in_ok-taken.taken.place r.value c.in_ok-stamp.ensures.view c.in-Ok.ensures.ok c.in_ok-taken.ensures.takes c.requires.settling.alone) c.in-Err-rewrite.ensures.err
+
+pub returns-clause-settling : goal.returns-clause-settling
+returns-clause-settling g c =
+    let v = c.args.hand.now.view in
+    let r = c.in-Ok.read in
+    let seat = seat_below c.number.ensures.size (subst (λ (n : ℕ). n < v.size.seats) c.number.ensures.value c.number.ensures.in_range) in
+    let h = c.requires.ready.hand_of in
+    let rewrites : Rewrites g.J.Keeps.kept v.size.records c.args.rid c.in_ok-taken.taken.place c.take_place.new.hand.view.published.write r.value c.take_place.new.hand.view c.rewrite.new.hand.view = rw h.same_size c.in-Ok-rewrite.ensures.ok in
+    rewritten_settling v c.draw.new.hand.view c.search.new.hand.view c.take_place.new.hand.view (drawn_clock v.clock.clock 0) c.args.rid r.place r.wts c.in_ok-taken.taken.place r.value c.in_ok-stamp.ensures.view c.in-Ok.ensures.ok c.in_ok-taken.ensures.takes g.J.Keeps.kept c.rewrite.new.hand.view c.requires.settling seat (drawn_later v.clock.clock 0) rewrites
+
+pub returns-clause-settles : goal.returns-clause-settles
+returns-clause-settles g c =
+    let v = c.args.hand.now.view in
+    let r = c.in-Ok.read in
+    let seat = seat_below c.number.ensures.size (subst (λ (n : ℕ). n < v.size.seats) c.number.ensures.value c.number.ensures.in_range) in
+    let h = c.requires.ready.hand_of in
+    let rewrites : Rewrites g.J.Keeps.kept v.size.records c.args.rid c.in_ok-taken.taken.place c.take_place.new.hand.view.published.write r.value c.take_place.new.hand.view c.rewrite.new.hand.view = rw h.same_size c.in-Ok-rewrite.ensures.ok in
+    rewritten_settles v c.draw.new.hand.view c.search.new.hand.view c.take_place.new.hand.view (drawn_clock v.clock.clock 0) c.args.rid r.place r.wts c.in_ok-taken.taken.place r.value c.in_ok-stamp.ensures.view c.in-Ok.ensures.ok c.in_ok-taken.ensures.takes g.J.Keeps.kept c.rewrite.new.hand.view c.requires.settling seat (drawn_later v.clock.clock 0) rewrites
+
+pub take_place-requires-clause-spare : goal.take_place-requires-clause-spare
+take_place-requires-clause-spare g c =
+    let v = c.args.hand.now.view in
+    let r = c.in-Ok.read in
+    let h = c.requires.ready.hand_of in
+    let within : c.args.rid < v.size.records = rw h.same_size c.requires.rid in
+    spare_found v c.draw.new.hand.view c.search.new.hand.view c.args.core.now.size (drawn_clock v.clock.clock 0) c.args.rid r.place r.wts r.value c.in_ok-stamp.ensures.view c.in-Ok.ensures.ok c.requires.settling (sym h.same_size) within c.requires.spare
+
+pub returns-clause-ok : goal.returns-clause-ok
+returns-clause-ok g c =
+    let v = c.args.hand.now.view in
+    let r = c.in-Ok.read in
+    let seat = seat_below c.number.ensures.size (subst (λ (n : ℕ). n < v.size.seats) c.number.ensures.value c.number.ensures.in_range) in
+    let h = c.requires.ready.hand_of in
+    let rewrites : Rewrites g.J.Keeps.kept v.size.records c.args.rid c.in_ok-taken.taken.place c.take_place.new.hand.view.published.write r.value c.take_place.new.hand.view c.rewrite.new.hand.view = rw h.same_size c.in-Ok-rewrite.ensures.ok in
+    let next : drawn_clock v.clock.clock 0 ≡ v.clock.clock + 1 = omega arith in
+    let stamp : stamp_of (drawn_clock v.clock.clock 0) v.number ≡ c.number-in-Ok-rewrite.result = sym (c.number-in-Ok-rewrite.ensures.value ∙ c.in_ok-stamp.ensures.stamp) in
+    subst (λ (n : ℕ). IsRewrittenAt c.args.rid n v c.rewrite.new.hand.view) stamp
+    (rewritten_at v c.draw.new.hand.view c.search.new.hand.view c.take_place.new.hand.view (drawn_clock v.clock.clock 0) c.args.rid r.place r.wts c.in_ok-taken.taken.place r.value c.in_ok-stamp.ensures.view c.in-Ok.ensures.ok c.in_ok-taken.ensures.takes g.J.Keeps.kept c.rewrite.new.hand.view c.requires.settling seat (drawn_later v.clock.clock 0) rewrites next)
+
+-- the inline place of a record whose only version stands in the kept place
+pub returns-in_err-taken-clause-inline : goal.returns-in_err-taken-clause-inline
+returns-in_err-taken-clause-inline g c = λ stands less.
+    let v = c.args.hand.now.view in
+    let r = c.in-Ok.read in
+    let within : c.args.rid < v.size.records = rw c.requires.ready.hand_of.same_size c.requires.rid in
+    absurd (c.in_err-taken.ensures.inline (free_found v c.draw.new.hand.view c.search.new.hand.view (drawn_clock v.clock.clock 0) c.args.rid r.place r.wts c.args.rid r.value c.in_ok-stamp.ensures.view c.in-Ok.ensures.ok c.requires.settling (inr (within, stands))))
+
+pub returns-clause-inline : goal.returns-clause-inline
+returns-clause-inline g c = λ stands less.
+    let v = c.args.hand.now.view in
+    let r = c.in-Ok.read in
+    let within : c.args.rid < v.size.records = rw c.requires.ready.hand_of.same_size c.requires.rid in
+    c.in_ok-taken.ensures.inline (free_found v c.draw.new.hand.view c.search.new.hand.view (drawn_clock v.clock.clock 0) c.args.rid r.place r.wts c.args.rid r.value c.in_ok-stamp.ensures.view c.in-Ok.ensures.ok c.requires.settling (inr (within, stands)))

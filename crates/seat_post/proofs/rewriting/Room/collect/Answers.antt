@@ -1,0 +1,38 @@
+use Rattle.std.proofs.Common.{◌≡◌, ◌<◌, ℕ, List, [], ◌∷◌, ◌++◌, ap, ◌∙◌, sym, subst, refl, inl, inr}
+use Rattle.stamp_base.specs.Stamp.{bound_of_clock}
+use Rattle.rapid_gc.specs.declared.queue.Queued.{Queued}
+use Rattle.rapid_gc.specs.Bounds.{AreKept, LeavesOne}
+use Rattle.rapid_gc.specs.InKept.{CutsOff}
+use Rattle.rapid_gc.specs.Queues.{AllBelow}
+use Rattle.seat_post.proofs.FreedPlaces.{freed_collecting}
+use Rattle.seat_post.proofs.rewriting.Room.collect.Goals as goal
+
+one_item : (items before : List Queued) (i : Queued) → items ≡ before ++ i ∷ [] → before ≡ [] → items ≡ i ∷ []
+one_item items before i is none = is ∙ ap (λ xs. xs ++ i ∷ []) none
+
+one_below : (i : Queued) (bound : ℕ) → i.stamp < bound → AllBelow bound (i ∷ [])
+one_below i bound below x (inl same) = subst (λ (y : Queued). y.stamp < bound) same below
+one_below i bound below x (inr none) = absurd none
+
+pub returns-clause-kept : goal.returns-clause-kept
+returns-clause-kept g c =
+    let items = one_item c.add.new.self.items c.self.inside.queue.items _ c.add.ensures.items c.self.invariant.1.none in
+    subst (λ is. AreKept is c.args.hand.now.view.counts c.collect-collected.new.hand.view.counts) items c.collect-collected.ensures.known
+
+pub returns-clause-one : goal.returns-clause-one
+returns-clause-one g c = λ newest.
+    let v = c.args.hand.now.view in
+    let items = one_item c.add.new.self.items c.self.inside.queue.items _ c.add.ensures.items c.self.invariant.1.none in
+    let below = subst (λ is. AllBelow (bound_of_clock v.clock.clock) is) (sym items) (one_below (record { rid = c.args.rid; stamp = c.args.stamp }) (bound_of_clock v.clock.clock) c.requires.below) in
+    let left = subst (λ is. LeavesOne is v.tops c.collect-collected.new.hand.view.counts) items (c.collect-collected.ensures.one_left c.requires.alone below) in
+    left (record { rid = c.args.rid; stamp = c.args.stamp }) (inl refl) newest
+
+pub returns-clause-freed : goal.returns-clause-freed
+returns-clause-freed g c = freed_collecting c.args.hand.now.view c.collect-collected.new.hand.view _ _ c.collect-collected.result c.collect-collected.ensures.collects
+
+pub returns-clause-cut_off : goal.returns-clause-cut_off
+returns-clause-cut_off g c =
+    let v = c.args.hand.now.view in
+    let items = one_item c.add.new.self.items c.self.inside.queue.items _ c.add.ensures.items c.self.invariant.1.none in
+    let below = subst (λ is. AllBelow (bound_of_clock v.clock.clock) is) (sym items) (one_below (record { rid = c.args.rid; stamp = c.args.stamp }) (bound_of_clock v.clock.clock) c.requires.below) in
+    subst (λ is. CutsOff is v.tops v.counts.in_kept c.collect-collected.new.hand.view.counts.in_kept) items (c.collect-collected.ensures.cut_off c.requires.alone below)

@@ -1,0 +1,24 @@
+use Rattle.seat_post.proofs.Again.{fitting_again, rewrites_at, stopped_at}
+use Rattle.seat_post.proofs.rewriting.Room.rewrite.Goals as goal
+
+pub decide-requires-clause-fits : goal.decide-requires-clause-fits
+decide-requires-clause-fits g c =
+    let r = c.args.read.now in
+    fitting_again g.J.Keeps.kept c.args.core.now.size.records c.install_held-installed.result.stamp c.args.rid r.place r.wts r.value c.stage.new.sets c.install_held-installed.new.sets c.requires.whole c.stage.ensures.reads c.stage.ensures.writes c.install_held-installed.ensures.same
+
+pub returns-in-Ok-clause-ok : goal.returns-in-Ok-clause-ok
+returns-in-Ok-clause-ok g c =
+    let r = c.args.read.now in
+    let i = c.install_held-installed in
+    let p = c.publish.ensures in
+    rewrites_at g.J.Keeps.kept c.args.core.now.size.records c.args.rid r.place r.wts c.args.place r.value c.args.core.now.size c.stage.new.sets i.new.sets c.args.hand.now.view i.new.hand.view c.decide.new.hand.view c.publish.new.hand.view
+    c.requires.whole c.stage.ensures.reads c.stage.ensures.writes i.ensures.same i.ensures.installs i.result.stamp i.ensures.stamp c.in-Ok.ensures.ok p.log p.as_before p.published.ends
+
+pub returns-in-Err-clause-err : goal.returns-in-Err-clause-err
+returns-in-Err-clause-err g c =
+    let r = c.args.read.now in
+    let i = c.install_held-installed in
+    let e = c.in-Err.ensures in
+    let h = c.requires.ready.hand_of in
+    stopped_at c.args.rid r.place r.wts c.args.place r.value c.args.core.now.size c.stage.new.sets i.new.sets c.args.hand.now.view i.new.hand.view c.decide.new.hand.view i.result.stamp c.in-Err.conflict
+    c.stage.ensures.reads c.stage.ensures.writes i.ensures.same i.ensures.installs i.ensures.stamp (rw h.same_size h.in_range) c.decide.ensures.stands e.as_before e.log e.aborted.ends e.conflict

@@ -1,0 +1,48 @@
+use Rattle.std.proofs.Common.{refl, sym, subst, arith, ℕ}
+use Rattle.seat_post.specs.Settling.{Draws}
+use Rattle.rapid_gc.proofs.Going.{frees_more}
+use Rattle.seat_post.proofs.FreedPlaces.{freed_none}
+use Rattle.seat_post.proofs.Steady.{steady_same, steady_settles, settles_both}
+use Rattle.seat_post.proofs.Settlement.{settled_more, draws_both, stays_both}
+use Rattle.seat_post.proofs.settling.settle_all.Goals as goal
+
+pub loop-rid-init : goal.loop-rid-init
+loop-rid-init g c =
+    let v = c.args.hand.now.view in
+    let n = c.none-all.ensures.rewritten in
+    let m = c.none-all.ensures.cut in
+    record {
+      stays = record { seat = record { same_table = refl; same_id = refl }; ready = c.requires.ready };
+      settling = c.requires.settling;
+      settles = steady_settles g.J.Keeps.kept v v (steady_same v v refl c.requires.settling.ends);
+      keeps_none = c.requires.keeps_none;
+      settled = λ r below. absurd (omega arith);
+      draws = record { entries = omega arith; clock = omega arith };
+      freed = freed_none c.none-all.result.places v v c.none-all.ensures.places refl;
+      less = omega arith;
+      few = omega arith;
+    }
+
+pub returns-in_err-settle_record-clause-settles : goal.returns-in_err-settle_record-clause-settles
+returns-in_err-settle_record-clause-settles g c = settles_both g.J.Keeps.kept c.args.hand.now.view c.loop-rid.hand.view c.settle_record.new.hand.view c.loop-rid.invariant.settles c.settle_record.ensures.settles
+
+pub loop-rid-preserved : goal.loop-rid-preserved
+loop-rid-preserved g c =
+    let i = c.loop-rid.invariant in
+    let e = c.in_ok-settle_record.ensures in
+    let s = c.settle_record in
+    let w = c.with-all in
+    let v = c.args.hand.now.view in
+    let rewritten = w.ensures.rewritten in
+    let cut = w.ensures.cut in
+    record {
+      stays = stays_both c.args.core.now c.args.hand.now c.loop-rid.hand s.new.hand i.stays s.ensures.stays;
+      settling = s.ensures.settling;
+      settles = settles_both g.J.Keeps.kept v c.loop-rid.hand.view s.new.hand.view i.settles s.ensures.settles;
+      keeps_none = s.ensures.keeps_none;
+      settled = settled_more c.loop-rid.rid c.loop-rid.hand.view s.new.hand.view i.settled s.ensures.others e.one;
+      draws = subst (λ (n : ℕ). Draws n v s.new.hand.view) (sym rewritten) (draws_both c.loop-rid.all.rewritten _ v c.loop-rid.hand.view s.new.hand.view i.draws e.draws);
+      freed = frees_more c.loop-rid.all.places _ c.with-all.result.places v c.loop-rid.hand.view s.new.hand.view i.freed e.freed w.ensures.places;
+      less = let h = i.less in let k = e.counts.0 in omega arith;
+      few = let h = i.few in let k = e.counts.1 in omega arith;
+    }

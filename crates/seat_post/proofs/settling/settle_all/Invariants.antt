@@ -1,0 +1,19 @@
+use Rattle.std.proofs.Common.{◌≡◌, ◌≤◌, ◌*◌}
+use Rattle.core_rule.specs.View.{nothing_kept}
+use Rattle.core_rule.specs.Hands.{StaysReady}
+use Rattle.rapid_gc.specs.Ends.{FreesCounted}
+use Rattle.seat_post.specs.Settling.{IsSettling, Settles, AreSettled, Draws}
+use Rattle.seat_post.proofs.settling.settle_all.Given as goal
+
+abbrev pub invariant-loop-rid : goal.invariant-loop-rid
+invariant-loop-rid g l = record {
+  stays : StaysReady l.core l.fn.hand l.hand;
+  settling : IsSettling l.hand.view;
+  settles : Settles g.J.Keeps.kept l.fn.hand.view l.hand.view;
+  keeps_none : l.hand.view.counts.in_kept ≡ nothing_kept;
+  settled : AreSettled l.rid l.hand.view.counts;
+  draws : Draws l.all.rewritten l.fn.hand.view l.hand.view;
+  freed : FreesCounted l.all.places l.fn.hand.view l.hand.view;
+  less : l.all.rewritten ≤ l.all.cut;
+  few : l.all.cut ≤ 2 * l.rid;
+}

@@ -1,0 +1,34 @@
+-- What a conflict says of the transaction that it stops.
+use Rattle.std.specs.Prelude.{◌≡◌, ◌≢◌, ℕ, ◌<◌, List, Option, IsSome}
+use Rattle.stamp_base.specs.Stamp.{seat_of}
+use Rattle.word_layout.specs.Size.{Size}
+use Rattle.seat_post.specs.Seats.{Others, IsAloneAt}
+use Rattle.record_store.specs.Meaning.{value_at}
+use Rattle.validate_core.specs.declared.conflict.Conflict.{Conflict}
+use Rattle.validate_core.specs.declared.conflict.Conflict.TheVariants.{Pending, ReadLater, Overtaken}
+
+-- the stamp is one of another seat of the engine, which has more than one then; and this one is not the only one that is open
+pub record IsOfAnother (size : Size) (seat : ℕ) (others : Others) (stamp : ℕ) : Type 0 where
+  pub another : seat_of stamp ≢ seat
+  pub within : seat_of stamp < size.seats
+  pub more : 1 < size.seats
+  pub not_alone : IsAloneAt size seat others → ⊥
+
+-- An earlier version is pending of a record that it asked for; a version that it overwrites was read later; a version that it read
+-- was overwritten before. It is always the stamp of another seat that does so.
+abbrev pub Shows : (size : Size) (seat : ℕ) (others : Others) (stamp : ℕ) (reads writes : List (ℕ × Option (List ℕ))) → Conflict → Type 0
+Shows size seat others stamp reads writes (Pending rid wts) = (rid < size.records) × (wts < stamp) × IsOfAnother size seat others wts
+Shows size seat others stamp reads writes (ReadLater rid wts rts) = IsSome (value_at writes rid) × (wts < stamp) × (stamp < rts) × IsOfAnother size seat others rts
+Shows size seat others stamp reads writes (Overtaken rid seen now) = IsSome (value_at reads rid) × (seen < now) × (now < stamp) × IsOfAnother size seat others now
+
+-- a read meets a pending version alone
+abbrev pub ShowsPending : (size : Size) (seat : ℕ) (others : Others) (stamp : ℕ) → Conflict → Type 0
+ShowsPending size seat others stamp (Pending rid wts) = (rid < size.records) × (wts < stamp) × IsOfAnother size seat others wts
+ShowsPending size seat others stamp (ReadLater rid wts rts) = ⊥
+ShowsPending size seat others stamp (Overtaken rid seen now) = ⊥
+
+-- the same of a transaction that reads and writes this record alone
+abbrev pub ShowsOf : (rid : ℕ) (size : Size) (seat : ℕ) (others : Others) (stamp : ℕ) → Conflict → Type 0
+ShowsOf rid size seat others stamp (Pending at wts) = (at ≡ rid) × (wts < stamp) × IsOfAnother size seat others wts
+ShowsOf rid size seat others stamp (ReadLater at wts rts) = (at ≡ rid) × (wts < stamp) × (stamp < rts) × IsOfAnother size seat others rts
+ShowsOf rid size seat others stamp (Overtaken at seen now) = (at ≡ rid) × (seen < now) × (now < stamp) × IsOfAnother size seat others now

@@ -1,0 +1,192 @@
+-- What a post shows: the hand of a seat, and what the transaction in flight there has read and written. And what it keeps of both.
+use Rattle.std.specs.Prelude.{◌≡◌, ℕ, ◌+◌, ◌-◌, ◌<◌, ◌≤◌, max, true, false, is_some, if◌then◌else◌, List, [], ◌∷◌, ◌++◌, Option, option_map, None, length, map, IsSome}
+use Rattle.record_store.specs.Meaning.{value_at, with_value}
+use Rattle.plain_data.specs.declared.entry.Entry.{Entry}
+use Rattle.stamp_base.specs.Stamp.{stamp_of, bound_of_clock}
+use Rattle.word_layout.specs.Size.{IsSize}
+use Rattle.core_rule.specs.Hands.{Shared, Seated, IsReady}
+use Rattle.core_rule.specs.View.{Write, resting, nothing_kept}
+use Rattle.core_rule.specs.Views.{IsAlone}
+use Rattle.core_rule.specs.Searching.{Ends}
+use Rattle.core_rule.specs.Deciding.{read_values, written_values}
+use Rattle.core_rule.specs.Deciding as deciding
+use Rattle.validate_core.specs.Sets.{SetsView, IsInside, count_below}
+use Rattle.validate_core.specs.Installing.{IsBegun}
+use Rattle.validate_core.specs.Validating as validating
+use Rattle.validate_core.specs.declared.conflict.Conflict.{Conflict}
+use Rattle.core_rule.specs.Snapshots.{AreAllWhole}
+use Rattle.seat_post.specs.Glance.{GlanceView, glance_of, first_glance, with_read}
+use Rattle.seat_post.specs.Seats.{Others, Known, IsAloneAt}
+use Rattle.seat_post.specs.Conflicts.{Shows}
+use Rattle.seat_post.specs.Logs.{IsAbove}
+use Rattle.seat_post.specs.Leaves.{AreLeft}
+use Rattle.seat_post.specs.Lists.{known_before, AreKnown, count_raised}
+use Rattle.seat_post.specs.declared.phase.Phase.{Phase}
+use Rattle.seat_post.specs.declared.phase.Phase.TheVariants.{Idle, Open, Installed, Decided}
+
+-- the table of the seat, its number, its clock, its published write word, the seats that it takes as open, what it knows of lists, the
+-- greatest `min_wts` that it has met, its log, what a snapshot there has read; and how far the transaction is, its stamp, its reads and its writes
+pub record PostView : Type 0 where
+  pub shared : Shared
+  pub seat : ℕ
+  pub clock : ℕ
+  pub published : ℕ
+  pub others : Others
+  pub known : Known
+  pub met : ℕ
+  pub log : List Entry
+  pub glance : Option GlanceView
+  pub phase : Phase
+  pub stamp : ℕ
+  pub reads : List (ℕ × Option (List ℕ))
+  pub writes : List (ℕ × Option (List ℕ))
+
+-- no other seat of its table is open
+abbrev pub IsAlonePost : PostView → Type 0
+IsAlonePost p = IsAloneAt p.shared.size p.seat p.others
+
+-- the table that a hand is of
+abbrev pub shared_of : Seated → Shared
+shared_of hand = record { table = hand.table; size = hand.view.size }
+
+-- what it knows of lists
+abbrev pub known_in : Seated → Known
+known_in hand = record { counts = hand.view.counts; tops = hand.view.tops }
+
+abbrev pub post_view : Seated → Phase → ℕ → (reads writes : List (ℕ × Option (List ℕ))) → PostView
+post_view hand phase stamp reads writes = record {
+  shared = shared_of hand;
+  seat = hand.view.number;
+  clock = hand.view.clock.clock;
+  published = hand.view.published.write;
+  others = record { splitting = hand.view.splitting; taken_in = hand.view.clock.taken_in };
+  known = known_in hand;
+  met = hand.view.clock.met;
+  log = map deciding.entry_of hand.view.log;
+  glance = glance_of hand.view.flight hand.view.published.read hand.view.work.reads;
+  phase = phase;
+  stamp = stamp;
+  reads = reads;
+  writes = writes;
+}
+
+-- ---- what a post keeps, by how far its transaction is
+
+pub record IsIdleAt (hand : Seated) (stamp : ℕ) (reads writes : List (ℕ × Option (List ℕ))) (sets : SetsView) : Type 0 where
+  pub ends : Ends hand.view.work
+  pub whole : hand.view.flight ≡ resting → AreAllWhole hand.view.work.reads
+  pub no_stamp : stamp ≡ 0
+  pub no_reads : reads ≡ []
+  pub no_writes : writes ≡ []
+  pub none_read : sets.reads ≡ []
+  pub none_written : sets.writes ≡ []
+
+-- what is read stands in the sets; what is written will be put there, in room that is taken
+pub record IsOpenAt (hand : Seated) (stamp : ℕ) (reads writes : List (ℕ × Option (List ℕ))) (sets : SetsView) : Type 0 where
+  pub begun : IsBegun hand.view.size sets hand.view
+  pub at : stamp ≡ hand.view.published.write
+  pub as_read : read_values sets.reads ≡ reads
+  pub none_written : sets.writes ≡ []
+  pub in_range : (rid : ℕ) → IsSome (value_at writes rid) → rid < hand.view.size.records
+  pub room : length writes ≤ sets.write_room
+  -- the commit entries of the log are stamped below; and while the seat is alone, each value read is what they leave
+  pub above : IsAbove (map deciding.entry_of hand.view.log) stamp
+  pub left : IsAlone hand.view → AreLeft (map deciding.entry_of hand.view.log) stamp reads
+
+-- the sets are those of the transaction
+pub record AreSets (hand : Seated) (reads writes : List (ℕ × Option (List ℕ))) (sets : SetsView) : Type 0 where
+  pub as_read : read_values sets.reads ≡ reads
+  pub as_written : written_values sets.writes ≡ writes
+  pub inside : IsInside hand.view.size sets
+
+-- as many of the writes stand in inline places as what is known of lists tells
+abbrev pub ArePlaced : Seated → List Write → Type 0
+ArePlaced hand us =
+    AreKnown (known_before (length us) (known_in hand)) (written_values us)
+    → count_below hand.view.size.records us + count_raised (known_before (length us) (known_in hand)) (known_in hand) (written_values us)
+    ≡ length us
+
+pub record IsInstalledAt (hand : Seated) (stamp : ℕ) (reads writes : List (ℕ × Option (List ℕ))) (sets : SetsView) : Type 0 where
+  pub installed : validating.IsInstalled stamp sets hand.view
+  pub are_sets : AreSets hand reads writes sets
+  pub placed : ArePlaced hand sets.writes
+
+pub record IsDecidedAt (hand : Seated) (stamp : ℕ) (reads writes : List (ℕ × Option (List ℕ))) (sets : SetsView) : Type 0 where
+  pub decided : validating.IsDecidedAt stamp sets hand.view
+  pub are_sets : AreSets hand reads writes sets
+  pub placed : ArePlaced hand sets.writes
+
+abbrev pub IsAt : Phase → Seated → ℕ → (reads writes : List (ℕ × Option (List ℕ))) → SetsView → Type 0
+IsAt Idle = IsIdleAt
+IsAt Open = IsOpenAt
+IsAt Installed = IsInstalledAt
+IsAt Decided = IsDecidedAt
+
+-- the hand may make its calls, holds no place, and has nothing in the kept one
+pub record IsPost (hand : Seated) (phase : Phase) (stamp : ℕ) (reads writes : List (ℕ × Option (List ℕ))) (sets : SetsView) : Type 0 where
+  pub ready : IsReady (shared_of hand) hand
+  pub size : IsSize hand.view.size
+  pub holds_none : hand.view.places.held ≡ []
+  pub keeps_none : hand.view.counts.in_kept ≡ nothing_kept
+  pub at : IsAt phase hand stamp reads writes sets
+
+-- ---- what its calls make of it
+
+abbrev pub opened : PostView → ℕ → PostView
+opened p clock = record p { clock = clock; published = stamp_of clock p.seat; glance = None; phase = Open; stamp = stamp_of clock p.seat }
+
+abbrev pub drawn_at : PostView → ℕ → PostView
+drawn_at p clock = record p { clock = clock; published = stamp_of clock p.seat; glance = None }
+
+-- the bound of its clock is published, a greater `min_wts` was met, and this is known of lists
+abbrev pub collected_at : PostView → (met : ℕ) → Known → PostView
+collected_at p met known = record p { published = max p.published (bound_of_clock p.clock); met = met; known = known; glance = first_glance (met - 1) }
+
+-- a snapshot begins, reads one more record, and ends
+abbrev pub looking_at : PostView → ℕ → PostView
+looking_at p stamp = record p { met = stamp + 1; glance = first_glance stamp }
+
+abbrev pub looked_at : PostView → ℕ → Option (List ℕ) → PostView
+looked_at p rid value = record p { glance = option_map (λ (g : GlanceView). record g { reads = with_read g.reads rid value }) p.glance }
+
+abbrev pub finished_at : PostView → GlanceView → PostView
+finished_at p g = record p {
+  log = p.log ++ record { stamp = g.stamp; snapshot = true; reads = g.reads; writes = [] } ∷ [];
+  glance = first_glance g.stamp;
+}
+
+abbrev pub with_clock : PostView → ℕ → PostView
+with_clock p clock = record p { clock = clock }
+
+abbrev pub noted : PostView → ℕ → Option (List ℕ) → PostView
+noted p rid value = record p { reads = p.reads ++ (rid, value) ∷ [] }
+
+abbrev pub written : PostView → ℕ → Option (List ℕ) → PostView
+written p rid value = record p { writes = with_value p.writes rid value }
+
+abbrev pub unwritten : PostView → PostView
+unwritten p = record p { writes = [] }
+
+-- what is known of a record: the value written, else the value read
+abbrev pub known_at : PostView → ℕ → Option (Option (List ℕ))
+known_at p rid = if is_some (value_at p.writes rid) then value_at p.writes rid else value_at p.reads rid
+
+abbrev pub knowing : PostView → Known → PostView
+knowing p known = record p { known = known }
+
+abbrev pub in_phase : PostView → Phase → PostView
+in_phase p phase = record p { phase = phase }
+
+abbrev pub closed : PostView → PostView
+closed p = record p { phase = Idle; stamp = 0; reads = []; writes = [] }
+
+-- the entry of the transaction
+abbrev pub entry_at : PostView → Entry
+entry_at p = record { stamp = p.stamp; snapshot = false; reads = p.reads; writes = p.writes }
+
+abbrev pub entered : PostView → PostView
+entered p = record p { log = p.log ++ entry_at p ∷ []; phase = Decided }
+
+-- what a conflict says of it
+abbrev pub IsShownAt : PostView → Conflict → Type 0
+IsShownAt p conflict = Shows p.shared.size p.seat p.others p.stamp p.reads p.writes conflict

@@ -1,0 +1,122 @@
+-- What a promotion makes of a post, and what it came upon.
+use Rattle.std.specs.Prelude.{◌≡◌, ◌≢◌, ◌⊎◌, ℕ, List, [], ◌∷◌, ◌++◌, Option, Some}
+use Rattle.plain_data.specs.State.{State}
+use Rattle.stamp_base.specs.Stamp.{stamp_of}
+use Rattle.core_rule.specs.View.{View, writing, no_work}
+use Rattle.core_rule.specs.Searching.{Ends}
+use Rattle.version_pool.specs.Takes.{TakesFree, FindsNone}
+use Rattle.version_search.specs.Finding.{Reads}
+use Rattle.version_search.specs.Loading.{with_value}
+use Rattle.validate_core.specs.Validating.{worked}
+use Rattle.validate_core.specs.declared.conflict.Conflict.{Conflict}
+use Rattle.seat_post.specs.declared.promoting.Promotion.{Promotion}
+use Rattle.seat_post.specs.declared.promoting.Promotion.TheVariants.{Promoted, Inline, Absent, Occupied}
+use Rattle.seat_post.specs.declared.promoting.PromoteFault.{PromoteFault}
+use Rattle.seat_post.specs.declared.promoting.PromoteFault.TheVariants as fault
+use Rattle.seat_post.specs.Seats.{Known}
+use Rattle.seat_post.specs.Conflicts.{ShowsOf}
+use Rattle.seat_post.specs.Ends.{Stood}
+use Rattle.seat_post.specs.Post.{PostView, drawn_at}
+use Rattle.seat_post.specs.Rewriting.{rewriting, linked_in, Rewrites, IsStopped, others_in}
+
+-- ---- the same of a post
+
+abbrev pub rewritten_at : PostView → (clock rid place : ℕ) → Option (List ℕ) → PostView
+rewritten_at p clock rid place value = record (drawn_at p clock) {
+  known = linked_in p.shared.size rid place (stamp_of clock p.seat) p.known;
+  log = p.log ++ rewriting (stamp_of clock p.seat) rid value ∷ [];
+}
+
+abbrev pub stopped_at : PostView → (clock : ℕ) → Known → PostView
+stopped_at p clock known = record (drawn_at p clock) { known = known }
+
+pub record IsRewritten (kept : State → Type 0) (rid place clock : ℕ) (before after' : PostView) (stamp : ℕ) : Type 0 where
+  pub at : stamp ≡ stamp_of clock before.seat
+  pub words : List ℕ
+  pub after : after' ≡ rewritten_at before clock rid place (Some words)
+  pub stood : Stood kept before.shared.size.records before.log (rewriting stamp rid (Some words))
+
+pub record IsStoppedPost (rid clock : ℕ) (before after' : PostView) (conflict : Conflict) : Type 0 where
+  pub after : after' ≡ stopped_at before clock after'.known
+  pub linked : (after'.known ≡ before.known) ⊎ (after'.known ≡ linked_in before.shared.size rid rid (stamp_of clock before.seat) before.known)
+  pub shown : ShowsOf rid before.shared.size before.seat before.others (stamp_of clock before.seat) conflict
+
+abbrev pub PromotesPost : (kept : State → Type 0) (rid clock : ℕ) (before after' : PostView) → Promotion → Type 0
+PromotesPost kept rid clock before after' (Promoted stamp) = IsRewritten kept rid rid clock before after' stamp
+PromotesPost kept rid clock before after' Inline = after' ≡ drawn_at before clock
+PromotesPost kept rid clock before after' Absent = after' ≡ drawn_at before clock
+PromotesPost kept rid clock before after' Occupied = after' ≡ drawn_at before clock
+
+abbrev pub FailsPost : (rid clock : ℕ) (before after' : PostView) → PromoteFault → Type 0
+FailsPost rid clock before after' fault.ClockOut = after' ≡ before
+FailsPost rid clock before after' (fault.Conflict conflict) = IsStoppedPost rid clock before after' conflict
+
+-- ---- the steps at the hand
+
+-- the stamp was drawn and is in flight, and nothing else was done
+pub record IsDrawn (stamp : ℕ) (v : View) : Type 0 where
+  pub in_flight : v.flight ≡ writing stamp
+  pub published : v.published.write ≡ stamp
+  pub work : v.work ≡ no_work
+  pub holds_none : v.places.held ≡ []
+
+-- the visible version was found in the inline place, and is present; it was found to be deleted
+pub record FindsInline (stamp rid : ℕ) (v w : View) : Type 0 where
+  pub wts : ℕ
+  pub found : Reads stamp rid rid wts 3 v w
+
+pub record FindsAbsent (stamp rid : ℕ) (v w : View) : Type 0 where
+  pub place : ℕ
+  pub wts : ℕ
+  pub found : Reads stamp rid place wts 4 v w
+
+-- it was found elsewhere
+pub record FindsElsewhere (stamp rid : ℕ) (v w : View) : Type 0 where
+  pub place : ℕ
+  pub elsewhere : place ≢ rid
+  pub wts : ℕ
+  pub found : Reads stamp rid place wts 3 v w
+
+-- then the exchange on the inline place found that not free
+pub record FindsOccupied (stamp rid : ℕ) (v w : View) : Type 0 where
+  pub between : View
+  pub finds : FindsElsewhere stamp rid v between
+  pub lost : FindsNone (rid ∷ []) between w
+
+-- or took it, and the value was loaded
+pub record LoadsElsewhere (stamp rid : ℕ) (words : List ℕ) (v w : View) : Type 0 where
+  pub between : View
+  pub finds : FindsElsewhere stamp rid v between
+  pub taken : View
+  pub takes : TakesFree rid between taken
+  pub loads : w ≡ with_value taken words w.seen
+
+-- and was written there again
+pub record WritesInline (kept : State → Type 0) (records stamp rid : ℕ) (v w : View) : Type 0 where
+  pub words : List ℕ
+  pub loaded : View
+  pub loads : LoadsElsewhere stamp rid words v loaded
+  pub rewrites : Rewrites kept records rid rid stamp (Some words) loaded w
+
+-- exactly what was come upon at each answer
+abbrev pub PromotesAt : (kept : State → Type 0) (records stamp rid : ℕ) (v w : View) → Promotion → Type 0
+PromotesAt kept records stamp rid v w (Promoted at) = (at ≡ stamp) × WritesInline kept records stamp rid v w
+PromotesAt kept records stamp rid v w Inline = FindsInline stamp rid v w
+PromotesAt kept records stamp rid v w Absent = FindsAbsent stamp rid v w
+PromotesAt kept records stamp rid v w Occupied = FindsOccupied stamp rid v w
+
+-- a pending version was met
+pub record MeetsPending (stamp rid : ℕ) (v w : View) (conflict : Conflict) : Type 0 where
+  pub only : w ≡ worked v w.work w.seen
+  pub ends : Ends w.work
+  pub shown : ShowsOf rid v.size v.number (others_in v) stamp conflict
+
+-- a conflict stopped the writing
+pub record IsStoppedWriting (stamp rid : ℕ) (v w : View) (conflict : Conflict) : Type 0 where
+  pub words : List ℕ
+  pub loaded : View
+  pub loads : LoadsElsewhere stamp rid words v loaded
+  pub stops : IsStopped rid rid stamp loaded w conflict
+
+abbrev pub FailsAt : (stamp rid : ℕ) (v w : View) → Conflict → Type 0
+FailsAt stamp rid v w conflict = MeetsPending stamp rid v w conflict ⊎ IsStoppedWriting stamp rid v w conflict

@@ -1,0 +1,21 @@
+-- What looking for the absent records changes.
+use Rattle.std.specs.Prelude.{◌≡◌, ◌-◌, max}
+use Rattle.stamp_base.specs.Stamp.{bound_of_clock}
+use Rattle.core_rule.specs.View.{View}
+use Rattle.core_rule.specs.Searching.{Rests, Ends}
+use Rattle.seat_post.specs.Glance.{first_glance}
+use Rattle.seat_post.specs.Post.{PostView}
+
+-- searches change what they have in flight, and what was loaded
+pub record Looks (v w : View) : Type 0 where
+  pub view : w ≡ record v { work = w.work; seen = w.seen }
+  pub rests : Rests w.work.search
+  pub ends : Ends v.work → Ends w.work
+
+-- The bound of the clock is published and is the greatest minimum met, one less is the read stamp, where nothing was read yet.
+abbrev pub looked_over : PostView → PostView
+looked_over p = record p {
+  published = max p.published (bound_of_clock p.clock);
+  met = max p.published (bound_of_clock p.clock);
+  glance = first_glance (max p.published (bound_of_clock p.clock) - 1);
+}

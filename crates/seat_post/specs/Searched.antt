@@ -1,0 +1,28 @@
+-- What a read of a record from the table comes to.
+use Rattle.std.specs.Prelude.{◌≡◌, ℕ, ◌<◌, List, ◌∷◌, map, Option}
+use Rattle.word_layout.specs.Size.{places}
+use Rattle.core_rule.specs.View.{View, still, Search}
+use Rattle.core_rule.specs.Views.{IsAlone}
+use Rattle.core_rule.specs.Searching.{Rests, IsWhole, limit_of}
+use Rattle.core_rule.specs.Deciding.{entry_of}
+use Rattle.core_rule.specs.Versions.{read_version}
+use Rattle.stamp_base.specs.Stamp.{seat_of}
+use Rattle.seat_post.specs.Leaves.{LeavesValue}
+
+-- the version of record rid in a place was found, with this value
+pub record Finds (rid place wts : ℕ) (value : Option (List ℕ)) (v w : View) : Type 0 where
+  pub view : w ≡ record v { work = record v.work { search = still; reads = read_version rid place wts value ∷ v.work.reads }; seen = w.seen }
+  pub whole : IsWhole (read_version rid place wts value)
+  pub inside : place < places v.size
+  -- a seat that is alone finds what its log leaves
+  pub left : IsAlone v → LeavesValue (map entry_of v.log) rid (limit_of v.flight v.published.read) value
+
+-- a pending version of another seat was met, and no version was found
+pub record Stops (stamp wts : ℕ) (v w : View) : Type 0 where
+  pub search : Search
+  pub view : w ≡ record v { work = record v.work { search = search }; seen = w.seen }
+  pub rests : Rests search
+  pub before : wts < stamp
+  pub another : seat_of wts ≡ v.number → ⊥
+  pub within : seat_of wts < v.size.seats
+  pub not_alone : IsAlone v → ⊥

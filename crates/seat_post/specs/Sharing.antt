@@ -1,0 +1,37 @@
+-- What becomes of a post where its seat is shared: it is announced, and makes the posts of the other seats.
+use Rattle.std.specs.Prelude.{None, ◌+◌, max, []}
+use Rattle.stamp_base.specs.Stamp.{bound_of_clock}
+use Rattle.core_rule.specs.View.{sharing, shared, nothing_known}
+use Rattle.core_rule.specs.Offers.{made_of}
+use Rattle.seat_post.specs.declared.phase.Phase.TheVariants.{Idle}
+use Rattle.seat_post.specs.Post.{PostView}
+use Rattle.seat_post.specs.Seats.{Known}
+
+-- nothing is known of lists
+abbrev pub no_knowledge : Known
+no_knowledge = record { counts = nothing_known; tops = [] }
+
+-- the bound of its clock is published and is the greatest minimum met
+abbrev pub announced_at : PostView → PostView
+announced_at p = record p { published = max p.published (bound_of_clock p.clock); met = max p.published (bound_of_clock p.clock) }
+
+-- one more seat was made; and the post of that one
+abbrev pub one_more : PostView → PostView
+one_more p = record p { others = record p.others { splitting = sharing (made_of p.others.splitting + 1) }; known = no_knowledge }
+
+abbrev pub made_next : PostView → PostView
+made_next p = record {
+  shared = p.shared;
+  seat = made_of p.others.splitting;
+  clock = p.clock;
+  published = p.published;
+  others = record { splitting = shared; taken_in = [] };
+  known = no_knowledge;
+  met = p.met;
+  log = [];
+  glance = None;
+  phase = Idle;
+  stamp = 0;
+  reads = [];
+  writes = [];
+}

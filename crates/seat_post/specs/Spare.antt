@@ -1,0 +1,64 @@
+-- The spare record numbers of a pass.
+use Rattle.std.specs.Prelude.{◌≡◌, ℕ, zero, suc, ◌-◌, Bool, true, false, nat_eq, ◌==◌, ◌&&◌, ◌≤◌, ◌<◌, nat_le, not, if◌then◌else◌, List, [], ◌∷◌, ◌++◌, Option, None, Some, filter, length}
+use Rattle.std.specs.List.{list_any, IsDistinct}
+use Rattle.record_store.specs.Meaning.{value_at}
+
+-- the number is on the list
+abbrev pub is_on : List ℕ → ℕ → Bool
+is_on rids rid = list_any (λ other. rid == other) rids
+
+-- a value is written to the record
+abbrev pub holds : Option (Option (List ℕ)) → Bool
+holds None = false
+holds (Some None) = false
+holds (Some (Some words)) = true
+
+abbrev pub is_deletion : Option (List ℕ) → Bool
+is_deletion None = true
+is_deletion (Some words) = false
+
+-- the new numbers that were given out and hold no value
+abbrev pub unused : List (ℕ × Option (List ℕ)) → List ℕ → List ℕ
+unused writes given = filter (λ rid. not (holds (value_at writes rid))) given
+
+-- a number at the end of the list, where it is not on it
+abbrev pub added : List ℕ → ℕ → List ℕ
+added rids rid = if is_on rids rid then rids else rids ++ rid ∷ []
+
+-- the list with each record from `fixed` on that is deleted
+abbrev pub with_deleted : (fixed : ℕ) → List ℕ → List (ℕ × Option (List ℕ)) → List ℕ
+with_deleted fixed rids [] = rids
+with_deleted fixed rids (write ∷ writes) = with_deleted fixed (if is_deletion write.1 && nat_le fixed write.0 then added rids write.0 else rids) writes
+
+-- the list after a commit of these writes, where these numbers were given out
+abbrev pub spare_after : (fixed : ℕ) → List (ℕ × Option (List ℕ)) → (given spare : List ℕ) → List ℕ
+spare_after fixed writes given spare = with_deleted fixed (unused writes given ++ spare) writes
+
+-- what a pass has of its spare numbers: the limits of all, those that are spare, and those that are given out
+pub record NumbersView : Type 0 where
+  pub fixed : ℕ
+  pub records : ℕ
+  pub spare : List ℕ
+  pub given : List ℕ
+
+-- the first `taken` are given out; each number is there once and in its range, and all of them find room
+pub record AreNumbers (fixed records taken : ℕ) (items : List ℕ) (room : ℕ) : Type 0 where
+  pub marked : taken ≤ length items
+  pub distinct : IsDistinct nat_eq items
+  pub in_range : (rid : ℕ) → is_on items rid ≡ true → (fixed ≤ rid) × (rid < records)
+  pub fits : records ≤ room
+
+-- none of them
+abbrev pub no_numbers : (fixed records : ℕ) → NumbersView
+no_numbers fixed records = record { fixed = fixed; records = records; spare = []; given = [] }
+
+-- each of these numbers at the end of the list, where it is not on it
+abbrev pub with_all : List ℕ → List ℕ → List ℕ
+with_all rids [] = rids
+with_all rids (x ∷ xs) = with_all (added rids x) xs
+
+-- every so many-th of the list, from this place on
+abbrev pub every : (step from : ℕ) → List ℕ → List ℕ
+every step from [] = []
+every step zero (x ∷ xs) = x ∷ every step (step - 1) xs
+every step (suc from) (x ∷ xs) = every step from xs

@@ -1,0 +1,34 @@
+//! Taking back the versions that no reader can reach any more, at a post.
+ghost use Rattle.std.specs.Prelude.{◌≡◌, ◌≤◌, []};
+ghost use Rattle.stamp_base.specs.Stamp.{bound_of_clock};
+ghost use Rattle.rapid_gc.specs.Bounds.{AreKept, LeavesOne};
+ghost use Rattle.rapid_gc.specs.Queues.{AllBelow};
+ghost use Rattle.seat_post.specs.Collecting.{AreQueued, Collects};
+ghost use Rattle.seat_post.specs.Post.{PostView, IsAlonePost, collected_at};
+
+use crate::phase::Phase;
+use crate::post::Post;
+use core_rule::{Core, Keeps};
+use rapid_gc::{Collected, Queue, collect};
+
+impl<J: Keeps> Post<J> {
+    /// Collects below the items of a queue, each of a commit entry of the log.
+    pub fn collect(&mut self, core: &Core<J>, queue: &mut Queue) -> Collected
+        requires core { self.old.shared ≡ core.now }
+        requires idle { self.old.phase ≡ Phase.Idle }
+        requires queued { AreQueued self.old.shared.size.records self.old.log queue.old.items }
+        requires below { AllBelow (bound_of_clock self.old.clock) queue.old.items }
+        ensures after { self.new ≡ collected_at self.old self.new.met self.new.known }
+        ensures met { self.old.met ≤ self.new.met }
+        ensures within { self.new.met ≤ self.new.published }
+        ensures queue { Collects queue.old.items queue.new.items result }
+        ensures room { queue.old.room ≤ queue.new.room }
+        ensures known { AreKept queue.old.items self.old.known.counts self.new.known.counts }
+        // A post that is alone meets what it has published, keeps no item, and leaves one version where the newest is queued.
+        ensures seen { IsAlonePost self.old → self.new.met ≡ self.new.published }
+        ensures alone { IsAlonePost self.old → queue.new.items ≡ [] }
+        ensures one_left { IsAlonePost self.old → LeavesOne queue.old.items self.old.known.tops self.new.known.counts }
+    {
+        collect(core, &mut self.hand, queue)
+    }
+}

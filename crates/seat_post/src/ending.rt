@@ -1,0 +1,105 @@
+//! Ending a transaction at a post: its versions are linked, it is decided, and they get their last status.
+ghost use Rattle.std.specs.Prelude.{◌≡◌, ◌≢◌, ◌+◌, ◌≤◌, [], length, OnOk, OnErr, IfOk, IfErr};
+ghost use Rattle.plain_data.specs.State.{Fits};
+ghost use Rattle.seat_post.specs.Ends.{Stood};
+ghost use Rattle.seat_post.specs.Seats.{IsAloneAt};
+ghost use Rattle.seat_post.specs.Leaves.{AreLeft};
+ghost use Rattle.seat_post.specs.Logs.{IsAbove};
+ghost use Rattle.seat_post.specs.Lists.{AreLinked, AreSomeLinked, known_before, AreKnown, count_raised, IsFullAt};
+ghost use Rattle.seat_post.specs.Post.{PostView, knowing, in_phase, closed, entered, entry_at, IsShownAt};
+
+use crate::phase::Phase;
+use crate::post::Post;
+use crate::writing::{clear, fill};
+use core_rule::{Core, Keeps};
+use stamp_base::Stamp;
+use validate_core::{Conflict, Decided, Installed, install};
+use version_pool::PlacesOut;
+
+impl<J: Keeps> Post<J> {
+    /// Links what is written as pending versions. Where there is no place for one of them, the transaction has ended.
+    pub fn install(&mut self, core: &Core<J>) -> Result<Installed, PlacesOut>
+        requires core { self.old.shared ≡ core.now }
+        requires open { self.old.phase ≡ Phase.Open }
+        ensures ok { OnOk result (self.new ≡ in_phase (knowing self.old self.new.known) Phase.Installed) }
+        ensures stamp { IfOk result (λ installed. installed.stamp ≡ self.old.stamp) }
+        ensures err { OnErr result (self.new ≡ closed (knowing self.old self.new.known)) }
+        ensures written { OnErr result (self.old.writes ≢ []) }
+        ensures above { IsAbove self.old.log self.old.stamp }
+        ensures read_left { IsAloneAt self.old.shared.size self.old.seat self.old.others → AreLeft self.old.log self.old.stamp self.old.reads }
+        ensures before { OnOk result (known_before (length self.old.writes) self.new.known ≡ self.old.known) }
+        ensures linked { OnOk result (AreLinked self.old.writes self.old.stamp self.old.known self.new.known) }
+        ensures some_linked { OnErr result (AreSomeLinked self.old.writes self.old.stamp self.old.known self.new.known) }
+        ensures full { OnErr result (IsAloneAt self.old.shared.size self.old.seat self.old.others → IsFullAt self.old.shared.size self.old.known (length self.old.writes)) }
+    {
+        fill(&mut self.sets, &self.writes);
+        match install(core, &mut self.hand, &mut self.sets) {
+            Ok(installed) => {
+                self.phase = Phase::Installed;
+                Ok(installed)
+            }
+            Err(places_out) => {
+                clear(&mut self.reads, &mut self.writes, &mut self.sets);
+                self.phase = Phase::Idle;
+                self.stamp = Stamp::make(0, 0);
+                Err(places_out)
+            }
+        }
+    }
+
+    /// Aborts the linked versions.
+    pub fn abort(&mut self, core: &Core<J>, installed: Installed)
+        requires core { self.old.shared ≡ core.now }
+        requires phase { self.old.phase ≡ Phase.Installed }
+        requires stamp { installed.stamp ≡ self.old.stamp }
+        ensures { self.new ≡ closed self.old }
+    {
+        installed.abort(core, &mut self.hand, &self.sets);
+        clear(&mut self.reads, &mut self.writes, &mut self.sets);
+        self.phase = Phase::Idle;
+        self.stamp = Stamp::make(0, 0);
+    }
+
+    /// Validates the transaction. Where it is decided its entry stands in the log; else its versions are aborted.
+    pub fn decide(&mut self, core: &Core<J>, installed: Installed) -> Result<Decided, Conflict>
+        requires core { self.old.shared ≡ core.now }
+        requires phase { self.old.phase ≡ Phase.Installed }
+        requires stamp { installed.stamp ≡ self.old.stamp }
+        requires fits { Fits J.kept self.old.shared.size.records (entry_at self.old) }
+        ensures ok { OnOk result (self.new ≡ entered self.old) }
+        ensures stood { OnOk result (Stood J.kept self.old.shared.size.records self.old.log (entry_at self.old)) }
+        ensures stamp { IfOk result (λ decided. decided.stamp ≡ self.old.stamp) }
+        ensures err { OnErr result (self.new ≡ closed self.old) }
+        ensures shown { IfErr result (IsShownAt self.old) }
+    {
+        match installed.decide(core, &mut self.hand, &self.sets) {
+            Ok(decided) => {
+                self.phase = Phase::Decided;
+                Ok(decided)
+            }
+            Err(conflict) => {
+                clear(&mut self.reads, &mut self.writes, &mut self.sets);
+                self.phase = Phase::Idle;
+                self.stamp = Stamp::make(0, 0);
+                Err(conflict)
+            }
+        }
+    }
+
+    /// Publishes the versions. Gives how many of them took the inline place of their record.
+    pub fn publish(&mut self, core: &Core<J>, decided: Decided) -> usize
+        requires core { self.old.shared ≡ core.now }
+        requires phase { self.old.phase ≡ Phase.Decided }
+        requires stamp { decided.stamp ≡ self.old.stamp }
+        ensures closed { self.new ≡ closed self.old }
+        ensures count { result ≤ length self.old.writes }
+        ensures placed { AreKnown (known_before (length self.old.writes) self.old.known) self.old.writes → result + count_raised (known_before (length self.old.writes) self.old.known) self.old.known self.old.writes ≡ length self.old.writes }
+    {
+        let inlined = self.sets.count_below(core.layout().records());
+        decided.publish(core, &mut self.hand, &self.sets);
+        clear(&mut self.reads, &mut self.writes, &mut self.sets);
+        self.phase = Phase::Idle;
+        self.stamp = Stamp::make(0, 0);
+        inlined
+    }
+}

@@ -1,0 +1,158 @@
+//! Beginning a snapshot, reading records for it, and ending it, at the hand of a seat and at a post.
+ghost use Rattle.std.specs.Prelude.{◌≡◌, ◌+◌, ◌<◌, ◌≤◌, true, Some, IsSome, IfSome, length};
+ghost use Rattle.stamp_base.specs.Stamp.{stamp_of};
+ghost use Rattle.histories.specs.History.{IsValue, UpTo};
+ghost use Rattle.core_rule.specs.View.{resting, Logged};
+ghost use Rattle.core_rule.specs.Views.{Among, IsAlone};
+ghost use Rattle.core_rule.specs.Searching.{Rests, Ends};
+ghost use Rattle.core_rule.specs.Deciding.{StoodAt};
+ghost use Rattle.core_rule.specs.Hands.{IsReady, StaysReady};
+ghost use Rattle.record_store.specs.Meaning.{value_at};
+ghost use Rattle.seat_post.specs.Ends.{Stood};
+ghost use Rattle.seat_post.specs.Glance.{with_read, entry_of_glance};
+ghost use Rattle.seat_post.specs.Glancing.{IsGlancing, Opens, Glances, glanced, IsLeftAt, entry_of_glances, glances_ended};
+ghost use Rattle.seat_post.specs.Logs.{AreBelow};
+ghost use Rattle.seat_post.specs.Post.{PostView, IsAlonePost, looking_at, looked_at, finished_at};
+ghost use Rattle.seat_post.specs.Searched.{Finds};
+
+use crate::phase::Phase;
+use crate::post::Post;
+use crate::search::Read;
+use clock_stamps::{publish_read, raise_min_write};
+use core_rule::{Core, Hand, Keeps};
+use plain_data::Cells;
+use version_search::{Found, find, load_value};
+
+/// Begins a snapshot: raises `min_wts`, publishes one less than it as the read stamp, and gives that. What was in flight has ended.
+pub(crate) fn begin_glances<J: Keeps>(core: &Core<J>, hand: &mut Hand<J>) -> u64
+    requires ready { IsReady core.now hand.old }
+    requires ends { Ends hand.old.view.work }
+    ensures opens { Opens result hand.old.view hand.new.view }
+    ensures glancing { IsGlancing hand.new.view }
+    ensures snapshots { (e : Logged) → Among e hand.old.view.log → e.snapshot ≡ true → e.stamp ≤ result }
+    ensures met { hand.old.view.clock.met ≤ result + 1 }
+    ensures below { result < hand.old.view.published.write }
+    ensures below_next { result < stamp_of (hand.old.view.clock.clock + 1) hand.old.view.number }
+    ensures stays { StaysReady core.now hand.old hand.new }
+{
+    raise_min_write(core, hand);
+    publish_read(core, hand)
+}
+
+// Searches for the version that is visible at the published read stamp, and loads its value.
+fn look<J: Keeps>(core: &Core<J>, hand: &mut Hand<J>, rid: u32) -> Read
+    requires ready { IsReady core.now hand.old }
+    requires rid { rid < core.now.size.records }
+    requires rests { Rests hand.old.view.work.search }
+    requires resting { hand.old.view.flight ≡ resting }
+    ensures finds { Finds rid result.place result.wts result.value hand.old.view hand.new.view }
+    ensures whole { IfSome result.value (λ words. length words ≡ 32) }
+    ensures stays { StaysReady core.now hand.old hand.new }
+{
+    let stamp = hand.published_read();
+    match find(core, hand, rid, stamp, true) {
+        Found::Pending { .. } => unreachable!(),
+        Found::Version {
+            place,
+            wts,
+            absent: true,
+        } => Read {
+            place,
+            wts,
+            value: None,
+        },
+        Found::Version {
+            place,
+            wts,
+            absent: false,
+        } => {
+            let cells = load_value(core, hand, place);
+            Read {
+                place,
+                wts,
+                value: Some(Cells::new(cells.words())),
+            }
+        }
+    }
+}
+
+/// Reads a record at the published read stamp. It always answers, and a record that was read before answers what it did then.
+/// Nothing is noted: what was read stands in the view.
+pub(crate) fn glance<J: Keeps>(core: &Core<J>, hand: &mut Hand<J>, rid: u32) -> Option<Cells>
+    requires ready { IsReady core.now hand.old }
+    requires rid { rid < core.now.size.records }
+    requires glancing { IsGlancing hand.old.view }
+    ensures glances { Glances rid result hand.old.view hand.new.view }
+    ensures glancing { IsGlancing hand.new.view }
+    ensures reads { glanced hand.new.view ≡ with_read (glanced hand.old.view) rid result }
+    ensures answer { value_at (glanced hand.new.view) rid ≡ Some result }
+    ensures left { IsAlone hand.old.view → IsLeftAt hand.old.view rid result }
+    ensures stays { StaysReady core.now hand.old hand.new }
+{
+    let read = look(core, hand, rid);
+    // This load tells that what was read of one record is alike.
+    core.load_min_read(hand);
+    read.value
+}
+
+/// Ends the snapshot: one entry with all that it has read enters the log. Gives its stamp.
+pub(crate) fn end_glances<J: Keeps>(core: &Core<J>, hand: &mut Hand<J>) -> u64
+    requires ready { IsReady core.now hand.old }
+    requires glancing { IsGlancing hand.old.view }
+    ensures stamp { result ≡ hand.old.view.published.read }
+    ensures view { hand.new.view ≡ glances_ended hand.old.view hand.new.view.seen }
+    ensures stood { StoodAt J.kept core.now.size.records hand.old.view.log (entry_of_glances hand.old.view) }
+    ensures stays { StaysReady core.now hand.old hand.new }
+{
+    let stamp = hand.published_read();
+    core.finish(hand);
+    stamp
+}
+
+impl<J: Keeps> Post<J> {
+    /// Begins a snapshot, and gives its stamp.
+    pub fn begin_snapshot(&mut self, core: &Core<J>) -> u64
+        requires core { self.old.shared ≡ core.now }
+        requires idle { self.old.phase ≡ Phase.Idle }
+        ensures after { self.new ≡ looking_at self.old result }
+        ensures met { self.old.met ≤ result + 1 }
+        ensures snapshots { AreBelow self.old.log (result + 1) }
+        ensures below { result < self.old.published }
+        ensures below_next { result < stamp_of (self.old.clock + 1) self.old.seat }
+        ensures alone { IsAlonePost self.old → self.old.published ≤ result + 1 }
+    {
+        begin_glances(core, &mut self.hand)
+    }
+
+    /// The stamp of the snapshot.
+    pub fn snapshot_stamp(&self) -> u64
+        ensures { IfSome self.now.glance (λ g. result ≡ g.stamp) }
+    {
+        self.hand.published_read()
+    }
+
+    /// Reads a record for the snapshot. What was read of it before is read again.
+    pub fn look(&mut self, core: &Core<J>, rid: u32) -> Option<Cells>
+        requires core { self.old.shared ≡ core.now }
+        requires idle { self.old.phase ≡ Phase.Idle }
+        requires looks { IsSome self.old.glance }
+        requires rid { rid < self.old.shared.size.records }
+        ensures after { self.new ≡ looked_at self.old rid result }
+        ensures answer { IfSome self.new.glance (λ g. value_at g.reads rid ≡ Some result) }
+        ensures left { IsAlonePost self.old → IfSome self.old.glance (λ g. IsValue (UpTo self.old.log g.stamp) rid result) }
+    {
+        glance(core, &mut self.hand, rid)
+    }
+
+    /// Ends the snapshot: its entry enters the log. Gives its stamp.
+    pub fn end_snapshot(&mut self, core: &Core<J>) -> u64
+        requires core { self.old.shared ≡ core.now }
+        requires idle { self.old.phase ≡ Phase.Idle }
+        requires looks { IsSome self.old.glance }
+        ensures after { IfSome self.old.glance (λ g. self.new ≡ finished_at self.old g) }
+        ensures stamp { IfSome self.old.glance (λ g. result ≡ g.stamp) }
+        ensures stood { IfSome self.old.glance (λ g. Stood J.kept self.old.shared.size.records self.old.log (entry_of_glance g)) }
+    {
+        end_glances(core, &mut self.hand)
+    }
+}

@@ -1,0 +1,257 @@
+//! The spare record numbers of a pass.
+ghost use Rattle.std.specs.Prelude.{◌≡◌, ◌≢◌, ◌<◌, ◌≤◌, ◌-◌, ◌++◌, ◌∷◌, [], false, ℕ, IsSome, IfOk, IfSome, length, nat_eq, nat_le, ◌&&◌, if◌then◌else◌, slice_get, slice_index_or, remove, Some};
+ghost use Rattle.std.specs.List.{range_with_len, IsDistinct};
+ghost use Rattle.record_store.specs.Meaning.{value_at};
+ghost use Rattle.seat_post.specs.Spare.{no_numbers, with_all, every, is_on, NumbersView, spare_after, unused, added, holds, is_deletion};
+
+use indexmap::IndexMap;
+use plain_data::{Cells, NoMemory};
+use std::alloc::Global;
+use std::collections::VecDeque;
+use std::marker::Model;
+
+/// Numbers for new records, each once. Those that are given out to the transaction in flight stand in front.
+#[derive(Drop)]
+pub struct Numbers {
+    fixed: u32,
+    records: u32,
+    list: VecDeque<u32>,
+    /// So many are given out.
+    taken: usize,
+}
+
+impl Model for Numbers {
+    ghost use Rattle.std.specs.Prelude.{take, drop};
+    ghost use Rattle.std.specs.VecDeque.{deque_capacity};
+    ghost use Rattle.seat_post.specs.Spare.{is_on, NumbersView, AreNumbers};
+
+    ghost Value = { NumbersView };
+
+    ghost view = { λ n. record { fixed = n.fixed; records = n.records; spare = drop n.taken n.list.items; given = take n.taken n.list.items } };
+
+    ghost invariant = { λ n. AreNumbers n.fixed n.records n.taken n.list.items (deque_capacity n.list) };
+}
+
+impl Numbers {
+    /// All numbers from `fixed` on, and room for all that a list may ever have.
+    pub fn new(alloc: Global, fixed: u32, records: u32) -> Result<Self, NoMemory>
+        requires { fixed ≤ records }
+        ensures { IfOk result (λ numbers. numbers ≡ record { fixed = fixed; records = records; spare = range_with_len fixed (records - fixed); given = [] }) }
+    {
+        let mut list = VecDeque::with_capacity(alloc, records as usize)?;
+        for rid in fixed..records {
+            let Ok(()) = list.push_back(rid) else {
+                unreachable!();
+            };
+        }
+        Ok(Numbers {
+            fixed,
+            records,
+            list,
+            taken: 0,
+        })
+    }
+
+    /// No numbers, and room for all that a list may ever have.
+    pub fn empty(alloc: Global, fixed: u32, records: u32) -> Result<Self, NoMemory>
+        ensures { IfOk result (λ numbers. numbers ≡ no_numbers fixed records) }
+    {
+        let list = VecDeque::with_capacity(alloc, records as usize)?;
+        Ok(Numbers {
+            fixed,
+            records,
+            list,
+            taken: 0,
+        })
+    }
+
+    /// The number of all records.
+    pub fn records(&self) -> u32
+        ensures { result ≡ self.now.records }
+    {
+        self.records
+    }
+
+    /// How many records are never given out.
+    pub fn fixed(&self) -> u32
+        ensures { result ≡ self.now.fixed }
+    {
+        self.fixed
+    }
+
+    /// How many numbers are spare.
+    pub fn len(&self) -> u32
+        ensures { result ≡ length self.now.spare }
+    {
+        // They are no more than the records.
+        self.records();
+        (self.list.len() - self.taken) as u32
+    }
+
+    /// Drops all numbers. The room stays.
+    pub fn clear(&mut self)
+        ensures { self.new ≡ record self.old { spare = []; given = [] } }
+    {
+        self.list.clear();
+        self.taken = self.list.len();
+    }
+
+    /// The spare number at this place of the list.
+    pub fn at(&self, i: usize) -> Option<u32>
+        ensures at { result ≡ slice_get self.now.spare i }
+        ensures from { IfSome result (λ rid. self.now.fixed ≤ rid) }
+        ensures within { IfSome result (λ rid. rid < self.now.records) }
+        ensures next { IfSome result (λ _. i < usize.MAX) }
+        ensures not_given { IfSome result (λ rid. is_on self.now.given rid ≡ false) }
+        ensures early { IfSome result (λ _. i < self.now.records) }
+        ensures distinct { IsDistinct nat_eq self.now.spare }
+    {
+        if i < self.list.len() - self.taken {
+            Some(self.list[self.taken + i])
+        } else {
+            None
+        }
+    }
+
+    /// Gives the spare number at this place out.
+    pub fn give(&mut self, i: usize) -> u32
+        requires { i < length self.old.spare }
+        ensures value { slice_get self.old.spare i ≡ Some result }
+        ensures after { self.new ≡ record self.old { spare = remove self.old.spare i; given = self.old.given ++ result ∷ [] } }
+    {
+        let Some(rid) = self.list.remove(self.taken + i) else {
+            unreachable!();
+        };
+        let Ok(()) = self.list.insert(self.taken, rid) else {
+            unreachable!();
+        };
+        self.taken += 1;
+        rid
+    }
+
+    /// Strikes the spare number at this place off the list.
+    pub fn strike(&mut self, i: usize)
+        requires { i < length self.old.spare }
+        ensures { self.new ≡ record self.old { spare = remove self.old.spare i } }
+    {
+        let Some(_) = self.list.remove(self.taken + i) else {
+            unreachable!();
+        };
+    }
+
+    /// Takes back what was given out.
+    pub fn take_back(&mut self)
+        ensures { self.new ≡ record self.old { spare = self.old.given ++ self.old.spare; given = [] } }
+    {
+        self.taken = 0;
+    }
+
+    fn count_given(&self) -> usize
+        ensures { result ≡ length self.now.given }
+    {
+        self.taken
+    }
+
+    // Puts the number given out last back to the front of the list, and tells it.
+    fn put_back_last(&mut self) -> u32
+        requires { self.old.given ≢ [] }
+        ensures given { self.old.given ≡ self.new.given ++ result ∷ [] }
+        ensures after { self.new ≡ record self.old { given = self.new.given; spare = result ∷ self.old.spare } }
+    {
+        self.taken -= 1;
+        self.list[self.taken]
+    }
+
+    // Puts back the numbers given out that hold no value.
+    fn put_back_unused(&mut self, writes: &IndexMap<u32, Option<Cells>>)
+        ensures { self.new ≡ record self.old { spare = unused writes.now.entries self.old.given ++ self.old.spare; given = [] } }
+    {
+        while self.count_given() > 0 {
+            let rid = self.put_back_last();
+            if holds_value(writes, rid) {
+                self.strike(0);
+            }
+        }
+    }
+
+    /// Adds a number at the end of the list, where it is not there.
+    pub fn add(&mut self, rid: u32)
+        requires from { self.old.fixed ≤ rid }
+        requires within { rid < self.old.records }
+        requires none { self.old.given ≡ [] }
+        ensures { self.new ≡ record self.old { spare = added self.old.spare rid } }
+    {
+        if self.list.contains(&rid) {
+            return;
+        }
+        let Ok(()) = self.list.push_back(rid) else {
+            unreachable!();
+        };
+    }
+
+    /// Puts every so many-th spare number of another list into this one, from a place on.
+    pub fn fill(&mut self, from: &Numbers, step: u32, first: u32)
+        requires step { 0 < step }
+        requires fixed { self.old.fixed ≡ from.now.fixed }
+        requires records { self.old.records ≡ from.now.records }
+        requires none { self.old.spare ≡ [] }
+        requires none_given { self.old.given ≡ [] }
+        ensures { self.new ≡ record self.old { spare = every step first from.now.spare } }
+    {
+        // The records are fewer than 2^32.
+        from.records();
+        let mut i = first as usize;
+        while let Some(rid) = from.at(i) {
+            self.add(rid);
+            i += step as usize;
+        }
+    }
+
+    /// Adds the spare numbers of another list that are not on this one.
+    pub fn add_all(&mut self, other: &Numbers)
+        requires fixed { self.old.fixed ≡ other.now.fixed }
+        requires records { self.old.records ≡ other.now.records }
+        requires none_given { self.old.given ≡ [] }
+        ensures { self.new ≡ record self.old { spare = with_all self.old.spare other.now.spare } }
+    {
+        let mut i = 0;
+        while let Some(rid) = other.at(i) {
+            self.add(rid);
+            i += 1;
+        }
+    }
+
+    // Adds the record where it is deleted and is one of those that are given out.
+    fn note(&mut self, rid: u32, value: &Option<Cells>)
+        requires within { rid < self.old.records }
+        requires none { self.old.given ≡ [] }
+        ensures { self.new ≡ record self.old { spare = if is_deletion value.now && nat_le self.old.fixed rid then added self.old.spare rid else self.old.spare } }
+    {
+        if value.is_none() && self.fixed <= rid {
+            self.add(rid);
+        }
+    }
+
+    /// The list after a commit: the numbers given out that hold no value are back, and deleted records are on it.
+    pub fn settle(&mut self, writes: &IndexMap<u32, Option<Cells>>)
+        requires { (rid : ℕ) → IsSome (value_at writes.now.entries rid) → rid < self.old.records }
+        ensures { self.new ≡ record self.old { spare = spare_after self.old.fixed writes.now.entries self.old.given self.old.spare; given = [] } }
+    {
+        self.put_back_unused(writes);
+        for i in 0..writes.len() {
+            let Some((rid, value)) = writes.get_index(i) else {
+                unreachable!();
+            };
+            self.note(*rid, value);
+        }
+    }
+}
+
+fn holds_value(writes: &IndexMap<u32, Option<Cells>>, rid: u32) -> bool
+    ensures { result ≡ holds (value_at writes.now.entries rid) }
+{
+    match writes.get(&rid) {
+        None => false,
+        Some(value) => value.is_some(),
+    }
+}

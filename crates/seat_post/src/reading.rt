@@ -1,0 +1,137 @@
+//! Reading and writing at a post.
+ghost use Rattle.std.specs.Prelude.{◌≡◌, ◌≢◌, ◌+◌, ◌<◌, ◌≤◌, ◌++◌, ◌∷◌, [], None, Some, false, is_some, IfOk, IfErr, IfSome, OnOk, OnErr, length, if◌then◌else◌};
+ghost use Rattle.indexmap.specs.IndexMap.{spare};
+ghost use Rattle.core_rule.specs.Deciding.{read_values};
+ghost use Rattle.core_rule.specs.Versions.{read_version};
+ghost use Rattle.record_store.specs.Meaning.{value_at};
+ghost use Rattle.seat_post.specs.Post.{PostView, known_at, noted};
+ghost use Rattle.seat_post.specs.Seats.{IsAloneAt};
+ghost use Rattle.seat_post.specs.Logs.{IsAbove};
+ghost use Rattle.seat_post.specs.Leaves.{LeavesValue, LeavesSome};
+ghost use Rattle.seat_post.specs.Conflicts.{IsOfAnother};
+ghost use Rattle.seat_post.specs.Reading.{IfPending};
+
+use crate::phase::Phase;
+use crate::post::Post;
+use crate::search::{Read, search};
+use crate::values::copy;
+use core_rule::{Core, Keeps};
+use indexmap::IndexMap;
+use plain_data::{Cells, NoMemory};
+use validate_core::Sets;
+
+/// Why a read has no answer.
+#[derive(Clone, Copy, Drop)]
+pub enum ReadFault {
+    /// A pending version was met, of this stamp.
+    Pending { wts: u64 },
+    /// The allocator had no room.
+    NoMemory,
+}
+
+impl From<NoMemory> for ReadFault {
+    ghost use Rattle.std.specs.Prelude.{◌≡◌};
+    ghost use Rattle.seat_post.specs.declared.reading.ReadFault.TheVariants as fault;
+
+    ghost from_gives = { λ _ answer. answer ≡ fault.NoMemory };
+
+    fn from(_error: NoMemory) -> Self {
+        ReadFault::NoMemory
+    }
+}
+
+// Makes room for one more read.
+fn make_room(reads: &mut IndexMap<u32, Option<Cells>>, sets: &mut Sets) -> Result<(), NoMemory>
+    ensures entries { reads.new.entries ≡ reads.old.entries }
+    ensures reads { sets.new.reads ≡ sets.old.reads }
+    ensures writes { sets.new.writes ≡ sets.old.writes }
+    ensures not_less { sets.old.write_room ≤ sets.new.write_room }
+    ensures map_room { OnOk result (0 < spare reads.new) }
+    ensures room { OnOk result (length sets.new.reads < sets.new.read_room) }
+{
+    reads.reserve(1)?;
+    sets.reserve(1, 0)
+}
+
+// Notes a read in the map and in the sets, where there is room.
+fn note(reads: &mut IndexMap<u32, Option<Cells>>, sets: &mut Sets, rid: u32, read: &Read)
+    requires map_room { 0 < spare reads.old }
+    requires room { length sets.old.reads < sets.old.read_room }
+    requires first { value_at reads.old.entries rid ≡ None }
+    requires same { read_values sets.old.reads ≡ reads.old.entries }
+    ensures entries { reads.new.entries ≡ reads.old.entries ++ (rid, read.now.value) ∷ [] }
+    ensures reads { sets.new.reads ≡ sets.old.reads ++ read_version rid read.now.place read.now.wts read.now.value ∷ [] }
+    ensures writes { sets.new.writes ≡ sets.old.writes }
+    ensures not_less { sets.old.write_room ≤ sets.new.write_room }
+{
+    sets.read(rid, read.place, read.wts, copy(&read.value));
+    let Ok(_) = reads.insert(rid, copy(&read.value)) else {
+        unreachable!();
+    };
+}
+
+impl<J: Keeps> Post<J> {
+    /// What is known of a record: the value written, else the value read.
+    pub fn known(&self, rid: u32) -> Option<Option<Cells>>
+        ensures value { result ≡ known_at self.now rid }
+        ensures above { self.now.phase ≡ Phase.Open → IsAbove self.now.log self.now.stamp }
+        ensures left { self.now.phase ≡ Phase.Open → IsAloneAt self.now.shared.size self.now.seat self.now.others → value_at self.now.writes rid ≡ None → IfSome result (LeavesValue self.now.log rid self.now.stamp) }
+    {
+        match self.writes.get(&rid) {
+            Some(value) => Some(*value),
+            None => self.reads.get(&rid).copied(),
+        }
+    }
+
+    /// Whether the transaction writes the record.
+    pub fn is_written(&self, rid: u32) -> bool
+        ensures { result ≡ is_some (value_at self.now.writes rid) }
+    {
+        self.writes.contains_key(&rid)
+    }
+
+    /// Reads a record of which nothing is known. Room is taken first.
+    pub fn read(&mut self, core: &Core<J>, rid: u32) -> Result<Option<Cells>, ReadFault>
+        requires core { self.old.shared ≡ core.now }
+        requires open { self.old.phase ≡ Phase.Open }
+        requires rid { rid < self.old.shared.size.records }
+        requires first { known_at self.old rid ≡ None }
+        ensures ok { IfOk result (λ value. self.new ≡ noted self.old rid value) }
+        ensures left { IsAloneAt self.old.shared.size self.old.seat self.old.others → IfOk result (LeavesValue self.old.log rid self.old.stamp) }
+        ensures err { OnErr result (self.new ≡ self.old) }
+        ensures met { IfErr result (λ fault. IfPending fault (λ wts. (wts < self.old.stamp) × IsOfAnother self.old.shared.size self.old.seat self.old.others wts)) }
+    {
+        make_room(&mut self.reads, &mut self.sets)?;
+        match search(core, &mut self.hand, rid, self.stamp.number()) {
+            Err(met) => Err(ReadFault::Pending { wts: met.wts }),
+            Ok(read) => {
+                note(&mut self.reads, &mut self.sets, rid, &read);
+                Ok(read.value)
+            }
+        }
+    }
+
+    /// Reads such a record, and notes it only where it is absent. Room is taken first.
+    pub fn read_absent(&mut self, core: &Core<J>, rid: u32) -> Result<bool, ReadFault>
+        requires core { self.old.shared ≡ core.now }
+        requires open { self.old.phase ≡ Phase.Open }
+        requires rid { rid < self.old.shared.size.records }
+        requires first { known_at self.old rid ≡ None }
+        ensures ok { IfOk result (λ absent. self.new ≡ (if absent then noted self.old rid None else self.old)) }
+        ensures left { IsAloneAt self.old.shared.size self.old.seat self.old.others → IfOk result (λ absent. absent ≡ false → LeavesSome self.old.log rid self.old.stamp) }
+        ensures err { OnErr result (self.new ≡ self.old) }
+        ensures met { IfErr result (λ fault. IfPending fault (λ wts. (wts < self.old.stamp) × IsOfAnother self.old.shared.size self.old.seat self.old.others wts)) }
+    {
+        make_room(&mut self.reads, &mut self.sets)?;
+        match search(core, &mut self.hand, rid, self.stamp.number()) {
+            Err(met) => Err(ReadFault::Pending { wts: met.wts }),
+            Ok(read) => {
+                if read.value.is_some() {
+                    return Ok(false);
+                }
+                note(&mut self.reads, &mut self.sets, rid, &read);
+                Ok(true)
+            }
+        }
+    }
+}

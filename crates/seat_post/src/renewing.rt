@@ -1,0 +1,105 @@
+//! Writing the visible value of a record again, at the next stamp and in a place that is found for it, by a seat that is alone.
+ghost use Rattle.std.specs.Prelude.{ℕ, ◌≡◌, ◌≢◌, ◌⊎◌, ◌+◌, ◌<◌, true, false, if◌then◌else◌, IfOk, OnErr, IsOkAnd};
+ghost use Rattle.stamp_base.specs.Limits.{greatest_clock};
+ghost use Rattle.word_layout.specs.Size.{IsUsable, kept_place, places};
+ghost use Rattle.core_rule.specs.View.{version_kept};
+ghost use Rattle.core_rule.specs.Hands.{IsReady, StaysReady};
+ghost use Rattle.core_rule.specs.Searching.{FitsPlace};
+ghost use Rattle.core_rule.specs.Spares.{KnowsFree, StandsKept};
+ghost use Rattle.seat_post.specs.Settling.{IsSettling, Settles, KeepsOthers, IsRewrittenAt, HasSpare, TakesAfter, LosesAll, WantsKept, RunsOut};
+
+use crate::rewriting::Room;
+use crate::search::search;
+use clock_stamps::{ClockOut, draw};
+use core_rule::{Core, Hand, Keeps};
+use stamp_base::GREATEST_CLOCK;
+use version_pool::{take, take_kept};
+
+/// A version that was written: its stamp, and whether it stands in the kept place.
+#[derive(Clone, Copy, Drop)]
+pub(crate) struct Renewed {
+    pub(crate) stamp: u64,
+    pub(crate) kept: bool,
+}
+
+// A place that was taken, and whether it is the kept one.
+#[derive(Clone, Copy, Drop)]
+struct Taken {
+    place: u32,
+    kept: bool,
+}
+
+/// Writes the visible value of a record again, at the next stamp. It takes the kept place only where neither the record's inline
+/// place nor a usable one is free, and a clock is left to write it once more.
+pub(crate) fn renew<J: Keeps>(
+    core: &Core<J>,
+    hand: &mut Hand<J>,
+    room: &mut Room,
+    rid: u32,
+) -> Result<Renewed, ClockOut>
+    requires ready { IsReady core.now hand.old }
+    requires rid { rid < core.now.size.records }
+    requires settling { IsSettling hand.old.view }
+    requires spare { HasSpare rid hand.old.view.counts }
+    ensures settling { IsSettling hand.new.view }
+    ensures settles { Settles J.kept hand.old.view hand.new.view }
+    ensures others { KeepsOthers rid hand.old.view hand.new.view }
+    ensures ok { IfOk result (λ renewed. IsRewrittenAt rid renewed.stamp hand.old.view hand.new.view) }
+    ensures in_kept { IfOk result (λ renewed. hand.new.view.counts.in_kept ≡ (if renewed.kept then version_kept rid renewed.stamp else hand.old.view.counts.in_kept)) }
+    ensures left { IfOk result (λ renewed. renewed.kept ≡ true → hand.new.view.clock.clock < greatest_clock) }
+    // Where the only version stands in the kept place, the inline place is free.
+    ensures inline { StandsKept rid hand.old.view.counts → hand.old.view.clock.clock < greatest_clock → IsOkAnd result (λ renewed. renewed.kept ≡ false) }
+    ensures gone { hand.new.view.gone ≡ hand.old.view.gone }
+    ensures clock_out { OnErr result (hand.new.view.clock.clock ≡ greatest_clock) }
+    ensures runs_out { OnErr result (RunsOut rid hand.old.view hand.new.view) }
+    ensures none { OnErr result (hand.new.view.counts ≡ hand.old.view.counts) }
+    ensures stays { StaysReady core.now hand.old hand.new }
+{
+    // The seat is in its range.
+    hand.number();
+    let stamp = draw(core, hand, 0)?;
+    let read = match search(core, hand, rid, stamp.number()) {
+        Ok(read) => read,
+        Err(_met) => unreachable!(),
+    };
+    let taken = take_place(core, hand, rid)?;
+    match room.rewrite(core, hand, rid, &read, taken.place) {
+        Ok(()) => Ok(Renewed {
+            stamp: stamp.number(),
+            kept: taken.kept,
+        }),
+        Err(_conflict) => unreachable!(),
+    }
+}
+
+// Takes a place for a version of a record: as `take` does, and the kept place where that finds none free. What is written there has to
+// be written once more, so where there is no clock left for that, the clock has come to its end.
+fn take_place<J: Keeps>(core: &Core<J>, hand: &mut Hand<J>, rid: u32) -> Result<Taken, ClockOut>
+    requires ready { IsReady core.now hand.old }
+    requires rid { rid < core.now.size.records }
+    requires spare { KnowsFree hand.old.view (kept_place core.now.size) ⊎ KnowsFree hand.old.view rid }
+    ensures takes { IfOk result (λ taken. TakesAfter taken.place hand.old.view hand.new.view) }
+    ensures fits { IfOk result (λ taken. FitsPlace core.now.size rid taken.place × (taken.place < places core.now.size)) }
+    ensures others { IfOk result (λ taken. taken.kept ≡ false → (taken.place ≡ rid) ⊎ IsUsable core.now.size taken.place) }
+    ensures apart { IfOk result (λ taken. taken.kept ≡ false → taken.place ≢ kept_place core.now.size) }
+    ensures kept { IfOk result (λ taken. taken.kept ≡ true → (taken.place ≡ kept_place core.now.size) × WantsKept core.now.size rid hand.old.view hand.new.view) }
+    ensures left { IfOk result (λ taken. taken.kept ≡ true → hand.old.view.clock.clock < greatest_clock) }
+    ensures inline { KnowsFree hand.old.view rid → IsOkAnd result (λ taken. taken.kept ≡ false) }
+    ensures none { OnErr result (LosesAll hand.old.view hand.new.view) }
+    ensures wanted { OnErr result (WantsKept core.now.size rid hand.old.view hand.new.view) }
+    ensures clock_out { OnErr result (hand.old.view.clock.clock ≡ greatest_clock) }
+    ensures stays { StaysReady core.now hand.old hand.new }
+{
+    // There is a kept place.
+    hand.number();
+    if let Ok((place, _)) = take(core, hand, rid) {
+        return Ok(Taken { place, kept: false });
+    }
+    if hand.clock() == GREATEST_CLOCK {
+        return Err(ClockOut);
+    }
+    let Some(place) = take_kept(core, hand) else {
+        unreachable!();
+    };
+    Ok(Taken { place, kept: true })
+}

@@ -1,0 +1,186 @@
+//! Settling: each record's list is brought to one version, by a seat that is alone.
+ghost use Rattle.std.specs.Prelude.{ℕ, ◌≡◌, ◌+◌, ◌*◌, ◌<◌, ◌≤◌, true, false, Some, [], ◌∷◌, IfOk, OnOk, OnErr};
+ghost use Rattle.stamp_base.specs.Limits.{greatest_clock};
+ghost use Rattle.stamp_base.specs.Stamp.{bound_of_clock};
+ghost use Rattle.core_rule.specs.View.{View, nothing_kept};
+ghost use Rattle.core_rule.specs.Hands.{IsReady, StaysReady};
+ghost use Rattle.core_rule.specs.Searching.{newest_stamp, known_of};
+ghost use Rattle.core_rule.specs.Collecting.{HasEntry};
+ghost use Rattle.rapid_gc.specs.Bounds.{IsOneLeft};
+ghost use Rattle.rapid_gc.specs.Ends.{FreesCounted};
+ghost use Rattle.rapid_gc.specs.InKept.{IsBelow, Remains};
+ghost use Rattle.rapid_gc.specs.declared.queue.Queued.{Queued};
+ghost use Rattle.seat_post.specs.Logs.{IsAbove};
+ghost use Rattle.seat_post.specs.Post.{PostView};
+ghost use Rattle.seat_post.specs.Seats.{IsAloneAt};
+ghost use Rattle.seat_post.specs.Settling.{AreSettled, SettlesPost, IsDrawnFor, IsSettling, Settles, KeepsOthers, Draws, OnlySearches, IsHidden, IsDue, Cuts, IsCut, RunsOut, StopsAt};
+
+use crate::phase::Phase;
+use crate::post::Post;
+use crate::renewing::renew;
+use crate::rewriting::Room;
+use crate::settled::Settled;
+use clock_stamps::{ClockOut, idle, publish_read, raise_min_write};
+use core_rule::{Core, Hand, Keeps};
+use version_search::{First, Found, find, first};
+
+impl<J: Keeps> Post<J> {
+    /// Brings the list of each record to one version, by rising number. Where the first version of a list is committed or deleted,
+    /// the rest is cut off; else what is visible is written again, at a stamp of the next clock, and the rest is cut off. No memory
+    /// is asked for.
+    ///
+    /// `ClockOut` comes only where the clock has come to its end and a writing again is due for a record; the records before that
+    /// are settled then.
+    pub fn settle(&mut self, core: &Core<J>) -> Result<Settled, ClockOut>
+        requires core { self.old.shared ≡ core.now }
+        requires idle { self.old.phase ≡ Phase.Idle }
+        requires alone { IsAloneAt self.old.shared.size self.old.seat self.old.others }
+        requires above { IsAbove self.old.log (bound_of_clock self.old.clock) }
+        ensures settles { SettlesPost J.kept self.old self.new }
+        ensures settled { OnOk result (AreSettled self.old.shared.size.records self.new.known.counts) }
+        ensures draws { IfOk result (λ all. IsDrawnFor all.rewritten self.old.clock self.new.clock self.old.log self.new.log) }
+        ensures counts { IfOk result (λ all. (all.rewritten ≤ all.cut) × (all.cut ≤ 2 * self.old.shared.size.records)) }
+        ensures clock_out { OnErr result (self.new.clock ≡ greatest_clock) }
+        ensures before { OnErr result ((count : ℕ) × (count < self.old.shared.size.records) × AreSettled count self.new.known.counts) }
+    {
+        let told = settle_all(core, &mut self.hand, &mut self.room);
+        // What was searched is over.
+        publish_read(core, &mut self.hand);
+        told
+    }
+}
+
+// Brings each record's list to one version, by rising number.
+fn settle_all<J: Keeps>(
+    core: &Core<J>,
+    hand: &mut Hand<J>,
+    room: &mut Room,
+) -> Result<Settled, ClockOut>
+    requires ready { IsReady core.now hand.old }
+    requires settling { IsSettling hand.old.view }
+    requires keeps_none { hand.old.view.counts.in_kept ≡ nothing_kept }
+    ensures settling { IsSettling hand.new.view }
+    ensures keeps_none { hand.new.view.counts.in_kept ≡ nothing_kept }
+    ensures settles { Settles J.kept hand.old.view hand.new.view }
+    ensures settled { OnOk result (AreSettled core.now.size.records hand.new.view.counts) }
+    ensures draws { IfOk result (λ all. Draws all.rewritten hand.old.view hand.new.view) }
+    ensures counts { IfOk result (λ all. (all.rewritten ≤ all.cut) × (all.cut ≤ 2 * core.now.size.records)) }
+    ensures freed { IfOk result (λ all. FreesCounted all.places hand.old.view hand.new.view) }
+    ensures clock_out { OnErr result (hand.new.view.clock.clock ≡ greatest_clock) }
+    ensures stops { OnErr result (StopsAt core.now.size.records hand.new.view) }
+    ensures stays { StaysReady core.now hand.old hand.new }
+{
+    let mut all = Settled::none();
+    for rid in 0..core.layout().records() {
+        all = all.with(settle_record(core, hand, room, rid)?);
+    }
+    Ok(all)
+}
+
+// Brings one record's list to one version. What was written again in the kept place is at once written again, in a place that was
+// freed.
+fn settle_record<J: Keeps>(
+    core: &Core<J>,
+    hand: &mut Hand<J>,
+    room: &mut Room,
+    rid: u32,
+) -> Result<Settled, ClockOut>
+    requires ready { IsReady core.now hand.old }
+    requires rid { rid < core.now.size.records }
+    requires settling { IsSettling hand.old.view }
+    requires keeps_none { hand.old.view.counts.in_kept ≡ nothing_kept }
+    ensures settling { IsSettling hand.new.view }
+    ensures keeps_none { hand.new.view.counts.in_kept ≡ nothing_kept }
+    ensures settles { Settles J.kept hand.old.view hand.new.view }
+    ensures others { KeepsOthers rid hand.old.view hand.new.view }
+    ensures one { OnOk result (IsOneLeft (known_of hand.new.view.counts rid)) }
+    ensures draws { IfOk result (λ done. Draws done.rewritten hand.old.view hand.new.view) }
+    ensures counts { IfOk result (λ done. (done.rewritten ≤ done.cut) × (done.cut ≤ 2)) }
+    ensures cuts { IfOk result (Cuts rid hand.old.view) }
+    ensures freed { IfOk result (λ done. FreesCounted done.places hand.old.view hand.new.view) }
+    ensures due { IfOk result (λ done. 0 < done.rewritten → IsDue rid hand.old.view) }
+    ensures wanted { OnErr result (IsDue rid hand.old.view) }
+    ensures runs_out { OnErr result ((between : View) × RunsOut rid between hand.new.view) }
+    ensures clock_out { OnErr result (hand.new.view.clock.clock ≡ greatest_clock) }
+    ensures stays { StaysReady core.now hand.old hand.new }
+{
+    let found = first(core, hand, rid);
+    if found.single {
+        return Ok(Settled::none());
+    }
+    if is_visible(core, hand, rid, found) {
+        let places = cut_below(core, hand, room, rid, found.wts);
+        return Ok(Settled {
+            rewritten: 0,
+            cut: 1,
+            places,
+        });
+    }
+    let once = renew(core, hand, room, rid)?;
+    let places = cut_below(core, hand, room, rid, once.stamp);
+    if !once.kept {
+        return Ok(Settled {
+            rewritten: 1,
+            cut: 1,
+            places,
+        });
+    }
+    let Ok(twice) = renew(core, hand, room, rid) else {
+        unreachable!();
+    };
+    let more = cut_below(core, hand, room, rid, twice.stamp);
+    Ok(Settled {
+        rewritten: 2,
+        cut: 2,
+        places: places.saturating_add(more),
+    })
+}
+
+// Whether the first version of a record is the visible one: committed or deleted, and that of an entry.
+fn is_visible<J: Keeps>(core: &Core<J>, hand: &mut Hand<J>, rid: u32, first: First) -> bool
+    requires ready { IsReady core.now hand.old }
+    requires rid { rid < core.now.size.records }
+    requires settling { IsSettling hand.old.view }
+    ensures settling { IsSettling hand.new.view }
+    ensures settles { Settles J.kept hand.old.view hand.new.view }
+    ensures searches { OnlySearches hand.old.view hand.new.view }
+    ensures entered { result ≡ true → HasEntry rid first.wts hand.new.view.log }
+    ensures hidden { result ≡ false → IsHidden rid first hand.new.view }
+    ensures stays { StaysReady core.now hand.old hand.new }
+{
+    if !first.decided {
+        return false;
+    }
+    idle(core, hand);
+    raise_min_write(core, hand);
+    let bound = publish_read(core, hand);
+    match find(core, hand, rid, bound, true) {
+        Found::Pending { .. } => unreachable!(),
+        Found::Version { wts: found, .. } => found == first.wts && first.wts > 0,
+    }
+}
+
+// Cuts off what is older than the newest version of a record, and gives how many places were freed.
+fn cut_below<J: Keeps>(
+    core: &Core<J>,
+    hand: &mut Hand<J>,
+    room: &mut Room,
+    rid: u32,
+    stamp: u64,
+) -> u32
+    requires ready { IsReady core.now hand.old }
+    requires rid { rid < core.now.size.records }
+    requires settling { IsSettling hand.old.view }
+    requires entered { HasEntry rid stamp hand.old.view.log }
+    requires newest { newest_stamp hand.old.view.tops rid ≡ Some stamp }
+    ensures settling { IsSettling hand.new.view }
+    ensures settles { Settles J.kept hand.old.view hand.new.view }
+    ensures others { KeepsOthers rid hand.old.view hand.new.view }
+    ensures cut { IsCut rid hand.old.view hand.new.view }
+    ensures in_kept { Remains (record { rid = rid; stamp = stamp } ∷ []) hand.old.view.counts.in_kept hand.new.view.counts.in_kept }
+    ensures cut_off { IsBelow (record { rid = rid; stamp = stamp }) hand.old.view.counts.in_kept → hand.new.view.counts.in_kept ≡ nothing_kept }
+    ensures freed { FreesCounted result hand.old.view hand.new.view }
+    ensures stays { StaysReady core.now hand.old hand.new }
+{
+    room.collect(core, hand, rid, stamp)
+}

@@ -1,0 +1,40 @@
+//! Sharing a seat at its post: it is announced, and makes the posts of the other seats.
+ghost use Rattle.std.specs.Prelude.{◌≡◌, ◌<◌, ◌≤◌};
+ghost use Rattle.core_rule.specs.Offers.{MayOffer, made_of};
+ghost use Rattle.seat_post.specs.Post.{PostView};
+ghost use Rattle.seat_post.specs.Seats.{IsAloneAt};
+ghost use Rattle.seat_post.specs.Sharing.{announced_at, one_more, made_next};
+
+use crate::phase::Phase;
+use crate::post::Post;
+use crate::rewriting::Room;
+use clock_stamps::{idle, raise_min_write};
+use core_rule::{Core, Keeps};
+use std::alloc::Global;
+
+impl<J: Keeps> Post<J> {
+    /// Publishes the bound of its clock, and raises `min_wts` to it, which no other seat holds back.
+    pub fn announce(&mut self, core: &Core<J>)
+        requires core { self.old.shared ≡ core.now }
+        requires idle { self.old.phase ≡ Phase.Idle }
+        requires alone { IsAloneAt self.old.shared.size self.old.seat self.old.others }
+        ensures value { self.new ≡ record (announced_at self.old) { glance = self.new.glance } }
+        ensures not_back { self.old.met ≤ self.new.met }
+    {
+        idle(core, &mut self.hand);
+        raise_min_write(core, &mut self.hand);
+    }
+
+    /// Makes the next seat.
+    pub fn split(&mut self, alloc: Global, core: &Core<J>, room: Room) -> Post<J>
+        requires core { self.old.shared ≡ core.now }
+        requires idle { self.old.phase ≡ Phase.Idle }
+        requires makes { MayOffer self.old.others.splitting }
+        requires room { made_of self.old.others.splitting < core.now.size.seats }
+        ensures left { self.new ≡ record (one_more self.old) { glance = self.new.glance } }
+        ensures right { result ≡ record (made_next self.old) { glance = result.glance } }
+    {
+        let hand = core.split(&mut self.hand);
+        Post::new(alloc, hand, room)
+    }
+}

@@ -1,0 +1,23 @@
+//! Telling that the log of a post that is alone is a lawful history.
+ghost use Rattle.std.specs.Prelude.{◌≡◌, ◌≤◌};
+ghost use Rattle.histories.specs.History.{Lawful};
+ghost use Rattle.seat_post.specs.Post.{PostView};
+ghost use Rattle.seat_post.specs.Seats.{IsAloneAt};
+
+use crate::phase::Phase;
+use crate::post::Post;
+use core_rule::{Core, Keeps};
+
+impl<J: Keeps> Post<J> {
+    /// Loads `min_wts`.
+    pub fn tell(&mut self, core: &Core<J>)
+        requires core { self.old.shared ≡ core.now }
+        requires idle { self.old.phase ≡ Phase.Idle }
+        requires alone { IsAloneAt self.old.shared.size self.old.seat self.old.others }
+        ensures value { self.new ≡ record self.old { met = self.new.met } }
+        ensures not_back { self.old.met ≤ self.new.met }
+        ensures lawful { Lawful J.kept self.old.shared.size.records self.old.log }
+    {
+        core.load_min_write(&mut self.hand);
+    }
+}

@@ -1,0 +1,84 @@
+-- Which records of a pass have one version, or one at most outside their inline places, and will once what is queued is collected.
+use Rattle.std.proofs.Common.{◌≡◌, ℕ, suc, ◌≤◌, true, false, Bool, cond, List, [], ◌∷◌, Option, None, Some, refl, sym, ap, ◌∙◌, subst, inl, inr, ◌⊎◌, arith, take_all, length}
+use Rattle.std.specs.Prelude.{Result, Ok, Err, OnErr, IsSome}
+use Rattle.std.proofs.lemmas.Bool.Decides.{eqb_tells}
+use Rattle.core_rule.specs.View.{Bound}
+use Rattle.core_rule.specs.Views.{Among}
+use Rattle.core_rule.specs.Searching.{known_of}
+use Rattle.record_store.specs.Meaning.{value_at}
+use Rattle.seat_post.specs.Seats.{Known}
+use Rattle.seat_post.specs.Lists.{HasLinked, HasOutside, AreLinked, AreSomeLinked, IsRoomyAt}
+use Rattle.txn_engine.specs.Lists.{IsQueuedNewest, IsTidy, IsRoomy, IsTidyOnceCollected, IsRoomyOnceCollected}
+use Rattle.txn_engine.specs.Pass.{PassView, EngineView, Frame, first_pass, knowing, queued, decided, published, committed}
+use Rattle.txn_engine.specs.Accounts.{Stays}
+use Rattle.core_rule.proofs.Among.{Among-left, Among-right}
+
+-- ---- at a post
+
+-- all of them are some
+pub all_linked : (writes : List (ℕ × Option (List ℕ))) (stamp : ℕ) (before after' : Known) → AreLinked writes stamp before after' → AreSomeLinked writes stamp before after'
+all_linked writes stamp before after' are = record { count = length writes; linked = subst (λ ws. AreLinked ws stamp before after') (sym (take_all (length writes) writes (omega arith))) are }
+
+-- what holds whatever is answered holds of a refusal
+pub on_err : {A E P : Type 0} (r : Result A E) → P → OnErr r P
+on_err (Ok a) p = tt
+on_err (Err e) p = p
+
+-- ---- what is queued
+
+value_or : (found : Option (Option (List ℕ))) → (found ≡ None) ⊎ IsSome found
+value_or None = inl refl
+value_or (Some x) = inr refl
+
+among_queued : (stamp : ℕ) (writes : List (ℕ × Option (List ℕ))) (r : ℕ) → IsSome (value_at writes r) → Among (record { rid = r; stamp = stamp }) (queued stamp writes)
+among_queued stamp [] r some = let e : false ≡ true = some in cc
+among_queued stamp (w ∷ ws) r some = elim (eqb_tells r w.0) as (λ _. Among (record { rid = r; stamp = stamp }) (queued stamp (w ∷ ws))) [
+  | inl t ↦ inl (ap (λ n. record { rid = n; stamp = stamp }) (sym t.1))
+  | inr t ↦ inr (among_queued stamp ws r (subst (λ (b : Bool). IsSome (cond b (Some w.1) (value_at ws r))) t.0 some))
+]
+
+-- what holds of each record but those whose newest version is queued, after a commit
+collectable : (P : Option Bound → Type 0) (p : PassView) (before : Known) (r : ℕ) → AreLinked p.desk.writes p.desk.stamp before p.known → P (known_of before.counts r) ⊎ IsQueuedNewest p.queue before r → P (known_of p.known.counts r) ⊎ IsQueuedNewest (published p).queue p.known r
+collectable P p before r are was = elim (value_or (value_at p.desk.writes r)) as (λ _. P (known_of p.known.counts r) ⊎ IsQueuedNewest (published p).queue p.known r) [
+  | inr some ↦ inr (record {
+    item = record { rid = r; stamp = p.desk.stamp };
+    among = Among-right (record { rid = r; stamp = p.desk.stamp }) p.queue (queued p.desk.stamp p.desk.writes) (among_queued p.desk.stamp p.desk.writes r some);
+    of_record = refl;
+    stamp = p.desk.stamp;
+    newest = (are.written r some).1;
+    low = omega arith;
+  })
+  | inl none ↦ (
+      let same = are.others r none in
+      elim was as (λ _. P (known_of p.known.counts r) ⊎ IsQueuedNewest (published p).queue p.known r) [
+        | inl has ↦ inl (subst P (sym same.0) has)
+        | inr q ↦ inr (record { item = q.item; among = Among-left q.item p.queue (queued p.desk.stamp p.desk.writes) q.among; of_record = q.of_record; stamp = q.stamp; newest = same.1 ∙ q.newest; low = q.low })
+      ])
+]
+
+pub tidy_published : (p : PassView) (before : Known) → AreLinked p.desk.writes p.desk.stamp before p.known → IsTidyOnceCollected (knowing p before) → IsTidyOnceCollected (published p)
+tidy_published p before are tidy r within = collectable (HasLinked 1) p before r are (tidy r within)
+
+pub roomy_published : (p : PassView) (before : Known) → AreLinked p.desk.writes p.desk.stamp before p.known → IsRoomyOnceCollected (knowing p before) → IsRoomyOnceCollected (published p)
+roomy_published p before are roomy r within = collectable (HasOutside 1) p before r are (roomy r within)
+
+pub tidy_committed : (p : PassView) (known : Known) → AreLinked p.desk.writes p.desk.stamp p.known known → IsTidyOnceCollected p → IsTidyOnceCollected (committed (knowing p known))
+tidy_committed p known are tidy = tidy_published (decided (knowing p known)) p.known are tidy
+
+pub roomy_committed : (p : PassView) (known : Known) → AreLinked p.desk.writes p.desk.stamp p.known known → IsRoomyOnceCollected p → IsRoomyOnceCollected (committed (knowing p known))
+roomy_committed p known are roomy = roomy_published (decided (knowing p known)) p.known are roomy
+
+-- ---- lists that no call has changed
+
+pub tidy_first : (e : EngineView) → IsTidy (first_pass e)
+tidy_first e r within = omega arith
+
+pub roomy_first : (e : EngineView) → IsRoomy (first_pass e)
+roomy_first e r within = omega arith
+
+pub tidy_stays : (p q : PassView) → Stays p q → IsTidy p → IsTidy q
+tidy_stays p q stays tidy =
+    subst (λ (f : Frame). (r : ℕ) → suc r ≤ f.engine.size.records → HasLinked 1 (known_of f.known.counts r)) (sym stays.same_frame) tidy
+
+pub roomy_stays : (p q : PassView) → Stays p q → IsRoomy p → IsRoomy q
+roomy_stays p q stays roomy = subst (λ (f : Frame). IsRoomyAt f.engine.size f.known) (sym stays.same_frame) roomy

@@ -1,5 +1,0 @@
-use Rattle.txn_engine.proofs.NumberLists.{numbers_empty}
-use Rattle.txn_engine.proofs.numbers.Numbers.empty.Goals as goal
-
-pub invariant_of-result : goal.invariant_of-result
-invariant_of-result c = numbers_empty c.args.fixed c.args.records c.in_ok-list.list.items _ c.in_ok-list.ensures.items c.in_ok-list.ensures.capacity

@@ -1,7 +1,0 @@
-use Rattle.std.proofs.Common.{refl}
-use Rattle.txn_engine.proofs.Posts.{post_turned}
-use Rattle.txn_engine.proofs.post.Post.hear.Goals as goal
-
-pub invariant_of-self : goal.invariant_of-self
-invariant_of-self g c =
-    post_turned c.args.core.now c.self.inside.phase c.self.inside.hand c.hear.new.hand c.self.inside.stamp c.self.inside.reads.entries c.self.inside.writes.entries c.self.inside.sets _ _ c.self.invariant c.hear.ensures.ready.ready c.hear.ensures.view refl

@@ -4,7 +4,7 @@ use Rattle.plain_data.specs.declared.entry.Entry.{Entry}
 use Rattle.stamp_base.specs.Stamp.{stamp_of}
 use Rattle.core_rule.specs.Views.{Among}
 use Rattle.core_rule.proofs.Among.{Among-left, Among-right, Among-split}
-use Rattle.txn_engine.specs.Pass.{PassView, IsIdle}
+use Rattle.txn_engine.specs.Pass.{PassView, IsIdle, IsAlone}
 use Rattle.lane_runner.specs.Adds.{IsNext, IsLater, AreInOrder, Adds}
 
 -- nothing is added
@@ -21,6 +21,25 @@ Adds-none p idle = record {
   met = omega arith;
   refusals = omega arith;
 }
+
+-- one entry is added
+pub Adds-one : (p q : PassView) (entry : Entry) → IsNext p entry → q.engine ≡ p.engine → q.seat ≡ p.seat → q.others ≡ p.others → IsIdle q → q.log ≡ p.log ++ entry ∷ [] → p.clock ≤ q.clock → p.met ≤ q.met → p.refusals ≤ q.refusals → Adds p q (entry ∷ [])
+Adds-one p q entry next engine seat others idle log clock met refusals = record {
+  engine = engine;
+  seat = seat;
+  others = others;
+  idle = idle;
+  log = log;
+  each = λ e among. ⊎_elim (λ is. subst (λ (x : Entry). IsNext p x) is next) (λ none. absurd none) among;
+  in_order = (λ second among. absurd among, tt);
+  clock = clock;
+  met = met;
+  refusals = refusals;
+}
+
+-- a seat that is alone stays so
+pub alone_stays : (p q : PassView) (entries : List Entry) → Adds p q entries → IsAlone p → IsAlone q
+alone_stays p q entries adds alone = rw (adds.engine, adds.seat, adds.others) alone
 
 -- what comes next after other entries came next
 next_before : (p q : PassView) (xs : List Entry) (entry : Entry) → Adds p q xs → IsNext q entry → IsNext p entry

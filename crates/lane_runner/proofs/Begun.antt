@@ -1,9 +1,7 @@
 -- What a transaction that was begun at a pass leaves of it.
-use Rattle.std.proofs.Common.{◌≡◌, ℕ, ◌+◌, ◌<◌, ◌≤◌, Bool, true, false, List, [], ◌∷◌, ◌++◌, Option, sym, ap, subst, ◌∙◌, arith, if◌then◌else◌, inl, inr}
-use Rattle.plain_data.specs.declared.entry.Entry.{Entry}
+use Rattle.std.proofs.Common.{◌≡◌, ℕ, ◌+◌, ◌<◌, ◌≤◌, Bool, true, false, List, [], ◌∷◌, ◌++◌, Option, sym, ap, subst, ◌∙◌, arith, if◌then◌else◌}
 use Rattle.plain_data.specs.State.{State, Agrees, Fits}
 use Rattle.stamp_base.specs.Stamp.{stamp_of}
-use Rattle.core_rule.specs.Views.{Among}
 use Rattle.record_store.specs.Limits.{record_limit}
 use Rattle.record_store.specs.Meaning.{Meaning, after_undo}
 use Rattle.replay_model.specs.declared.command.Command.{Command}
@@ -13,14 +11,16 @@ use Rattle.replay_model.specs.TableMap.{TableMap}
 use Rattle.stored_tables.specs.Kept.{KeepsTables}
 use Rattle.stored_tables.specs.Places.{Places}
 use Rattle.stored_tables.specs.Tables.{StandsFor, EachTables}
-use Rattle.txn_engine.specs.Ends.{Stood}
+use Rattle.seat_post.specs.Ends.{Stood}
 use Rattle.stored_tables.specs.Laws.{FitsRecords, FitsMore}
-use Rattle.txn_engine.specs.Pass.{PassView, IsAbove, Frame, frame, store_at, store_of, meaning_of_pass, knowing, begun, committed, entry_of}
-use Rattle.txn_engine.specs.Seats.{Known}
-use Rattle.txn_engine.specs.declared.phase.Phase.{Phase}
-use Rattle.txn_engine.specs.declared.phase.Phase.TheVariants.{Open}
+use Rattle.txn_engine.specs.Pass.{PassView, Frame, frame, store_at, store_of, meaning_of_pass, knowing, begun, committed, entry_of}
+use Rattle.seat_post.specs.Logs.{IsAbove}
+use Rattle.seat_post.specs.Seats.{Known}
+use Rattle.seat_post.specs.declared.phase.Phase.{Phase}
+use Rattle.seat_post.specs.declared.phase.Phase.TheVariants.{Open}
 use Rattle.lane_runner.specs.Adds.{IsNext, Adds}
 use Rattle.lane_runner.specs.Blocks.{Commits}
+use Rattle.lane_runner.proofs.Adding.{Adds-one}
 use Rattle.lane_runner.proofs.Entries.{HasRun, with_none, fits_run, is_entry_run, never_stood}
 
 -- what an open transaction has read and written
@@ -45,24 +45,17 @@ module _ (p q r : PassView) (clock : ℕ) (known : Known) (later : p.clock < clo
   }
 
   pub Adds-committed : r ≡ committed (knowing q known) → Adds p r (entry_of q.desk ∷ [])
-  Adds-committed ends = record {
-    engine = ap (λ (x : PassView). x.engine) ends ∙ ap (λ (f : Frame). f.engine) kept;
-    seat = ap (λ (x : PassView). x.seat) ends ∙ ap (λ (f : Frame). f.seat) kept;
-    others = ap (λ (x : PassView). x.others) ends ∙ ap (λ (f : Frame). f.others) kept;
-    idle = ap (λ (x : PassView). x.desk) ends;
-    log = ap (λ (x : PassView). x.log) ends ∙ ap (λ (f : Frame). f.log ++ entry_of q.desk ∷ []) kept;
-    each = only;
-    in_order = (λ second among. absurd among, tt);
-    clock = let is : r.clock ≡ clock = ap (λ (x : PassView). x.clock) ends ∙ ap (λ (f : Frame). f.clock) kept in omega arith;
-    met = let is : r.met ≡ p.met = ap (λ (x : PassView). x.met) ends ∙ ap (λ (f : Frame). f.met) kept in omega arith;
-    refusals =
-        let is : r.refusals ≡ q.refusals = ap (λ (x : PassView). x.refusals) ends in
-        let counts : p.refusals ≤ q.refusals = uncounted q.desk.counted q.refusals p.refusals (ap (λ (f : Frame). f.tally) kept) in
-        omega arith;
-  } where
-    only : (entry : Entry) → Among entry (entry_of q.desk ∷ []) → IsNext p entry
-    only entry (inl is) = subst (λ (e : Entry). IsNext p e) is next_commit
-    only entry (inr among) = absurd among
+  Adds-committed ends = Adds-one p r (entry_of q.desk) next_commit
+      (ap (λ (x : PassView). x.engine) ends ∙ ap (λ (f : Frame). f.engine) kept)
+      (ap (λ (x : PassView). x.seat) ends ∙ ap (λ (f : Frame). f.seat) kept)
+      (ap (λ (x : PassView). x.others) ends ∙ ap (λ (f : Frame). f.others) kept)
+      (ap (λ (x : PassView). x.desk) ends)
+      (ap (λ (x : PassView). x.log) ends ∙ ap (λ (f : Frame). f.log ++ entry_of q.desk ∷ []) kept)
+      (let is : r.clock ≡ clock = ap (λ (x : PassView). x.clock) ends ∙ ap (λ (f : Frame). f.clock) kept in omega arith)
+      (let is : r.met ≡ p.met = ap (λ (x : PassView). x.met) ends ∙ ap (λ (f : Frame). f.met) kept in omega arith)
+      (let is : r.refusals ≡ q.refusals = ap (λ (x : PassView). x.refusals) ends in
+      let counts : p.refusals ≤ q.refusals = uncounted q.desk.counted q.refusals p.refusals (ap (λ (f : Frame). f.tally) kept) in
+      omega arith)
 
 -- ---- what is known of a transaction that was begun at p, through the calls on it
 

@@ -1,7 +1,9 @@
 -- What a block that ran over a transaction says of the states that stand for tables.
-use Rattle.std.proofs.Common.{◌≡◌, ℕ, ◌≤◌, List, [], Option, Result, Ok, Err, refl, sym, ap, subst}
+use Rattle.std.proofs.Common.{◌≡◌, ℕ, ◌<◌, ◌≤◌, List, [], ◌∷◌, Option, Result, Ok, Err, refl, sym, ap, subst}
+use Rattle.std.specs.Prelude.{All, IfSome}
+use Rattle.std.proofs.lemmas.List.Elements.{All-head, All-contains, Contains-push}
 use Rattle.plain_data.specs.declared.entry.Entry.{Entry}
-use Rattle.plain_data.specs.State.{State, Agrees, Fits, overlay}
+use Rattle.plain_data.specs.State.{State, IsEntry, Agrees, Fits, overlay}
 use Rattle.record_store.specs.Limits.{record_limit}
 use Rattle.record_store.specs.Meaning.{Meaning}
 use Rattle.record_store.specs.Walks.{ReadsGrow}
@@ -19,7 +21,8 @@ use Rattle.stored_tables.specs.Kept.{KeepsTables}
 use Rattle.stored_tables.specs.Laws.{FitsRecords, FitsMore}
 use Rattle.stored_tables.specs.Places.{Places}
 use Rattle.stored_tables.specs.Tables.{StandsFor, EachTables}
-use Rattle.txn_engine.specs.Ends.{Stood}
+use Rattle.seat_post.specs.Ends.{Stood}
+use Rattle.seat_post.specs.FirstRead.{first_record}
 use Rattle.lane_runner.specs.Rows.{stands}
 
 -- with these reads and writes, from each state that agrees with the reads and stands for tables
@@ -86,3 +89,13 @@ pub never_stood : (kept : State → Type 0) (records : ℕ) (log : List Entry) (
 never_stood kept records log entry keeps stood torn =
     let held = keeps.stands records stood.state stood.left.is_state stood.left.is_kept in
     torn stood.state held.1.0 held.0 stood.agrees held.1.1
+
+-- what was read first is a record
+first_in : (records : ℕ) (reads : List (ℕ × Option (List ℕ))) → All (λ read. read.0 < records) reads → IfSome (first_record reads) (λ rid. rid < records)
+first_in records [] within = tt
+first_in records (read ∷ reads) within = All-head (λ (r : ℕ × Option (List ℕ)). r.0 < records) read reads within
+
+pub first_below : (kept : State → Type 0) (records : ℕ) (log : List Entry) (entry : Entry) (first : Option ℕ) → Stood kept records log entry → first ≡ first_record entry.reads → IfSome first (λ rid. rid < records)
+first_below kept records log entry first stood is =
+    let one : IsEntry records entry = All-contains (IsEntry records) stood.history entry stood.lawful.each (stood.own entry (Contains-push log entry)) in
+    rw is (first_in records entry.reads one.reads.in_range)

@@ -1,6 +1,13 @@
 pub mod Entries
 pub mod Adding
 pub mod Begun
+pub mod Seen
+pub mod Promoted
 pub mod Tried
 pub mod Run
 pub mod Results
+pub mod LaneLists
+pub mod Gathered
+pub mod Together
+pub mod Shared
+pub mod WholeRun

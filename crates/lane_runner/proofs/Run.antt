@@ -4,14 +4,18 @@ use Rattle.std.proofs.Math.Nat.{suc-mul}
 use Rattle.std.specs.Prelude.{All}
 use Rattle.std.proofs.lemmas.List.Elements.{All-tail}
 use Rattle.plain_data.specs.declared.entry.Entry.{Entry}
+use Rattle.replay_model.specs.declared.command.Command.{Command}
 use Rattle.replay_model.specs.declared.input.Block.{Block}
 use Rattle.replay_model.specs.declared.outcome.Outcome.{Outcome}
 use Rattle.replay_model.specs.declared.outcome.Placed.{Placed}
 use Rattle.txn_engine.specs.Pass.{PassView, EngineView, IsIdle}
+use Rattle.lane_runner.specs.Rows.{stands}
+use Rattle.history_replay.specs.Results.{KeepsTables}
+use Rattle.core_rule.specs.Views.{Among}
 use Rattle.lane_runner.specs.Room.{clock_after}
 use Rattle.lane_runner.specs.Adds.{Adds}
-use Rattle.lane_runner.specs.Blocks.{IsPlaceOf, Commits, IsRefused}
-use Rattle.lane_runner.specs.Lanes.{MayRun, IsResult, AreEntries, Runs}
+use Rattle.lane_runner.specs.Blocks.{IsPlaceOf, Commits, IsRefused, AddsOthers}
+use Rattle.lane_runner.specs.Lanes.{MayRun, IsResult, AreEntries, Runs, AddsSome}
 use Rattle.lane_runner.specs.Lanes.AreEntries.{none, result, other}
 use Rattle.lane_runner.proofs.Adding.{Adds-none, Adds-trans}
 
@@ -20,6 +24,25 @@ pub AreEntries-append : (records : ℕ) (entries : List Entry) (blocks : List Bl
 AreEntries-append records entries blocks results entries' blocks' results' none second = second
 AreEntries-append records entries blocks results entries' blocks' results' (result e es b bs r rs is first) second = result e (es ++ entries') b (bs ++ blocks') r (rs ++ results') is (AreEntries-append records es bs rs entries' blocks' results' first second)
 AreEntries-append records entries blocks results entries' blocks' results' (other e es bs rs keeps first) second = other e (es ++ entries') (bs ++ blocks') (rs ++ results') keeps (AreEntries-append records es bs rs entries' blocks' results' first second)
+
+-- other entries behind them
+AreEntries-others : (records : ℕ) (entries : List Entry) → ((entry : Entry) → Among entry entries → KeepsTables stands records entry) → AreEntries records entries [] []
+AreEntries-others records [] keep = none
+AreEntries-others records (e ∷ es) keep = other e es [] [] (keep e (inl refl)) (AreEntries-others records es (λ entry among. keep entry (inr among)))
+
+AreEntries-behind : (records : ℕ) (entries : List Entry) (blocks : List Block) (results : List (Placed × Outcome)) (entries' : List Entry) → AreEntries records entries blocks results → ((entry : Entry) → Among entry entries' → KeepsTables stands records entry) → AreEntries records (entries ++ entries') blocks results
+AreEntries-behind records entries blocks results entries' none keep = AreEntries-others records entries' keep
+AreEntries-behind records entries blocks results entries' (result e es b bs r rs is first) keep = result e (es ++ entries') b bs r rs is (AreEntries-behind records es bs rs entries' first keep)
+AreEntries-behind records entries blocks results entries' (other e es bs rs keeps first) keep = other e (es ++ entries') bs rs keeps (AreEntries-behind records es bs rs entries' first keep)
+
+pub Runs-others : (blocks : List Block) (results : List (Placed × Outcome)) (rest : List Block) (p q r : PassView) → Runs blocks results rest p q → AddsOthers q r → Runs blocks results rest p r
+Runs-others blocks results rest p q r so_far more = record {
+  done = so_far.done;
+  blocks_are = so_far.blocks_are;
+  entries = so_far.entries ++ more.entries;
+  are_entries = AreEntries-behind p.engine.size.records so_far.entries so_far.done results more.entries so_far.are_entries (subst (λ (e : EngineView). (entry : Entry) → Among entry more.entries → KeepsTables stands e.size.records entry) so_far.adds.engine more.keep);
+  adds = Adds-trans p q r so_far.entries more.entries so_far.adds more.adds;
+}
 
 -- one more block has its result, where none is kept
 pub Runs-result : (blocks : List Block) (results : List (Placed × Outcome)) (rest : List Block) (p q r : PassView) (block : Block) (placed : Placed) (outcome : Outcome) (results' : List (Placed × Outcome))
@@ -52,6 +75,15 @@ pub none_kept : (rest : List Block) → length rest ≡ 0 → rest ≡ []
 none_kept [] is = refl
 none_kept (block ∷ rest) is = absurd (omega arith)
 
+-- a block has committed, and others were added
+pub adds_done : (commands : List Command) (placed : Placed) (outcome : Outcome) (p q r : PassView) → Commits commands p q placed outcome → AddsOthers q r → AddsSome p r
+adds_done commands placed outcome p q r commits more = (commits.entry ∷ more.entries, Adds-trans p q r (commits.entry ∷ []) more.entries commits.adds more.adds)
+
+-- none is kept of no blocks
+pub none_left : (done rest : List Block) → [] ≡ done ++ rest → rest ≡ []
+none_left [] rest is = sym is
+none_left (block ∷ done) rest is = cc
+
 pub Runs-new : (results : List (Placed × Outcome)) (rest : List Block) (p : PassView) → results ≡ [] → rest ≡ [] → IsIdle p → Runs [] results rest p p
 Runs-new results rest p no_results no_rest idle = record {
   done = [];
@@ -62,10 +94,10 @@ Runs-new results rest p no_results no_rest idle = record {
 }
 
 -- the clock after the draws for one more block
-pub clock_more : (clock clock' first tries : ℕ) (blocks : List Block) (block : Block) → clock ≤ clock_after first (length blocks * tries) → clock' ≤ clock_after clock tries → clock' ≤ clock_after first (length (blocks ++ block ∷ []) * tries)
-clock_more clock clock' first tries blocks block so_far more =
+pub clock_more : (clock clock' first draws : ℕ) (blocks : List Block) (block : Block) → clock ≤ clock_after first (length blocks * draws) → clock' ≤ clock_after clock draws → clock' ≤ clock_after first (length (blocks ++ block ∷ []) * draws)
+clock_more clock clock' first draws blocks block so_far more =
     let one : length (blocks ++ block ∷ []) ≡ suc (length blocks) = omega (arith, length-append blocks (block ∷ [])) in
-    let step : length (blocks ++ block ∷ []) * tries ≡ length blocks * tries + tries = ap (λ (n : ℕ). n * tries) one ∙ suc-mul (length blocks) tries in
+    let step : length (blocks ++ block ∷ []) * draws ≡ length blocks * draws + draws = ap (λ (n : ℕ). n * draws) one ∙ suc-mul (length blocks) draws in
     omega (arith, step)
 
 -- the next of the blocks that are left
@@ -79,3 +111,8 @@ may_more block items items' may next = All-tail MayRun block items' (subst (λ (
 pub kept_more : (rest : List Block) (first now after tries : ℕ) → (rest ≢ [] → first + tries ≤ now) → first ≤ now → now ≤ after → (rest ≢ []) ⊎ (after ≡ now + tries) → first + tries ≤ after
 kept_more rest first now after tries so_far low grows (inl left) = let h : first + tries ≤ now = so_far left in omega arith
 kept_more rest first now after tries so_far low grows (inr counted) = omega arith
+
+-- nothing is queued after one more block, where nothing was before it or it was run
+pub queue_more : (blocks rest : List Block) (r q : PassView) (done : List Block) → blocks ≡ done ++ rest → (blocks ≢ [] → q.queue ≡ []) → (r.queue ≡ []) ⊎ ((rest ≢ []) × (r.queue ≡ q.queue)) → r.queue ≡ []
+queue_more blocks rest r q done are so_far (inl empty) = empty
+queue_more blocks rest r q done are so_far (inr kept) = kept.1 ∙ so_far (λ empty. kept.0 (none_left done rest (sym empty ∙ are)))

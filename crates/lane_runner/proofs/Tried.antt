@@ -16,3 +16,11 @@ Commits-behind m commands placed outcome p q r first second = record {
   adds = Adds-trans p q r [] (second.entry ∷ []) first.adds second.adds;
   is_entry = subst (λ (e : EngineView). IsEntryOf stands e.size.records commands placed outcome second.entry) first.adds.engine second.is_entry;
 }
+
+-- a call behind it that adds no entry
+pub Commits-then : (n : ℕ) (commands : List Command) (placed : Placed) (outcome : Outcome) (p q r : PassView) → Commits commands p q placed outcome → IsRefused n q r → Commits commands p r placed outcome
+Commits-then n commands placed outcome p q r first second = record {
+  entry = first.entry;
+  adds = Adds-trans p q r (first.entry ∷ []) [] first.adds second.adds;
+  is_entry = first.is_entry;
+}

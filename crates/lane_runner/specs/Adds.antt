@@ -3,7 +3,8 @@ use Rattle.std.specs.Prelude.{◌≡◌, ℕ, ◌+◌, ◌<◌, ◌≤◌, true,
 use Rattle.plain_data.specs.declared.entry.Entry.{Entry}
 use Rattle.stamp_base.specs.Stamp.{stamp_of}
 use Rattle.core_rule.specs.Views.{Among}
-use Rattle.txn_engine.specs.Pass.{PassView, IsIdle, IsAbove}
+use Rattle.txn_engine.specs.Pass.{PassView, IsIdle}
+use Rattle.seat_post.specs.Logs.{IsAbove}
 
 -- no snapshot entry of the log is stamped above this number
 abbrev pub AreUpTo : List Entry → ℕ → Type 0

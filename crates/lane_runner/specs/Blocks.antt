@@ -1,11 +1,12 @@
--- What the tries of a block leave of a pass.
+-- What the run of a block leaves of a pass.
 use Rattle.std.specs.Prelude.{◌≡◌, ℕ, ◌+◌, List, [], ◌∷◌}
 use Rattle.plain_data.specs.declared.entry.Entry.{Entry}
+use Rattle.core_rule.specs.Views.{Among}
 use Rattle.replay_model.specs.declared.command.Command.{Command}
 use Rattle.replay_model.specs.declared.input.Block.{Block}
 use Rattle.replay_model.specs.declared.outcome.Outcome.{Outcome}
 use Rattle.replay_model.specs.declared.outcome.Placed.{Placed}
-use Rattle.history_replay.specs.Results.{IsEntryOf}
+use Rattle.history_replay.specs.Results.{IsEntryOf, KeepsTables}
 use Rattle.txn_engine.specs.Pass.{PassView}
 use Rattle.lane_runner.specs.Rows.{stands}
 use Rattle.lane_runner.specs.Adds.{Adds}
@@ -26,3 +27,9 @@ pub record Commits (commands : List Command) (before after' : PassView) (placed 
 pub record IsRefused (times : ℕ) (before after' : PassView) : Type 0 where
   pub adds : Adds before after' []
   pub refusals : after'.refusals ≡ before.refusals + times
+
+-- some entries were added, and each leaves the tables as they were
+pub record AddsOthers (before after' : PassView) : Type 0 where
+  pub entries : List Entry
+  pub adds : Adds before after' entries
+  pub keep : (entry : Entry) → Among entry entries → KeepsTables stands before.engine.size.records entry

@@ -7,17 +7,17 @@ use Rattle.replay_model.specs.declared.input.Block.{Block}
 use Rattle.replay_model.specs.declared.outcome.Outcome.{Outcome}
 use Rattle.replay_model.specs.declared.outcome.Placed.{Placed}
 use Rattle.history_replay.specs.Results.{IsEntryOf, KeepsTables}
-use Rattle.stored_tables.specs.Answers.{IsShort}
+use Rattle.stored_tables.specs.Answers.{IsShort, ReadsAlone}
 use Rattle.txn_engine.specs.Pass.{PassView}
 use Rattle.lane_runner.specs.Rows.{stands}
 use Rattle.lane_runner.specs.Adds.{Adds}
 use Rattle.lane_runner.specs.Blocks.{IsPlaceOf}
 
--- a transaction block that can be run: its commands name the first 8 tables, and list at most 256 rows each
+-- a block that can be run: its commands name the first 8 tables, and list at most 256 rows each; those of a snapshot read alone
 pub record MayRun (block : Block) : Type 0 where
-  pub kind : block.snap ≡ false
   pub commands : AreCommands 8 block.commands
   pub short : All IsShort block.commands
+  pub reads : block.snap ≡ true → All ReadsAlone block.commands
 
 -- a result of a block: its place, and the outcome of its commands, which have this entry
 pub record IsResult (records : ℕ) (block : Block) (result : Placed × Outcome) (entry : Entry) : Type 0 where

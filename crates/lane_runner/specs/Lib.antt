@@ -4,3 +4,8 @@ pub mod Adds
 pub mod Blocks
 pub mod Lanes
 pub mod Done
+pub mod All
+pub mod Workers
+pub mod Gathers
+pub mod Shares
+pub mod Whole

@@ -1,7 +1,7 @@
 //! The run of one lane.
 
-ghost use Rattle.std.specs.Prelude.{◌≡◌, ◌≢◌, ◌+◌, ◌≤◌, [], All, IfOk};
-ghost use Rattle.txn_engine.specs.Pass.{IsIdle};
+ghost use Rattle.std.specs.Prelude.{◌≡◌, ◌≢◌, ◌+◌, ◌<◌, ◌≤◌, [], All, IfOk, OnOk};
+ghost use Rattle.txn_engine.specs.Pass.{IsIdle, IsAlone};
 ghost use Rattle.lane_runner.specs.Room.{HasRoom, clock_after};
 ghost use Rattle.lane_runner.specs.Lanes.{MayRun, AddsSome, lane_draws};
 ghost use Rattle.lane_runner.specs.Done.{DoesLane};
@@ -15,8 +15,11 @@ use std::alloc::Global;
 use stored_tables::RowsLawful;
 use txn_engine::{Engine, Pass};
 
-/// Runs the transaction blocks of a lane in their order, each with so many tries. Blocks remain only where the pass counted at least
-/// `tries` refusals in this call. After `NoMemory` the pass may have entries of blocks whose results are lost.
+/// Runs the blocks of a lane in their order. After each block, and after each try of a transaction block, the pass collects; after
+/// each 1,024th commit of this call it promotes the record that the last transaction read first.
+///
+/// Each transaction block has so many tries. Blocks remain only where the pass counted at least `tries` refusals in this call. After
+/// `NoMemory` the pass may have entries of blocks whose results are lost.
 pub fn run_lane<C: Clock, G: Gate>(
     alloc: Global,
     engine: &Engine<RowsLawful>,
@@ -34,6 +37,7 @@ pub fn run_lane<C: Clock, G: Gate>(
     ensures does { IfOk result (λ done. DoesLane lane done pass.old pass.new) }
     ensures rest { IfOk result (λ done. done.rest ≢ [] → pass.old.refusals + tries ≤ pass.new.refusals) }
     ensures adds { AddsSome pass.old pass.new }
+    ensures queue { OnOk result (lane.blocks ≢ [] → 0 < tries → IsAlone pass.old → pass.new.queue ≡ []) }
     ensures clock { pass.new.clock ≤ clock_after pass.old.clock (lane_draws lane.blocks tries) }
 {
     let Lane { number, blocks } = lane;

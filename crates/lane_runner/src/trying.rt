@@ -1,13 +1,15 @@
 //! One try of a transaction block.
 
-ghost use Rattle.std.specs.Prelude.{◌≡◌, ◌+◌, ◌≤◌, [], false, All, IfOk, IfSome, IfNone, OnErr};
+ghost use Rattle.std.specs.Prelude.{◌≡◌, ◌+◌, ◌<◌, ◌≤◌, [], false, All, IfOk, IfSome, IfNone, OnOk, OnErr};
 ghost use Rattle.replay_model.specs.Input.{AreCommands};
 ghost use Rattle.stored_tables.specs.Answers.{IsShort};
-ghost use Rattle.txn_engine.specs.Pass.{IsIdle};
+ghost use Rattle.txn_engine.specs.Pass.{IsIdle, IsAlone};
 ghost use Rattle.lane_runner.specs.Room.{HasRoom, clock_after};
 ghost use Rattle.lane_runner.specs.Adds.{Adds};
 ghost use Rattle.lane_runner.specs.Blocks.{IsPlaceOf, Commits, IsRefused};
 
+use crate::collecting::collect;
+use crate::done::BlockDone;
 use outside_io::Gate;
 use record_store::RecordStore;
 use replay_model::{Block, NoMemory, Outcome, Placed};
@@ -19,14 +21,14 @@ use txn_engine::{BeginFault, Engine, Pass, TxnFault};
 /// record number was left; one refusal more is counted then.
 ///
 /// A block that a command refuses has an entry without writes. The clock's reading may be any number.
-pub(crate) fn try_txn<G: Gate>(
+fn try_txn<G: Gate>(
     alloc: Global,
     engine: &Engine<RowsLawful>,
     pass: &mut Pass<RowsLawful>,
     block: &Block,
     reading: u64,
     gate: &G,
-) -> Result<Option<(Placed, Outcome)>, NoMemory>
+) -> Result<Option<BlockDone>, NoMemory>
     requires engine { pass.old.engine ≡ engine.now }
     requires idle { IsIdle pass.old }
     requires kind { block.now.snap ≡ false }
@@ -34,8 +36,9 @@ pub(crate) fn try_txn<G: Gate>(
     requires short { All IsShort block.now.commands }
     requires fixed { 4112 ≤ engine.now.fixed }
     requires room { HasRoom pass.old.clock 1 }
-    ensures committed { IfOk result (λ answer. IfSome answer (λ done. Commits block.now.commands pass.old pass.new done.0 done.1)) }
-    ensures placed { IfOk result (λ answer. IfSome answer (λ done. IsPlaceOf block.now done.0)) }
+    ensures committed { IfOk result (λ answer. IfSome answer (λ done. Commits block.now.commands pass.old pass.new done.placed done.outcome)) }
+    ensures placed { IfOk result (λ answer. IfSome answer (λ done. IsPlaceOf block.now done.placed)) }
+    ensures first { IfOk result (λ answer. IfSome answer (λ done. IfSome done.first_read (λ rid. rid < engine.now.size.records))) }
     ensures refused { IfOk result (λ answer. IfNone answer (IsRefused 1 pass.old pass.new)) }
     ensures fault { OnErr result (Adds pass.old pass.new []) }
     ensures clock { pass.new.clock ≤ clock_after pass.old.clock 1 }
@@ -71,6 +74,7 @@ pub(crate) fn try_txn<G: Gate>(
         }
     };
     gate.before_commit(block.lane, block.number);
+    let first_read = txn.first_read();
     let Ok(committed) = txn.commit() else {
         return Ok(None);
     };
@@ -81,5 +85,38 @@ pub(crate) fn try_txn<G: Gate>(
         lane: block.lane,
         number: block.number,
     };
-    Ok(Some((placed, outcome)))
+    Ok(Some(BlockDone {
+        placed,
+        outcome,
+        first_read,
+    }))
+}
+
+/// Tries a transaction block once, and collects.
+pub(crate) fn try_once<G: Gate>(
+    alloc: Global,
+    engine: &Engine<RowsLawful>,
+    pass: &mut Pass<RowsLawful>,
+    block: &Block,
+    reading: u64,
+    gate: &G,
+) -> Result<Option<BlockDone>, NoMemory>
+    requires engine { pass.old.engine ≡ engine.now }
+    requires idle { IsIdle pass.old }
+    requires kind { block.now.snap ≡ false }
+    requires commands { AreCommands 8 block.now.commands }
+    requires short { All IsShort block.now.commands }
+    requires fixed { 4112 ≤ engine.now.fixed }
+    requires room { HasRoom pass.old.clock 1 }
+    ensures committed { IfOk result (λ answer. IfSome answer (λ done. Commits block.now.commands pass.old pass.new done.placed done.outcome)) }
+    ensures placed { IfOk result (λ answer. IfSome answer (λ done. IsPlaceOf block.now done.placed)) }
+    ensures first { IfOk result (λ answer. IfSome answer (λ done. IfSome done.first_read (λ rid. rid < engine.now.size.records))) }
+    ensures refused { IfOk result (λ answer. IfNone answer (IsRefused 1 pass.old pass.new)) }
+    ensures fault { OnErr result (Adds pass.old pass.new []) }
+    ensures clock { pass.new.clock ≤ clock_after pass.old.clock 1 }
+    ensures queue { OnOk result (IsAlone pass.old → pass.new.queue ≡ []) }
+{
+    let answer = try_txn(alloc, engine, pass, block, reading, gate)?;
+    collect(engine, pass);
+    Ok(answer)
 }

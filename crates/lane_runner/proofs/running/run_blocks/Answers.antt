@@ -1,7 +1,7 @@
-use Rattle.std.proofs.Common.{◌++◌, refl, ◌∙◌, rules, arith}
-use Rattle.lane_runner.proofs.Adding.{Adds-trans}
+use Rattle.std.proofs.Common.{◌+◌, ◌++◌, refl, ◌∙◌, rules, arith}
+use Rattle.lane_runner.proofs.Adding.{Adds-trans, alone_stays}
 use Rattle.lane_runner.proofs.Results.{keep_order}
-use Rattle.lane_runner.proofs.Run.{Runs-new, clock_more, blocks_more, may_more, kept_more}
+use Rattle.lane_runner.proofs.Run.{Runs-new, clock_more, blocks_more, may_more, kept_more, queue_more}
 use Rattle.lane_runner.proofs.running.run_blocks.Goals as goal
 
 pub loop-block-init : goal.loop-block-init
@@ -11,6 +11,7 @@ loop-block-init g c = record {
   blocks = refl;
   may = search rules;
   kept = search rules;
+  queue = λ some. absurd (some refl);
   clock = omega arith;
 }
 
@@ -25,7 +26,8 @@ loop-block-preserved g c =
       blocks = blocks_more c.loop-block.yielded c.in-Some.block _ _ _ i.blocks next;
       may = may_more c.in-Some.block _ _ i.may next;
       kept = λ left. kept_more c.loop-block.rest c.args.pass.now.refusals c.loop-block.pass.refusals c.run_next.new.pass.refusals c.args.tries i.kept i.runs.adds.refusals more.1.refusals (c.in_ok-run_next.ensures.kept left);
-      clock = clock_more c.loop-block.pass.clock c.run_next.new.pass.clock c.args.pass.now.clock c.args.tries c.loop-block.yielded c.in-Some.block i.clock c.run_next.ensures.clock;
+      queue = λ _ tried alone. queue_more c.loop-block.yielded c.loop-block.rest c.run_next.new.pass c.loop-block.pass i.runs.done i.runs.blocks_are (λ some. i.queue some tried alone) (c.in_ok-run_next.ensures.queue tried (alone_stays c.args.pass.now c.loop-block.pass i.runs.entries i.runs.adds alone));
+      clock = clock_more c.loop-block.pass.clock c.run_next.new.pass.clock c.args.pass.now.clock (c.args.tries + 2) c.loop-block.yielded c.in-Some.block i.clock c.run_next.ensures.clock;
     }
 
 pub returns-in_err-run_next-clause-adds : goal.returns-in_err-run_next-clause-adds

@@ -1,8 +1,9 @@
-use Rattle.std.proofs.Common.{◌≡◌, ◌≢◌, ◌+◌, ◌*◌, ◌≤◌, [], ◌++◌, length}
+use Rattle.std.proofs.Common.{◌≡◌, ◌≢◌, ◌+◌, ◌<◌, ◌≤◌, [], ◌++◌}
 use Rattle.std.specs.Prelude.{All}
 use Rattle.std.specs.Vec.Iter.{into_iter_items}
+use Rattle.txn_engine.specs.Pass.{IsAlone}
 use Rattle.lane_runner.specs.Room.{clock_after}
-use Rattle.lane_runner.specs.Lanes.{MayRun, Runs}
+use Rattle.lane_runner.specs.Lanes.{MayRun, Runs, lane_draws}
 use Rattle.lane_runner.proofs.running.run_blocks.Given as goal
 
 abbrev pub invariant-loop-block : goal.invariant-loop-block
@@ -12,5 +13,6 @@ invariant-loop-block g l = record {
   blocks : l.yielded ++ into_iter_items l.block-iterator ≡ into_iter_items l.initial.block-iterator;
   may : All MayRun (into_iter_items l.block-iterator);
   kept : l.rest ≢ [] → l.initial.pass.refusals + l.tries ≤ l.pass.refusals;
-  clock : l.pass.clock ≤ clock_after l.initial.pass.clock (length l.yielded * l.tries);
+  queue : l.yielded ≢ [] → 0 < l.tries → IsAlone l.initial.pass → l.pass.queue ≡ [];
+  clock : l.pass.clock ≤ clock_after l.initial.pass.clock (lane_draws l.yielded l.tries);
 }

@@ -1,8 +1,10 @@
-use Rattle.std.proofs.Common.{rules, ◌≡◌, ℕ, ◌≤◌, refl, sym, ap, subst, arith}
+use Rattle.std.proofs.Common.{rules, ◌≡◌, ℕ, ◌<◌, ◌≤◌, refl, sym, ap, subst, ◌∙◌, arith}
+use Rattle.std.specs.Prelude.{IfSome}
 use Rattle.record_store.specs.Limits.{record_limit}
-use Rattle.txn_engine.specs.Pass.{EngineView, IsAbove, Frame, frame, next_clock, entry_of}
+use Rattle.txn_engine.specs.Pass.{EngineView, Frame, frame, next_clock, entry_of}
+use Rattle.seat_post.specs.Logs.{IsAbove}
 use Rattle.txn_engine.specs.Txn.{TxnRest}
-use Rattle.lane_runner.proofs.Entries.{has_run, fits_none}
+use Rattle.lane_runner.proofs.Entries.{has_run, fits_none, first_below}
 use Rattle.lane_runner.proofs.Begun.{kept_frame, is_open, none_written, run_at, fits_at, torn_at, undone_writes, never_at, commits_at}
 use Rattle.lane_runner.proofs.trying.try_txn.Goals as goal
 
@@ -50,3 +52,13 @@ returns-clause-committed g c =
     let above : IsAbove p.log q.desk.stamp = subst (λ (n : ℕ). IsAbove p.log n) (sym (ap (λ (f : Frame). f.stamp) rest)) c.in-Ok.ensures.above in
     commits_at p q c.commit-2.new.self.0 _ clock c.commit-2.new.self.0.known c.args.block.now.commands c.in-Ok-exec_txn.outcome _ (omega arith) above (kept_frame p b q clock c.in-Ok.ensures.ok rest) c.in-Ok-commit-2.ensures.ok (search rules)
     c.fits_records.ensures c.fits_more.ensures few (run_at p b q clock c.in-Ok.ensures.ok rest c.args.block.now.commands c.in-Ok-exec_txn.outcome run) (search rules) refl
+
+pub returns-clause-first : goal.returns-clause-first
+returns-clause-first g c =
+    let p = c.args.pass.now in
+    let q = c.exec_txn.new.store.pass.now in
+    let rest : frame q ≡ frame c.in-Ok.txn.pass.now = ap (λ (x : TxnRest). x.of_pass) c.exec_txn.ensures.rest in
+    let kept = kept_frame p c.in-Ok.txn.pass.now q (next_clock p c.args.reading) c.in-Ok.ensures.ok rest in
+    let records : q.engine.size.records ≡ c.args.engine.now.size.records = ap (λ (f : Frame). f.engine.size.records) kept ∙ ap (λ (e : EngineView). e.size.records) c.requires.engine in
+    subst (λ (n : ℕ). IfSome c.first_read-first_read.result (λ rid. rid < n)) records
+    (first_below _ q.engine.size.records q.log (entry_of q.desk) c.first_read-first_read.result c.in-Ok-commit-2.ensures.stood c.first_read-first_read.ensures)

@@ -1,0 +1,133 @@
+-- Lanes one behind another: which of them may run, how many stamps they may draw, and the entries of what they come to.
+use Rattle.std.proofs.Common.{◌≡◌, ◌≢◌, ℕ, suc, ◌+◌, ◌≤◌, List, [], ◌∷◌, ◌++◌, inl, inr, refl, sym, ap, subst, length, append-nil, append_assoc, arith}
+use Rattle.std.specs.Prelude.{All}
+use Rattle.std.proofs.lemmas.List.Elements.{All-nil, All-cons, All-head, All-tail}
+use Rattle.std.proofs.lemmas.List.Sums.{sum_by-cons, sum_by_push, sum_by-append}
+use Rattle.plain_data.specs.declared.entry.Entry.{Entry}
+use Rattle.replay_model.specs.declared.input.Block.{Block}
+use Rattle.lane_queue.specs.declared.lane.Lane.{Lane}
+use Rattle.lane_queue.specs.Subsequences.{IsSubsequence}
+use Rattle.lane_queue.specs.Passes.{numbered}
+use Rattle.txn_engine.specs.Pass.{PassView, EngineView, IsIdle}
+use Rattle.lane_runner.specs.declared.done.LaneDone.{LaneDone}
+use Rattle.lane_runner.specs.Room.{HasRoom, clock_after}
+use Rattle.lane_runner.specs.Lanes.{MayRun, lane_draws}
+use Rattle.lane_runner.specs.Done.{DoesLane}
+use Rattle.lane_runner.specs.All.{AreOfLane, AreOfLanes, tries_of_rest, tries_of_rests, all_draws}
+use Rattle.lane_runner.specs.All.AreOfLanes.{none, next}
+use Rattle.lane_runner.specs.Workers.{MayRunLane, draws_of, DoesLanes}
+use Rattle.lane_runner.proofs.Adding.{Adds-none, Adds-trans}
+
+-- ---- how many stamps they may draw
+
+pub draws_push : (tries : ℕ) (lanes : List Lane) (lane : Lane) → draws_of (lanes ++ lane ∷ []) tries ≡ draws_of lanes tries + lane_draws lane.blocks tries
+draws_push tries lanes lane = sum_by_push (λ (x : Lane). lane_draws x.blocks tries) lanes lane
+
+pub draws_append : (tries : ℕ) (lanes more : List Lane) → draws_of (lanes ++ more) tries ≡ draws_of lanes tries + draws_of more tries
+draws_append tries lanes more = sum_by-append (λ (x : Lane). lane_draws x.blocks tries) lanes more
+
+draws_cons : (tries : ℕ) (lane : Lane) (lanes : List Lane) → draws_of (lane ∷ lanes) tries ≡ lane_draws lane.blocks tries + draws_of lanes tries
+draws_cons tries lane lanes = sum_by-cons (λ (x : Lane). lane_draws x.blocks tries) lane lanes
+
+-- some of the lanes draw no more than all of them
+pub draws_part : (tries : ℕ) (some all : List Lane) → IsSubsequence some all → draws_of some tries ≤ draws_of all tries
+draws_part tries [] all part = omega arith
+draws_part tries (x ∷ xs) [] part = elim part [ ]
+draws_part tries (x ∷ xs) (y ∷ ys) (inl both) =
+    let same : lane_draws x.blocks tries ≡ lane_draws y.blocks tries = ap (λ (lane : Lane). lane_draws lane.blocks tries) both.0 in
+    let rest : draws_of xs tries ≤ draws_of ys tries = draws_part tries xs ys both.1 in
+    omega (arith, draws_cons tries x xs, draws_cons tries y ys)
+draws_part tries (x ∷ xs) (y ∷ ys) (inr part) =
+    let rest : draws_of (x ∷ xs) tries ≤ draws_of ys tries = draws_part tries (x ∷ xs) ys part in
+    omega (arith, draws_cons tries y ys)
+
+-- the last of some lanes is one of all
+pub last_of_part : (P : Lane → Type 0) (some : List Lane) (lane : Lane) (all : List Lane) → IsSubsequence (some ++ lane ∷ []) all → All P all → P lane
+last_of_part P [] lane [] part may = elim part [ ]
+last_of_part P [] lane (y ∷ ys) (inl both) may = subst P (sym both.0) (All-head P y ys may)
+last_of_part P [] lane (y ∷ ys) (inr part) may = last_of_part P [] lane ys part (All-tail P y ys may)
+last_of_part P (x ∷ xs) lane [] part may = elim part [ ]
+last_of_part P (x ∷ xs) lane (y ∷ ys) (inl both) may = last_of_part P xs lane ys both.1 (All-tail P y ys may)
+last_of_part P (x ∷ xs) lane (y ∷ ys) (inr part) may = last_of_part P (x ∷ xs) lane ys part (All-tail P y ys may)
+
+-- a lane that was taken behind others may run, and there is room for its draws
+module _ (lanes lanes' took took' : List Lane) (lane : Lane) (taken : took' ≡ took ++ lane ∷ []) (same : lanes' ≡ lanes) (part : IsSubsequence took' lanes') where
+  part_with : IsSubsequence (took ++ lane ∷ []) lanes
+  part_with = subst (λ (y : List Lane × List Lane). IsSubsequence y.0 y.1) (λ i. (taken i, same i)) part
+
+  pub taken_may : All MayRunLane lanes → MayRunLane lane
+  taken_may may = last_of_part MayRunLane took lane lanes part_with may
+
+  pub taken_room : (tries first clock : ℕ) → HasRoom first (draws_of lanes tries) → clock ≤ clock_after first (draws_of took tries) → HasRoom clock (lane_draws lane.blocks tries)
+  taken_room tries first clock room so_far =
+      let drawn : draws_of (took ++ lane ∷ []) tries ≤ draws_of lanes tries = draws_part tries (took ++ lane ∷ []) lanes part_with in
+      omega (arith, draws_push tries took lane)
+
+-- ---- lanes with their numbers
+
+pub draws_numbered : (tries n : ℕ) (lanes : List (List Block)) → draws_of (numbered n lanes) tries ≡ all_draws lanes tries
+draws_numbered tries n [] = refl
+draws_numbered tries n (blocks ∷ lanes) =
+    let rest : draws_of (numbered (suc n) lanes) tries ≡ all_draws lanes tries = draws_numbered tries (suc n) lanes in
+    omega (arith, draws_cons tries (record { number = n; blocks = blocks }) (numbered (suc n) lanes), sum_by-cons (λ (x : List Block). lane_draws x tries) blocks lanes)
+
+pub may_numbered : (n : ℕ) (lanes : List (List Block)) → All (All MayRun) lanes → All MayRunLane (numbered n lanes)
+may_numbered n [] may = All-nil MayRunLane
+may_numbered n (blocks ∷ lanes) may = All-cons MayRunLane (record { number = n; blocks = blocks }) (numbered (suc n) lanes) (All-head (All MayRun) blocks lanes may) (may_numbered (suc n) lanes (All-tail (All MayRun) blocks lanes may))
+
+-- ---- entries of what they come to
+
+pub AreOfLane-run : (lane : Lane) (done : LaneDone) (p q : PassView) → (does : DoesLane lane done p q) → AreOfLane p.engine.size.records does.runs.entries lane done
+AreOfLane-run lane done p q does = record { lane_is = does.lane_is; first = does.runs.done; blocks_are = does.runs.blocks_are; are_entries = does.runs.are_entries; order = does.order }
+
+pub AreOfLanes-one : (records : ℕ) (entries : List Entry) (lane : Lane) (done : LaneDone) → AreOfLane records entries lane done → AreOfLanes records entries (lane ∷ []) (done ∷ [])
+AreOfLanes-one records entries lane done is = subst (λ (xs : List Entry). AreOfLanes records xs (lane ∷ []) (done ∷ [])) (append-nil entries) (next entries [] lane [] done [] is none)
+
+pub AreOfLanes-append : (records : ℕ) (entries more : List Entry) (lanes lanes' : List Lane) (dones dones' : List LaneDone)
+    → AreOfLanes records entries lanes dones → AreOfLanes records more lanes' dones' → AreOfLanes records (entries ++ more) (lanes ++ lanes') (dones ++ dones')
+AreOfLanes-append records entries more lanes lanes' dones dones' none second = second
+AreOfLanes-append records entries more lanes lanes' dones dones' (next es fs l ls d ds is first) second =
+    subst (λ (xs : List Entry). AreOfLanes records xs (l ∷ (ls ++ lanes')) (d ∷ (ds ++ dones'))) (sym (append_assoc es fs more))
+    (next es (fs ++ more) l (ls ++ lanes') d (ds ++ dones') is (AreOfLanes-append records fs more ls lanes' ds dones' first second))
+
+-- ---- refusals
+
+pub rests_append : (tries : ℕ) (dones more : List LaneDone) → tries_of_rests tries (dones ++ more) ≡ tries_of_rests tries dones + tries_of_rests tries more
+rests_append tries [] more = omega arith
+rests_append tries (done ∷ dones) more = let rest : tries_of_rests tries (dones ++ more) ≡ tries_of_rests tries dones + tries_of_rests tries more = rests_append tries dones more in omega arith
+
+rest_counted : (tries : ℕ) (rest : List Block) (m n : ℕ) → (rest ≢ [] → m + tries ≤ n) → m ≤ n → m + tries_of_rest tries rest ≤ n
+rest_counted tries [] m n counts low = omega arith
+rest_counted tries (block ∷ rest) m n counts low = counts (λ none. cc)
+
+-- ---- the work of one pass
+
+pub DoesLanes-none : (tries : ℕ) (p : PassView) → IsIdle p → DoesLanes tries p p [] []
+DoesLanes-none tries p idle = record {
+  entries = [];
+  adds = Adds-none p idle;
+  are_of_lanes = none;
+  refusals = omega arith;
+  clock = omega arith;
+}
+
+pub DoesLanes-next : (tries : ℕ) (p q r : PassView) (lanes lanes' : List Lane) (lane : Lane) (dones dones' : List LaneDone) (done : LaneDone) → lanes' ≡ lanes ++ lane ∷ [] → dones' ≡ dones ++ done ∷ []
+    → DoesLanes tries p q lanes dones → DoesLane lane done q r → (done.rest ≢ [] → q.refusals + tries ≤ r.refusals) → r.clock ≤ clock_after q.clock (lane_draws lane.blocks tries)
+    → DoesLanes tries p r lanes' dones'
+DoesLanes-next tries p q r lanes lanes' lane dones dones' done taken pushed so_far does rest clock =
+    subst (λ (y : List Lane × List LaneDone). DoesLanes tries p r y.0 y.1) (λ i. (sym taken i, sym pushed i)) (record {
+      entries = so_far.entries ++ does.runs.entries;
+      adds = Adds-trans p q r so_far.entries does.runs.entries so_far.adds does.runs.adds;
+      are_of_lanes = AreOfLanes-append p.engine.size.records so_far.entries does.runs.entries lanes (lane ∷ []) dones (done ∷ []) so_far.are_of_lanes here;
+      refusals =
+          let counted : q.refusals + tries_of_rest tries done.rest ≤ r.refusals = rest_counted tries done.rest q.refusals r.refusals rest does.runs.adds.refusals in
+          omega (arith, so_far.refusals, rests_append tries dones (done ∷ []));
+      clock = omega (arith, so_far.clock, clock, draws_push tries lanes lane);
+    }) where
+      here : AreOfLanes p.engine.size.records does.runs.entries (lane ∷ []) (done ∷ [])
+      here = AreOfLanes-one p.engine.size.records does.runs.entries lane done
+          (subst (λ (e : EngineView). AreOfLane e.size.records does.runs.entries lane done) so_far.adds.engine (AreOfLane-run lane done q r does))
+
+pub no_items : {X : Type 0} (xs : List X) → length xs ≡ 0 → xs ≡ []
+no_items [] is = refl
+no_items (x ∷ xs) is = absurd (omega arith)

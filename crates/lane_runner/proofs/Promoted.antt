@@ -1,0 +1,105 @@
+-- What a promotion leaves of a pass.
+use Rattle.std.proofs.Common.{◌≡◌, ℕ, ◌<◌, ◌≤◌, List, [], ◌∷◌, append-nil, Option, None, Some, Result, Ok, Err, inl, inr, refl, sym, ap, subst, ◌∙◌, arith}
+use Rattle.std.specs.Prelude.{IfOk, IfErr}
+use Rattle.std.proofs.lemmas.Bool.Decides.{eqb_tells}
+use Rattle.std.proofs.lemmas.List.Elements.{All-head}
+use Rattle.plain_data.specs.declared.entry.Entry.{Entry}
+use Rattle.plain_data.specs.State.{State, overlay}
+use Rattle.stamp_base.specs.Stamp.{stamp_of}
+use Rattle.history_replay.specs.Results.{KeepsTables}
+use Rattle.seat_post.specs.Glance.{GlanceView}
+use Rattle.txn_engine.specs.Pass.{PassView, IsIdle}
+use Rattle.txn_engine.specs.Promoting.{Promotes, FailsToPromote, IsPromoted, promoted}
+use Rattle.seat_post.specs.Rewriting.{rewriting}
+use Rattle.seat_post.specs.Seats.{Known}
+use Rattle.seat_post.specs.declared.promoting.Promotion.{Promotion}
+use Rattle.seat_post.specs.declared.promoting.Promotion.TheVariants.{Promoted, Inline, Absent, Occupied}
+use Rattle.seat_post.specs.declared.promoting.PromoteFault.{PromoteFault}
+use Rattle.seat_post.specs.declared.promoting.PromoteFault.TheVariants as fault
+use Rattle.lane_runner.specs.Rows.{stands}
+use Rattle.lane_runner.specs.Adds.{IsNext}
+use Rattle.lane_runner.specs.Blocks.{AddsOthers}
+use Rattle.lane_runner.proofs.Adding.{Adds-one}
+
+-- ---- the entry that writes what it read
+
+same_at : (rid : ℕ) (value : Option (List ℕ)) (state : State) → state rid ≡ value → (r : ℕ) → overlay ((rid, value) ∷ []) state r ≡ state r
+same_at rid value state at r =
+    elim (eqb_tells r rid) as (λ _. overlay ((rid, value) ∷ []) state r ≡ state r) [
+      | inl t ↦ rw t.0 (sym (ap state t.1 ∙ at))
+      | inr t ↦ rw t.0 refl
+    ]
+
+-- leaves the tables as they were
+keeps_rewritten : (records stamp rid : ℕ) (value : Option (List ℕ)) → KeepsTables stands records (rewriting stamp rid value)
+keeps_rewritten records stamp rid value state tables is_state holds agrees =
+    let at = All-head (λ (read : ℕ × Option (List ℕ)). state read.0 ≡ read.1) (rid, value) [] agrees in
+    let same : state ≡ overlay ((rid, value) ∷ []) state = λ i r. sym (same_at rid value state at r) i in
+    subst (λ (s : State). stands s tables) same holds
+
+-- ---- each answer
+
+-- what is left of a pass, whatever the answer, at a clock that was drawn
+pub record Leaves (p q : PassView) (clock : ℕ) : Type 0 where
+  pub others : AddsOthers p q
+  pub refusals : q.refusals ≡ p.refusals
+  pub queue : q.queue ≡ p.queue
+  pub at_most : q.clock ≤ clock
+
+-- no entry was added
+leaves_none : (p q : PassView) (clock now published boost : ℕ) (known : Known) (glance : Option GlanceView) → IsIdle p → p.clock ≤ now → now ≤ clock → q ≡ record p { clock = now; published = published; boost = boost; known = known; glance = glance } → Leaves p q clock
+leaves_none p q clock now published boost known glance idle later low is = rw is (record {
+  others = record {
+    entries = [];
+    adds = record {
+      engine = refl;
+      seat = refl;
+      others = refl;
+      idle = idle;
+      log = sym (append-nil p.log);
+      each = λ entry among. absurd among;
+      in_order = tt;
+      clock = later;
+      met = omega arith;
+      refusals = omega arith;
+    };
+    keep = λ entry among. absurd among;
+  };
+  refusals = refl;
+  queue = refl;
+  at_most = low;
+})
+
+-- the entry of a promotion was added
+leaves_one : (kept : State → Type 0) (p q : PassView) (rid clock stamp : ℕ) → IsIdle p → p.clock < clock → IsPromoted kept rid clock p q stamp → Leaves p q clock
+leaves_one kept p q rid clock stamp idle later is = rw is.after (record {
+  others = record {
+    entries = entry ∷ [];
+    adds = Adds-one p (promoted p clock rid (Some is.words)) entry next refl refl refl idle refl (omega arith) (omega arith) (omega arith);
+    keep = λ e among. elim among as (λ _. KeepsTables stands p.engine.size.records e) [
+      | inl same ↦ subst (λ (x : Entry). KeepsTables stands p.engine.size.records x) same (keeps_rewritten p.engine.size.records (stamp_of clock p.seat) rid (Some is.words))
+      | inr none ↦ absurd none
+    ];
+  };
+  refusals = refl;
+  queue = refl;
+  at_most = omega arith;
+}) where
+  entry : Entry
+  entry = rewriting (stamp_of clock p.seat) rid (Some is.words)
+
+  next : IsNext p entry
+  next = record {
+    commit_clock = λ _. omega arith;
+    commit_log = λ _ e among kind. subst (λ (n : ℕ). e.stamp < n) is.at (is.above e among kind);
+    snapshot_met = λ snapshot. cc;
+    snapshot_log = λ snapshot. cc;
+  }
+
+pub leaves_promoted : (kept : State → Type 0) (p q : PassView) (rid clock : ℕ) (told : Result Promotion PromoteFault) → IsIdle p → p.clock < clock → IfOk told (Promotes kept rid clock p q) → IfErr told (FailsToPromote rid clock p q) → Leaves p q clock
+leaves_promoted kept p q rid clock (Ok (Promoted stamp)) idle later ok err = leaves_one kept p q rid clock stamp idle later ok
+leaves_promoted kept p q rid clock (Ok Inline) idle later ok err = leaves_none p q clock clock (stamp_of clock p.seat) p.boost p.known None idle (omega arith) (omega arith) ok
+leaves_promoted kept p q rid clock (Ok Absent) idle later ok err = leaves_none p q clock clock (stamp_of clock p.seat) p.boost p.known None idle (omega arith) (omega arith) ok
+leaves_promoted kept p q rid clock (Ok Occupied) idle later ok err = leaves_none p q clock clock (stamp_of clock p.seat) p.boost p.known None idle (omega arith) (omega arith) ok
+leaves_promoted kept p q rid clock (Err fault.ClockOut) idle later ok err = leaves_none p q clock p.clock p.published p.boost p.known p.glance idle (omega arith) (omega arith) err
+leaves_promoted kept p q rid clock (Err (fault.Conflict conflict)) idle later ok err = leaves_none p q clock clock (stamp_of clock p.seat) 1024 q.known None idle (omega arith) (omega arith) err.after

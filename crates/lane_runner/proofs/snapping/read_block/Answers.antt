@@ -1,0 +1,46 @@
+use Rattle.std.proofs.Common.{rules, ◌≡◌, [], ◌∷◌, Result, Ok, Err, refl, ap, arith}
+use Rattle.std.specs.Prelude.{OnErr}
+use Rattle.txn_engine.specs.Pass.{EngineView, next_clock}
+use Rattle.txn_engine.specs.Snapshot.{GlanceRest, unread}
+use Rattle.seat_post.specs.Glance.{entry_of_glance}
+use Rattle.lane_runner.proofs.Seen.{has_seen, sees_all, never_torn, not_torn, Adds-finished, commits_seen}
+use Rattle.lane_runner.proofs.snapping.read_block.Goals as goal
+
+pub exec_snap-told-requires-clause-size : goal.exec_snap-told-requires-clause-size
+exec_snap-told-requires-clause-size c =
+    let p = c.args.pass.now in
+    let all = sees_all p c.tick.new.self c.snapshot-snapshot.result.pass.now (next_clock p c.args.reading) c.in-Ok.ensures.ok c.snapshot-snapshot.ensures.begins in
+    let records : p.engine.size.records ≡ c.args.engine.now.size.records = ap (λ (e : EngineView). e.size.records) c.requires.engine in
+    omega (arith, all, records, c.requires.fixed, c.fixed.ensures.value, c.fixed.ensures.within)
+
+pub untorn-requires : goal.untorn-requires
+untorn-requires c =
+    let p = c.args.pass.now in
+    let s = c.snapshot-snapshot.result.pass.now in
+    let q = c.exec_snap-told.new.store.pass.now in
+    let rest : unread q ≡ unread s = ap (λ (x : GlanceRest). x.of_pass) c.exec_snap-told.ensures.rest in
+    not_torn c.exec_snap-told.result _ c.exec_snap-told.ensures.torn
+    (never_torn p c.tick.new.self s q (next_clock p c.args.reading) c.in-Ok.ensures.ok c.snapshot-snapshot.ensures.begins rest _ c.keeps_tables.ensures c.finish-stamp.ensures.stood)
+
+pub returns-clause-committed : goal.returns-clause-committed
+returns-clause-committed c =
+    let p = c.args.pass.now in
+    let s = c.snapshot-snapshot.result.pass.now in
+    let q = c.exec_snap-told.new.store.pass.now in
+    let rest : unread q ≡ unread s = ap (λ (x : GlanceRest). x.of_pass) c.exec_snap-told.ensures.rest in
+    commits_seen p c.tick.new.self s q (next_clock p c.args.reading) c.in-Ok.ensures.ok c.snapshot-snapshot.ensures.begins rest c.finish-stamp.new.self.0 _ c.finish-stamp.ensures.after (search rules) c.requires.idle (omega arith)
+    c.args.block.now.commands c.in_ok-outcome.outcome _ c.fits_records.ensures (rw c.in_ok-outcome.ensures at c.exec_snap-told.ensures.outcome) c.finish-stamp.ensures.stamp refl
+
+-- what holds anyway
+on_err : {T E : Type 0} (told : Result T E) (P : Type 0) → P → OnErr told P
+on_err (Ok value) P holds = tt
+on_err (Err error) P holds = holds
+
+pub returns-in_err-outcome-clause-fault : goal.returns-in_err-outcome-clause-fault
+returns-in_err-outcome-clause-fault c =
+    let p = c.args.pass.now in
+    let s = c.snapshot-snapshot.result.pass.now in
+    let q = c.exec_snap-told.new.store.pass.now in
+    let rest : unread q ≡ unread s = ap (λ (x : GlanceRest). x.of_pass) c.exec_snap-told.ensures.rest in
+    let seen = has_seen p c.tick.new.self s q (next_clock p c.args.reading) c.in-Ok.ensures.ok c.snapshot-snapshot.ensures.begins rest in
+    on_err c.from_residual.result _ (entry_of_glance seen.0 ∷ [], Adds-finished p c.tick.new.self s q (next_clock p c.args.reading) c.in-Ok.ensures.ok c.snapshot-snapshot.ensures.begins rest c.finish-stamp.new.self.0 _ c.finish-stamp.ensures.after (search rules) c.requires.idle (omega arith))

@@ -1,0 +1,20 @@
+//! Collection after a try and after a block.
+
+ghost use Rattle.std.specs.Prelude.{◌≡◌, []};
+ghost use Rattle.txn_engine.specs.Pass.{IsIdle, IsAlone};
+ghost use Rattle.lane_runner.specs.Blocks.{IsRefused};
+
+use stored_tables::RowsLawful;
+use txn_engine::{Engine, Pass};
+
+/// Collects below what the pass has queued. What cannot be collected yet stays for the next time; of a pass that is alone nothing
+/// stays.
+pub(crate) fn collect(engine: &Engine<RowsLawful>, pass: &mut Pass<RowsLawful>)
+    requires engine { pass.old.engine ≡ engine.now }
+    requires idle { IsIdle pass.old }
+    ensures none { IsRefused 0 pass.old pass.new }
+    ensures clock { pass.new.clock ≡ pass.old.clock }
+    ensures queue { IsAlone pass.old → pass.new.queue ≡ [] }
+{
+    pass.collect(engine);
+}

@@ -1,0 +1,111 @@
+//! The run of a snapshot block.
+
+ghost use Rattle.std.specs.Prelude.{◌≡◌, ◌+◌, ◌≤◌, [], true, None, Ok, All, IfOk, OnOk, OnErr};
+ghost use Rattle.record_store.specs.Walks.{IfTorn};
+ghost use Rattle.replay_model.specs.Input.{AreCommands};
+ghost use Rattle.stored_tables.specs.Answers.{IsShort, ReadsAlone};
+ghost use Rattle.txn_engine.specs.Pass.{IsIdle, IsAlone};
+ghost use Rattle.lane_runner.specs.Room.{HasRoom, clock_after};
+ghost use Rattle.lane_runner.specs.Blocks.{IsPlaceOf, Commits};
+ghost use Rattle.lane_runner.specs.Lanes.{AddsSome};
+
+use crate::collecting::collect;
+use crate::done::BlockDone;
+use outside_io::Gate;
+use replay_model::{Block, NoMemory, Outcome, Placed};
+use std::alloc::Global;
+use stored_tables::{RowsLawful, Walk, exec_snap, fits_more, fits_records, keeps_tables};
+use txn_engine::{Engine, NoFault, Pass};
+
+/// What commands came to that met no torn tables: want of memory is their only fault.
+fn untorn(told: Result<Outcome, Walk<NoFault>>) -> Result<Outcome, NoMemory>
+    requires { IfTorn told (λ _. ⊥) }
+    ensures { IfOk result (λ outcome. told ≡ Ok outcome) }
+{
+    match told {
+        Ok(outcome) => Ok(outcome),
+        Err(Walk::NoMemory) => Err(NoMemory),
+        Err(Walk::Torn(_)) => unreachable!(),
+        Err(Walk::Store(fault)) => match fault {},
+    }
+}
+
+/// Reads a snapshot block at the minimum of the published stamps, after a tick with the clock's reading. Want of memory leaves an
+/// entry that is no block's.
+fn read_block(
+    alloc: Global,
+    engine: &Engine<RowsLawful>,
+    pass: &mut Pass<RowsLawful>,
+    block: &Block,
+    reading: u64,
+) -> Result<BlockDone, NoMemory>
+    requires engine { pass.old.engine ≡ engine.now }
+    requires idle { IsIdle pass.old }
+    requires kind { block.now.snap ≡ true }
+    requires commands { AreCommands 8 block.now.commands }
+    requires short { All IsShort block.now.commands }
+    requires reads { All ReadsAlone block.now.commands }
+    requires fixed { 4112 ≤ engine.now.fixed }
+    requires room { HasRoom pass.old.clock 1 }
+    ensures committed { IfOk result (λ done. Commits block.now.commands pass.old pass.new done.placed done.outcome) }
+    ensures placed { IfOk result (λ done. IsPlaceOf block.now done.placed) }
+    ensures first { IfOk result (λ done. done.first_read ≡ None) }
+    ensures fault { OnErr result (AddsSome pass.old pass.new) }
+    ensures clock { pass.new.clock ≤ clock_after pass.old.clock 1 }
+{
+    keeps_tables();
+    fits_records();
+    fits_more();
+    // The fixed records are among all, whose number is in its range.
+    engine.fixed();
+    engine.records();
+    let Ok(_) = pass.tick(engine, reading) else {
+        unreachable!();
+    };
+    let mut snapshot = pass.snapshot(engine);
+    let told = exec_snap(&mut snapshot, alloc, &block.commands);
+    let stamp = snapshot.finish();
+    // A kept state agrees with what was read, so the tables are not torn.
+    let outcome = untorn(told)?;
+    let placed = Placed {
+        stamp,
+        snap: true,
+        lane: block.lane,
+        number: block.number,
+    };
+    Ok(BlockDone {
+        placed,
+        outcome,
+        first_read: None,
+    })
+}
+
+/// Runs a snapshot block, and collects.
+pub(crate) fn run_snap<G: Gate>(
+    alloc: Global,
+    engine: &Engine<RowsLawful>,
+    pass: &mut Pass<RowsLawful>,
+    block: &Block,
+    reading: u64,
+    gate: &G,
+) -> Result<BlockDone, NoMemory>
+    requires engine { pass.old.engine ≡ engine.now }
+    requires idle { IsIdle pass.old }
+    requires kind { block.now.snap ≡ true }
+    requires commands { AreCommands 8 block.now.commands }
+    requires short { All IsShort block.now.commands }
+    requires reads { All ReadsAlone block.now.commands }
+    requires fixed { 4112 ≤ engine.now.fixed }
+    requires room { HasRoom pass.old.clock 1 }
+    ensures committed { IfOk result (λ done. Commits block.now.commands pass.old pass.new done.placed done.outcome) }
+    ensures placed { IfOk result (λ done. IsPlaceOf block.now done.placed) }
+    ensures first { IfOk result (λ done. done.first_read ≡ None) }
+    ensures fault { OnErr result (AddsSome pass.old pass.new) }
+    ensures clock { pass.new.clock ≤ clock_after pass.old.clock 1 }
+    ensures queue { OnOk result (IsAlone pass.old → pass.new.queue ≡ []) }
+{
+    let done = read_block(alloc, engine, pass, block, reading)?;
+    gate.after_outcome(block.lane, block.number);
+    collect(engine, pass);
+    Ok(done)
+}

@@ -123,11 +123,11 @@ lanes_differ (blocks ∷ lanes) n each =
     pairs_append Differ blocks (blocks_of lanes)
     (blocks_differ blocks 0 (λ j block here. omega (arith, (each 0 j blocks block refl here).1)))
     (lanes_differ lanes (n + 1) (λ i j bs block lane_here here.
-      let at = each (suc i) j bs block lane_here here in (omega (arith, at.0), at.1)))
+    let at = each (suc i) j bs block lane_here here in (omega (arith, at.0), at.1)))
     (λ a b here there same.
-      let first = list_at blocks a here in
-      let second = lanes_at lanes b there in
-      omega (arith, (each 0 first.0 blocks a refl first.1).0, (each (suc second.i) second.j second.blocks b second.lane_here second.here).0, same.0))
+    let first = list_at blocks a here in
+    let second = lanes_at lanes b there in
+    omega (arith, (each 0 first.0 blocks a refl first.1).0, (each (suc second.i) second.j second.blocks b second.lane_here second.here).0, same.0))
 
 eq_self : (n : ℕ) → (n == n) ≡ true
 eq_self n = elim (eqb_tells n n) [ inl same ↦ same.0 | inr not ↦ absurd (not.1 refl) ]
@@ -150,9 +150,9 @@ module _ (records : ℕ) where
   once_of entries blocks results (result e es b bs r rs is rest) differ =
       AllPairs-cons Other r rs
       (all_among (Other r) rs (λ r' among same.
-        let h = entry_of_result records es bs rs r' rest among in
-        let apart : Differ b h.block = All-contains (Differ b) bs h.block (pairs_head Differ b bs differ) (contains_of bs h.block h.of_lane) in
-        apart (sym is.place.lane ∙ same.0 ∙ h.is_result.place.lane, sym is.place.number ∙ same.1 ∙ h.is_result.place.number)))
+      let h = entry_of_result records es bs rs r' rest among in
+      let apart : Differ b h.block = All-contains (Differ b) bs h.block (pairs_head Differ b bs differ) (contains_of bs h.block h.of_lane) in
+      apart (sym is.place.lane ∙ same.0 ∙ h.is_result.place.lane, sym is.place.number ∙ same.1 ∙ h.is_result.place.number)))
       (once_of es bs rs rest (pairs_tail Differ b bs differ))
   once_of entries blocks results (other e es bs rs keeps rest) differ = once_of es bs rs rest differ
 
@@ -161,9 +161,9 @@ module _ (records : ℕ) where
   apart_of entries blocks results (result e es b bs r rs is rest) differ =
       AllPairs-cons Apart r rs
       (all_among (Apart r) rs (λ r' among first second same.
-        let h = entry_of_result records es bs rs r' rest among in
-        let apart : StampsDiffer e h.entry = All-contains (StampsDiffer e) es h.entry (pairs_head StampsDiffer e es differ) (contains_of es h.entry h.among) in
-        apart (is.is_entry.kind ∙ first) (h.is_result.is_entry.kind ∙ second) (is.is_entry.stamp ∙ same ∙ sym h.is_result.is_entry.stamp)))
+      let h = entry_of_result records es bs rs r' rest among in
+      let apart : StampsDiffer e h.entry = All-contains (StampsDiffer e) es h.entry (pairs_head StampsDiffer e es differ) (contains_of es h.entry h.among) in
+      apart (is.is_entry.kind ∙ first) (h.is_result.is_entry.kind ∙ second) (is.is_entry.stamp ∙ same ∙ sym h.is_result.is_entry.stamp)))
       (apart_of es bs rs rest (pairs_tail StampsDiffer e es differ))
   apart_of entries blocks results (other e es bs rs keeps rest) differ = apart_of es bs rs rest (pairs_tail StampsDiffer e es differ)
 

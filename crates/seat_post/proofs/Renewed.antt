@@ -1,5 +1,5 @@
 -- A record whose visible value is written again by a seat that is alone.
-use Rattle.std.proofs.Common.{◌≡◌, ℕ, ◌+◌, ◌<◌, ◌≤◌, ◌⊎◌, Bool, cond, List, [], ◌∷◌, ◌++◌, Option, Some, refl, sym, ap, ◌∙◌, subst, inl, inr, map, arith, eq-eqb, length, length-append}
+use Rattle.std.proofs.Common.{◌≡◌, ℕ, ◌+◌, ◌<◌, ◌≤◌, ◌⊎◌, Bool, cond, List, [], ◌∷◌, ◌++◌, Option, Some, refl, sym, ap, ◌∙◌, subst, inl, inr, ⊎_elim, map, arith, eq-eqb, length, length-append}
 use Rattle.std.proofs.lemmas.List.{length-map}
 use Rattle.plain_data.specs.declared.entry.Entry.{Entry}
 use Rattle.plain_data.specs.State.{State}
@@ -13,6 +13,7 @@ use Rattle.core_rule.specs.Searching.{Ends, limit_of, newest_stamp}
 use Rattle.core_rule.specs.Collecting.{HasEntry}
 use Rattle.core_rule.specs.Spares.{KnowsFree, IsSpare}
 use Rattle.core_rule.specs.Deciding as deciding
+use Rattle.core_rule.proofs.Among.{Among-split}
 use Rattle.clock_stamps.specs.Clocks.{drawn}
 use Rattle.version_pool.specs.Takes.{TakesFree, WasMet, after_losing}
 use Rattle.validate_core.specs.declared.conflict.Conflict.{Conflict}
@@ -85,6 +86,7 @@ none_taken kept u v w x clock rid place wts value is later drew found none =
         later = let h = d.clock_is in omega arith;
         met = let h = d.met in omega arith;
         log = rw d.log none_yet;
+        added = rw d.log (λ e among. inl among);
       },
     )
 
@@ -146,6 +148,9 @@ module _ (u v w t : View) (clock rid from wts place : ℕ) (value : Option (List
     above_there : IsAbove (entries_of u) (stamp_of clock u.number)
     above_there e among commit = let h = is.above e among commit in omega arith
 
+    stamp_later : bound_of_clock u.clock.clock ≤ stamp_of clock u.number
+    stamp_later = omega arith
+
     pub rewritten_settles : Settles kept u x
     rewritten_settles = record {
       number = number_is;
@@ -155,6 +160,8 @@ module _ (u v w t : View) (clock rid from wts place : ℕ) (value : Option (List
       later = let h = clock_is in omega arith;
       met = let h = ap (λ (y : View). y.clock.met) links.only ∙ at_taken.met in omega arith;
       log = subst (λ es. Rewritings kept u.size.records (entries_of u) es) (sym log_is) (one_more (entries_of u) (stamp_of clock u.number) rid value none_yet stood_there above_there (left_drawn u v w clock rid from wts value drew found is.alone));
+      added = λ e among. ⊎_elim (λ earlier. inl earlier) (λ last. ⊎_elim (λ same. inr (subst (λ (x : Entry). bound_of_clock u.clock.clock ≤ x.stamp) same stamp_later)) (λ none. absurd none) last)
+          (Among-split e (entries_of u) (entry ∷ []) (subst (λ es. Among e es) log_is among));
     }
 
     newest_is : newest_stamp x.tops rid ≡ Some (stamp_of clock u.number)

@@ -18,7 +18,7 @@ use Rattle.seat_post.specs.declared.phase.Phase.{Phase}
 use Rattle.seat_post.specs.Glance.{first_glance}
 use Rattle.seat_post.specs.Post.{post_view}
 use Rattle.seat_post.specs.Rewriting.{Rewritings}
-use Rattle.seat_post.specs.Settling.{entries_of, IsSettling, Settles, AreSettled, KeepsOthers, Draws, SettlesPost}
+use Rattle.seat_post.specs.Settling.{entries_of, IsSettling, Settles, AreSettled, AreLater, KeepsOthers, Draws, SettlesPost}
 
 -- ---- a record
 
@@ -87,5 +87,6 @@ settles_post kept hand hand' last phase stamp bound reads writes table table' se
       later = omega arith;
       met = omega arith;
       log = subst (λ (es : List Logged). Rewritings kept hand.view.size.records (entries_of hand.view) (map deciding.entry_of es)) (sym log) settles.log;
+      added = subst (λ (es : List Logged). AreLater (entries_of hand.view) (map deciding.entry_of es) (bound_of_clock hand.view.clock.clock)) (sym log) settles.added;
       above = rw (log, clock) settling.above;
     }

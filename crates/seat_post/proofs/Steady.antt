@@ -1,5 +1,5 @@
 -- What settling keeps of a seat that is alone, from call to call.
-use Rattle.std.proofs.Common.{◌≡◌, ℕ, ◌+◌, ◌<◌, ◌≤◌, List, refl, sym, ap, ◌∙◌, subst, arith, ⊎_elim}
+use Rattle.std.proofs.Common.{◌≡◌, ℕ, ◌+◌, ◌<◌, ◌≤◌, List, refl, sym, ap, ◌∙◌, subst, arith, inl, inr, ⊎_elim}
 use Rattle.std.proofs.lemmas.Bool.{cases_lt}
 use Rattle.plain_data.specs.declared.entry.Entry.{Entry}
 use Rattle.plain_data.specs.State.{State}
@@ -110,11 +110,16 @@ steady_settles kept v w s = record {
   later = let h = s.clock in omega arith;
   met = s.met;
   log = rw s.log none_yet;
+  added = rw s.log (λ e among. inl among);
 }
 
 rewritings_both : (kept : State → Type 0) (records : ℕ) (a b c : List Entry) → Rewritings kept records a b → Rewritings kept records b c → Rewritings kept records a c
 rewritings_both kept records a b c first none_yet = first
 rewritings_both kept records a b c first (one_more log stamp rid value second stood above left) = one_more log stamp rid value (rewritings_both kept records a b log first second) stood above left
+
+-- what is above a clock is above an earlier one
+later_stamp : (u v : View) (t : ℕ) → u.clock.clock ≤ v.clock.clock → bound_of_clock v.clock.clock ≤ t → bound_of_clock u.clock.clock ≤ t
+later_stamp u v t later above = omega arith
 
 pub settles_both : (kept : State → Type 0) (u v w : View) → Settles kept u v → Settles kept v w → Settles kept u w
 settles_both kept u v w a b = record {
@@ -125,4 +130,5 @@ settles_both kept u v w a b = record {
   later = let h = a.later in let k = b.later in omega arith;
   met = let h = a.met in let k = b.met in omega arith;
   log = rewritings_both kept u.size.records (entries_of u) (entries_of v) (entries_of w) a.log (rw (← a.size) b.log);
+  added = λ e among. ⊎_elim (λ earlier. a.added e earlier) (λ above. inr (later_stamp u v e.stamp a.later above)) (b.added e among);
 }

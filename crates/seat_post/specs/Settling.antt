@@ -6,7 +6,7 @@ use Rattle.stamp_base.specs.Limits.{greatest_clock}
 use Rattle.stamp_base.specs.Stamp.{stamp_of, bound_of_clock}
 use Rattle.word_layout.specs.Size.{Size, IsUsable}
 use Rattle.core_rule.specs.View.{View, Counted, Load, nothing_kept}
-use Rattle.core_rule.specs.Views.{IsAlone}
+use Rattle.core_rule.specs.Views.{IsAlone, Among}
 use Rattle.core_rule.specs.Searching.{Ends, known_of, newest_stamp}
 use Rattle.core_rule.specs.Collecting.{HasEntry}
 use Rattle.core_rule.specs.Spares.{StandsKept}
@@ -26,10 +26,14 @@ use Rattle.seat_post.specs.Rewriting.{Rewritings}
 abbrev pub AreSettled : (count : ℕ) → Counted → Type 0
 AreSettled count counts = (r : ℕ) → r < count → IsOneLeft (known_of counts r)
 
+-- each entry that a log has beside those of an earlier one is stamped at this number or above it
+abbrev pub AreLater : (before log : List Entry) → ℕ → Type 0
+AreLater before log t = (e : Entry) → Among e log → Among e before ⊎ (t ≤ e.stamp)
+
 -- ---- a post
 
--- Its clock is no lower, and its log has grown by rewritings alone. Its published word and what it knows of lists are others, and one
--- less than what it met of `min_wts` is its read stamp, at which nothing was read yet.
+-- Its clock is no lower, and its log has grown by rewritings alone, at stamps of later clocks. Its published word and what it knows of
+-- lists are others, and one less than what it met of `min_wts` is its read stamp, at which nothing was read yet.
 pub record SettlesPost (kept : State → Type 0) (before after' : PostView) : Type 0 where
   pub only : after' ≡ record before {
     clock = after'.clock;
@@ -42,6 +46,7 @@ pub record SettlesPost (kept : State → Type 0) (before after' : PostView) : Ty
   pub later : before.clock ≤ after'.clock
   pub met : before.met ≤ after'.met
   pub log : Rewritings kept before.shared.size.records before.log after'.log
+  pub added : AreLater before.log after'.log (bound_of_clock before.clock)
   pub above : IsAbove after'.log (bound_of_clock after'.clock)
 
 -- the log has so many entries more, one for each clock that was drawn
@@ -61,7 +66,7 @@ pub record IsSettling (v : View) : Type 0 where
   pub holds_none : v.places.held ≡ []
   pub above : IsAbove (entries_of v) (bound_of_clock v.clock.clock)
 
--- the same seat, with a clock that is no lower, and a log that has grown by rewritings alone
+-- the same seat, with a clock that is no lower, and a log that has grown by rewritings alone, at stamps of later clocks
 pub record Settles (kept : State → Type 0) (v w : View) : Type 0 where
   pub number : w.number ≡ v.number
   pub size : w.size ≡ v.size
@@ -70,6 +75,7 @@ pub record Settles (kept : State → Type 0) (v w : View) : Type 0 where
   pub later : v.clock.clock ≤ w.clock.clock
   pub met : v.clock.met ≤ w.clock.met
   pub log : Rewritings kept v.size.records (entries_of v) (entries_of w)
+  pub added : AreLater (entries_of v) (entries_of w) (bound_of_clock v.clock.clock)
 
 -- what is known of the lists of the other records is as before
 abbrev pub KeepsOthers : (rid : ℕ) → View → View → Type 0

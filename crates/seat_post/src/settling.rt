@@ -41,6 +41,7 @@ impl<J: Keeps> Post<J> {
         ensures draws { IfOk result (λ all. IsDrawnFor all.rewritten self.old.clock self.new.clock self.old.log self.new.log) }
         ensures counts { IfOk result (λ all. (all.rewritten ≤ all.cut) × (all.cut ≤ 2 * self.old.shared.size.records)) }
         ensures clock_out { OnErr result (self.new.clock ≡ greatest_clock) }
+        ensures within { OnErr result (self.new.clock < self.old.clock + 2 * self.old.shared.size.records) }
         ensures before { OnErr result ((count : ℕ) × (count < self.old.shared.size.records) × AreSettled count self.new.known.counts) }
     {
         let told = settle_all(core, &mut self.hand, &mut self.room);
@@ -67,6 +68,7 @@ fn settle_all<J: Keeps>(
     ensures counts { IfOk result (λ all. (all.rewritten ≤ all.cut) × (all.cut ≤ 2 * core.now.size.records)) }
     ensures freed { IfOk result (λ all. FreesCounted all.places hand.old.view hand.new.view) }
     ensures clock_out { OnErr result (hand.new.view.clock.clock ≡ greatest_clock) }
+    ensures within { OnErr result (hand.new.view.clock.clock < hand.old.view.clock.clock + 2 * core.now.size.records) }
     ensures stops { OnErr result (StopsAt core.now.size.records hand.new.view) }
     ensures stays { StaysReady core.now hand.old hand.new }
 {
@@ -102,6 +104,7 @@ fn settle_record<J: Keeps>(
     ensures wanted { OnErr result (IsDue rid hand.old.view) }
     ensures runs_out { OnErr result ((between : View) × RunsOut rid between hand.new.view) }
     ensures clock_out { OnErr result (hand.new.view.clock.clock ≡ greatest_clock) }
+    ensures within { OnErr result (hand.new.view.clock.clock ≤ hand.old.view.clock.clock + 1) }
     ensures stays { StaysReady core.now hand.old hand.new }
 {
     let found = first(core, hand, rid);

@@ -26,7 +26,9 @@ use Rattle.seat_post.proofs.Bounds.{below_more, queued_more}
 use Rattle.seat_post.proofs.Leaving.{leaves_all}
 use Rattle.txn_engine.specs.Inside.{IsPass, pass_view}
 use Rattle.txn_engine.specs.Leaves.{HoldsAbsent}
+use Rattle.txn_engine.specs.Alone.{counting}
 use Rattle.txn_engine.specs.Pass.{PassView}
+use Rattle.txn_engine.specs.Settling.{SettlesPass}
 use Rattle.txn_engine.proofs.Accounting.{absent_entered, absent_on}
 
 -- ---- what a pass keeps
@@ -103,3 +105,25 @@ absent_rewritten kept p _ (one_more log stamp rid value first stood above left) 
 pub absent_settled : (kept : State → Type 0) (p r : PostView) (boost : ℕ) (q : Waiting) (n : NumbersView) (refusals : ℕ) (dead : Option Conflict) (counted : Bool) → SettlesPost kept p r → HoldsAbsent (pass_view p boost q n refusals dead counted) → HoldsAbsent (pass_view r boost q n refusals dead counted)
 absent_settled kept p r boost q n refusals dead counted s absent =
     subst (λ (x : PostView). HoldsAbsent (pass_view x boost q n refusals dead counted)) (sym s.only) (absent_rewritten kept (pass_view p boost q n refusals dead counted) r.log s.log absent)
+
+-- ---- what settling makes of a pass, as it is seen, and of the seat that counts for others
+
+pub settles_pass : (kept : State → Type 0) (p r : PostView) (boost : ℕ) (q : Waiting) (n : NumbersView) (refusals : ℕ) (dead : Option Conflict) (counted : Bool) → SettlesPost kept p r → SettlesPass kept (pass_view p boost q n refusals dead counted) (pass_view r boost q n refusals dead counted)
+settles_pass kept p r boost q n refusals dead counted s = record {
+  after = ap (λ (x : PostView). pass_view x boost q n refusals dead counted) s.only;
+  later = s.later;
+  met = s.met;
+  log = s.log;
+  added = s.added;
+  above = s.above;
+}
+
+pub settles_counting : (kept : State → Type 0) (p q : PassView) (earlier : ℕ) → SettlesPass kept p q → SettlesPass kept (counting p earlier) (counting q earlier)
+settles_counting kept p q earlier s = record {
+  after = ap (λ (x : PassView). counting x earlier) s.after;
+  later = s.later;
+  met = s.met;
+  log = s.log;
+  added = s.added;
+  above = s.above;
+}

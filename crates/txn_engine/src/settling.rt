@@ -28,6 +28,7 @@ impl<J: Keeps> Pass<J> {
         ensures draws { IfOk result (λ all. IsDrawnFor all.rewritten self.old.clock self.new.clock self.old.log self.new.log) }
         ensures counts { IfOk result (λ all. (all.rewritten ≤ all.cut) × (all.cut ≤ 2 * self.old.engine.size.records)) }
         ensures clock_out { OnErr result (self.new.clock ≡ greatest_clock) }
+        ensures within { OnErr result (self.new.clock < self.old.clock + 2 * self.old.engine.size.records) }
         ensures before { OnErr result ((count : ℕ) × (count < self.old.engine.size.records) × AreSettled count self.new.known.counts) }
     {
         self.post.settle(&engine.core)
@@ -55,6 +56,7 @@ impl<J: Keeps> Alone<J> {
         ensures draws { IfOk result (λ all. IsDrawnFor all.rewritten self.old.pass.clock self.new.pass.clock self.old.pass.log self.new.pass.log) }
         ensures counts { IfOk result (λ all. (all.rewritten ≤ all.cut) × (all.cut ≤ 2 * self.old.pass.engine.size.records)) }
         ensures clock_out { OnErr result (self.new.pass.clock ≡ greatest_clock) }
+        ensures within { OnErr result (self.new.pass.clock < self.old.pass.clock + 2 * self.old.pass.engine.size.records) }
         ensures before { OnErr result ((count : ℕ) × (count < self.old.pass.engine.size.records) × AreSettled count self.new.pass.known.counts) }
     {
         let told = self.pass.settle(engine)?;

@@ -18,6 +18,23 @@ is_visible-requires-clause-settling g c =
     let v = c.args.hand.now.view in
     steady_settling v c.first-found.new.hand.view c.requires.settling (steady_first v c.first-found.new.hand.view _ _ _ _ c.first-found.ensures.view c.requires.settling.ends)
 
+pub returns-in_err-once-clause-settles : goal.returns-in_err-once-clause-settles
+returns-in_err-once-clause-settles g c =
+    let kept = g.J.Keeps.kept in
+    let v = c.args.hand.now.view in
+    let looked = steady_settles kept v c.first-found.new.hand.view (steady_first v c.first-found.new.hand.view _ _ _ _ c.first-found.ensures.view c.requires.settling.ends) in
+    let seen = settles_both kept v c.first-found.new.hand.view c.is_visible.new.hand.view looked c.is_visible.ensures.settles in
+    settles_both kept v c.is_visible.new.hand.view c.renew.new.hand.view seen c.renew.ensures.settles
+
+pub returns-then-not-once-clause-settles : goal.returns-then-not-once-clause-settles
+returns-then-not-once-clause-settles g c =
+    let kept = g.J.Keeps.kept in
+    let v = c.args.hand.now.view in
+    let looked = steady_settles kept v c.first-found.new.hand.view (steady_first v c.first-found.new.hand.view _ _ _ _ c.first-found.ensures.view c.requires.settling.ends) in
+    let seen = settles_both kept v c.first-found.new.hand.view c.is_visible.new.hand.view looked c.is_visible.ensures.settles in
+    let once = settles_both kept v c.is_visible.new.hand.view c.renew.new.hand.view seen c.renew.ensures.settles in
+    settles_both kept v c.renew.new.hand.view c.cut_below-places-2.new.hand.view once c.cut_below-places-2.ensures.settles
+
 pub returns-clause-settles : goal.returns-clause-settles
 returns-clause-settles g c =
     let kept = g.J.Keeps.kept in

@@ -1,8 +1,10 @@
 use Rattle.std.proofs.Common.{ap, sym, subst, ◌∙◌}
 use Rattle.txn_engine.specs.Desk.{DeskView}
 use Rattle.txn_engine.specs.Leaves.{HoldsAbsent}
+use Rattle.txn_engine.specs.Inside.{pass_view}
 use Rattle.txn_engine.specs.Pass.{PassView}
-use Rattle.txn_engine.proofs.Settlements.{pass_settled, tidy_settled, roomy_settled, on_ok, absent_settled}
+use Rattle.txn_engine.specs.Settling.{SettlesPass}
+use Rattle.txn_engine.proofs.Settlements.{pass_settled, tidy_settled, roomy_settled, on_ok, absent_settled, settles_pass}
 use Rattle.txn_engine.proofs.pass.Pass.settle.Goals as goal
 
 pub invariant_of-self : goal.invariant_of-self
@@ -25,3 +27,9 @@ pub returns-clause-absent : goal.returns-clause-absent
 returns-clause-absent g c = λ before.
     let i = c.self.inside in
     absent_settled g.J.Keeps.kept i.post c.settle.new.self i.boost i.queue i.numbers i.refusals i.dead i.counted c.settle.ensures.settles (subst HoldsAbsent (sym c.self.view_is) before)
+
+pub returns-clause-settles : goal.returns-clause-settles
+returns-clause-settles g c =
+    let i = c.self.inside in
+    subst (λ (x : PassView). SettlesPass g.J.Keeps.kept x (pass_view c.settle.new.self i.boost i.queue i.numbers i.refusals i.dead i.counted)) c.self.view_is
+    (settles_pass g.J.Keeps.kept i.post c.settle.new.self i.boost i.queue i.numbers i.refusals i.dead i.counted c.settle.ensures.settles)

@@ -8,7 +8,7 @@ ghost use Rattle.std.specs.Prelude.{IfOk};
 ghost use Rattle.replay_model.specs.declared.input.Input.{Input};
 ghost use Rattle.replay_model.specs.Input.{IsWellFormed};
 ghost use Rattle.load_gen.specs.Load.{spelled, lines};
-ghost use Rattle.txn_script.specs.Grammar.{IsInput, IsWithinLimits};
+ghost use Rattle.txn_script.specs.Grammar.{IsInput, IsRunnable, IsWithinLimits};
 
 use load_gen::generate;
 use replay_model::{Input, NoMemory};
@@ -24,6 +24,7 @@ pub fn generated(alloc: Global, seed: u64) -> Result<Input, NoMemory>
     // What holds of each input.
     ensures well_formed { IfOk result IsWellFormed }
     ensures within { IfOk result IsWithinLimits }
+    ensures runnable { IfOk result IsRunnable }
 {
     let text = generate(alloc, seed)?;
     match parse(alloc, &text) {

@@ -26,9 +26,17 @@ unfoldable pub tables_sum : ℕ → TableMap → ℕ
 tables_sum zero tables = 0
 tables_sum (suc n) tables = tables_sum n tables + rows_sum (pairs_of n tables)
 
+-- all columns of all rows in these lists
+abbrev pub lists_sum : List (List (ℕ × Row)) → ℕ
+lists_sum lists = sum_by rows_sum lists
+
+-- what is said of an input and a sum
+abbrev pub lines_with : Input → ℕ → List (List ℕ)
+lines_with input sum =
+    (codes "transactions " ++ decimal (transactions input.lanes))
+    ∷ (codes "sum " ++ decimal sum)
+    ∷ codes "done" ∷ []
+
 -- what is said of an input and the last tables
 abbrev pub summary_lines : Input → TableMap → List (List ℕ)
-summary_lines input last =
-    (codes "transactions " ++ decimal (transactions input.lanes))
-    ∷ (codes "sum " ++ decimal (tables_sum (length input.tables) last))
-    ∷ codes "done" ∷ []
+summary_lines input last = lines_with input (tables_sum (length input.tables) last)

@@ -11,4 +11,4 @@ mod summing_up;
 mod totals;
 
 pub use generating::generate;
-pub use summing_up::summary;
+pub use summing_up::{summary, summary_of_rows};

@@ -3,7 +3,7 @@
 ghost use Rattle.std.specs.Prelude.{◌≡◌, ◌+◌, ◌<◌, ◌^◌, IfOk};
 ghost use Rattle.std.specs.List.{count_by};
 ghost use Rattle.replay_model.specs.Input.{IsWellFormed};
-ghost use Rattle.load_gen.specs.Summary.{is_txn, transactions, columns_sum, rows_sum, tables_sum};
+ghost use Rattle.load_gen.specs.Summary.{is_txn, transactions, columns_sum, rows_sum, lists_sum, tables_sum};
 
 use replay_model::{Blocks, Columns, Input, NoMemory, Pairs, Tables};
 use std::alloc::Global;
@@ -45,6 +45,19 @@ pub fn tables_sum(alloc: Global, count: usize, tables: &Tables) -> Result<u128, 
     for i in 0..count {
         let pairs = tables.pairs(alloc, i as u32)?;
         total = added(total, rows_sum(&pairs)?)?;
+    }
+    Ok(total)
+}
+
+/// The sum of all columns of all rows in these lists.
+///
+/// A sum above 2^128 - 1 would take more than 2^61 rows; it counts as want of memory.
+pub fn lists_sum(lists: &[Pairs]) -> Result<u128, NoMemory>
+    ensures { IfOk result (λ sum. sum ≡ lists_sum lists.now) }
+{
+    let mut total: u128 = 0;
+    for pairs in lists {
+        total = added(total, rows_sum(pairs)?)?;
     }
     Ok(total)
 }

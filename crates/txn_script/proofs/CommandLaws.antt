@@ -10,12 +10,13 @@ use Rattle.txn_script.specs.declared.fault.Kind.TheVariants as kinds
 use Rattle.txn_script.specs.declared.keyword.Keyword.{Keyword}
 use Rattle.txn_script.specs.declared.keyword.Keyword.TheVariants as words
 use Rattle.txn_script.specs.declared.keyword.Version.{Version}
-use Rattle.txn_script.specs.declared.place.Place.TheVariants.{InTxn, InSnap}
+use Rattle.txn_script.specs.declared.place.Place.{Place}
+use Rattle.txn_script.specs.declared.place.Place.TheVariants.{Declarations, InLane, InTxn, InSnap, Finished}
 use Rattle.txn_script.specs.Line.{Line, named_line}
-use Rattle.txn_script.specs.Places.{after}
+use Rattle.txn_script.specs.Places.{after, after_named}
 use Rattle.txn_script.specs.Gathered.{named_column, command_of, is_table, is_index, is_row}
-use Rattle.txn_script.specs.Grammar.{blocks_in, counts, is_indexed, limit_of, IsBlockWithinLimits, IsWithinLimits, ComesOnce, keeps_columns, Passes}
-use Rattle.txn_script.specs.Reading.{number_in, Progress, open_block, need, check, is_found, has_room, command_added, with_command}
+use Rattle.txn_script.specs.Grammar.{blocks_in, counts, is_indexed, limit_of, IsBlockWithinLimits, IsWithinLimits, ReadsAlone, ComesOnce, keeps_columns, Passes}
+use Rattle.txn_script.specs.Reading.{number_in, Progress, is_in_snap, open_block, need, check, is_found, has_room, command_added, with_command}
 use Rattle.txn_script.proofs.WordLaws.{and_parts}
 use Rattle.txn_script.proofs.InputKept.{IsOver, sum_push, All-last, length_push, blocks_in-last, count-command, Holds, Holds-command}
 use Rattle.txn_script.proofs.KnownLaws.{number_in-below}
@@ -37,6 +38,27 @@ over_is v t n columns words.Add numbers command in' six kept e = subst (IsOver n
 over_is v t n columns words.Sub numbers command in' six kept e = subst (IsOver n) (some_is _ command e) (in_columns columns (named_column v numbers) six kept, in')
 over_is v t n columns words.Scan numbers command in' six kept e = subst (IsOver n) (some_is _ command e) (tt, in')
 over_is v t n columns words.Find numbers command in' six kept e = subst (IsOver n) (some_is _ command e) (tt, in')
+
+snap_place : (place : Place) → is_in_snap place ≡ true → place ≡ InSnap
+snap_place Declarations e = absurd cc
+snap_place InLane e = absurd cc
+snap_place InTxn e = absurd cc
+snap_place InSnap e = refl
+snap_place Finished e = absurd cc
+
+-- a command that may stand in a snapshot reads alone
+reads_in_snap : (v : Version) (t : ℕ) (k : Keyword) (numbers : List ℕ) (command : Command) (next : Place) → after_named k InSnap ≡ Some next → command_of v t k numbers ≡ Some command → ReadsAlone command
+reads_in_snap v t words.Table numbers command next stands e = absurd cc
+reads_in_snap v t words.Index numbers command next stands e = absurd cc
+reads_in_snap v t words.Row numbers command next stands e = absurd cc
+reads_in_snap v t words.Get numbers command next stands e = subst ReadsAlone (some_is _ command e) tt
+reads_in_snap v t words.Put numbers command next stands e = absurd cc
+reads_in_snap v t words.Ins numbers command next stands e = absurd cc
+reads_in_snap v t words.Del numbers command next stands e = absurd cc
+reads_in_snap v t words.Add numbers command next stands e = absurd cc
+reads_in_snap v t words.Sub numbers command next stands e = absurd cc
+reads_in_snap v t words.Scan numbers command next stands e = subst ReadsAlone (some_is _ command e) tt
+reads_in_snap v t words.Find numbers command next stands e = subst ReadsAlone (some_is _ command e) tt
 
 some_command : (v : Version) (t : ℕ) (k : Keyword) (numbers : List ℕ) → is_table k ≡ false → is_index k ≡ false → is_row k ≡ false → command_of v t k numbers ≡ None → ⊥
 some_command v t words.Table numbers a b c e = absurd cc
@@ -119,10 +141,11 @@ module _ (before : List Line) (p : Progress) (r : Reads before p) where
       let b : p.limit_sum + limit_of command ≤ 256 = leb-true (p.limit_sum + limit_of command) 256 front.1 in
       let c : length p.rows + p.change_count + added ≤ 16384 = counted_at_most (counts x command) (length p.rows + p.change_count) (λ e. ltb-true (length p.rows + p.change_count) 16384 (or_was (counts x command) (ltb (length p.rows + p.change_count) 16384) parts.1 e)) r.steady.rows_and_changes in
       let over = over_is v t (length p.tables) (columns_of p.tables t) k numbers command in' (six before p r t in') kept is in
+      let reads_alone : is_in_snap p.place ≡ true → ReadsAlone command = λ snap. reads_in_snap v t k numbers command p.place (ap (after_named k) (sym (snap_place p.place snap)) ∙ after_is) is in
       let reads : Reads (before ++ line ∷ []) q = record {
         gathers = gathers;
         holds = subst (λ ls. Holds (record (input_at p.place q) { lanes = ls }) p.block_count (p.change_count + added)) (sym lanes_are)
-            (Holds-command p.tables p.rows p.indexes p.lanes p.blocks p.block_count p.change_count (open_block p) command h over a (omega (arith, b, r.limits)) (omega (arith, c)));
+            (Holds-command p.tables p.rows p.indexes p.lanes p.blocks p.block_count p.change_count (open_block p) command h over reads_alone a (omega (arith, b, r.limits)) (omega (arith, c)));
         steady = record {
           tables = r.steady.tables;
           columns = r.steady.columns;

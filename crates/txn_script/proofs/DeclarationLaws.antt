@@ -164,7 +164,7 @@ module _ (before : List Line) (p : Progress) (r : Reads before p) where
       let few : length p.rows + p.change_count < 16384 = ltb-true (length p.rows + p.change_count) 16384 room in
       let reads : Reads (before ++ line ∷ []) q = record {
         gathers = gathers;
-        holds = Holds-row (input_at Declarations p) p.block_count p.change_count row (holds_at before p r Declarations at) once few;
+        holds = Holds-row (input_at Declarations p) p.block_count p.change_count row (holds_at before p r Declarations at) once (number_in-below p.tables name t found) few;
         steady = record {
           tables = r.steady.tables;
           columns = r.steady.columns;

@@ -1,4 +1,4 @@
--- What every input keeps: numbered blocks, different rows, commands over its tables, limits.
+-- What every input keeps: numbered blocks, different rows, rows and commands over its tables, snapshots that read alone, limits.
 use Rattle.std.proofs.Common.{◌≡◌, ℕ, zero, suc, ◌+◌, ◌^◌, ◌<◌, ◌≤◌, List, [], ◌∷◌, ◌++◌, length, All, Some, refl, ap, subst, ◌∙◌, arith, add-zero}
 use Rattle.std.specs.Prelude.{slice_get}
 use Rattle.std.proofs.lemmas.List.{length-append, take_at, drop_at}
@@ -13,7 +13,7 @@ use Rattle.txn_script.specs.declared.place.Place.{Place}
 use Rattle.txn_script.specs.declared.place.Place.TheVariants.{Finished}
 use Rattle.txn_script.specs.Line.{Line}
 use Rattle.txn_script.specs.Gathered.{sections, opens_lane, opens_block, block_of, lanes_of}
-use Rattle.txn_script.specs.Grammar.{blocks_in, IsBlockWithinLimits, IsWithinLimits}
+use Rattle.txn_script.specs.Grammar.{blocks_in, IsBlockWithinLimits, IsRunnable, IsWithinLimits}
 use Rattle.txn_script.specs.Reading.{Progress, input_at_end}
 use Rattle.txn_script.proofs.SectionLaws.{numbered, lane_from}
 use Rattle.txn_script.proofs.InputKept.{Holds, IsOver, IsBlockOver}
@@ -72,6 +72,9 @@ module _ (before : List Line) (p : Progress) (r : Reads before p) (at : p.place 
 
   pub within-is : IsWithinLimits (input_at_end p)
   within-is = whole.within
+
+  pub runnable-is : IsRunnable (input_at_end p)
+  runnable-is = whole.runnable
 
   pub well_formed-is : IsWellFormed (input_at_end p)
   well_formed-is = record {

@@ -18,7 +18,7 @@ use Rattle.txn_script.specs.declared.place.Place.TheVariants.{InLane, InTxn, InS
 use Rattle.txn_script.specs.Line.{Line, head_line, mark_line, named_line, has_numbers, HasForm}
 use Rattle.txn_script.specs.Places.{after, place_behind}
 use Rattle.txn_script.specs.Gathered.{declared_columns, is_table, is_index, is_row}
-use Rattle.txn_script.specs.Grammar.{IsBlockWithinLimits, Passes, checks, FirstFailing, Fits}
+use Rattle.txn_script.specs.Grammar.{IsBlockWithinLimits, IsRowOver, ReadsIfSnap, Passes, checks, FirstFailing, Fits}
 use Rattle.txn_script.specs.Reading.{Progress, and_then, with_table, with_index, with_row, lane_closed, lane_opened, block_opened, block_closed, with_command, mark_taken, named_taken, taken_in, step, started}
 use Rattle.txn_script.proofs.WordLaws.{and_parts}
 use Rattle.txn_script.proofs.PlaceLaws.{place_behind-push, declaring-is, reading-is, writing-is, outside-is, in_lane-is, ending-is}
@@ -105,6 +105,7 @@ Reads-started version = record {
   holds = record {
     once = record { tables = λ i j d lt within. absurd (omega arith); indexes = λ i j d lt within. absurd (omega arith); rows = λ i j d lt within. absurd (omega arith) };
     within = record { tables = omega arith; lanes = omega arith; blocks = omega arith; each_block = All-nil IsBlockWithinLimits; rows_and_changes = omega arith };
+    runnable = record { rows = All-nil (IsRowOver 0); snapshots = All-nil ReadsIfSnap };
     columns = All-nil (λ (table : List ℕ × ℕ). IsColumn table.1);
     indexes = All-nil (IsIndex 0);
     commands = All-nil (λ (block : Block). All (IsOver 0) block.commands);

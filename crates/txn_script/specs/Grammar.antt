@@ -8,6 +8,7 @@ use Rattle.replay_model.specs.declared.input.Block.{Block}
 use Rattle.replay_model.specs.declared.input.Input.{Input}
 use Rattle.replay_model.specs.Input.{RowsDiffer}
 use Rattle.replay_model.specs.Report.{columns_of}
+use Rattle.replay_model.specs.TableMap.{Row as RowColumns}
 use Rattle.txn_script.specs.declared.fault.Kind.{Kind}
 use Rattle.txn_script.specs.declared.fault.Kind.TheVariants as kinds
 use Rattle.txn_script.specs.declared.keyword.Keyword.{Keyword}
@@ -65,6 +66,30 @@ pub record IsWithinLimits (input : Input) : Type 0 where
   pub blocks : length (blocks_in input.lanes) ≤ 16384
   pub each_block : All IsBlockWithinLimits (blocks_in input.lanes)
   pub rows_and_changes : length input.rows + count_by (counts (is_indexed input.indexes)) (commands_in input.lanes) ≤ 16384
+
+-- a command that reads alone
+abbrev pub ReadsAlone : Command → Type 0
+ReadsAlone (commands.Get table key column) = Unit {0}
+ReadsAlone (commands.Put table key values) = ⊥
+ReadsAlone (commands.Ins table key values) = ⊥
+ReadsAlone (commands.Del table key) = ⊥
+ReadsAlone (commands.Add table key column by) = ⊥
+ReadsAlone (commands.Sub table key column by) = ⊥
+ReadsAlone (commands.Scan table lo hi limit) = Unit {0}
+ReadsAlone (commands.Find table column lo hi limit) = Unit {0}
+
+-- a block that is a snapshot reads alone
+abbrev pub ReadsIfSnap : Block → Type 0
+ReadsIfSnap block = block.snap ≡ true → All ReadsAlone block.commands
+
+-- a row of one of the first n tables
+abbrev pub IsRowOver : ℕ → ℕ × ℕ × RowColumns → Type 0
+IsRowOver n row = row.0 < n
+
+-- rows are of tables that are declared, and snapshots read alone
+pub record IsRunnable (input : Input) : Type 0 where
+  pub rows : All (IsRowOver (length input.tables)) input.rows
+  pub snapshots : All ReadsIfSnap (blocks_in input.lanes)
 
 -- no table is declared twice or has two indexes, and no two rows have the same table and key
 pub record ComesOnce (input : Input) : Type 0 where

@@ -2,7 +2,7 @@
 
 ghost use Rattle.std.specs.Prelude.{◌≡◌, ◌≤◌, ℕ, length, IfOk};
 ghost use Rattle.replay_model.specs.Input.{IsWellFormed};
-ghost use Rattle.txn_script.specs.Grammar.{IsInput, IsFault, IsWithinLimits};
+ghost use Rattle.txn_script.specs.Grammar.{IsInput, IsFault, IsWithinLimits, IsRunnable};
 ghost use Rattle.txn_script.specs.Answer.{IsAnswer, IsAnswerBehind};
 
 use crate::bytes::cut_line;
@@ -28,6 +28,7 @@ pub fn parse(alloc: Global, bytes: &[u8]) -> Result<Input, ParseFault>
     // What holds of each input.
     ensures well_formed { IfOk result IsWellFormed }
     ensures within { IfOk result IsWithinLimits }
+    ensures runnable { IfOk result IsRunnable }
 {
     let Some((text, rest)) = cut_line(bytes) else {
         return Err(Stop::Refused(Kind::End).at(1));
@@ -44,6 +45,7 @@ fn read(alloc: Global, version: Version, bytes: &[u8]) -> Result<Input, ParseFau
     ensures answer { IsAnswerBehind version bytes.now result }
     ensures well_formed { IfOk result IsWellFormed }
     ensures within { IfOk result IsWithinLimits }
+    ensures runnable { IfOk result IsRunnable }
 {
     let mut reader = Reader::new(alloc, version);
     let mut number = 2;

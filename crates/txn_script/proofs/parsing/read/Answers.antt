@@ -4,13 +4,13 @@ use Rattle.replay_model.specs.Input.{IsWellFormed}
 use Rattle.txn_script.specs.declared.keyword.Version.{Version}
 use Rattle.txn_script.specs.declared.place.Place.TheVariants.{Finished}
 use Rattle.txn_script.specs.Line.{HasForm}
-use Rattle.txn_script.specs.Grammar.{IsWithinLimits}
+use Rattle.txn_script.specs.Grammar.{IsRunnable, IsWithinLimits}
 use Rattle.txn_script.specs.Answer.{SpellsBehind}
 use Rattle.txn_script.specs.LineReading.{seen}
 use Rattle.txn_script.specs.Reading.{Progress, progress}
 use Rattle.txn_script.proofs.LineLaws.{line_of-reads}
 use Rattle.txn_script.proofs.Reached.{Reached, Reached-started, Reached-line, refused-end, refused-form, stopped, refused-behind, finished-is}
-use Rattle.txn_script.proofs.KeptLaws.{within-is, well_formed-is}
+use Rattle.txn_script.proofs.KeptLaws.{runnable-is, within-is, well_formed-is}
 use Rattle.txn_script.proofs.Ends.{not_yet, no_more, some_more}
 use Rattle.txn_script.proofs.parsing.read.Goals as goal
 
@@ -68,3 +68,8 @@ pub returns-clause-within : goal.returns-clause-within
 returns-clause-within c =
     let reached = c.loop-version.invariant in
     subst IsWithinLimits (sym c.finish.ensures) (within-is reached.before (progress c.loop-version.reader) reached.reads (c.is_finished.ensures.0 c.loop-version-test.false))
+
+pub returns-clause-runnable : goal.returns-clause-runnable
+returns-clause-runnable c =
+    let reached = c.loop-version.invariant in
+    subst IsRunnable (sym c.finish.ensures) (runnable-is reached.before (progress c.loop-version.reader) reached.reads (c.is_finished.ensures.0 c.loop-version-test.false))

@@ -1,7 +1,7 @@
 -- What is added to a pass, call behind call.
 use Rattle.std.proofs.Common.{◌≡◌, ◌+◌, ◌<◌, ◌≤◌, List, [], ◌∷◌, ◌++◌, append-nil, append_assoc, refl, sym, ap, subst, ◌∙◌, arith, ⊎_elim, inl, inr}
 use Rattle.plain_data.specs.declared.entry.Entry.{Entry}
-use Rattle.stamp_base.specs.Stamp.{stamp_of}
+use Rattle.stamp_base.specs.Stamp.{bound_of_clock}
 use Rattle.core_rule.specs.Views.{Among}
 use Rattle.core_rule.proofs.Among.{Among-left, Among-right, Among-split}
 use Rattle.txn_engine.specs.Pass.{PassView, IsIdle, IsAlone}
@@ -45,9 +45,8 @@ alone_stays p q entries adds alone = rw (adds.engine, adds.seat, adds.others) al
 next_before : (p q : PassView) (xs : List Entry) (entry : Entry) → Adds p q xs → IsNext q entry → IsNext p entry
 next_before p q xs entry first next = record {
   commit_clock = λ commit.
-      let later : stamp_of q.clock q.seat < entry.stamp = next.commit_clock commit in
+      let later : bound_of_clock q.clock ≤ entry.stamp = next.commit_clock commit in
       let clock : p.clock ≤ q.clock = first.clock in
-      let seat : q.seat ≡ p.seat = first.seat in
       omega arith;
   commit_log = λ commit e among kind. next.commit_log commit e (in_log e among) kind;
   snapshot_met = λ snapshot.
@@ -60,7 +59,7 @@ next_before p q xs entry first next = record {
   in_log e among = subst (λ (log : List Entry). Among e log) (sym first.log) (Among-left e p.log xs among)
 
 -- entries in order, behind which others come next
-in_order_behind : (xs ys : List Entry) → AreInOrder xs → AreInOrder ys → ((x y : Entry) → Among x xs → Among y ys → IsLater x y) → AreInOrder (xs ++ ys)
+pub in_order_behind : (xs ys : List Entry) → AreInOrder xs → AreInOrder ys → ((x y : Entry) → Among x xs → Among y ys → IsLater x y) → AreInOrder (xs ++ ys)
 in_order_behind [] ys first second across = second
 in_order_behind (x ∷ xs) ys first second across = (λ y among. ⊎_elim (λ h. first.0 y h) (λ h. across x y (inl refl) h) (Among-split y xs ys among), in_order_behind xs ys first.1 second (λ a b here there. across a b (inr here) there))
 

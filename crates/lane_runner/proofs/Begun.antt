@@ -20,6 +20,7 @@ use Rattle.seat_post.specs.declared.phase.Phase.{Phase}
 use Rattle.seat_post.specs.declared.phase.Phase.TheVariants.{Open}
 use Rattle.lane_runner.specs.Adds.{IsNext, Adds}
 use Rattle.lane_runner.specs.Blocks.{Commits}
+use Rattle.lane_runner.specs.Weighs.{WeighsAtMost}
 use Rattle.lane_runner.proofs.Adding.{Adds-one}
 use Rattle.lane_runner.proofs.Entries.{HasRun, with_none, fits_run, is_entry_run, never_stood}
 
@@ -114,9 +115,10 @@ module _ (q r : PassView) (opened : q.desk.phase ≡ Open) (rest : frame r ≡ f
 
 -- the block has committed
 pub commits_at : (p q r r' : PassView) (clock : ℕ) (known : Known) (commands : List Command) (outcome : Outcome) (placed : Placed) → p.clock < clock → IsAbove p.log q.desk.stamp → frame q ≡ frame (begun p clock) → r ≡ committed (knowing q known) → r' ≡ r
-    → FitsRecords → FitsMore → p.engine.size.records ≤ record_limit → HasRun p.engine.size.records commands outcome q.desk.reads q.desk.writes → q.desk.stamp ≡ placed.stamp → false ≡ placed.snap → Commits commands p r' placed outcome
-commits_at p q r r' clock known commands outcome placed later above kept ends same fits more few run stamp kind = record {
+    → FitsRecords → FitsMore → p.engine.size.records ≤ record_limit → HasRun p.engine.size.records commands outcome q.desk.reads q.desk.writes → q.desk.stamp ≡ placed.stamp → false ≡ placed.snap → WeighsAtMost p.engine.size.records commands (entry_of q.desk) → Commits commands p r' placed outcome
+commits_at p q r r' clock known commands outcome placed later above kept ends same fits more few run stamp kind weighs = record {
   entry = entry_of q.desk;
   adds = Adds-committed p q r' clock known later above kept (same ∙ ends);
   is_entry = is_entry_run p.engine.size.records commands outcome placed (entry_of q.desk) fits more few run stamp kind;
+  weighs = λ _. weighs;
 }

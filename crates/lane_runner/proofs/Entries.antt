@@ -31,7 +31,7 @@ pub record HasRun (records : ℕ) (commands : List Command) (outcome : Outcome) 
   pub leaves : (state : State) (places : Places) (tables : TableMap) → Agrees state reads → StandsFor records state places tables → (after : Places) × StandsFor records (overlay writes state) after (tables_after commands tables)
 
 -- a refused block leaves the tables
-refused_stays : (commands : List Command) (command : ℕ) (cause : Cause) (tables : TableMap) → Refused command cause ≡ outcome_of commands tables → tables_after commands tables ≡ tables
+pub refused_stays : (commands : List Command) (command : ℕ) (cause : Cause) (tables : TableMap) → Refused command cause ≡ outcome_of commands tables → tables_after commands tables ≡ tables
 refused_stays commands command cause tables is = by_run (run_from 1 commands tables) is where
   by_run : (run : Result (List Answer × TableMap) (ℕ × Cause)) → Refused command cause ≡ outcome_from run → tables_from tables run ≡ tables
   by_run (Ok run) is = cc

@@ -71,9 +71,13 @@ draws_numbered tries n (blocks ∷ lanes) =
     let rest : draws_of (numbered (suc n) lanes) tries ≡ all_draws lanes tries = draws_numbered tries (suc n) lanes in
     omega (arith, draws_cons tries (record { number = n; blocks = blocks }) (numbered (suc n) lanes), sum_by-cons (λ (x : List Block). lane_draws x tries) blocks lanes)
 
+pub each_numbered : (P : Block → Type 0) (n : ℕ) (lanes : List (List Block)) → All (All P) lanes → All (λ (lane : Lane). All P lane.blocks) (numbered n lanes)
+each_numbered P n [] each = All-nil (λ (lane : Lane). All P lane.blocks)
+each_numbered P n (blocks ∷ lanes) each =
+    All-cons (λ (lane : Lane). All P lane.blocks) (record { number = n; blocks = blocks }) (numbered (suc n) lanes) (All-head (All P) blocks lanes each) (each_numbered P (suc n) lanes (All-tail (All P) blocks lanes each))
+
 pub may_numbered : (n : ℕ) (lanes : List (List Block)) → All (All MayRun) lanes → All MayRunLane (numbered n lanes)
-may_numbered n [] may = All-nil MayRunLane
-may_numbered n (blocks ∷ lanes) may = All-cons MayRunLane (record { number = n; blocks = blocks }) (numbered (suc n) lanes) (All-head (All MayRun) blocks lanes may) (may_numbered (suc n) lanes (All-tail (All MayRun) blocks lanes may))
+may_numbered n lanes may = each_numbered MayRun n lanes may
 
 -- ---- entries of what they come to
 

@@ -6,8 +6,26 @@ pub mod Promoted
 pub mod Tried
 pub mod Run
 pub mod Results
+mod Within
+mod Held
+mod Asked
+mod Looked
+mod Rests
+mod Loaded
+mod Settled
+mod Clocks
+mod Ran
+mod Again
 pub mod LaneLists
 pub mod Gathered
 pub mod Together
 pub mod Shared
 pub mod WholeRun
+pub mod Weighing
+pub mod Remaining
+pub mod BecomingLists
+pub mod BecomingLanes
+pub mod BecomingRan
+pub mod BecomingLog
+pub mod BecomingOrder
+pub mod Becoming

@@ -1,5 +1,5 @@
 -- What a promotion leaves of a pass.
-use Rattle.std.proofs.Common.{◌≡◌, ℕ, ◌<◌, ◌≤◌, List, [], ◌∷◌, append-nil, Option, None, Some, Result, Ok, Err, inl, inr, refl, sym, ap, subst, ◌∙◌, arith}
+use Rattle.std.proofs.Common.{◌≡◌, ℕ, ◌+◌, ◌<◌, ◌≤◌, List, [], ◌∷◌, append-nil, Option, None, Some, Result, Ok, Err, inl, inr, refl, sym, ap, subst, ◌∙◌, arith}
 use Rattle.std.specs.Prelude.{IfOk, IfErr}
 use Rattle.std.proofs.lemmas.Bool.Decides.{eqb_tells}
 use Rattle.std.proofs.lemmas.List.Elements.{All-head}
@@ -16,26 +16,41 @@ use Rattle.seat_post.specs.declared.promoting.Promotion.{Promotion}
 use Rattle.seat_post.specs.declared.promoting.Promotion.TheVariants.{Promoted, Inline, Absent, Occupied}
 use Rattle.seat_post.specs.declared.promoting.PromoteFault.{PromoteFault}
 use Rattle.seat_post.specs.declared.promoting.PromoteFault.TheVariants as fault
+use Rattle.stored_tables.specs.Tables.{StandsFor}
+use Rattle.stored_tables.specs.Weight.{weight, all_add}
 use Rattle.lane_runner.specs.Rows.{stands}
 use Rattle.lane_runner.specs.Adds.{IsNext}
 use Rattle.lane_runner.specs.Blocks.{AddsOthers}
+use Rattle.lane_runner.specs.Weighs.{WeighsAtMost, LeavesTables}
 use Rattle.lane_runner.proofs.Adding.{Adds-one}
 
 -- ---- the entry that writes what it read
 
-same_at : (rid : ℕ) (value : Option (List ℕ)) (state : State) → state rid ≡ value → (r : ℕ) → overlay ((rid, value) ∷ []) state r ≡ state r
+pub same_at : (rid : ℕ) (value : Option (List ℕ)) (state : State) → state rid ≡ value → (r : ℕ) → overlay ((rid, value) ∷ []) state r ≡ state r
 same_at rid value state at r =
     elim (eqb_tells r rid) as (λ _. overlay ((rid, value) ∷ []) state r ≡ state r) [
       | inl t ↦ rw t.0 (sym (ap state t.1 ∙ at))
       | inr t ↦ rw t.0 refl
     ]
 
--- leaves the tables as they were
+no_less : (n more : ℕ) → n ≤ n + more
+no_less n more = omega arith
+
+-- leaves the tables as they were, and their weight
 keeps_rewritten : (records stamp rid : ℕ) (value : Option (List ℕ)) → KeepsTables stands records (rewriting stamp rid value)
 keeps_rewritten records stamp rid value state tables is_state holds agrees =
     let at = All-head (λ (read : ℕ × Option (List ℕ)). state read.0 ≡ read.1) (rid, value) [] agrees in
     let same : state ≡ overlay ((rid, value) ∷ []) state = λ i r. sym (same_at rid value state at r) i in
     subst (λ (s : State). stands s tables) same holds
+
+weighs_rewritten : (records stamp rid : ℕ) (value : Option (List ℕ)) → WeighsAtMost records [] (rewriting stamp rid value)
+weighs_rewritten records stamp rid value tables state places agrees holds =
+    let at = All-head (λ (read : ℕ × Option (List ℕ)). state read.0 ≡ read.1) (rid, value) [] agrees in
+    let same : state ≡ overlay ((rid, value) ∷ []) state = λ i r. sym (same_at rid value state at r) i in
+    (places, subst (λ (s : State). StandsFor records s places tables) same holds, no_less (weight places) (all_add [] tables))
+
+pub leaves_rewritten : (records stamp rid : ℕ) (value : Option (List ℕ)) → LeavesTables records (rewriting stamp rid value)
+leaves_rewritten records stamp rid value = record { keeps = keeps_rewritten records stamp rid value; weighs = λ _. weighs_rewritten records stamp rid value }
 
 -- ---- each answer
 
@@ -76,8 +91,8 @@ leaves_one kept p q rid clock stamp idle later is = rw is.after (record {
   others = record {
     entries = entry ∷ [];
     adds = Adds-one p (promoted p clock rid (Some is.words)) entry next refl refl refl idle refl (omega arith) (omega arith) (omega arith);
-    keep = λ e among. elim among as (λ _. KeepsTables stands p.engine.size.records e) [
-      | inl same ↦ subst (λ (x : Entry). KeepsTables stands p.engine.size.records x) same (keeps_rewritten p.engine.size.records (stamp_of clock p.seat) rid (Some is.words))
+    keep = λ e among. elim among as (λ _. LeavesTables p.engine.size.records e) [
+      | inl same ↦ subst (λ (x : Entry). LeavesTables p.engine.size.records x) same (leaves_rewritten p.engine.size.records (stamp_of clock p.seat) rid (Some is.words))
       | inr none ↦ absurd none
     ];
   };

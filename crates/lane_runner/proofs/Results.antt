@@ -4,10 +4,9 @@ use Rattle.plain_data.specs.declared.entry.Entry.{Entry}
 use Rattle.replay_model.specs.declared.input.Block.{Block}
 use Rattle.replay_model.specs.declared.outcome.Outcome.{Outcome}
 use Rattle.replay_model.specs.declared.outcome.Placed.{Placed}
-use Rattle.history_replay.specs.Results.{KeepsTables}
 use Rattle.core_rule.specs.Views.{Among}
-use Rattle.lane_runner.specs.Rows.{stands}
 use Rattle.lane_runner.specs.Adds.{IsLater, AreInOrder}
+use Rattle.lane_runner.specs.Weighs.{LeavesTables}
 use Rattle.lane_runner.specs.Lanes.{IsResult, AreEntries, IsAfter, KeepOrder}
 use Rattle.lane_runner.specs.Lanes.AreEntries.{none, result, other}
 
@@ -38,19 +37,19 @@ entry_of_result records entries blocks results r (other e es bs rs keeps rest) a
     let h = entry_of_result records es bs rs r rest among in
     record { entry = h.entry; among = inr h.among; block = h.block; of_lane = h.of_lane; is_result = h.is_result }
 
--- each entry is that of a result, or leaves the tables as they were
-pub result_of_entry : (records : ℕ) (entries : List Entry) (blocks : List Block) (results : List (Placed × Outcome)) (entry : Entry) → AreEntries records entries blocks results → Among entry entries → HasResult records blocks results entry ⊎ KeepsTables stands records entry
+-- each entry is that of a result, or leaves the tables and their weight as they were
+pub result_of_entry : (records : ℕ) (entries : List Entry) (blocks : List Block) (results : List (Placed × Outcome)) (entry : Entry) → AreEntries records entries blocks results → Among entry entries → HasResult records blocks results entry ⊎ LeavesTables records entry
 result_of_entry records entries blocks results entry none among = absurd among
 result_of_entry records entries blocks results entry (result e es b bs r rs is rest) (inl same) = inl (record { result = r; among = inl refl; block = b; of_lane = inl refl; is_result = subst (λ (x : Entry). IsResult records b r x) same is })
 result_of_entry records entries blocks results entry (result e es b bs r rs is rest) (inr among) = behind (result_of_entry records es bs rs entry rest among) where
-  behind : HasResult records bs rs entry ⊎ KeepsTables stands records entry → HasResult records (b ∷ bs) (r ∷ rs) entry ⊎ KeepsTables stands records entry
+  behind : HasResult records bs rs entry ⊎ LeavesTables records entry → HasResult records (b ∷ bs) (r ∷ rs) entry ⊎ LeavesTables records entry
   behind (inl h) = inl (record { result = h.result; among = inr h.among; block = h.block; of_lane = inr h.of_lane; is_result = h.is_result })
   behind (inr keeps) = inr keeps
-result_of_entry records entries blocks results entry (other e es bs rs keeps rest) (inl same) = inr (subst (λ (x : Entry). KeepsTables stands records x) same keeps)
+result_of_entry records entries blocks results entry (other e es bs rs keeps rest) (inl same) = inr (subst (λ (x : Entry). LeavesTables records x) same keeps)
 result_of_entry records entries blocks results entry (other e es bs rs keeps rest) (inr among) = result_of_entry records es bs rs entry rest among
 
 -- results stand in the order of their entries
-after_entries : (records : ℕ) (b b' : Block) (r r' : Placed × Outcome) (e e' : Entry) → IsResult records b r e → IsResult records b' r' e' → IsLater e e' → IsAfter r.0 r'.0
+pub after_entries : (records : ℕ) (b b' : Block) (r r' : Placed × Outcome) (e e' : Entry) → IsResult records b r e → IsResult records b' r' e' → IsLater e e' → IsAfter r.0 r'.0
 after_entries records b b' r r' e e' is is' later = record {
   commits = λ first second.
       let rises : e.stamp < e'.stamp = later.commits (is.is_entry.kind ∙ first) (is'.is_entry.kind ∙ second) in

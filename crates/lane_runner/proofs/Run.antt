@@ -9,11 +9,10 @@ use Rattle.replay_model.specs.declared.input.Block.{Block}
 use Rattle.replay_model.specs.declared.outcome.Outcome.{Outcome}
 use Rattle.replay_model.specs.declared.outcome.Placed.{Placed}
 use Rattle.txn_engine.specs.Pass.{PassView, EngineView, IsIdle}
-use Rattle.lane_runner.specs.Rows.{stands}
-use Rattle.history_replay.specs.Results.{KeepsTables}
 use Rattle.core_rule.specs.Views.{Among}
 use Rattle.lane_runner.specs.Room.{clock_after}
 use Rattle.lane_runner.specs.Adds.{Adds}
+use Rattle.lane_runner.specs.Weighs.{LeavesTables}
 use Rattle.lane_runner.specs.Blocks.{IsPlaceOf, Commits, IsRefused, AddsOthers}
 use Rattle.lane_runner.specs.Lanes.{MayRun, IsResult, AreEntries, Runs, AddsSome}
 use Rattle.lane_runner.specs.Lanes.AreEntries.{none, result, other}
@@ -26,11 +25,11 @@ AreEntries-append records entries blocks results entries' blocks' results' (resu
 AreEntries-append records entries blocks results entries' blocks' results' (other e es bs rs keeps first) second = other e (es ++ entries') (bs ++ blocks') (rs ++ results') keeps (AreEntries-append records es bs rs entries' blocks' results' first second)
 
 -- other entries behind them
-AreEntries-others : (records : ℕ) (entries : List Entry) → ((entry : Entry) → Among entry entries → KeepsTables stands records entry) → AreEntries records entries [] []
+pub AreEntries-others : (records : ℕ) (entries : List Entry) → ((entry : Entry) → Among entry entries → LeavesTables records entry) → AreEntries records entries [] []
 AreEntries-others records [] keep = none
 AreEntries-others records (e ∷ es) keep = other e es [] [] (keep e (inl refl)) (AreEntries-others records es (λ entry among. keep entry (inr among)))
 
-AreEntries-behind : (records : ℕ) (entries : List Entry) (blocks : List Block) (results : List (Placed × Outcome)) (entries' : List Entry) → AreEntries records entries blocks results → ((entry : Entry) → Among entry entries' → KeepsTables stands records entry) → AreEntries records (entries ++ entries') blocks results
+AreEntries-behind : (records : ℕ) (entries : List Entry) (blocks : List Block) (results : List (Placed × Outcome)) (entries' : List Entry) → AreEntries records entries blocks results → ((entry : Entry) → Among entry entries' → LeavesTables records entry) → AreEntries records (entries ++ entries') blocks results
 AreEntries-behind records entries blocks results entries' none keep = AreEntries-others records entries' keep
 AreEntries-behind records entries blocks results entries' (result e es b bs r rs is first) keep = result e (es ++ entries') b bs r rs is (AreEntries-behind records es bs rs entries' first keep)
 AreEntries-behind records entries blocks results entries' (other e es bs rs keeps first) keep = other e (es ++ entries') bs rs keeps (AreEntries-behind records es bs rs entries' first keep)
@@ -40,7 +39,7 @@ Runs-others blocks results rest p q r so_far more = record {
   done = so_far.done;
   blocks_are = so_far.blocks_are;
   entries = so_far.entries ++ more.entries;
-  are_entries = AreEntries-behind p.engine.size.records so_far.entries so_far.done results more.entries so_far.are_entries (subst (λ (e : EngineView). (entry : Entry) → Among entry more.entries → KeepsTables stands e.size.records entry) so_far.adds.engine more.keep);
+  are_entries = AreEntries-behind p.engine.size.records so_far.entries so_far.done results more.entries so_far.are_entries (subst (λ (e : EngineView). (entry : Entry) → Among entry more.entries → LeavesTables e.size.records entry) so_far.adds.engine more.keep);
   adds = Adds-trans p q r so_far.entries more.entries so_far.adds more.adds;
 }
 
@@ -58,7 +57,7 @@ Runs-result blocks results rest p q r block placed outcome results' so_far none_
   adds = Adds-trans p q r so_far.entries (commits.entry ∷ []) so_far.adds commits.adds;
 } where
   is : IsResult p.engine.size.records block (placed, outcome) commits.entry
-  is = subst (λ (e : EngineView). IsResult e.size.records block (placed, outcome) commits.entry) so_far.adds.engine (record { place = place; is_entry = commits.is_entry })
+  is = subst (λ (e : EngineView). IsResult e.size.records block (placed, outcome) commits.entry) so_far.adds.engine (record { place = place; is_entry = commits.is_entry; weighs = commits.weighs })
 
 -- one more block is kept
 pub Runs-kept : (blocks : List Block) (results : List (Placed × Outcome)) (rest : List Block) (p q r : PassView) (block : Block) (times : ℕ) (rest' : List Block)

@@ -6,16 +6,16 @@ use Rattle.txn_engine.specs.Sharing.{announced, share_at, first_share, shares}
 use Rattle.lane_runner.specs.Shares.{SharesAreAll}
 use Rattle.lane_runner.proofs.Together.{range_first}
 
-each_unglanced : (P : PassView → Type 0) (passes : List PassView) → ((q : PassView) → P (unglanced q) → P q) → AllByRecursion P (map unglanced passes) → AllByRecursion P passes
+pub each_unglanced : (P : PassView → Type 0) (passes : List PassView) → ((q : PassView) → P (unglanced q) → P q) → AllByRecursion P (map unglanced passes) → AllByRecursion P passes
 each_unglanced P [] stays all = tt
 each_unglanced P (q ∷ passes) stays all = (stays q all.0, each_unglanced P passes stays all.1)
 
-each_share : (P : PassView → Type 0) (p : PassView) (seats : List ℕ) → ((seat : ℕ) → P (share_at p seat)) → AllByRecursion P (map (share_at p) seats)
+pub each_share : (P : PassView → Type 0) (p : PassView) (seats : List ℕ) → ((seat : ℕ) → P (share_at p seat)) → AllByRecursion P (map (share_at p) seats)
 each_share P p [] each = tt
 each_share P p (seat ∷ seats) each = (each seat, each_share P p seats each)
 
 -- what holds of each share holds of each pass
-each_pass : (P : PassView → Type 0) (p : PassView) (passes : List PassView) → ((q : PassView) → P (unglanced q) → P q) → map unglanced passes ≡ shares p
+pub each_pass : (P : PassView → Type 0) (p : PassView) (passes : List PassView) → ((q : PassView) → P (unglanced q) → P q) → map unglanced passes ≡ shares p
     → P (first_share (announced p)) → ((seat : ℕ) → P (share_at (announced p) seat)) → AllByRecursion P passes
 each_pass P p passes stays are first each = each_unglanced P passes stays (subst (AllByRecursion P) (sym are) (first, each_share P (announced p) (range_with_len 1 (p.engine.size.seats - 1)) each))
 

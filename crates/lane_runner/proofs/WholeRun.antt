@@ -26,29 +26,30 @@ use Rattle.lane_runner.specs.Rows.{stands}
 use Rattle.lane_runner.specs.Blocks.{IsPlaceOf}
 use Rattle.lane_runner.specs.Lanes.{IsResult, AreEntries}
 use Rattle.lane_runner.specs.Lanes.AreEntries.{none, result, other}
+use Rattle.lane_runner.specs.Weighs.{LeavesTables}
 use Rattle.lane_runner.specs.Whole.{blocks_of, ComesBehind, RunsWhole, WholeRunsAreResults}
 use Rattle.lane_runner.proofs.Results.{HasEntry, HasResult, entry_of_result, result_of_entry}
 
 -- ---- lists
 
 module _ {X : Type 0} where
-  all_among : (P : X → Type 0) (xs : List X) → ((x : X) → Among x xs → P x) → All P xs
+  pub all_among : (P : X → Type 0) (xs : List X) → ((x : X) → Among x xs → P x) → All P xs
   all_among P [] each = All-nil P
   all_among P (x ∷ xs) each = All-cons P x xs (each x (inl refl)) (all_among P xs (λ y among. each y (inr among)))
 
-  contains_of : (xs : List X) (x : X) → Among x xs → Contains xs x
+  pub contains_of : (xs : List X) (x : X) → Among x xs → Contains xs x
   contains_of [] x among = absurd among
   contains_of (y ∷ xs) x (inl same) = subst (λ (z : X). Contains (y ∷ xs) z) same (Contains-head y xs)
   contains_of (y ∷ xs) x (inr among) = Contains-tail y xs x (contains_of xs x among)
 
-  among_of : (xs : List X) (x : X) → Contains xs x → Among x xs
+  pub among_of : (xs : List X) (x : X) → Contains xs x → Among x xs
   among_of [] x at = absurd (Contains-nil x at)
   among_of (y ∷ xs) x at = ⊎_elim (λ same. inl same) (λ more. inr (among_of xs x more)) (Contains-cases y xs x at)
 
-  among_moved : (xs ys : List X) (x : X) → IsPermutation xs ys → Among x ys → Among x xs
+  pub among_moved : (xs ys : List X) (x : X) → IsPermutation xs ys → Among x ys → Among x xs
   among_moved xs ys x moved among = among_of xs x (Contains-permutation ys xs x (IsPermutation-sym xs ys moved) (contains_of ys x among))
 
-  among_after : (xs ys : List X) (x : X) → IsPermutation xs ys → Among x xs → Among x ys
+  pub among_after : (xs ys : List X) (x : X) → IsPermutation xs ys → Among x xs → Among x ys
   among_after xs ys x moved among = among_of ys x (Contains-permutation xs ys x moved (contains_of xs x among))
 
   list_any_among : (p : X → Bool) (xs : List X) (x : X) → Among x xs → p x ≡ true → list_any p xs ≡ true
@@ -56,14 +57,14 @@ module _ {X : Type 0} where
   list_any_among p (y ∷ xs) x (inl same) holds = ap (λ (b : Bool). b || list_any p xs) (subst (λ (z : X). p z ≡ true) (sym same) holds)
   list_any_among p (y ∷ xs) x (inr among) holds = ap (λ (b : Bool). p y || b) (list_any_among p xs x among holds) ∙ or-true (p y)
 
-  pairs_append : (R : X → X → Type 0) (xs ys : List X) → AllPairs R xs → AllPairs R ys → ((x y : X) → Among x xs → Among y ys → R x y) → AllPairs R (xs ++ ys)
+  pub pairs_append : (R : X → X → Type 0) (xs ys : List X) → AllPairs R xs → AllPairs R ys → ((x y : X) → Among x xs → Among y ys → R x y) → AllPairs R (xs ++ ys)
   pairs_append R [] ys first second across = second
   pairs_append R (x ∷ xs) ys first second across =
       AllPairs-cons R x (xs ++ ys)
       (all_among (R x) (xs ++ ys) (λ y among. ⊎_elim (λ here. All-contains (R x) xs y (pairs_head R x xs first) (contains_of xs y here)) (λ there. across x y (inl refl) there) (Among-split y xs ys among)))
       (pairs_append R xs ys (pairs_tail R x xs first) second (λ a b here there. across a b (inr here) there))
 
-  pairs_behind : (R : X → X → Type 0) (xs ys : List X) → AllPairs R (xs ++ ys) → AllPairs R ys
+  pub pairs_behind : (R : X → X → Type 0) (xs ys : List X) → AllPairs R (xs ++ ys) → AllPairs R ys
   pairs_behind R [] ys pairs = pairs
   pairs_behind R (x ∷ xs) ys pairs = pairs_behind R xs ys (pairs_tail R x (xs ++ ys) pairs)
 
@@ -81,7 +82,7 @@ record IsAt (lanes : List (List Block)) (block : Block) : Type 0 where
   lane_here : slice_get lanes i ≡ Some blocks
   here : slice_get blocks j ≡ Some block
 
-list_at : (blocks : List Block) (block : Block) → Among block blocks → (j : ℕ) × (slice_get blocks j ≡ Some block)
+pub list_at : (blocks : List Block) (block : Block) → Among block blocks → (j : ℕ) × (slice_get blocks j ≡ Some block)
 list_at [] block among = absurd among
 list_at (b ∷ blocks) block (inl same) = (0, ap Some same)
 list_at (b ∷ blocks) block (inr among) = let at = list_at blocks block among in (suc at.0, at.1)
@@ -194,7 +195,7 @@ module _ (records start : ℕ) (log : List Entry) (input : Input) (results : Lis
       (subst (λ (n : ℕ). block_at input.lanes block.lane n ≡ Some block) (sym place.number) (found block among))
 
   entry_for : (r : Placed × Outcome) → Among r results → HasEntry records run.entries run.blocks r
-  entry_for r among = entry_of_result records run.entries run.blocks results r run.are_entries among
+  entry_for r among = entry_of_result records run.entries run.blocks run.ordered r run.are_entries (among_moved run.ordered results r run.same among)
 
   in_log : (e : Entry) → Among e run.entries → Contains log e
   in_log e among = subst (λ (xs : List Entry). Contains xs e) (sym run.log_is) (contains_of (run.loading ++ run.entries) e (Among-right e run.loading run.entries among))
@@ -239,8 +240,8 @@ module _ (records start : ℕ) (log : List Entry) (input : Input) (results : Lis
 
   named_in : (block : Block) → Among block (blocks_of input.lanes) → Named block
   named_in block among =
-      let h = result_of_block records run.entries run.blocks results block run.are_entries (among_after (blocks_of input.lanes) run.blocks block run.each_once among) in
-      list_any_among (λ (r : Placed × Outcome). names block r.0) results h.done h.among (names_its block h.done.0 h.place)
+      let h = result_of_block records run.entries run.blocks run.ordered block run.are_entries (among_after (blocks_of input.lanes) run.blocks block run.each_once among) in
+      list_any_among (λ (r : Placed × Outcome). names block r.0) results h.done (among_after run.ordered results h.done run.same h.among) (names_its block h.done.0 h.place)
 
   abbrev HasItsEntry : Placed × Outcome → Type 0
   HasItsEntry r = (entry : Entry) × Contains log entry × IsEntryOf stands records (block_named input.lanes r.0).commands r.0 r.1 entry
@@ -259,28 +260,30 @@ module _ (records start : ℕ) (log : List Entry) (input : Input) (results : Lis
   keeps_other e among commit above apart =
       elim (Among-split e run.loading run.entries (subst (λ (xs : List Entry). Among e xs) run.log_is among)) [
         | inl here ↦ (let low : e.stamp ≤ start = run.up_to e here commit in absurd (omega (arith, low, above)))
-        | inr there ↦ of_entry (result_of_entry records run.entries run.blocks results e run.are_entries there)
+        | inr there ↦ of_entry (result_of_entry records run.entries run.blocks run.ordered e run.are_entries there)
       ]
     where
-      of_entry : HasResult records run.blocks results e ⊎ KeepsTables stands records e → KeepsTables stands records e
+      of_entry : HasResult records run.blocks run.ordered e ⊎ LeavesTables records e → KeepsTables stands records e
       of_entry (inl h) =
-          let other = All-contains (λ (r : Placed × Outcome). r.0.snap ≡ false → r.0.stamp ≢ e.stamp) results h.result apart (contains_of results h.result h.among) in
+          let other = All-contains (λ (r : Placed × Outcome). r.0.snap ≡ false → r.0.stamp ≢ e.stamp) results h.result apart (contains_of results h.result (among_after run.ordered results h.result run.same h.among)) in
           absurd (other (sym h.is_result.is_entry.kind ∙ commit) (sym h.is_result.is_entry.stamp))
-      of_entry (inr keeps) = keeps
+      of_entry (inr leaves) = leaves.keeps
 
   pub are_results : AreResults stands records log start input results
   are_results = record {
     begins = begins _ run.loads;
     named = named;
-    once = once_of records run.entries run.blocks results run.are_entries
+    once = AllPairs-IsPermutation (Other records) (λ a b differ same. differ (sym same.0, sym same.1)) run.ordered results run.same
+        (once_of records run.entries run.blocks run.ordered run.are_entries
         (AllPairs-IsPermutation Differ (λ a b differ same. differ (sym same.0, sym same.1)) (blocks_of input.lanes) run.blocks run.each_once
-        (lanes_differ input.lanes 0 (λ i j blocks block lane_here here. let at = well.lanes.places i j blocks block lane_here here in (omega (arith, at.0), at.1))));
+        (lanes_differ input.lanes 0 (λ i j blocks block lane_here here. let at = well.lanes.places i j blocks block lane_here here in (omega (arith, at.0), at.1)))));
     complete = all_among (λ (blocks : List Block). All Named blocks) input.lanes (λ blocks lane_among.
         all_among Named blocks (λ block among. named_in block (block_among input.lanes blocks block lane_among among)));
     entry = all_among HasItsEntry results entry_in;
     behind = all_among (λ (r : Placed × Outcome). IsBehind start r.0) results behind_for;
-    apart = apart_of records run.entries run.blocks results run.are_entries
-        (pairs_behind StampsDiffer run.loading run.entries (subst (AllPairs StampsDiffer) run.log_is lawful.apart));
+    apart = AllPairs-IsPermutation (Apart records) (λ a b apart first second same. apart second first (sym same)) run.ordered results run.same
+        (apart_of records run.entries run.blocks run.ordered run.are_entries
+        (pairs_behind StampsDiffer run.loading run.entries (subst (AllPairs StampsDiffer) run.log_is lawful.apart)));
     lanes = run.lanes_kept;
     others = all_among KeepsIfOther log keeps_other;
   }

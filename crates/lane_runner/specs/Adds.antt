@@ -1,7 +1,7 @@
 -- What a call adds to a pass.
 use Rattle.std.specs.Prelude.{◌≡◌, ℕ, ◌+◌, ◌<◌, ◌≤◌, true, false, List, [], ◌∷◌, ◌++◌, ⊤}
 use Rattle.plain_data.specs.declared.entry.Entry.{Entry}
-use Rattle.stamp_base.specs.Stamp.{stamp_of}
+use Rattle.stamp_base.specs.Stamp.{bound_of_clock}
 use Rattle.core_rule.specs.Views.{Among}
 use Rattle.txn_engine.specs.Pass.{PassView, IsIdle}
 use Rattle.seat_post.specs.Logs.{IsAbove}
@@ -10,10 +10,10 @@ use Rattle.seat_post.specs.Logs.{IsAbove}
 abbrev pub AreUpTo : List Entry → ℕ → Type 0
 AreUpTo log t = (e : Entry) → Among e log → e.snapshot ≡ true → e.stamp ≤ t
 
--- A commit entry that a pass adds is stamped above its clock and above each commit entry of its log; a snapshot entry at most one below
--- the greatest `min_wts` that it has met, and not below any snapshot entry of its log.
+-- A commit entry that a pass adds is stamped above all stamps of its clock, of whatever seat, and above each commit entry of its log; a
+-- snapshot entry at most one below the greatest `min_wts` that it has met, and not below any snapshot entry of its log.
 pub record IsNext (before : PassView) (entry : Entry) : Type 0 where
-  pub commit_clock : entry.snapshot ≡ false → stamp_of before.clock before.seat < entry.stamp
+  pub commit_clock : entry.snapshot ≡ false → bound_of_clock before.clock ≤ entry.stamp
   pub commit_log : entry.snapshot ≡ false → IsAbove before.log entry.stamp
   pub snapshot_met : entry.snapshot ≡ true → before.met ≤ entry.stamp + 1
   pub snapshot_log : entry.snapshot ≡ true → AreUpTo before.log entry.stamp

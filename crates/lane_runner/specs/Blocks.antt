@@ -1,15 +1,16 @@
 -- What the run of a block leaves of a pass.
-use Rattle.std.specs.Prelude.{◌≡◌, ℕ, ◌+◌, List, [], ◌∷◌}
+use Rattle.std.specs.Prelude.{◌≡◌, ℕ, ◌+◌, false, List, [], ◌∷◌}
 use Rattle.plain_data.specs.declared.entry.Entry.{Entry}
 use Rattle.core_rule.specs.Views.{Among}
 use Rattle.replay_model.specs.declared.command.Command.{Command}
 use Rattle.replay_model.specs.declared.input.Block.{Block}
 use Rattle.replay_model.specs.declared.outcome.Outcome.{Outcome}
 use Rattle.replay_model.specs.declared.outcome.Placed.{Placed}
-use Rattle.history_replay.specs.Results.{IsEntryOf, KeepsTables}
+use Rattle.history_replay.specs.Results.{IsEntryOf}
 use Rattle.txn_engine.specs.Pass.{PassView}
 use Rattle.lane_runner.specs.Rows.{stands}
 use Rattle.lane_runner.specs.Adds.{Adds}
+use Rattle.lane_runner.specs.Weighs.{WeighsAtMost, LeavesTables}
 
 -- a place is that of a block: of its kind, lane and number, at any stamp
 pub record IsPlaceOf (block : Block) (placed : Placed) : Type 0 where
@@ -17,19 +18,20 @@ pub record IsPlaceOf (block : Block) (placed : Placed) : Type 0 where
   pub lane : placed.lane ≡ block.lane
   pub number : placed.number ≡ block.number
 
--- exactly one entry was added, that of the commands with this outcome
+-- exactly one entry was added, that of the commands with this outcome; that of a transaction adds no more to the weight than they may
 pub record Commits (commands : List Command) (before after' : PassView) (placed : Placed) (outcome : Outcome) : Type 0 where
   pub entry : Entry
   pub adds : Adds before after' (entry ∷ [])
   pub is_entry : IsEntryOf stands before.engine.size.records commands placed outcome entry
+  pub weighs : entry.snapshot ≡ false → WeighsAtMost before.engine.size.records commands entry
 
 -- no entry was added, and so many refusals were counted
 pub record IsRefused (times : ℕ) (before after' : PassView) : Type 0 where
   pub adds : Adds before after' []
   pub refusals : after'.refusals ≡ before.refusals + times
 
--- some entries were added, and each leaves the tables as they were
+-- some entries were added, and each leaves the tables and their weight as they were
 pub record AddsOthers (before after' : PassView) : Type 0 where
   pub entries : List Entry
   pub adds : Adds before after' entries
-  pub keep : (entry : Entry) → Among entry entries → KeepsTables stands before.engine.size.records entry
+  pub keep : (entry : Entry) → Among entry entries → LeavesTables before.engine.size.records entry

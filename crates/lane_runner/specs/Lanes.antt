@@ -6,12 +6,13 @@ use Rattle.replay_model.specs.Input.{AreCommands}
 use Rattle.replay_model.specs.declared.input.Block.{Block}
 use Rattle.replay_model.specs.declared.outcome.Outcome.{Outcome}
 use Rattle.replay_model.specs.declared.outcome.Placed.{Placed}
-use Rattle.history_replay.specs.Results.{IsEntryOf, KeepsTables}
+use Rattle.history_replay.specs.Results.{IsEntryOf}
 use Rattle.stored_tables.specs.Answers.{IsShort, ReadsAlone}
 use Rattle.txn_engine.specs.Pass.{PassView}
 use Rattle.lane_runner.specs.Rows.{stands}
 use Rattle.lane_runner.specs.Adds.{Adds}
 use Rattle.lane_runner.specs.Blocks.{IsPlaceOf}
+use Rattle.lane_runner.specs.Weighs.{WeighsAtMost, LeavesTables}
 
 -- a block that can be run: its commands name the first 8 tables, and list at most 256 rows each; those of a snapshot read alone
 pub record MayRun (block : Block) : Type 0 where
@@ -19,19 +20,21 @@ pub record MayRun (block : Block) : Type 0 where
   pub short : All IsShort block.commands
   pub reads : block.snap ≡ true → All ReadsAlone block.commands
 
--- a result of a block: its place, and the outcome of its commands, which have this entry
+-- a result of a block: its place, and the outcome of its commands, which have this entry; that of a transaction adds no more to the weight
+-- than its commands may
 pub record IsResult (records : ℕ) (block : Block) (result : Placed × Outcome) (entry : Entry) : Type 0 where
   pub place : IsPlaceOf block result.0
   pub is_entry : IsEntryOf stands records block.commands result.0 result.1 entry
+  pub weighs : entry.snapshot ≡ false → WeighsAtMost records block.commands entry
 
--- the entries of blocks with these results, in their order; other entries between them leave the tables as they were
+-- the entries of blocks with these results, in their order; other entries between them leave the tables and their weight
 pub data AreEntries (records : ℕ) : List Entry → List Block → List (Placed × Outcome) → Type 0 where
   none : AreEntries records [] [] []
   result : (entry : Entry) (entries : List Entry) (block : Block) (blocks : List Block) (result : Placed × Outcome)
       (results : List (Placed × Outcome)) → IsResult records block result entry → AreEntries records entries blocks results
       → AreEntries records (entry ∷ entries) (block ∷ blocks) (result ∷ results)
   other : (entry : Entry) (entries : List Entry) (blocks : List Block) (results : List (Placed × Outcome))
-      → KeepsTables stands records entry → AreEntries records entries blocks results → AreEntries records (entry ∷ entries) blocks results
+      → LeavesTables records entry → AreEntries records entries blocks results → AreEntries records (entry ∷ entries) blocks results
 
 -- the first of these blocks have results, in their order, each with its entry; the others are the rest
 pub record Runs (blocks : List Block) (results : List (Placed × Outcome)) (rest : List Block) (before after' : PassView) : Type 0 where

@@ -1,9 +1,13 @@
 pub mod Rows
 pub mod Room
 pub mod Adds
+pub mod Weighs
 pub mod Blocks
 pub mod Lanes
 pub mod Done
+pub mod Holding
+pub mod Loading
+pub mod Finishing
 pub mod All
 pub mod Workers
 pub mod Gathers

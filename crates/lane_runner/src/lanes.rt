@@ -16,7 +16,7 @@ use stored_tables::RowsLawful;
 use txn_engine::{Engine, Pass};
 
 /// Runs the blocks of a lane in their order. After each block, and after each try of a transaction block, the pass collects; after
-/// each 1,024th commit of this call it promotes the record that the last transaction read first.
+/// each 1,024th commit it promotes the record that the last transaction read first. `commits` counts them from lane to lane.
 ///
 /// Each transaction block has so many tries. Blocks remain only where the pass counted at least `tries` refusals in this call. After
 /// `NoMemory` the pass may have entries of blocks whose results are lost.
@@ -28,6 +28,7 @@ pub fn run_lane<C: Clock, G: Gate>(
     clock: &mut C,
     gate: &G,
     tries: u32,
+    commits: &mut u32,
 ) -> Result<LaneDone, NoMemory>
     requires engine { pass.old.engine ≡ engine.now }
     requires idle { IsIdle pass.old }
@@ -41,7 +42,7 @@ pub fn run_lane<C: Clock, G: Gate>(
     ensures clock { pass.new.clock ≤ clock_after pass.old.clock (lane_draws lane.blocks tries) }
 {
     let Lane { number, blocks } = lane;
-    let (results, rest) = run_blocks(alloc, engine, pass, blocks, clock, gate, tries)?;
+    let (results, rest) = run_blocks(alloc, engine, pass, blocks, clock, gate, tries, commits)?;
     Ok(LaneDone {
         lane: number,
         results,

@@ -89,7 +89,7 @@ fn run_next<C: Clock, G: Gate>(
 }
 
 /// Runs blocks in their order, a transaction block with so many tries. Gives the results of the first ones, and the others, which are
-/// to be run later: once one is kept, all later ones are. They are none unless the pass was refused so often.
+/// to be run later: once one is kept, all later ones are. They are none unless the pass was refused so often. `commits` goes on counting.
 pub(crate) fn run_blocks<C: Clock, G: Gate>(
     alloc: Global,
     engine: &Engine<RowsLawful>,
@@ -98,6 +98,7 @@ pub(crate) fn run_blocks<C: Clock, G: Gate>(
     clock: &mut C,
     gate: &G,
     tries: u32,
+    commits: &mut u32,
 ) -> Result<(Results, Blocks), NoMemory>
     requires engine { pass.old.engine ≡ engine.now }
     requires idle { IsIdle pass.old }
@@ -111,7 +112,6 @@ pub(crate) fn run_blocks<C: Clock, G: Gate>(
     ensures queue { OnOk result (blocks ≢ [] → 0 < tries → IsAlone pass.old → pass.new.queue ≡ []) }
     ensures clock { pass.new.clock ≤ clock_after pass.old.clock (lane_draws blocks tries) }
 {
-    let mut commits = 0;
     let mut results = Sequence::new(alloc);
     let mut rest = Sequence::new(alloc);
     for block in blocks.into_vec() {
@@ -123,7 +123,7 @@ pub(crate) fn run_blocks<C: Clock, G: Gate>(
             clock,
             gate,
             tries,
-            &mut commits,
+            commits,
             &mut results,
             &mut rest,
         )?;

@@ -18,7 +18,7 @@ use stored_tables::{RowsLawful, Walk, exec_snap, fits_more, fits_records, keeps_
 use txn_engine::{Engine, NoFault, Pass};
 
 /// What commands came to that met no torn tables: want of memory is their only fault.
-fn untorn(told: Result<Outcome, Walk<NoFault>>) -> Result<Outcome, NoMemory>
+pub(crate) fn untorn(told: Result<Outcome, Walk<NoFault>>) -> Result<Outcome, NoMemory>
     requires { IfTorn told (λ _. ⊥) }
     ensures { IfOk result (λ outcome. told ≡ Ok outcome) }
 {

@@ -58,12 +58,13 @@ fn work_lanes<R: Wait, C: Clock, G: Gate>(
     ensures ended { IfOk result (λ done. HasEnded taker.new) }
     ensures does { IfOk result (λ done. DoesLanes tries pass.old pass.new taker.new.took done.items) }
 {
+    let mut commits = 0;
     let mut done = Vec::new(alloc);
     for _ in rt.forever() {
         let Some(lane) = queue.take(rt, taker) else {
             break;
         };
-        let ran = run_lane(alloc, engine, pass, lane, clock, gate, tries)?;
+        let ran = run_lane(alloc, engine, pass, lane, clock, gate, tries, &mut commits)?;
         done.push(ran)?;
     }
     Ok(done)

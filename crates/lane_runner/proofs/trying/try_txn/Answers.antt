@@ -4,6 +4,11 @@ use Rattle.record_store.specs.Limits.{record_limit}
 use Rattle.txn_engine.specs.Pass.{EngineView, Frame, frame, next_clock, entry_of}
 use Rattle.seat_post.specs.Logs.{IsAbove}
 use Rattle.txn_engine.specs.Txn.{TxnRest}
+use Rattle.replay_model.specs.Running.{tables_after}
+use Rattle.stored_tables.specs.Weight.{all_add}
+use Rattle.stored_tables.proofs.WeightPlans.{run_adds}
+use Rattle.lane_runner.proofs.Asked.{leads_run}
+use Rattle.lane_runner.proofs.Ran.{leads_at}
 use Rattle.lane_runner.proofs.Entries.{has_run, fits_none, first_below}
 use Rattle.lane_runner.proofs.Begun.{kept_frame, is_open, none_written, run_at, fits_at, torn_at, undone_writes, never_at, commits_at}
 use Rattle.lane_runner.proofs.trying.try_txn.Goals as goal
@@ -52,6 +57,8 @@ returns-clause-committed g c =
     let above : IsAbove p.log q.desk.stamp = subst (λ (n : ℕ). IsAbove p.log n) (sym (ap (λ (f : Frame). f.stamp) rest)) c.in-Ok.ensures.above in
     commits_at p q c.commit-2.new.self.0 _ clock c.commit-2.new.self.0.known c.args.block.now.commands c.in-Ok-exec_txn.outcome _ (omega arith) above (kept_frame p b q clock c.in-Ok.ensures.ok rest) c.in-Ok-commit-2.ensures.ok (search rules)
     c.fits_records.ensures c.fits_more.ensures few (run_at p b q clock c.in-Ok.ensures.ok rest c.args.block.now.commands c.in-Ok-exec_txn.outcome run) (search rules) refl
+    (λ tables. leads_at p b q clock c.in-Ok.ensures.ok rest tables (tables_after c.args.block.now.commands tables) (all_add c.args.block.now.commands tables)
+    (leads_run _ _ _ _ c.args.block.now.commands c.in-Ok.txn c.exec_txn.new.store c.in-Ok-exec_txn.outcome tables c.in-Ok-exec_txn.ensures.outcome c.in-Ok-exec_txn.ensures.called c.exec_txn.ensures.after (none_written p b q clock c.in-Ok.ensures.ok rest) run_adds))
 
 pub returns-clause-first : goal.returns-clause-first
 returns-clause-first g c =

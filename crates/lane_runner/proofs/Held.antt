@@ -1,0 +1,115 @@
+-- What the seat that is alone holds once it has collected.
+use Rattle.std.proofs.Common.{◌≡◌, ◌⊎◌, ℕ, ◌+◌, ◌*◌, ◌<◌, ◌≤◌, Bool, true, false, List, [], ◌∷◌, ◌++◌, append-nil, Option, length, refl, sym, ap, subst, ◌∙◌, arith, inl}
+use Rattle.plain_data.specs.declared.entry.Entry.{Entry}
+use Rattle.plain_data.specs.State.{Agrees}
+use Rattle.record_store.specs.Meaning.{after_undo}
+use Rattle.replay_model.specs.TableMap.{TableMap}
+use Rattle.seat_post.specs.declared.phase.Phase.TheVariants.{Open}
+use Rattle.histories.specs.History.{Lawful}
+use Rattle.history_replay.specs.Results.{StandsForSome}
+use Rattle.replay_model.specs.declared.command.Command.{Command}
+use Rattle.replay_model.specs.declared.outcome.Outcome.{Outcome}
+use Rattle.replay_model.specs.declared.outcome.Placed.{Placed}
+use Rattle.txn_engine.specs.Accounts.{Stays, accounted}
+use Rattle.txn_engine.specs.Collecting.{collected}
+use Rattle.seat_post.specs.Leaves.{AreLeft, IsPresent}
+use Rattle.txn_engine.specs.Leaves.{HoldsAbsent}
+use Rattle.seat_post.specs.Lists.{IsRoomyAt}
+use Rattle.txn_engine.specs.Lists.{IsRoomy, IsRoomyOnceCollected, IsFull}
+use Rattle.txn_engine.specs.Pass.{EngineView, PassView, Frame, frame, IsIdle, IsAlone, begun, meaning_of_pass}
+use Rattle.seat_post.specs.Logs.{IsAbove}
+use Rattle.seat_post.specs.Seats.{Known}
+use Rattle.seat_post.specs.Spare.{is_on}
+use Rattle.txn_engine.proofs.Accounting.{absent_stays}
+use Rattle.lane_runner.specs.Rows.{stands}
+use Rattle.lane_runner.specs.Adds.{Adds}
+use Rattle.lane_runner.specs.Blocks.{Commits}
+use Rattle.lane_runner.specs.Holding.{Holds, LeavesWithin, HasPlaces}
+use Rattle.lane_runner.proofs.Adding.{Adds-trans}
+use Rattle.lane_runner.proofs.Begun.{undone_reads}
+use Rattle.lane_runner.proofs.Within.{left_agrees}
+
+-- it has told that its log is lawful, and has collected
+module _ (r w : PassView) (met met' : ℕ) (known : Known) (is : w ≡ collected (record r { met = met }) met' known []) (idle : IsIdle r) where
+  pub Holds-collected : Lawful (StandsForSome stands) r.engine.size.records r.log → IsAbove r.log w.published → HoldsAbsent r → IsRoomy w → Holds w
+  Holds-collected lawful above absent roomy = record {
+    idle = ap (λ (x : PassView). x.desk) is ∙ idle;
+    none_queued = ap (λ (x : PassView). x.queue) is;
+    lawful = subst (λ (x : PassView). Lawful (StandsForSome stands) x.engine.size.records x.log) (sym is) lawful;
+    above = subst (λ (log : List Entry). IsAbove log w.published) (sym (ap (λ (x : PassView). x.log) is)) above;
+    absent = subst (λ (x : PassView). HoldsAbsent x) (sym is) absent;
+    roomy = roomy;
+  }
+
+  pub Adds-collected : r.met ≤ met → met ≤ met' → Adds r w []
+  Adds-collected met_more met_most = record {
+    engine = ap (λ (x : PassView). x.engine) is;
+    seat = ap (λ (x : PassView). x.seat) is;
+    others = ap (λ (x : PassView). x.others) is;
+    idle = ap (λ (x : PassView). x.desk) is ∙ idle;
+    log = ap (λ (x : PassView). x.log) is ∙ sym (append-nil r.log);
+    each = λ entry among. absurd among;
+    in_order = tt;
+    clock = let e : w.clock ≡ r.clock = ap (λ (x : PassView). x.clock) is in omega arith;
+    met = let e : w.met ≡ met' = ap (λ (x : PassView). x.met) is in omega arith;
+    refusals = let e : w.refusals ≡ r.refusals = ap (λ (x : PassView). x.refusals) is in omega arith;
+  }
+
+-- a commit, and what adds nothing behind it
+pub Commits-then : (commands : List Command) (placed : Placed) (outcome : Outcome) (p r w : PassView) → Commits commands p r placed outcome → Adds r w [] → Commits commands p w placed outcome
+Commits-then commands placed outcome p r w first second = record {
+  entry = first.entry;
+  adds = Adds-trans p r w (first.entry ∷ []) [] first.adds second;
+  is_entry = first.is_entry;
+  weighs = first.weighs;
+}
+
+-- ---- before it commits
+
+-- one version at most lies outside each inline place, also of what a transaction has begun to read and write
+pub roomy_open : (p q : PassView) (clock : ℕ) → frame q ≡ frame (begun p clock) → IsRoomy p → IsRoomy q
+roomy_open p q clock kept roomy = subst (λ (f : Frame). IsRoomyAt f.engine.size f.known) (sym kept) roomy
+
+pub roomy_once : (q : PassView) → IsRoomy q → IsRoomyOnceCollected q
+roomy_once q roomy r below = inl (roomy r below)
+
+pub roomy_same : (p q : PassView) → q.engine ≡ p.engine → q.known ≡ p.known → IsRoomy p → IsRoomy q
+roomy_same p q engine known roomy =
+    let at_known : IsRoomyAt p.engine.size q.known = subst (λ (k : Known). IsRoomyAt p.engine.size k) (sym known) roomy in
+    subst (λ (e : EngineView). IsRoomyAt e.size q.known) (sym engine) at_known
+
+pub absent_same : (p q : PassView) → q.engine ≡ p.engine → q.given ≡ p.given → q.spare ≡ p.spare → q.log ≡ p.log → HoldsAbsent p → HoldsAbsent q
+absent_same p q engine given spare log absent r from within =
+    let here : (is_on (p.given ++ p.spare) r ≡ true) ⊎ IsPresent p.log r = absent r (subst (λ (e : EngineView). e.fixed ≤ r) engine from) (subst (λ (e : EngineView). r < e.size.records) engine within) in
+    let at_log : (is_on (p.given ++ p.spare) r ≡ true) ⊎ IsPresent q.log r = subst (λ (l : List Entry). (is_on (p.given ++ p.spare) r ≡ true) ⊎ IsPresent l r) (sym log) here in
+    let at_given : (is_on (q.given ++ p.spare) r ≡ true) ⊎ IsPresent q.log r = subst (λ (g : List ℕ). (is_on (g ++ p.spare) r ≡ true) ⊎ IsPresent q.log r) (sym given) at_log in
+    subst (λ (s : List ℕ). (is_on (q.given ++ s) r ≡ true) ⊎ IsPresent q.log r) (sym spare) at_given
+
+-- it is still alone, and holds the absent records
+pub absent_open : (p b q : PassView) (clock : ℕ) → b ≡ begun p clock → IsAlone p → frame q ≡ frame b → accounted q ≡ accounted b → HoldsAbsent b → HoldsAbsent q
+absent_open p b q clock began alone same_frame same_accounts absent =
+    absent_stays b q (record { same_frame = same_frame; same_accounts = same_accounts }) (subst (λ (x : PassView). IsAlone x) (sym began) alone) absent
+
+-- a place is left for so few writes
+pub places_left : (q : PassView) (engine : EngineView) → q.engine ≡ engine → HasPlaces engine → IsRoomy q → length q.desk.writes ≤ 8192 → IsFull q → ⊥
+places_left q engine same many roomy few full =
+    let short : q.engine.size.spare ≤ q.engine.size.records + length q.desk.writes = full.roomy roomy in
+    let spare : q.engine.size.spare ≡ engine.size.spare = ap (λ (e : EngineView). e.size.spare) same in
+    let records : q.engine.size.records ≡ engine.size.records = ap (λ (e : EngineView). e.size.records) same in
+    omega arith
+
+-- ---- what it reads
+
+-- what is said of reads whose writes were dropped holds of them before
+pub left_undone : (q r : PassView) → q.desk.phase ≡ Open → frame r ≡ frame q → meaning_of_pass r ≡ after_undo (meaning_of_pass q) → AreLeft r.log r.desk.stamp r.desk.reads → AreLeft q.log q.desk.stamp q.desk.reads
+left_undone q r opened rest undone left =
+    let at_log : AreLeft q.log r.desk.stamp r.desk.reads = subst (λ (log : List Entry). AreLeft log r.desk.stamp r.desk.reads) (ap (λ (f : Frame). f.log) rest) left in
+    let at_stamp : AreLeft q.log q.desk.stamp r.desk.reads = subst (λ (n : ℕ). AreLeft q.log n r.desk.reads) (ap (λ (f : Frame). f.stamp) rest) at_log in
+    subst (λ (reads : List (ℕ × Option (List ℕ))). AreLeft q.log q.desk.stamp reads) (undone_reads q r opened rest undone) at_stamp
+
+-- what a transaction has read agrees with the state that the log left
+pub agrees_open : (p q : PassView) (clock : ℕ) (tables : TableMap) (most : ℕ) → frame q ≡ frame (begun p clock) → Lawful (StandsForSome stands) p.engine.size.records p.log → IsAbove p.log q.desk.stamp → AreLeft q.log q.desk.stamp q.desk.reads
+    → (within : LeavesWithin p.engine.size.records p.log tables most) → Agrees within.state q.desk.reads
+agrees_open p q clock tables most kept lawful above left within =
+    left_agrees (StandsForSome stands) p.engine.size.records p.log q.desk.stamp q.desk.reads within.state lawful above within.left
+    (subst (λ (log : List Entry). AreLeft log q.desk.stamp q.desk.reads) (ap (λ (f : Frame). f.log) kept) left)

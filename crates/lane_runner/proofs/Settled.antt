@@ -1,0 +1,127 @@
+-- What the seat that is alone holds once it has collected, has looked for the absent records and has told that its log is lawful.
+use Rattle.std.proofs.Common.{◌≡◌, ◌⊎◌, ℕ, ◌+◌, ◌-◌, ◌<◌, ◌≤◌, Bool, true, false, max, List, [], ◌++◌, append-nil, refl, sym, ap, subst, ◌∙◌, arith, inl, inr, All, length}
+use Rattle.std.specs.Prelude.{sum_by}
+use Rattle.std.specs.List.Sorted.{IsPermutation}
+use Rattle.std.proofs.lemmas.List.Sorted.{All-permutation, sum_by-IsPermutation}
+use Rattle.plain_data.specs.declared.entry.Entry.{Entry}
+use Rattle.core_rule.specs.Views.{Among}
+use Rattle.histories.specs.History.{Lawful}
+use Rattle.history_replay.specs.Results.{StandsForSome}
+use Rattle.replay_model.specs.declared.input.Block.{Block}
+use Rattle.replay_model.specs.TableMap.{TableMap}
+use Rattle.txn_engine.specs.Collecting.{collected}
+use Rattle.txn_engine.specs.Leaves.{HoldsAbsent}
+use Rattle.seat_post.specs.Leaves.{IsPresent, LeavesAs, AreAbsent}
+use Rattle.txn_engine.specs.Lists.{IsRoomy}
+use Rattle.txn_engine.specs.Pass.{EngineView, PassView, IsIdle}
+use Rattle.seat_post.specs.Logs.{IsAbove}
+use Rattle.txn_engine.specs.Rescan.{rescanned}
+use Rattle.seat_post.specs.Seats.{Known}
+use Rattle.seat_post.specs.Spare.{is_on}
+use Rattle.seat_post.proofs.Leaving.{present_all}
+use Rattle.lane_runner.specs.declared.done.LaneDone.{LaneDone}
+use Rattle.lane_runner.specs.Rows.{stands}
+use Rattle.lane_runner.specs.Adds.{Adds}
+use Rattle.lane_runner.specs.Lanes.{AreEntries, Runs}
+use Rattle.lane_runner.proofs.Adding.{Adds-trans}
+use Rattle.replay_model.specs.declared.outcome.Outcome.{Outcome}
+use Rattle.replay_model.specs.declared.outcome.Placed.{Placed}
+use Rattle.std.specs.List.Sorted.{IsSorted}
+use Rattle.std.specs.Ordering.{nat_cmp}
+use Rattle.lane_runner.specs.Holding.{Holds, LeavesWithin, HasRecords, IsBehind}
+use Rattle.lane_runner.specs.Finishing.{MayFinish, MayFinishAll, rests_add, rests_of, results_of, how_many_remain, RunsRests, Finishes}
+use Rattle.lane_runner.specs.Weighs.{blocks_add}
+use Rattle.lane_runner.proofs.Held.{absent_same, roomy_same}
+use Rattle.lane_runner.proofs.Rests.{rests_may, rests_add_is, rests_count}
+use Rattle.lane_runner.proofs.Within.{within_at}
+
+listed : (b : Bool) (log : List Entry) (r limit : ℕ) (spare : List ℕ) → is_on spare r ≡ b → IsAbove log limit → LeavesAs log r limit b → (is_on spare r ≡ true) ⊎ IsPresent log r
+listed true log r limit spare is above left = inl is
+listed false log r limit spare is above left = inr (present_all log r limit above left)
+
+module _ (p c d t : PassView) (met met' : ℕ) (known : Known) (spare : List ℕ) (first : c ≡ collected p met known []) (second : d ≡ rescanned c spare) (third : t ≡ record d { met = met' }) (idle : IsIdle p) where
+  whole : t ≡ record (rescanned (collected p met known []) spare) { met = met' }
+  whole = third ∙ ap (λ (x : PassView). record x { met = met' }) (second ∙ ap (λ (x : PassView). rescanned x spare) first)
+
+  above_settled : IsAbove p.log c.published → IsAbove p.log d.published
+  above_settled above e among commit =
+      let below : e.stamp < c.published = above e among commit in
+      let later : c.published ≤ d.published = let is = ap (λ (x : PassView). x.published) second in omega (arith, is) in
+      omega arith
+
+  pub Holds-settled : Lawful (StandsForSome stands) d.engine.size.records d.log → IsAbove p.log c.published → AreAbsent c.log d.published c.engine.fixed c.engine.size.records spare → IsRoomy c → Holds t
+  Holds-settled lawful above absent roomy = record {
+    idle = ap (λ (x : PassView). x.desk) whole ∙ idle;
+    none_queued = ap (λ (x : PassView). x.queue) whole;
+    lawful = subst (λ (x : PassView). Lawful (StandsForSome stands) x.engine.size.records x.log) (sym third) lawful;
+    above = subst (λ (log : List Entry). IsAbove log t.published) (sym (ap (λ (x : PassView). x.log) whole)) (subst (λ (n : ℕ). IsAbove p.log n) (sym (ap (λ (x : PassView). x.published) third)) (above_settled above));
+    absent = absent_same (record c { given = []; spare = spare }) t (ap (λ (x : PassView). x.engine) third ∙ ap (λ (x : PassView). x.engine) second) (ap (λ (x : PassView). x.given) whole) (ap (λ (x : PassView). x.spare) whole)
+        (ap (λ (x : PassView). x.log) third ∙ ap (λ (x : PassView). x.log) second)
+        (λ r from within. listed (is_on spare r) c.log r d.published spare refl
+        (subst (λ (log : List Entry). IsAbove log d.published) (sym (ap (λ (x : PassView). x.log) first)) (above_settled above)) (absent.each r from within));
+    roomy = roomy_same c t (ap (λ (x : PassView). x.engine) third ∙ ap (λ (x : PassView). x.engine) second) (ap (λ (x : PassView). x.known) third ∙ ap (λ (x : PassView). x.known) second) roomy;
+  }
+
+  pub clock_settled : t.clock ≡ p.clock
+  clock_settled = ap (λ (x : PassView). x.clock) whole
+
+  pub Adds-settled : p.met ≤ c.met → c.met ≡ c.published → d.met ≤ met' → Adds p t []
+  Adds-settled met_more met_is met_most = record {
+    engine = ap (λ (x : PassView). x.engine) whole;
+    seat = ap (λ (x : PassView). x.seat) whole;
+    others = ap (λ (x : PassView). x.others) whole;
+    idle = ap (λ (x : PassView). x.desk) whole ∙ idle;
+    log = ap (λ (x : PassView). x.log) whole ∙ sym (append-nil p.log);
+    each = λ entry among. absurd among;
+    in_order = tt;
+    clock = let e : t.clock ≡ p.clock = ap (λ (x : PassView). x.clock) whole in omega arith;
+    met =
+        let e : t.met ≡ met' = ap (λ (x : PassView). x.met) whole in
+        let later : c.published ≤ d.met = let is = ap (λ (x : PassView). x.met) second in omega (arith, is) in
+        omega arith;
+    refusals = let e : t.refusals ≡ p.refusals = ap (λ (x : PassView). x.refusals) whole in omega arith;
+  }
+
+-- ---- the lanes in their order
+
+pub may_order : (done order : List LaneDone) → IsPermutation done order → MayFinishAll done → All MayFinish (rests_of order)
+may_order done order same may = rests_may order (All-permutation (λ (l : LaneDone). All MayFinish l.rest) done order same may)
+
+pub count_order : (done order : List LaneDone) → IsPermutation done order → length (rests_of order) ≡ how_many_remain done
+count_order done order same = rests_count order ∙ sum_by-IsPermutation (λ (l : LaneDone). length l.rest) done order same
+
+pub room_order : (p t : PassView) (done order : List LaneDone) → Adds p t [] → IsPermutation done order → HasRecords p (rests_add done) → HasRecords t (blocks_add (rests_of order))
+room_order p t done order adds same has = record {
+  tables = has.tables;
+  most = has.most;
+  leaves = within_at p t [] has.tables has.most adds (subst (λ (log : List Entry). LeavesWithin p.engine.size.records log has.tables has.most) (sym (append-nil p.log)) has.leaves);
+  room =
+      let whole : blocks_add (rests_of order) has.tables ≡ rests_add done has.tables = rests_add_is order has.tables ∙ sum_by-IsPermutation (λ (l : LaneDone). blocks_add l.rest has.tables) done order same in
+      let fixed : t.engine.fixed ≡ p.engine.fixed = ap (λ (e : EngineView). e.fixed) adds.engine in
+      let records : t.engine.size.records ≡ p.engine.size.records = ap (λ (e : EngineView). e.size.records) adds.engine in
+      omega (arith, has.room, whole, fixed, records);
+}
+
+-- ---- all of it
+
+Runs-behind : (p t q : PassView) (blocks : List Block) (results : List (Placed × Outcome)) → Adds p t [] → Runs blocks results [] t q → Runs blocks results [] p q
+Runs-behind p t q blocks results adds runs = record {
+  done = runs.done;
+  blocks_are = runs.blocks_are;
+  entries = runs.entries;
+  are_entries = subst (λ (e : EngineView). AreEntries e.size.records runs.entries runs.done results) adds.engine runs.are_entries;
+  adds = Adds-trans p t q [] runs.entries adds runs.adds;
+}
+
+pub Finishes-whole : (done order : List LaneDone) (p t q : PassView) (blocks : List Block) (earlier results : List (Placed × Outcome)) → IsPermutation done order → IsSorted (λ (a b : LaneDone). nat_cmp a.lane b.lane) order → Adds p t []
+    → blocks ≡ rests_of order → earlier ≡ results_of order → RunsRests blocks earlier t results q → Finishes done p q results
+Finishes-whole done order p t q blocks earlier results same sorted adds are_rests are_results ran = record {
+  holds = ran.holds;
+  order = order;
+  same = same;
+  sorted = sorted;
+  rests = ran.rests;
+  all = ran.all ∙ ap (λ (rs : List (Placed × Outcome)). rs ++ ran.rests) are_results;
+  runs = subst (λ (bs : List Block). Runs bs ran.rests [] p q) are_rests (Runs-behind p t q blocks ran.rests adds ran.runs);
+  behind = subst (λ (log : List Entry). All (λ (result : Placed × Outcome). result.0.snap ≡ true → IsBehind log result.0.stamp) ran.rests) (adds.log ∙ append-nil p.log) ran.behind;
+}

@@ -1,0 +1,42 @@
+use Rattle.std.proofs.Common.{◌≡◌, List, ℕ, [], take, refl, sym, ap, subst, ◌∙◌, rules, arith}
+use Rattle.std.proofs.lemmas.List.{take_all}
+use Rattle.replay_model.specs.TableMap.{loaded}
+use Rattle.lane_runner.specs.Loading.{HasLoaded}
+use Rattle.lane_runner.proofs.Clocks.{drawn_again}
+use Rattle.lane_runner.proofs.Loaded.{index_loaded, lacks_rows, HasLoaded-none, HasLoaded-as}
+use Rattle.lane_runner.proofs.loading.declare_indexes.Goals as goal
+
+pub loop-table-init : goal.loop-table-init
+loop-table-init c = record {
+  engine = c.requires.engine;
+  loaded = HasLoaded-none c.write_before_is_lawful.ensures c.empty_stands.ensures c.empty_weighs_nothing.ensures c.args.alone.now.pass c.requires.blank;
+  clock = omega arith;
+  shared = refl;
+}
+
+pub declare-requires-clause-lacks : goal.declare-requires-clause-lacks
+declare-requires-clause-lacks c = lacks_rows c.args.alone.now.pass c.loop-table.alone.pass c.args.indexes.now c.loop-table.table-index _ c.requires.indexes.one_each c.loop-table-test.true c.loop-table.invariant.loaded
+
+pub declare-requires-clause-table : goal.declare-requires-clause-table
+declare-requires-clause-table c = c.requires.indexes.low c.loop-table.table-index _ c.loop-table-test.true
+
+pub declare-requires-clause-column : goal.declare-requires-clause-column
+declare-requires-clause-column c = c.requires.indexes.columns c.loop-table.table-index _ c.loop-table-test.true
+
+pub loop-table-preserved : goal.loop-table-preserved
+loop-table-preserved c =
+    let i = c.loop-table.invariant in
+    let at = c.loop-table.table-index in
+    let indexes = c.args.indexes.now in
+    let declared = c.in_ok-declare.ensures.declares (loaded [] (take at indexes)) 0 c.args.alone.now.pass i.loaded in
+    record {
+      engine = declared.adds.1.engine ∙ c.requires.engine;
+      loaded = HasLoaded-as c.args.alone.now.pass c.declare.new.alone.pass _ _ 0 0 (index_loaded indexes at _ c.requires.indexes.one_each c.loop-table-test.true) refl declared;
+      clock = drawn_again _ _ _ _ i.clock c.in_ok-declare.ensures.clock;
+      shared = c.declare.ensures.shared ∙ i.shared;
+    }
+
+pub returns-clause-loaded : goal.returns-clause-loaded
+returns-clause-loaded c =
+    subst (λ (indexes : List (ℕ × ℕ)). HasLoaded (loaded [] indexes) 0 c.args.alone.now.pass c.loop-table.alone.pass)
+    (take_all c.loop-table.table-index c.args.indexes.now c.loop-table-test.false) c.loop-table.invariant.loaded

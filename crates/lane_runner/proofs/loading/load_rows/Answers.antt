@@ -1,0 +1,56 @@
+use Rattle.std.proofs.Common.{rules, ◌≡◌, ℕ, ◌+◌, ◌≤◌, List, [], length, refl, sym, ap, subst, ◌∙◌}
+use Rattle.record_store.specs.Limits.{record_limit}
+use Rattle.replay_model.specs.Input.{RowsDiffer}
+use Rattle.replay_model.specs.TableMap.{Row, loaded}
+use Rattle.txn_engine.specs.Pass.{EngineView}
+use Rattle.lane_runner.specs.Loading.{HasLoaded, AreRowsOf, rows_add}
+use Rattle.lane_runner.specs.Room.{HasRoom, clock_after}
+use Rattle.lane_runner.proofs.Clocks.{drawn_both, room_behind}
+use Rattle.lane_runner.proofs.Loaded.{HasLoaded-again, Loads-whole, swapped}
+use Rattle.lane_runner.proofs.loading.load_rows.Goals as goal
+
+pub put_rows-requires-clause-loaded : goal.put_rows-requires-clause-loaded
+put_rows-requires-clause-loaded c =
+    let p = c.args.alone.now.pass in
+    let q = c.declare_indexes.new.alone.pass in
+    subst (λ (xs : List (ℕ × ℕ)). HasLoaded (loaded [] xs) 0 q q) (c.as_slice.ensures ∙ sym c.as_slice-3.ensures) (HasLoaded-again p q (loaded [] c.as_slice.result.now) 0 c.in_ok-declare_indexes.ensures.loaded)
+
+pub put_rows-requires-clause-rows : goal.put_rows-requires-clause-rows
+put_rows-requires-clause-rows c = subst (λ (xs : List (ℕ × ℕ × Row)). AreRowsOf xs) (sym c.as_slice-2.ensures) c.requires.rows
+
+pub put_rows-requires-clause-differ : goal.put_rows-requires-clause-differ
+put_rows-requires-clause-differ c = subst (λ (xs : List (ℕ × ℕ × Row)). RowsDiffer xs) (sym c.as_slice-2.ensures) c.requires.input.rows_differ
+
+pub put_rows-requires-clause-room : goal.put_rows-requires-clause-room
+put_rows-requires-clause-room c =
+    let p = c.args.alone.now.pass in
+    let q = c.declare_indexes.new.alone.pass in
+    let input = c.args.input.now in
+    let drawn : q.clock ≤ clock_after p.clock (length input.indexes) = subst (λ (xs : List (ℕ × ℕ)). q.clock ≤ clock_after p.clock (length xs)) c.as_slice.ensures c.in_ok-declare_indexes.ensures.clock in
+    let room : HasRoom q.clock (length input.rows) =
+    room_behind p.clock q.clock (length input.indexes) (length input.rows) drawn (subst (λ (n : ℕ). HasRoom p.clock n) (swapped (length input.rows) (length input.indexes)) c.requires.room) in
+    subst (λ (xs : List (ℕ × ℕ × Row)). HasRoom q.clock (length xs)) (sym c.as_slice-2.ensures) room
+
+pub returns-clause-loads : goal.returns-clause-loads
+returns-clause-loads c =
+    let p = c.args.alone.now.pass in
+    let q = c.declare_indexes.new.alone.pass in
+    let w = c.put_rows.new.alone.pass in
+    let input = c.args.input.now in
+    let before = c.in_ok-declare_indexes.ensures.loaded.adds in
+    let rows : HasLoaded (loaded input.rows c.as_slice-3.result.now) (rows_add input.rows c.as_slice-3.result.now) q w =
+    subst (λ (xs : List (ℕ × ℕ × Row)). HasLoaded (loaded xs c.as_slice-3.result.now) (rows_add xs c.as_slice-3.result.now) q w) c.as_slice-2.ensures c.in_ok-put_rows.ensures.loaded in
+    let so_far : HasLoaded (loaded input.rows input.indexes) (rows_add input.rows input.indexes) q w =
+    subst (λ (xs : List (ℕ × ℕ)). HasLoaded (loaded input.rows xs) (rows_add input.rows xs) q w) c.as_slice-3.ensures rows in
+    let engine : w.engine ≡ c.args.engine.now = so_far.adds.1.engine ∙ before.1.engine ∙ c.requires.engine in
+    Loads-whole input p q w c.fits_more.ensures (subst (λ (e : EngineView). e.size.records ≤ record_limit) (sym engine) c.records.ensures.in_range.records_in_range) before so_far
+
+pub returns-clause-clock : goal.returns-clause-clock
+returns-clause-clock c =
+    let p = c.args.alone.now.pass in
+    let q = c.declare_indexes.new.alone.pass in
+    let w = c.put_rows.new.alone.pass in
+    let input = c.args.input.now in
+    let drawn : q.clock ≤ clock_after p.clock (length input.indexes) = subst (λ (xs : List (ℕ × ℕ)). q.clock ≤ clock_after p.clock (length xs)) c.as_slice.ensures c.in_ok-declare_indexes.ensures.clock in
+    let more : w.clock ≤ clock_after q.clock (length input.rows) = subst (λ (xs : List (ℕ × ℕ × Row)). w.clock ≤ clock_after q.clock (length xs)) c.as_slice-2.ensures c.in_ok-put_rows.ensures.clock in
+    subst (λ (n : ℕ). w.clock ≤ clock_after p.clock n) (swapped (length input.indexes) (length input.rows)) (drawn_both p.clock q.clock w.clock (length input.indexes) (length input.rows) drawn more)

@@ -1,0 +1,38 @@
+use Rattle.std.proofs.Common.{rules, ◌≡◌, ℕ, ◌+◌, ◌≤◌, false, List, [], ◌∷◌, ◌++◌, length, refl, sym, ap, subst, ◌∙◌, All}
+use Rattle.replay_model.specs.declared.command.Command.{Command}
+use Rattle.replay_model.specs.declared.command.Command.TheVariants.{Put}
+use Rattle.replay_model.specs.declared.outcome.Placed.{Placed}
+use Rattle.replay_model.specs.Input.{AreCommands}
+use Rattle.replay_model.specs.Running.{tables_after}
+use Rattle.replay_model.specs.TableMap.{with_value}
+use Rattle.stored_tables.specs.Answers.{IsShort}
+use Rattle.stored_tables.specs.Weight.{all_add}
+use Rattle.txn_engine.specs.Pass.{PassView}
+use Rattle.lane_runner.specs.Lanes.{AddsSome}
+use Rattle.lane_runner.specs.Holding.{HasRecords, LeavesWithin, LeavesAfter}
+use Rattle.lane_runner.specs.Loading.{row_more}
+use Rattle.lane_runner.proofs.Loaded.{are_put, is_short_put, room_put, HasLoaded-put}
+use Rattle.lane_runner.proofs.loading.put_row.Goals as goal
+use Rattle.lane_runner.proofs.loading.put_row.Goals.{In_ok-push}
+
+commands_are : (c : In_ok-push) → c.push.new.self ≡ Put c.args.table c.args.key c.args.values ∷ []
+commands_are c = c.in_ok-push.ensures.ok ∙ ap (λ (xs : List Command). xs ++ Put c.args.table c.args.key c.args.values ∷ []) c.new-commands.ensures
+
+pub run_commands-requires-clause-commands : goal.run_commands-requires-clause-commands
+run_commands-requires-clause-commands c =
+    subst (λ (xs : List Command). AreCommands 8 xs) (sym (commands_are (goal.at.run_commands-requires-clause-commands c).In_ok-push)) (are_put c.args.table c.args.key c.args.values c.requires.table)
+
+pub run_commands-requires-clause-short : goal.run_commands-requires-clause-short
+run_commands-requires-clause-short c =
+    subst (λ (xs : List Command). All IsShort xs) (sym (commands_are (goal.at.run_commands-requires-clause-short c).In_ok-push)) (is_short_put c.args.table c.args.key c.args.values)
+
+pub run_commands-requires-clause-records : goal.run_commands-requires-clause-records
+run_commands-requires-clause-records c =
+    subst (λ (xs : List Command). HasRecords c.args.alone.now.pass (all_add xs)) (sym (commands_are (goal.at.run_commands-requires-clause-records c).In_ok-push)) (room_put c.args.alone.now.pass c.args.table c.args.key c.args.values c.requires.records)
+
+pub returns-clause-puts : goal.returns-clause-puts
+returns-clause-puts c = λ tables most first so_far.
+    let commands = commands_are (goal.at.returns-clause-puts c).In_ok-push in
+    let leaves = subst (λ (xs : List Command). LeavesAfter xs c.args.alone.now.pass c.run_commands.new.alone.pass) commands c.in_ok-run_commands.ensures.leaves in
+    HasLoaded-put first c.args.alone.now.pass c.run_commands.new.alone.pass tables most c.args.table c.args.key c.args.values so_far c.in_ok-run_commands.ensures.holds
+    (c.in_ok-run_commands.ensures.committed (record { stamp = c.in_ok-run_commands.field-0.0; snap = false; lane = 0; number = 0 }) refl refl).adds leaves

@@ -1,0 +1,43 @@
+use Rattle.std.proofs.Common.{◌≡◌, List, ℕ, ◌<◌, [], take, refl, sym, ap, subst, ◌∙◌, rules, arith}
+use Rattle.std.proofs.lemmas.List.{take_all}
+use Rattle.replay_model.specs.TableMap.{Row, loaded}
+use Rattle.txn_engine.specs.Pass.{EngineView}
+use Rattle.lane_runner.specs.Loading.{HasLoaded, rows_add}
+use Rattle.lane_runner.proofs.Clocks.{drawn_again}
+use Rattle.lane_runner.proofs.Loaded.{row_loaded, weight_loaded, room_row, HasLoaded-as}
+use Rattle.lane_runner.proofs.loading.put_rows.Goals as goal
+
+pub loop-row-init : goal.loop-row-init
+loop-row-init c = record { engine = c.requires.engine; loaded = c.requires.loaded; clock = omega arith; shared = refl }
+
+pub put_row-requires-clause-holds : goal.put_row-requires-clause-holds
+put_row-requires-clause-holds c = c.loop-row.invariant.loaded.holds
+
+pub put_row-requires-clause-table : goal.put_row-requires-clause-table
+put_row-requires-clause-table c = subst (λ (row : ℕ × ℕ × Row). row.0 < 8) (sym c.row-item.is) (c.requires.rows c.loop-row.row-index c.row-item.result c.loop-row-test.true)
+
+pub put_row-requires-clause-records : goal.put_row-requires-clause-records
+put_row-requires-clause-records c =
+    let engine = c.loop-row.invariant.engine in
+    room_row c.args.alone.now.pass c.loop-row.alone.pass c.args.rows.now c.args.indexes.now c.loop-row.row-index c.row-item.result c.args.engine.now.fixed c.args.engine.now.size.records c.row-item.is c.loop-row-test.true
+    (ap (λ (e : EngineView). e.fixed) engine) (ap (λ (e : EngineView). e.size.records) engine) c.requires.records c.loop-row.invariant.loaded
+
+pub loop-row-preserved : goal.loop-row-preserved
+loop-row-preserved c =
+    let i = c.loop-row.invariant in
+    let at = c.loop-row.row-index in
+    let row = c.row-item.result in
+    let rows = c.args.rows.now in
+    let indexes = c.args.indexes.now in
+    let put = c.in_ok-put_row.ensures.puts (loaded (take at rows) indexes) (rows_add (take at rows) indexes) c.args.alone.now.pass i.loaded in
+    record {
+      engine = put.adds.1.engine ∙ c.requires.engine;
+      loaded = HasLoaded-as c.args.alone.now.pass c.put_row.new.alone.pass _ _ _ _ (row_loaded rows indexes at row c.requires.differ c.row-item.is c.loop-row-test.true) (sym (weight_loaded rows indexes at row c.row-item.is c.loop-row-test.true)) put;
+      clock = drawn_again _ _ _ _ i.clock c.in_ok-put_row.ensures.clock;
+      shared = c.put_row.ensures.shared ∙ i.shared;
+    }
+
+pub returns-clause-loaded : goal.returns-clause-loaded
+returns-clause-loaded c =
+    subst (λ (rows : List (ℕ × ℕ × Row)). HasLoaded (loaded rows c.args.indexes.now) (rows_add rows c.args.indexes.now) c.args.alone.now.pass c.loop-row.alone.pass)
+    (take_all c.loop-row.row-index c.args.rows.now c.loop-row-test.false) c.loop-row.invariant.loaded

@@ -1,0 +1,157 @@
+-- The sizes of a run are enough for its rows and all its blocks.
+use Rattle.std.proofs.Common.{◌≡◌, ℕ, ◌+◌, ◌*◌, ◌≤◌, ◌<◌, ◌==◌, Bool, true, false, cond, not, if◌then◌else◌, List, [], ◌∷◌, length, Option, None, Some, refl, sym, ap, subst, ◌∙◌, inl, inr, arith}
+use Rattle.std.specs.FinMap.{get-empty}
+use Rattle.std.specs.Ordering.{nat_cmp}
+use Rattle.std.specs.List.{flat_map, count_by, sum_by}
+use Rattle.std.proofs.lemmas.Bool.Decides.{eqb_tells}
+use Rattle.std.proofs.lemmas.List.Sums.{sum_by-cons}
+use Rattle.replay_model.specs.declared.command.Command.{Command}
+use Rattle.replay_model.specs.declared.command.Command.TheVariants as commands
+use Rattle.replay_model.specs.declared.input.Block.{Block}
+use Rattle.replay_model.specs.declared.input.Input.{Input}
+use Rattle.replay_model.specs.TableMap.{TableMap, Row, loaded, index_of}
+use Rattle.stored_tables.specs.Weight.{row_adds, change_adds, adds, all_add}
+use Rattle.txn_script.specs.Grammar.{IsWithinLimits, counts, is_indexed, blocks_in, commands_in}
+use Rattle.lane_runner.specs.Loading.{rows_add}
+use Rattle.lane_runner.specs.Weighs.{blocks_add}
+use Rattle.input_runner.specs.Sizes.{AreEnough, SizesAreEnough, count_in, rows_of_run, entries_of_run, records_of_run}
+use Rattle.input_runner.proofs.Counts.{count_blocks, brings_below}
+
+-- ---- one row or command
+
+row_light : (column : Option ℕ) → row_adds column ≤ 6
+row_light None = omega arith
+row_light (Some c) = omega arith
+
+change_light : (column : Option ℕ) → change_adds column ≤ 2
+change_light None = omega arith
+change_light (Some c) = omega arith
+
+-- with an index somewhere, and with none
+command_light : (tables : TableMap) (command : Command) → adds tables command ≤ 4 * cond (counts false command) 1 0 + 2 * cond (counts true command) 1 0
+command_light tables (commands.Get t k c) = omega arith
+command_light tables (commands.Put t k values) = omega (arith, row_light (index_of t tables))
+command_light tables (commands.Ins t k values) = omega (arith, row_light (index_of t tables))
+command_light tables (commands.Del t k) = omega arith
+command_light tables (commands.Add t k c by) = omega (arith, change_light (index_of t tables))
+command_light tables (commands.Sub t k c by) = omega (arith, change_light (index_of t tables))
+command_light tables (commands.Scan t lo hi limit) = omega arith
+command_light tables (commands.Find t c lo hi limit) = omega arith
+
+abbrev HasNoIndex : TableMap → Type 0
+HasNoIndex tables = (t : ℕ) → index_of t tables ≡ None
+
+command_lightest : (tables : TableMap) (command : Command) → HasNoIndex tables → adds tables command ≤ 4 * cond (counts false command) 1 0
+command_lightest tables (commands.Get t k c) none = omega arith
+command_lightest tables (commands.Put t k values) none = omega (arith, ap row_adds (none t))
+command_lightest tables (commands.Ins t k values) none = omega (arith, ap row_adds (none t))
+command_lightest tables (commands.Del t k) none = omega arith
+command_lightest tables (commands.Add t k c by) none = omega (arith, ap change_adds (none t))
+command_lightest tables (commands.Sub t k c by) none = omega (arith, ap change_adds (none t))
+command_lightest tables (commands.Scan t lo hi limit) none = omega arith
+command_lightest tables (commands.Find t c lo hi limit) none = omega arith
+
+-- ---- sums
+
+sum_below : {X : Type 0} (f g h : X → ℕ) (xs : List X) → ((x : X) → f x ≤ 4 * g x + 2 * h x) → sum_by f xs ≤ 4 * sum_by g xs + 2 * sum_by h xs
+sum_below f g h [] each = omega arith
+sum_below f g h (x ∷ xs) each =
+    let first = each x in
+    let rest = sum_below f g h xs each in
+    let fs = sum_by-cons f x xs in
+    let gs = sum_by-cons g x xs in
+    let hs = sum_by-cons h x xs in
+    omega arith
+
+sum_lowest : {X : Type 0} (f g : X → ℕ) (xs : List X) → ((x : X) → f x ≤ 4 * g x) → sum_by f xs ≤ 4 * sum_by g xs
+sum_lowest f g [] each = omega arith
+sum_lowest f g (x ∷ xs) each = let first = each x in let rest = sum_lowest f g xs each in let fs = sum_by-cons f x xs in let gs = sum_by-cons g x xs in omega arith
+
+rows_light : {X : Type 0} (f : X → ℕ) (xs : List X) → ((x : X) → f x ≤ 6) → sum_by f xs ≤ 6 * length xs
+rows_light f [] each = omega arith
+rows_light f (x ∷ xs) each = let first = each x in let rest = rows_light f xs each in let fs = sum_by-cons f x xs in omega arith
+
+rows_lightest : {X : Type 0} (f : X → ℕ) (xs : List X) → ((x : X) → f x ≤ 4) → sum_by f xs ≤ 4 * length xs
+rows_lightest f [] each = omega arith
+rows_lightest f (x ∷ xs) each = let first = each x in let rest = rows_lightest f xs each in let fs = sum_by-cons f x xs in omega arith
+
+blocks_light : (tables : TableMap) (blocks : List Block) → blocks_add blocks tables ≤ 4 * count_in false blocks + 2 * count_in true blocks
+blocks_light tables blocks =
+    sum_below (λ (b : Block). all_add b.commands tables) (λ (b : Block). count_by (counts false) b.commands) (λ (b : Block). count_by (counts true) b.commands) blocks
+    (λ b. sum_below (adds tables) (λ (c : Command). cond (counts false c) 1 0) (λ (c : Command). cond (counts true c) 1 0) b.commands (command_light tables))
+
+blocks_lightest : (tables : TableMap) (blocks : List Block) → HasNoIndex tables → blocks_add blocks tables ≤ 4 * count_in false blocks
+blocks_lightest tables blocks none =
+    sum_lowest (λ (b : Block). all_add b.commands tables) (λ (b : Block). count_by (counts false) b.commands) blocks
+    (λ b. sum_lowest (adds tables) (λ (c : Command). cond (counts false c) 1 0) b.commands (λ c. command_lightest tables c none))
+
+-- ---- an input
+
+sum_up : (rows blocks len brought changed all_brought all_changed : ℕ) → rows ≤ 6 * len → blocks ≤ 4 * brought + 2 * changed → all_brought ≡ brought → all_changed ≡ changed
+    → rows + blocks ≤ 4 * (len + all_brought) + 2 * (len + all_changed)
+sum_up rows blocks len brought changed all_brought all_changed light lighter same same' = omega arith
+
+record AreLight (rows : List (ℕ × ℕ × Row)) (indexes : List (ℕ × ℕ)) (lanes : List (List Block)) (brought changed : ℕ) : Type 0 where
+  few : brought ≤ 16384
+  few_changed : changed ≤ 16384
+  light : rows_add rows indexes + blocks_add (blocks_in lanes) (loaded rows indexes) ≤ 4 * brought + 2 * changed
+
+sum_low : (rows blocks len brought all_brought : ℕ) → rows ≤ 4 * len → blocks ≤ 4 * brought → all_brought ≡ brought → rows + blocks ≤ 4 * (len + all_brought) + 2 * 0
+sum_low rows blocks len brought all_brought light lighter same = omega arith
+
+-- an index is there
+indexed_more : (index : ℕ × ℕ) (indexes : List (ℕ × ℕ)) → is_indexed (index ∷ indexes) ≡ true
+indexed_more index indexes = elim (eqb_tells (length (index ∷ indexes)) 0) [ inl same ↦ absurd (let none = same.1 in omega arith) | inr other ↦ ap not other.0 ]
+
+none_there : (indexes : List (ℕ × ℕ)) → is_indexed indexes ≡ false → (t : ℕ) → index_of t (loaded [] indexes) ≡ None
+none_there [] none t = get-empty nat_cmp t
+none_there (index ∷ indexes) none t = absurd (let some = indexed_more index indexes in cc)
+
+are_light : (rows : List (ℕ × ℕ × Row)) (indexes : List (ℕ × ℕ)) (lanes : List (List Block)) → length rows + count_by (counts (is_indexed indexes)) (commands_in lanes) ≤ 16384
+    → AreLight rows indexes lanes (length rows + count_by (counts false) (commands_in lanes)) (if is_indexed indexes then length rows + count_by (counts true) (commands_in lanes) else 0)
+are_light rows indexes lanes = by (is_indexed indexes) (none_there indexes) where
+  column : ℕ × ℕ × Row → Option ℕ
+  column row = index_of row.0 (loaded [] indexes)
+
+  by : (b : Bool) → (b ≡ false → (t : ℕ) → index_of t (loaded [] indexes) ≡ None) → length rows + count_by (counts b) (commands_in lanes) ≤ 16384
+      → AreLight rows indexes lanes (length rows + count_by (counts false) (commands_in lanes)) (if b then length rows + count_by (counts true) (commands_in lanes) else 0)
+  by true none few =
+      let below = brings_below true (commands_in lanes) in
+      record {
+        few = omega arith;
+        few_changed = few;
+        light = sum_up _ _ _ _ _ _ _ (rows_light (λ (row : ℕ × ℕ × Row). row_adds (column row)) rows (λ row. row_light (column row)))
+            (blocks_light (loaded rows indexes) (blocks_in lanes)) (count_blocks false lanes) (count_blocks true lanes);
+      }
+  by false none few =
+      record {
+        few = few;
+        few_changed = omega arith;
+        light = sum_low _ _ _ _ _ (rows_lightest (λ (row : ℕ × ℕ × Row). row_adds (column row)) rows (λ row. let four : row_adds (column row) ≡ 4 = ap row_adds (none refl row.0) in omega arith))
+            (blocks_lightest (loaded rows indexes) (blocks_in lanes) (none refl)) (count_blocks false lanes);
+      }
+
+pub entries_there : (n : ℕ) (indexes : List (ℕ × ℕ)) → 0 < length indexes → (if is_indexed indexes then n else 0) ≡ n
+entries_there n [] some = absurd (omega arith)
+entries_there n (index ∷ indexes) some = ap (λ (b : Bool). if b then n else 0) (indexed_more index indexes)
+
+pub few_of_run : (input : Input) → IsWithinLimits input → (rows_of_run input ≤ 16384) × (entries_of_run input ≤ 16384)
+few_of_run input within = let is = are_light input.rows input.indexes input.lanes within.rows_and_changes in (is.few, is.few_changed)
+
+pub sizes_are_enough : SizesAreEnough
+sizes_are_enough input seats well_formed within some most =
+    let is = are_light input.rows input.indexes input.lanes within.rows_and_changes in
+    let few : rows_of_run input ≤ 16384 = is.few in
+    let few_changed : entries_of_run input ≤ 16384 = is.few_changed in
+    let light : rows_add input.rows input.indexes + blocks_add (blocks_in input.lanes) (loaded input.rows input.indexes) ≤ 4 * rows_of_run input + 2 * entries_of_run input = is.light in
+    record {
+      size = record {
+        has_seat = some;
+        seats_in_range = most;
+        has_record = omega arith;
+        records_in_range = omega arith;
+        has_spare = omega arith;
+        spare_in_range = omega arith;
+      };
+      records = omega arith;
+    }

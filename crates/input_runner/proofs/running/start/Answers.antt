@@ -1,0 +1,28 @@
+use Rattle.std.proofs.Common.{◌≡◌, ℕ, ◌≤◌, ◌+◌, sym, ap, subst, ◌∙◌, arith}
+use Rattle.word_layout.specs.Size.{size_of}
+use Rattle.txn_engine.specs.Alone.{AloneView}
+use Rattle.txn_engine.specs.Pass.{PassView}
+use Rattle.input_runner.proofs.Few.{few_indexes}
+use Rattle.input_runner.proofs.running.start.Goals as goal
+
+pub load_rows-requires-clause-room : goal.load_rows-requires-clause-room
+load_rows-requires-clause-room c =
+    let new = ap (λ (a : AloneView). a.pass.clock) c.in-Ok.ensures.alone in
+    let rows = c.requires.within.rows_and_changes in
+    let indexes = few_indexes _ c.args.input.now.indexes c.requires.well_formed.indexes in
+    omega arith
+
+pub returns-clause-engine : goal.returns-clause-engine
+returns-clause-engine c = record {
+  size = c.in-Ok.ensures.size ∙ (λ i. size_of c.args.seats (c.sizes_of-sizes.ensures.records i) (c.sizes_of-sizes.ensures.spare i));
+  fixed = c.in-Ok.ensures.fixed;
+}
+
+pub returns-clause-loaded : goal.returns-clause-loaded
+returns-clause-loaded c = record {
+  engine_is = c.in_ok-load_rows.ensures.loads.adds.1.engine ∙ ap (λ (a : AloneView). a.pass.engine) c.in-Ok.ensures.alone;
+  unshared = c.load_rows.ensures.shared ∙ ap (λ (a : AloneView). a.shared) c.in-Ok.ensures.alone;
+  first = c.in-Ok.made.1.pass;
+  loads = c.in_ok-load_rows.ensures.loads;
+  clock = let new = ap (λ (a : AloneView). a.pass.clock) c.in-Ok.ensures.alone in let at = c.in_ok-load_rows.ensures.clock in omega arith;
+}

@@ -1,0 +1,6 @@
+pub mod Listing
+pub mod Printing
+pub mod Reading
+pub mod Sizes
+pub mod Ran
+pub mod Running

@@ -1,0 +1,45 @@
+-- How many records and places the run of an input has.
+use Rattle.std.specs.Prelude.{◌≡◌, ℕ, ◌+◌, ◌*◌, ◌≤◌, if◌then◌else◌, Bool, true, false, List, length, count_by, sum_by}
+use Rattle.replay_model.specs.declared.input.Block.{Block}
+use Rattle.replay_model.specs.declared.input.Input.{Input}
+use Rattle.replay_model.specs.Input.{IsWellFormed}
+use Rattle.replay_model.specs.TableMap.{loaded}
+use Rattle.txn_script.specs.Grammar.{IsWithinLimits, counts, is_indexed, commands_in}
+use Rattle.word_layout.specs.Size.{IsSize, size_of}
+use Rattle.lane_runner.specs.Loading.{rows_add}
+use Rattle.lane_runner.specs.Weighs.{blocks_add}
+use Rattle.lane_runner.specs.Whole.{blocks_of}
+
+-- how many commands of blocks may bring a row, or change one
+abbrev pub count_in : (changes : Bool) → List Block → ℕ
+count_in changes blocks = sum_by (λ (block : Block). count_by (counts changes) block.commands) blocks
+
+abbrev pub count_in_all : (changes : Bool) → List (List Block) → ℕ
+count_in_all changes lanes = sum_by (count_in changes) lanes
+
+-- its rows, and the commands that may bring one
+abbrev pub rows_of_run : Input → ℕ
+rows_of_run input = length input.rows + count_by (counts false) (commands_in input.lanes)
+
+-- where it has an index, the same with the commands that may change a row
+abbrev pub entries_of_run : Input → ℕ
+entries_of_run input = if is_indexed input.indexes then length input.rows + count_by (counts true) (commands_in input.lanes) else 0
+
+-- records that are never given out: those of the tables' chains, of their trees' roots and of their indexes
+abbrev pub fixed_of_run : ℕ
+fixed_of_run = 4112
+
+abbrev pub records_of_run : Input → ℕ
+records_of_run input = fixed_of_run + (8 * rows_of_run input + 3 * entries_of_run input)
+
+-- places for versions beside one for each record: one for each record again, what a block may write, and the one that is kept
+abbrev pub spare_of_run : Input → ℕ
+spare_of_run input = records_of_run input + 8193
+
+-- they are enough: an engine of so many has its size, and the rows and all blocks find records
+pub record AreEnough (input : Input) (seats : ℕ) : Type 0 where
+  pub size : IsSize (size_of seats (records_of_run input) (spare_of_run input))
+  pub records : fixed_of_run + (rows_add input.rows input.indexes + blocks_add (blocks_of input.lanes) (loaded input.rows input.indexes)) ≤ records_of_run input
+
+abbrev pub SizesAreEnough : Type 0
+SizesAreEnough = (input : Input) (seats : ℕ) → IsWellFormed input → IsWithinLimits input → 1 ≤ seats → seats ≤ 64 → AreEnough input seats

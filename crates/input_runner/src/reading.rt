@@ -1,0 +1,65 @@
+//! The rows that a log leaves, read by the seat that is alone.
+
+ghost use Rattle.std.specs.Prelude.{◌≡◌, ◌≤◌, Contains, IfOk, Ok};
+ghost use Rattle.histories.specs.History.{Lawful};
+ghost use Rattle.history_replay.specs.Results.{StandsForSome, LeaveTables};
+ghost use Rattle.record_store.specs.Walks.{IfTorn};
+ghost use Rattle.replay_model.specs.TableMap.{TableMap};
+ghost use Rattle.stamp_base.specs.Limits.{greatest_clock};
+ghost use Rattle.txn_engine.specs.Pass.{IsIdle};
+ghost use Rattle.input_runner.specs.Listing.{AreRows};
+ghost use Rattle.input_runner.specs.Reading.{AddsSnapshot, clock_read};
+ghost use Rattle.lane_runner.specs.Rows.{stands};
+
+use crate::listing::list_tables;
+use histories::lawful_has_states;
+use replay_model::{NoMemory, Pairs};
+use std::alloc::Global;
+use stored_tables::{RowsLawful, Walk, fits_records, keeps_tables};
+use txn_engine::{Alone, Engine, NoFault};
+
+/// Reads the rows of the first tables, so many of them, as the log leaves them: by one snapshot behind all transactions. The log is
+/// told to be lawful with it. Want of memory leaves the entry of the snapshot too.
+pub fn read_tables(
+    alloc: Global,
+    engine: &Engine<RowsLawful>,
+    alone: &mut Alone<RowsLawful>,
+    count: u32,
+) -> Result<Vec<Pairs>, NoMemory>
+    requires engine { alone.old.pass.engine ≡ engine.now }
+    requires idle { IsIdle alone.old.pass }
+    requires count { count ≤ 8 }
+    requires size { 4112 ≤ engine.now.size.records }
+    requires room { clock_read alone.old.pass ≤ greatest_clock }
+    ensures rows { IfOk result (λ rows. (tables : TableMap) → LeaveTables stands (Contains alone.new.pass.log) tables → AreRows count tables rows.items) }
+    ensures adds { AddsSnapshot alone.old.pass alone.new.pass }
+    ensures lawful { Lawful (StandsForSome stands) alone.new.pass.engine.size.records alone.new.pass.log }
+{
+    keeps_tables();
+    fits_records();
+    lawful_has_states::<RowsLawful>();
+    // The seat is alone.
+    alone.shared();
+    let Ok(_stamp) = alone.tick(engine, 0) else {
+        unreachable!();
+    };
+    let mut snapshot = alone.snapshot(engine);
+    let told = list_tables(&mut snapshot, alloc, count);
+    snapshot.finish();
+    alone.tell(engine);
+    // A kept state agrees with what was read, so the tables are not torn.
+    untorn(told)
+}
+
+/// Rows of tables that are not torn: want of memory is the only fault.
+fn untorn(told: Result<Vec<Pairs>, Walk<NoFault>>) -> Result<Vec<Pairs>, NoMemory>
+    requires { IfTorn told (λ _. ⊥) }
+    ensures { IfOk result (λ rows. told ≡ Ok rows) }
+{
+    match told {
+        Ok(rows) => Ok(rows),
+        Err(Walk::NoMemory) => Err(NoMemory),
+        Err(Walk::Torn(_)) => unreachable!(),
+        Err(Walk::Store(fault)) => match fault {},
+    }
+}

@@ -1,9 +1,13 @@
 #!/usr/bin/env python3
-"""A plain model of the program, to compute what is due for an input that is well formed: blocks one after another over dictionaries.
+"""A plain model of the program with one worker, to compute what is due for an input that is well formed: blocks one after another over
+dictionaries.
 
     plain_model.py < INPUT > REPORT
 
-It knows nothing of limits and refusals, and trusts its input. It is written from the description of the language alone.
+It knows nothing of limits and refusals, and trusts its input. It is written from the description of the language and of stamps alone:
+with the clock that counts, the one seat 0 draws the stamps 256, 512 and so on, one for each index line, each row and each block. A
+transaction block has its stamp, and a snapshot the one below its own. Behind each 1,024th transaction block one more is drawn, for the
+promotion of the first record that this block has read, unless it reads none.
 """
 import bisect
 import sys
@@ -15,7 +19,7 @@ def main():
     lines = sys.stdin.read().split("\n")
     second = lines[0] == "cicada 2"
     names, out = [], []
-    loaded = blocks = lane = number = 0
+    drawn = commits = lane = number = 0
     block, snap, tables = None, False, {}
     # the values of a column with their keys, sorted, for each table and column that was searched
     sorted_by = {}
@@ -90,6 +94,10 @@ def main():
                 answers += [line(": ", key, tables[table][key]) for _, key in pairs[first:max(first, min(past, first + most))]]
         return answers, None
 
+    def reads_nothing(words):
+        """Whether a command reads no record: a scan that lists nothing by its arguments. A search reads which column has the index."""
+        return words[0] == "scan" and (int(words[2]) > int(words[3]) or int(words[4]) == 0)
+
     def line(start, key, row):
         return start + " ".join(map(str, [key] + row))
 
@@ -98,19 +106,24 @@ def main():
         if words[0] == "table":
             names.append(words[1])
             tables[words[1]] = {}
+        elif words[0] == "index":
+            drawn += 1
         elif words[0] == "row":
             tables[words[1]][int(words[2])] = [int(word) for word in words[3:]]
-            loaded += 1
+            drawn += 1
         elif words[0] == "lane":
             lane, number = lane + 1, 0
         elif words[0] in ("txn", "snap"):
             block, snap = [], words[0] == "snap"
         elif words[0] == "end":
-            blocks, number = blocks + 1, number + 1
+            drawn, number = drawn + 1, number + 1
             answers, refusal = run(block)
-            head = f"{256 * (loaded + blocks)} {lane}.{number} "
+            head = f"{256 * drawn - snap} {lane}.{number} "
             out.append(head + (refusal or ("snap" if snap else "ok")))
             out += answers or []
+            commits += not snap
+            if not snap and commits % 1024 == 0 and not all(map(reads_nothing, block)):
+                drawn += 1
             block = None
         elif words[0] == "done":
             break

@@ -2,13 +2,14 @@
 #![tactic(auto)]
 
 use cicada_top::{Status, run};
-use outside_io::{CountClock, OpenGate, StdSink, StdSource};
+use outside_io::{OpenGate, RealClock, StdSink, StdSource};
 use std::alloc::Global;
 use std::env::{self, Args};
 use std::io::{self, Eprint};
 use std::process::ExitCode;
 use std::sync::Wait;
 use std::thread::Threads;
+use std::time::Clock;
 
 fn main(rt: HostRuntime) -> ExitCode {
     let mut source = StdSource::new(rt.stdin());
@@ -45,7 +46,7 @@ fn sentence_on(status: Status) -> Option<&'static str> {
 }
 
 /// Hands the words behind the program's name to the top call, and tells the user why they are refused.
-fn run_with<R: Threads + Wait + Sync + Eprint>(
+fn run_with<R: Threads + Wait + Sync + Eprint + Clock>(
     rt: &R,
     alloc: Global,
     args: Args,
@@ -55,7 +56,7 @@ fn run_with<R: Threads + Wait + Sync + Eprint>(
     let Ok(words) = args.skip(1).collect::<Vec<String>>(alloc) else {
         return Status::NoMemory;
     };
-    let Ok(clocks) = vec![in alloc; CountClock; 64] else {
+    let Ok(clocks) = vec![in alloc; RealClock::new(rt); 64] else {
         return Status::NoMemory;
     };
     let finish = run(rt, alloc, &words, source, sink, clocks, &OpenGate);

@@ -20,6 +20,7 @@ use Rattle.cicada_top.specs.Parts.{input_part, report_part}
 use Rattle.cicada_top.specs.Received.{most_input, most_checked, Receives, ReceivesFor, HoldsFor, HasReadAll, ReadsAtMostFor}
 use Rattle.cicada_top.specs.Due.{IsCheckable, IsJudged, TellsVerdict, IsDueAt, Causes}
 use Rattle.cicada_top.specs.Delivery.{order_kept, IsPart, WritesAs, EndsAs}
+use Rattle.cicada_top.specs.Ending.{IsInputFor}
 
 -- no text is due at a status of a sink that fails
 pub due-not_WriteFault : (status : Status) (mode : Mode) (bytes : List ℕ) (order : List Placed) (fault : Option InputFault) (text : List ℕ)
@@ -223,6 +224,16 @@ received_cause Check left left' all bytes got told status h =
       | inl same ↦ subst (λ (b : List ℕ). Causes Check b status) (sym same) h
       | inr long ↦ long_check bytes all long.0 long.1 status h
     ]
+
+-- and so does which input it is
+pub received_input : (mode : Mode) (left left' : Option (List ℕ)) (all bytes : List ℕ) (input : InputValue) → ReceivesFor mode left left' bytes → HoldsFor mode left all → IsInputFor mode all input → IsInputFor mode bytes input
+received_input Run left left' all bytes input got told is =
+    elim (same_or_long most_input left left' all bytes told got) [
+      | inl same ↦ subst (λ (b : List ℕ). IsInputFor Run b input) (sym same) is
+      | inr long ↦ let short = is.0 in let over = long.1 in absurd (omega arith)
+    ]
+received_input (Generate seed) left left' all bytes input got told is = is
+received_input Check left left' all bytes input got told is = absurd is
 
 -- what was received whole
 whole : (most : ℕ) (left left' : Option (List ℕ)) (bytes : List ℕ) → Receives most left left' bytes → length bytes ≤ most → IsAtEnd left'

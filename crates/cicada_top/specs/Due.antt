@@ -24,18 +24,12 @@ use Rattle.cicada_top.specs.Parts.{input_part, report_part}
 
 -- ---- an order, and the texts made of it
 
--- the stamps of an order of an input that is run plainly: 256 times the number of its rows and of the blocks so far
-abbrev pub HasPlainStamps : InputValue → List Placed → Type 0
-HasPlainStamps input order =
-    (i : ℕ) (placed : Placed) → slice_get order i ≡ Some placed → placed.stamp ≡ 256 * (length input.rows + (i + 1))
-
 -- the bytes are an input, the order is one of it, and the text is its report
 pub record IsReport (bytes : List ℕ) (order : List Placed) (due : List ℕ) : Type 0 where
   pub short : length bytes ≤ most_input
   pub input : InputValue
   pub accepted : IsInput bytes input
   pub ordered : IsOrder input order
-  pub stamped : HasPlainStamps input order
   pub reported : due ≡ report input order
 
 -- the order is one of the input that is generated from a number, and the text sums up what it comes to
@@ -43,7 +37,6 @@ pub record IsSummary (seed : ℕ) (order : List Placed) (due : List ℕ) : Type 
   pub input : InputValue
   pub accepted : IsInput (spelled (lines seed)) input
   pub ordered : IsOrder input order
-  pub stamped : HasPlainStamps input order
   pub summed : due ≡ spelled (summary_lines input (last_tables input order))
 
 -- ---- refusals

@@ -4,4 +4,5 @@ pub mod Received
 pub mod Parts
 pub mod Due
 pub mod Delivery
-pub mod Plain
+pub mod Ending
+pub mod Reported

@@ -1,11 +1,12 @@
 //! The verdict on a report that stands behind its input.
 
-ghost use Rattle.std.specs.Prelude.{◌≡◌, IfOk};
+ghost use Rattle.std.specs.Prelude.{◌≡◌, None, IfOk};
 ghost use Rattle.replay_model.specs.Input.{IsWellFormed};
 ghost use Rattle.report_check.specs.declared.checking.Verdict.{Verdict as VerdictValue};
 ghost use Rattle.report_check.specs.Verdicts.{IsVerdict};
 ghost use Rattle.cicada_top.specs.declared.finish.Status.{Status as StatusValue};
 ghost use Rattle.cicada_top.specs.Due.{verdict_text, IsDueAt, Causes, TellsVerdict};
+ghost use Rattle.cicada_top.specs.Reported.{HasEnd};
 
 use crate::finish::Status;
 use crate::mode::Mode;
@@ -24,6 +25,7 @@ pub(crate) fn reply_to_report(alloc: Global, bytes: &[u8]) -> Result<Reply, NoMe
         IsDueAt reply.status Mode.Check bytes.now reply.order.items reply.fault reply.text.items) }
     ensures alone { IfOk result (λ reply.
         (status : StatusValue) → Causes Mode.Check bytes.now status → status ≡ reply.status) }
+    ensures end { IfOk result (λ reply. HasEnd reply.status Mode.Check bytes.now reply.order.items reply.end) }
 {
     if bytes.len() > MAX_CHECKED {
         return Reply::for_length(alloc);
@@ -44,19 +46,21 @@ fn judge(alloc: Global, input: &Input, report: &[u8]) -> Result<Reply, NoMemory>
     requires { IsWellFormed input.now }
     ensures judged { IfOk result (λ reply. (verdict : VerdictValue) × IsVerdict input.now report.now verdict
         × TellsVerdict input.now report.now verdict reply.status reply.order.items reply.fault reply.text.items) }
+    ensures end { IfOk result (λ reply. reply.end ≡ None) }
     ensures alone { (a b : VerdictValue) → IsVerdict input.now report.now a → IsVerdict input.now report.now b → a ≡ b }
 {
     let verdict = check(alloc, input, report)?;
     let text = text_of(alloc, verdict)?;
     if verdict == Verdict::Yes {
         let order = printed(alloc, input, report)?;
-        return Ok(Reply::answer(order, text));
+        return Ok(Reply::confirmed(order, text));
     }
     Ok(Reply {
         status: Status::Differs,
         order: Vec::new(alloc),
         fault: None,
         text,
+        end: None,
     })
 }
 

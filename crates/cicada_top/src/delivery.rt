@@ -7,6 +7,7 @@ ghost use Rattle.txn_script.specs.declared.fault.InputFault.{InputFault as Fault
 ghost use Rattle.cicada_top.specs.Due.{IsDueAt};
 ghost use Rattle.cicada_top.specs.declared.finish.Status.{Status as StatusValue};
 ghost use Rattle.cicada_top.specs.Delivery.{order_kept, WritesAs};
+ghost use Rattle.cicada_top.specs.Reported.{HasEnd};
 
 use crate::finish::{Finish, Status};
 use crate::mode::Mode;
@@ -27,12 +28,18 @@ pub(crate) fn deliver<K: Sink>(alloc: Global, mode: Mode, reply: Reply, sink: &m
         → IsDueAt reply.status mode bytes reply.order.items reply.fault reply.text.items
         → result.status ≡ Status.WriteFault → HasRisen (K.faults sink.old) (K.faults sink.new) }
     ensures usage { result.usage ≡ None }
+    // the seat that is alone is there where the text was written whole
+    ensures end { (bytes : List ℕ)
+        → IsDueAt reply.status mode bytes reply.order.items reply.fault reply.text.items
+        → HasEnd reply.status mode bytes reply.order.items reply.end
+        → HasEnd result.status mode bytes result.order.items result.end }
 {
     let Reply {
         status,
         order,
         fault,
         text,
+        end,
     } = reply;
     match write_all(sink, &text) {
         Ok(()) => Finish {
@@ -40,6 +47,7 @@ pub(crate) fn deliver<K: Sink>(alloc: Global, mode: Mode, reply: Reply, sink: &m
             order,
             fault,
             usage: None,
+            end,
         },
         Err(stop) => stopped(alloc, mode, order, stop),
     }
@@ -55,6 +63,7 @@ fn stopped(alloc: Global, mode: Mode, order: Vec<Placed>, stop: Stopped) -> Fini
     ensures status { (result.status ≡ Status.WriteFault) ⊎ (result.status ≡ Status.NoMemory) }
     ensures failed { result.status ≡ Status.WriteFault → stop.fault ≡ SinkFault.Failed }
     ensures usage { result.usage ≡ None }
+    ensures end { result.end ≡ None }
 {
     let order = order_behind_stop(alloc, mode, order);
     match stop.fault {

@@ -5,6 +5,8 @@ ghost use Rattle.cicada_top.specs.Status.{number_of};
 
 use replay_model::Placed;
 use std::alloc::Global;
+use stored_tables::RowsLawful;
+use txn_engine::Alone;
 use txn_script::InputFault;
 
 /// What a run came to.
@@ -58,6 +60,9 @@ pub struct Finish {
     pub fault: Option<InputFault>,
     /// Why the words are refused, or the help: a text for the user. It is there exactly at `Usage`.
     pub usage: Option<String>,
+    /// The seat that is alone when all blocks have run, whose log is the history of the run. It is there exactly at `Done` where blocks
+    /// were run.
+    pub end: Option<Alone<RowsLawful>>,
 }
 
 impl Finish {
@@ -67,12 +72,14 @@ impl Finish {
         ensures order { result.order.items ≡ [] }
         ensures fault { result.fault ≡ None }
         ensures usage { result.usage ≡ None }
+        ensures end { result.end ≡ None }
     {
         Finish {
             status,
             order: Vec::new(alloc),
             fault: None,
             usage: None,
+            end: None,
         }
     }
 }

@@ -1,5 +1,5 @@
-//! Tests of the program, of its sources and sinks and of the queue of lanes: whole runs, runs held up by clocks and gates, faults at each
-//! call, and each public call once on its happy path.
+//! Tests of the program, of its sources and sinks and of the queue of lanes: whole runs, faults at each call, and each public call once
+//! on its happy path.
 //!
 //! They stand here, apart from the crates that they are of, since a crate with tests is proved twice.
 #![tactic(auto)]
@@ -7,13 +7,7 @@
 #[cfg(test)]
 mod calls;
 #[cfg(test)]
-mod clocks;
-#[cfg(test)]
-mod gates;
-#[cfg(test)]
 mod lanes;
-#[cfg(test)]
-mod reports;
 #[cfg(test)]
 mod runs;
 #[cfg(test)]

@@ -31,9 +31,9 @@ use std::thread::Threads;
 /// for the user.
 ///
 /// There are as many workers as the words ask for, each with one of the clocks. A transaction block that another one is in the way of is
-/// tried again, as often as the words say; the blocks that remain are run by the caller alone, when all workers have ended. The gate is
-/// met before and after each try. The order is that of the transactions' stamps, which rest on the clocks and on how the threads ran, so
-/// it may be another one at each run.
+/// tried again, as often as the words say; the blocks that remain are run by the caller alone, when all workers have ended. Workers meet
+/// the gate before a try commits and behind the outcome of a block. The order is that of the transactions' stamps, which rest on the
+/// clocks and on how the threads ran, so it may be another one at each run. No clause says how the work is shared out.
 ///
 /// The call may wait, for its threads and in the gate; all that is said here holds if it returns. Want of memory may come at any point.
 ///

@@ -10,6 +10,8 @@ pub mod Leaving
 pub mod Linked
 pub mod Listed
 pub mod Looking
+pub mod MarkWords
+pub mod Marked
 pub mod NumberLists
 pub mod Over
 pub mod Placed

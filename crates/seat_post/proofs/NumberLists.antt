@@ -1,15 +1,16 @@
 -- Lists of numbers of which the first ones are given out.
-use Rattle.std.proofs.Common.{◌≡◌, ℕ, ◌<◌, ◌≤◌, ◌+◌, ◌-◌, zero, suc, cond, ◌&&◌, Option, true, false, Bool, List, [], ◌∷◌, ◌++◌, Some, refl, sym, ap, ◌∙◌, subst, inl, inr, ◌⊎◌, arith, ◌||◌, length, take, drop, get_or, remove, insert, eqb, length-take-le, length-drop, length-append, append_assoc, eq-eqb}
+use Rattle.std.proofs.Common.{◌≡◌, ℕ, ◌<◌, ◌≤◌, ◌+◌, ◌-◌, zero, suc, cond, ◌&&◌, Option, true, false, Bool, List, [], ◌∷◌, ◌++◌, Some, refl, sym, ap, ◌∙◌, subst, inl, inr, ◌⊎◌, arith, ◌||◌, length, take, drop, get_or, remove, insert, map, eqb, length-take-le, length-drop, length-append, append_assoc, eq-eqb}
 use Rattle.std.specs.Prelude.{slice_get, nat_le}
 use Rattle.std.specs.List.{list_any, IsDistinct, AllByRecursion, range_with_len}
 use Rattle.std.specs.List.Sorted.{IsPermutation}
 use Rattle.std.proofs.Math.Nat.{sub_self, add-sub_cancel_left}
 use Rattle.std.proofs.Math.Seq.{take-append_seam, drop-append_seam}
-use Rattle.std.proofs.lemmas.List.{take-append-drop, get_or-drop, get_or-take}
+use Rattle.std.proofs.lemmas.List.{length-map, take-append-drop, get_or-drop, get_or-take}
 use Rattle.std.proofs.lemmas.List.Edits.{remove-append_right, insert-append_right, length-remove, length-insert}
 use Rattle.std.proofs.lemmas.List.Sorted.{IsPermutation-remove, IsPermutation-append_right, list_any-IsPermutation}
-use Rattle.std.proofs.lemmas.Map.Keys.{IsDistinct-IsPermutation, IsDistinct-tail, IsDistinct-cons, IsDistinct-push, apart_from_distinct}
+use Rattle.std.proofs.lemmas.Map.Keys.{IsDistinct-IsPermutation, IsDistinct-head, IsDistinct-tail, IsDistinct-cons, IsDistinct-push, apart_from_distinct}
 use Rattle.std.proofs.lemmas.Map.Steps.{length-le_from_distinct_below}
+use Rattle.std.proofs.lemmas.Grind.{get_or_default_zero}
 use Rattle.std.proofs.lemmas.Cmp.{nat_eq_equiv}
 use Rattle.std.proofs.lemmas.Option.{slice_get_read}
 use Rattle.std.proofs.lemmas.Bool.Decides.{eqb_tells}
@@ -22,12 +23,12 @@ flipped a b t = elim (eqb_tells b a) as (λ _. eqb a b ≡ eqb b a) [ inl s ↦ 
 pub eqb_flips : (a b : ℕ) → eqb a b ≡ eqb b a
 eqb_flips a b = elim (eqb_tells a b) as (λ _. eqb a b ≡ eqb b a) [ inl t ↦ t.0 ∙ sym (eq-eqb b a (sym t.1)) | inr t ↦ flipped a b t ]
 
--- the number at a place behind those that are given out
-pub at_spare : (xs : List ℕ) (t i rid : ℕ) → t + i < length xs → rid ≡ get_or xs (t + i) rid → slice_get (drop t xs) i ≡ Some rid
-at_spare xs t i rid within is =
+-- a number behind those that are given out, by its place there
+pub at_brought : (xs : List ℕ) (t i rid : ℕ) → t + i < length xs → rid ≡ get_or xs (t + i) rid → rid ≡ get_or (drop t xs) i 0
+at_brought xs t i rid within is =
     let long = length-drop t xs in
     let inside : i < length (drop t xs) = omega arith in
-    slice_get_read (drop t xs) (length (drop t xs)) i rid refl inside (is ∙ sym (get_or-drop t xs i rid))
+    is ∙ sym (get_or-drop t xs i rid) ∙ get_or_default_zero (drop t xs) i rid inside
 
 -- the list without the number at such a place
 pub struck : (xs : List ℕ) (t i : ℕ) → t ≤ length xs → remove xs (t + i) ≡ take t xs ++ remove (drop t xs) i
@@ -52,20 +53,36 @@ moved xs t i rid marked =
     ∙ ap (λ n. take t xs ++ insert (remove (drop t xs) i) n rid) (sub_self t)
     ∙ sym (append_assoc (take t xs) (rid ∷ []) (remove (drop t xs) i))
 
-one_longer : (xs : List ℕ) (t rid : ℕ) → t ≤ length xs → length (take t xs ++ rid ∷ []) ≡ t + 1
-one_longer xs t rid marked = let h = length-take-le t xs marked in let k = length-append (take t xs) (rid ∷ []) in omega arith
+brought : (xs ys : List ℕ) (t i rid : ℕ) → t ≤ length xs → ys ≡ insert (remove xs (t + i)) t rid → ys ≡ take t xs ++ rid ∷ remove (drop t xs) i
+brought xs ys t i rid marked is = is ∙ moved xs t i rid marked ∙ append_assoc (take t xs) (rid ∷ []) (remove (drop t xs) i)
 
-pub moved_given : (xs ys : List ℕ) (t i rid : ℕ) → t ≤ length xs → ys ≡ insert (remove xs (t + i)) t rid → take (t + 1) ys ≡ take t xs ++ rid ∷ []
-moved_given xs ys t i rid marked is = ap (λ zs. take (t + 1) zs) (is ∙ moved xs t i rid marked) ∙ first_part (take t xs ++ rid ∷ []) (remove (drop t xs) i) (t + 1) (one_longer xs t rid marked)
+pub brought_given : (xs ys : List ℕ) (t i rid : ℕ) → t ≤ length xs → ys ≡ insert (remove xs (t + i)) t rid → take t ys ≡ take t xs
+brought_given xs ys t i rid marked is = ap (λ zs. take t zs) (brought xs ys t i rid marked is) ∙ first_part (take t xs) (rid ∷ remove (drop t xs) i) t (length-take-le t xs marked)
 
-pub moved_spare : (xs ys : List ℕ) (t i rid : ℕ) → t ≤ length xs → ys ≡ insert (remove xs (t + i)) t rid → drop (t + 1) ys ≡ remove (drop t xs) i
-moved_spare xs ys t i rid marked is = ap (λ zs. drop (t + 1) zs) (is ∙ moved xs t i rid marked) ∙ second_part (take t xs ++ rid ∷ []) (remove (drop t xs) i) (t + 1) (one_longer xs t rid marked)
+pub brought_spare : (xs ys : List ℕ) (t i rid : ℕ) → t ≤ length xs → ys ≡ insert (remove xs (t + i)) t rid → drop t ys ≡ rid ∷ remove (drop t xs) i
+brought_spare xs ys t i rid marked is = ap (λ zs. drop t zs) (brought xs ys t i rid marked is) ∙ second_part (take t xs) (rid ∷ remove (drop t xs) i) t (length-take-le t xs marked)
 
 pub struck_given : (xs ys : List ℕ) (t i : ℕ) → t ≤ length xs → ys ≡ remove xs (t + i) → take t ys ≡ take t xs
 struck_given xs ys t i marked is = ap (λ zs. take t zs) (is ∙ struck xs t i marked) ∙ first_part (take t xs) (remove (drop t xs) i) t (length-take-le t xs marked)
 
 pub struck_spare : (xs ys : List ℕ) (t i : ℕ) → t ≤ length xs → ys ≡ remove xs (t + i) → drop t ys ≡ remove (drop t xs) i
 struck_spare xs ys t i marked is = ap (λ zs. drop t zs) (is ∙ struck xs t i marked) ∙ second_part (take t xs) (remove (drop t xs) i) t (length-take-le t xs marked)
+
+pub or_off : (b : Bool) → (b || false) ≡ b
+or_off true = refl
+or_off false = refl
+
+pub or_true : (b : Bool) → (b || true) ≡ true
+or_true true = refl
+or_true false = refl
+
+or_assoc : (a b c : Bool) → (a || (b || c)) ≡ ((a || b) || c)
+or_assoc true b c = refl
+or_assoc false b c = refl
+
+pub on_either : (xs : List ℕ) (y r : ℕ) → is_on (xs ++ y ∷ []) r ≡ (is_on xs r || eqb r y)
+on_either [] y r = or_off (eqb r y)
+on_either (x ∷ xs) y r = ap (λ (b : Bool). eqb r x || b) (on_either xs y r) ∙ or_assoc (eqb r x) (is_on xs r) (eqb r y)
 
 any_more : (b any : Bool) → any ≡ true → (b || any) ≡ true
 any_more true any on = refl
@@ -94,18 +111,21 @@ numbers_struck fixed records t i rid xs room are within is =
       fits = are.fits;
     }
 
--- a number is moved behind those that are given out
-pub numbers_given : (fixed records t i rid : ℕ) (xs ys : List ℕ) (room room' : ℕ) → AreNumbers fixed records t xs room → t + i < length xs → rid ≡ get_or xs (t + i) rid → ys ≡ insert (remove xs (t + i)) t rid → room ≤ room' → AreNumbers fixed records (t + 1) ys room'
-numbers_given fixed records t i rid xs ys room room' are within is made more =
+-- a number is moved to the front of those that are not given out
+pub same_brought : (t i rid : ℕ) (xs ys : List ℕ) → t ≤ length xs → t + i < length xs → rid ≡ get_or xs (t + i) rid → ys ≡ insert (remove xs (t + i)) t rid → IsPermutation xs ys
+same_brought t i rid xs ys marked within is made =
     let long = length-drop t xs in
     let inside : i < length (drop t xs) = omega arith in
     let here : rid ≡ get_or (drop t xs) i rid = is ∙ sym (get_or-drop t xs i rid) in
     let behind = IsPermutation-append_right (take t xs) (drop t xs) (rid ∷ remove (drop t xs) i) (IsPermutation-remove (drop t xs) i rid inside here) in
     let all : IsPermutation xs ((take t xs ++ rid ∷ []) ++ remove (drop t xs) i) = rw (← append_assoc (take t xs) (rid ∷ []) (remove (drop t xs) i)) at (subst (λ zs. IsPermutation zs (take t xs ++ (rid ∷ remove (drop t xs) i))) (take-append-drop t xs) behind) in
-    let same = subst (λ zs. IsPermutation xs zs) (sym (made ∙ moved xs t i rid are.marked)) all in
+    subst (λ zs. IsPermutation xs zs) (sym (made ∙ moved xs t i rid marked)) all
+
+pub numbers_brought : (fixed records t i rid : ℕ) (xs ys : List ℕ) (room room' : ℕ) → AreNumbers fixed records t xs room → t + i < length xs → rid ≡ get_or xs (t + i) rid → ys ≡ insert (remove xs (t + i)) t rid → room ≤ room' → AreNumbers fixed records t ys room'
+numbers_brought fixed records t i rid xs ys room room' are within is made more =
     let left = length-insert (remove xs (t + i)) t rid (let h = length-remove xs (t + i) within in let k = are.marked in omega arith) in
     let less = length-remove xs (t + i) within in
-    numbers_moved fixed records t (t + 1) xs ys room room' are same (rw made (let k = are.marked in omega arith)) more
+    numbers_moved fixed records t t xs ys room room' are (same_brought t i rid xs ys are.marked within is made) (rw made (let k = are.marked in omega arith)) more
 
 -- ---- all numbers from one on
 
@@ -136,14 +156,6 @@ range_in : (a n rid : ℕ) → is_on (range_with_len a n) rid ≡ true → (a �
 range_in a zero rid on = cc
 range_in a (suc n) rid on = in_step a n rid (list_any (eqb rid) (range_with_len (a + 1) n)) (range_in (a + 1) n rid) on
 
-pub numbers_new : (fixed records : ℕ) (items : List ℕ) (room : ℕ) → fixed ≤ records → items ≡ range_with_len fixed (records - fixed) → records ≤ room → AreNumbers fixed records 0 items room
-numbers_new fixed records items room within are fits = record {
-  marked = omega arith;
-  distinct = rw are (range_distinct fixed (records - fixed));
-  in_range = λ rid on. let r = range_in fixed (records - fixed) rid (subst (λ (xs : List ℕ). is_on xs rid ≡ true) are on) in (r.0, let k = r.1 in omega arith);
-  fits = fits;
-}
-
 any_at : (xs : List ℕ) (k rid : ℕ) → k < length xs → rid ≡ get_or xs k rid → is_on xs rid ≡ true
 any_at [] k rid within is = absurd (omega arith)
 any_at (x ∷ xs) zero rid within is = ap (λ (b : Bool). b || list_any (eqb rid) xs) (eq-eqb rid x is)
@@ -160,6 +172,16 @@ range_pushed fixed rid xs within are =
     let r : fixed + (rid - fixed) ≡ rid = omega arith in
     ap (λ ys. ys ++ rid ∷ []) are ∙ sym (ap (λ k. range_with_len fixed k) n ∙ range-push fixed (rid - fixed) ∙ ap (λ x. range_with_len fixed (rid - fixed) ++ x ∷ []) r)
 
+off_past : (fixed rid : ℕ) → fixed ≤ rid → is_on (range_with_len fixed (rid - fixed)) rid ≡ false
+off_past fixed rid within = by_test (is_on (range_with_len fixed (rid - fixed)) rid) refl
+  where
+    by_test : (b : Bool) → is_on (range_with_len fixed (rid - fixed)) rid ≡ b → b ≡ false
+    by_test false is = refl
+    by_test true is = absurd (let h = (range_in fixed (rid - fixed) rid is).1 in omega arith)
+
+pub range_added : (fixed rid : ℕ) → fixed ≤ rid → added (range_with_len fixed (rid - fixed)) rid ≡ range_with_len fixed (rid + 1 - fixed)
+range_added fixed rid within = rw (off_past fixed rid within) (range_pushed fixed rid (range_with_len fixed (rid - fixed)) within refl)
+
 -- a place behind those that are given out lies in the list
 pub inside_all : (xs : List ℕ) (t i : ℕ) → t ≤ length xs → i < length (drop t xs) → t + i < length xs
 inside_all xs t i marked within = let long = length-drop t xs in omega arith
@@ -171,10 +193,6 @@ pub numbers_view : (fixed records : ℕ) (spare spare' given given' : List ℕ) 
 numbers_view fixed records spare spare' given given' a b = rw (a, b) refl
 
 -- ---- a number is added at the end
-
-pub any_flips : (xs : List ℕ) (rid : ℕ) → list_any (λ y. eqb y rid) xs ≡ list_any (eqb rid) xs
-any_flips [] rid = refl
-any_flips (x ∷ xs) rid = rw (eqb_flips x rid, any_flips xs rid) refl
 
 apart_bools : true ≡ false → ⊥
 apart_bools same = let h : Unit {0} ≡ ⊥ = ap (λ (b : Bool). elim b as (λ _. Type 0) [ true ↦ Unit {0} | false ↦ ⊥ ]) same in subst (λ (A : Type 0). A) h tt
@@ -199,12 +217,53 @@ numbers_added fixed records t rid xs room room' are off from within more = recor
   fits = let h = are.fits in omega arith;
 }
 
--- there are no more of them than records
-pub few_numbers : (fixed records t : ℕ) (xs : List ℕ) (room : ℕ) → AreNumbers fixed records t xs room → length xs ≤ records
-few_numbers fixed records t xs room are = length-le_from_distinct_below xs records are.distinct (λ q on. (are.in_range q on).1)
+-- ---- how many there are
+
+-- of two numbers from one on, each with as much less
+apart_lower : (fixed x y : ℕ) → fixed ≤ x → fixed ≤ y → eqb x y ≡ false → eqb (x - fixed) (y - fixed) ≡ false
+apart_lower fixed x y from from' apart = elim (eqb_tells (x - fixed) (y - fixed)) as (λ _. eqb (x - fixed) (y - fixed) ≡ false) [
+  | inl t ↦ (let same : x ≡ y = let e = t.1 in omega arith in absurd (apart_bools (sym (eq-eqb x y same) ∙ apart)))
+  | inr t ↦ t.0
+]
+
+abbrev lowered : (fixed : ℕ) → List ℕ → List ℕ
+lowered fixed xs = map (λ x. x - fixed) xs
+
+all_apart_lower : (fixed x : ℕ) (xs : List ℕ) → fixed ≤ x → ((y : ℕ) → is_on xs y ≡ true → fixed ≤ y) → AllByRecursion (λ y. eqb x y ≡ false) xs → AllByRecursion (λ y. eqb (x - fixed) y ≡ false) (lowered fixed xs)
+all_apart_lower fixed x [] from all apart = tt
+all_apart_lower fixed x (y ∷ ys) from all apart = (
+  apart_lower fixed x y from (all y (ap (λ (b : Bool). b || is_on ys y) (eq-eqb y y refl))) apart.0,
+  all_apart_lower fixed x ys from (λ z on. all z (any_more (eqb z y) (is_on ys z) on)) apart.1,
+)
+
+lowered_distinct : (fixed : ℕ) (xs : List ℕ) → ((y : ℕ) → is_on xs y ≡ true → fixed ≤ y) → IsDistinct eqb xs → IsDistinct eqb (lowered fixed xs)
+lowered_distinct fixed [] all distinct = range_distinct 0 0
+lowered_distinct fixed (x ∷ xs) all distinct =
+    let more : (y : ℕ) → is_on xs y ≡ true → fixed ≤ y = λ y on. all y (any_more (eqb y x) (is_on xs y) on) in
+    let from : fixed ≤ x = all x (ap (λ (b : Bool). b || is_on xs x) (eq-eqb x x refl)) in
+    IsDistinct-cons eqb (x - fixed) (lowered fixed xs) (all_apart_lower fixed x xs from more (IsDistinct-head eqb x xs distinct)) (lowered_distinct fixed xs more (IsDistinct-tail eqb x xs distinct))
+
+lowered_step : (fixed records q y : ℕ) (any : Bool) → fixed ≤ y → y < records → (any ≡ true → q < records - fixed) → (eqb q (y - fixed) || any) ≡ true → q < records - fixed
+lowered_step fixed records q y any from within more on = elim (eqb_tells q (y - fixed)) as (λ _. q < records - fixed) [
+  | inl t ↦ (let e = t.1 in omega arith)
+  | inr t ↦ more (subst (λ (b : Bool). (b || any) ≡ true) t.0 on)
+]
+
+lowered_below : (fixed records : ℕ) (xs : List ℕ) → ((y : ℕ) → is_on xs y ≡ true → (fixed ≤ y) × (y < records)) → (q : ℕ) → is_on (lowered fixed xs) q ≡ true → q < records - fixed
+lowered_below fixed records [] all q on = cc
+lowered_below fixed records (x ∷ xs) all q on =
+    let here = all x (ap (λ (b : Bool). b || is_on xs x) (eq-eqb x x refl)) in
+    lowered_step fixed records q x (is_on (lowered fixed xs) q) here.0 here.1 (lowered_below fixed records xs (λ y more. all y (any_more (eqb y x) (is_on xs y) more)) q) on
+
+-- there are no more of them than may be given out
+pub few_numbers : (fixed records t : ℕ) (xs : List ℕ) (room : ℕ) → AreNumbers fixed records t xs room → length xs ≤ records - fixed
+few_numbers fixed records t xs room are =
+    let few = length-le_from_distinct_below (lowered fixed xs) (records - fixed) (lowered_distinct fixed xs (λ y on. (are.in_range y on).0) are.distinct) (lowered_below fixed records xs are.in_range) in
+    let long = length-map xs (λ x. x - fixed) in
+    omega arith
 
 -- no numbers
-pub numbers_empty : (fixed records : ℕ) (xs : List ℕ) (room : ℕ) → xs ≡ [] → records ≤ room → AreNumbers fixed records 0 xs room
+pub numbers_empty : (fixed records : ℕ) (xs : List ℕ) (room : ℕ) → xs ≡ [] → records - fixed ≤ room → AreNumbers fixed records 0 xs room
 numbers_empty fixed records xs room none fits = record {
   marked = omega arith;
   distinct = subst (IsDistinct eqb) (sym none) (range_distinct 0 0);
@@ -215,8 +274,7 @@ numbers_empty fixed records xs room none fits = record {
 -- there is room for it
 pub numbers_room : (fixed records t rid : ℕ) (xs : List ℕ) (room : ℕ) → AreNumbers fixed records t xs room → is_on xs rid ≡ false → fixed ≤ rid → rid < records → length xs < room
 numbers_room fixed records t rid xs room are off from within =
-    let more = numbers_added fixed records t rid xs room room are off from within (omega arith) in
-    let few = length-le_from_distinct_below (xs ++ rid ∷ []) records more.distinct (λ q on. (more.in_range q on).1) in
+    let few = few_numbers fixed records t (xs ++ rid ∷ []) room (numbers_added fixed records t rid xs room room are off from within (omega arith)) in
     let long = length-append xs (rid ∷ []) in
     let fits = are.fits in
     omega arith
@@ -227,6 +285,10 @@ none_marked xs t marked none = let h = length-take-le t xs marked in let k = ap 
 
 pub added_view : (fixed records t rid : ℕ) (xs ys : List ℕ) → t ≡ 0 → is_on xs rid ≡ false → ys ≡ xs ++ rid ∷ [] → viewed fixed records (drop t ys) (take t ys) ≡ viewed fixed records (added (drop t xs) rid) (take t xs)
 added_view fixed records t rid xs ys none off more = rw (none, more, off) refl
+
+-- a number that is on the list is not added
+pub listed_view : (fixed records t rid : ℕ) (xs : List ℕ) → t ≡ 0 → is_on xs rid ≡ true → viewed fixed records (drop t xs) (take t xs) ≡ viewed fixed records (added (drop t xs) rid) (take t xs)
+listed_view fixed records t rid xs none on = rw (none, on) refl
 
 -- one more write is gone through
 pub deleted_step : (fixed rid i : ℕ) (value : Option (List ℕ)) (spare spare' : List ℕ) (es : List (ℕ × Option (List ℕ))) → slice_get es i ≡ Some (rid, value) → spare' ≡ cond (is_deletion value && nat_le fixed rid) (added spare rid) spare → with_deleted fixed spare' (drop (i + 1) es) ≡ with_deleted fixed spare (drop i es)

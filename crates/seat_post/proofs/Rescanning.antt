@@ -17,6 +17,7 @@ use Rattle.seat_post.specs.declared.phase.Phase.{Phase}
 use Rattle.seat_post.specs.Post.{post_view}
 use Rattle.seat_post.specs.Spare.{NumbersView, is_on, added}
 use Rattle.seat_post.proofs.Announcing.{word, Announces}
+use Rattle.seat_post.proofs.NumberLists.{or_off, or_true, on_either}
 
 -- ---- searches
 
@@ -49,18 +50,6 @@ or_on : (b any : Bool) → any ≡ true → (b || any) ≡ true
 or_on true any on = refl
 or_on false any on = on
 
-or_true : (b : Bool) → (b || true) ≡ true
-or_true true = refl
-or_true false = refl
-
-or_off : (b : Bool) → (b || false) ≡ b
-or_off true = refl
-or_off false = refl
-
-or_assoc : (a b c : Bool) → (a || (b || c)) ≡ ((a || b) || c)
-or_assoc true b c = refl
-or_assoc false b c = refl
-
 either_on : (a b : Bool) → (a || b) ≡ true → (a ≡ true) ⊎ (b ≡ true)
 either_on true b on = inl refl
 either_on false b on = inr on
@@ -82,10 +71,6 @@ rising_more (x ∷ []) y rising below zero within = below x (rw (eq-eqb x x refl
 rising_more (x ∷ []) y rising below (suc k) within = absurd (omega arith)
 rising_more (x ∷ z ∷ xs) y rising below zero within = rising zero (omega arith)
 rising_more (x ∷ z ∷ xs) y rising below (suc k) within = rise x (z ∷ xs ++ y ∷ []) k (rising_more (z ∷ xs) y (λ j h. fall x (z ∷ xs) j (rising (suc j) (omega arith))) (λ r on. below r (or_on (eqb r x) _ on)) k (omega arith))
-
-on_either : (xs : List ℕ) (y r : ℕ) → is_on (xs ++ y ∷ []) r ≡ (is_on xs r || eqb r y)
-on_either [] y r = or_off (eqb r y)
-on_either (x ∷ xs) y r = ap (λ (b : Bool). eqb r x || b) (on_either xs y r) ∙ or_assoc (eqb r x) (is_on xs r) (eqb r y)
 
 -- none but those below are on the list
 off_above : (log : List Entry) (limit from to : ℕ) (rids : List ℕ) → AreAbsent log limit from to rids → is_on rids to ≡ false

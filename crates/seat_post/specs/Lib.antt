@@ -3,6 +3,7 @@ pub mod Seats
 pub mod Conflicts
 pub mod Logs
 pub mod Leaves
+pub mod Marks
 pub mod Spare
 pub mod Ends
 pub mod Searched

@@ -1,5 +1,5 @@
 -- The spare record numbers of a pass.
-use Rattle.std.specs.Prelude.{◌≡◌, ℕ, zero, suc, ◌-◌, Bool, true, false, nat_eq, ◌==◌, ◌&&◌, ◌≤◌, ◌<◌, nat_le, not, if◌then◌else◌, List, [], ◌∷◌, ◌++◌, Option, None, Some, filter, length}
+use Rattle.std.specs.Prelude.{◌≡◌, ℕ, zero, suc, ◌+◌, ◌-◌, Bool, true, false, nat_eq, ◌==◌, ◌&&◌, ◌≤◌, ◌<◌, nat_le, not, if◌then◌else◌, List, [], ◌∷◌, ◌++◌, Option, None, Some, filter, length, slice_index_or}
 use Rattle.std.specs.List.{list_any, IsDistinct}
 use Rattle.record_store.specs.Meaning.{value_at}
 
@@ -41,12 +41,22 @@ pub record NumbersView : Type 0 where
   pub spare : List ℕ
   pub given : List ℕ
 
--- the first `taken` are given out; each number is there once and in its range, and all of them find room
+-- the first `taken` are given out; each number is there once and in its range, and all that may be there find room
 pub record AreNumbers (fixed records taken : ℕ) (items : List ℕ) (room : ℕ) : Type 0 where
   pub marked : taken ≤ length items
   pub distinct : IsDistinct nat_eq items
   pub in_range : (rid : ℕ) → is_on items rid ≡ true → (fixed ≤ rid) × (rid < records)
-  pub fits : records ≤ room
+  pub fits : records - fixed ≤ room
+
+-- each number from `fixed` on is marked exactly where it is on the list, given out or not
+pub record AreMarked (fixed records : ℕ) (items : List ℕ) (marks : List Bool) : Type 0 where
+  pub long : length marks ≡ records - fixed
+  pub told : (k : ℕ) → k < records - fixed → slice_index_or marks k false ≡ is_on items (fixed + k)
+
+-- what a list of spare numbers is, with its marks
+pub record IsNumbers (fixed records taken : ℕ) (items : List ℕ) (room : ℕ) (marks : List Bool) : Type 0 where
+  pub are : AreNumbers fixed records taken items room
+  pub marked : AreMarked fixed records items marks
 
 -- none of them
 abbrev pub no_numbers : (fixed records : ℕ) → NumbersView

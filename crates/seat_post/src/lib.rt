@@ -7,6 +7,7 @@ mod collecting;
 mod ending;
 mod glancing;
 mod joining;
+mod marks;
 mod numbers;
 mod phase;
 mod post;

@@ -4,6 +4,7 @@ ghost use Rattle.std.specs.List.{range_with_len, IsDistinct};
 ghost use Rattle.record_store.specs.Meaning.{value_at};
 ghost use Rattle.seat_post.specs.Spare.{no_numbers, with_all, every, is_on, NumbersView, spare_after, unused, added, holds, is_deletion};
 
+use crate::marks::Marks;
 use indexmap::IndexMap;
 use plain_data::{Cells, NoMemory};
 use std::alloc::Global;
@@ -16,6 +17,8 @@ pub struct Numbers {
     fixed: u32,
     records: u32,
     list: VecDeque<u32>,
+    /// Of each number from `fixed` on, whether it is on the list, given out or not.
+    marks: Marks,
     /// So many are given out.
     taken: usize,
 }
@@ -23,46 +26,42 @@ pub struct Numbers {
 impl Model for Numbers {
     ghost use Rattle.std.specs.Prelude.{take, drop};
     ghost use Rattle.std.specs.VecDeque.{deque_capacity};
-    ghost use Rattle.seat_post.specs.Spare.{is_on, NumbersView, AreNumbers};
+    ghost use Rattle.seat_post.specs.Spare.{is_on, NumbersView, IsNumbers};
 
     ghost Value = { NumbersView };
 
     ghost view = { λ n. record { fixed = n.fixed; records = n.records; spare = drop n.taken n.list.items; given = take n.taken n.list.items } };
 
-    ghost invariant = { λ n. AreNumbers n.fixed n.records n.taken n.list.items (deque_capacity n.list) };
+    ghost invariant = { λ n. IsNumbers n.fixed n.records n.taken n.list.items (deque_capacity n.list) n.marks };
 }
 
 impl Numbers {
+    /// No numbers, and room for all that a list may ever have.
+    pub fn empty(alloc: Global, fixed: u32, records: u32) -> Result<Self, NoMemory>
+        ensures { IfOk result (λ numbers. numbers ≡ no_numbers fixed records) }
+    {
+        let count = records.saturating_sub(fixed) as usize;
+        let list = VecDeque::with_capacity(alloc, count)?;
+        let marks = Marks::new(alloc, count)?;
+        Ok(Numbers {
+            fixed,
+            records,
+            list,
+            marks,
+            taken: 0,
+        })
+    }
+
     /// All numbers from `fixed` on, and room for all that a list may ever have.
     pub fn new(alloc: Global, fixed: u32, records: u32) -> Result<Self, NoMemory>
         requires { fixed ≤ records }
         ensures { IfOk result (λ numbers. numbers ≡ record { fixed = fixed; records = records; spare = range_with_len fixed (records - fixed); given = [] }) }
     {
-        let mut list = VecDeque::with_capacity(alloc, records as usize)?;
+        let mut numbers = Numbers::empty(alloc, fixed, records)?;
         for rid in fixed..records {
-            let Ok(()) = list.push_back(rid) else {
-                unreachable!();
-            };
+            numbers.add(rid);
         }
-        Ok(Numbers {
-            fixed,
-            records,
-            list,
-            taken: 0,
-        })
-    }
-
-    /// No numbers, and room for all that a list may ever have.
-    pub fn empty(alloc: Global, fixed: u32, records: u32) -> Result<Self, NoMemory>
-        ensures { IfOk result (λ numbers. numbers ≡ no_numbers fixed records) }
-    {
-        let list = VecDeque::with_capacity(alloc, records as usize)?;
-        Ok(Numbers {
-            fixed,
-            records,
-            list,
-            taken: 0,
-        })
+        Ok(numbers)
     }
 
     /// The number of all records.
@@ -93,6 +92,7 @@ impl Numbers {
         ensures { self.new ≡ record self.old { spare = []; given = [] } }
     {
         self.list.clear();
+        self.marks.clear();
         self.taken = self.list.len();
     }
 
@@ -113,30 +113,54 @@ impl Numbers {
         }
     }
 
-    /// Gives the spare number at this place out.
-    pub fn give(&mut self, i: usize) -> u32
+    // Moves the spare number at this place to the front of the spare ones. At place 0 it stands there. Others come only where numbers
+    // before it are written without being given out.
+    fn bring(&mut self, i: usize)
         requires { i < length self.old.spare }
-        ensures value { slice_get self.old.spare i ≡ Some result }
-        ensures after { self.new ≡ record self.old { spare = remove self.old.spare i; given = self.old.given ++ result ∷ [] } }
+        ensures { self.new ≡ record self.old { spare = slice_index_or self.old.spare i 0 ∷ remove self.old.spare i } }
     {
+        if i == 0 {
+            return;
+        }
         let Some(rid) = self.list.remove(self.taken + i) else {
             unreachable!();
         };
         let Ok(()) = self.list.insert(self.taken, rid) else {
             unreachable!();
         };
+    }
+
+    // Gives the first spare number out.
+    fn give_first(&mut self) -> u32
+        requires { self.old.spare ≢ [] }
+        ensures spare { self.old.spare ≡ result ∷ self.new.spare }
+        ensures after { self.new ≡ record self.old { spare = self.new.spare; given = self.old.given ++ result ∷ [] } }
+    {
+        let rid = self.list[self.taken];
         self.taken += 1;
         rid
     }
 
-    /// Strikes the spare number at this place off the list.
+    /// Gives the spare number at this place out.
+    pub fn give(&mut self, i: usize) -> u32
+        requires { i < length self.old.spare }
+        ensures value { slice_get self.old.spare i ≡ Some result }
+        ensures after { self.new ≡ record self.old { spare = remove self.old.spare i; given = self.old.given ++ result ∷ [] } }
+    {
+        self.bring(i);
+        self.give_first()
+    }
+
+    /// Strikes the spare number at this place off the list. The numbers before it, with those that are given out, move by one place, or
+    /// those behind it where they are fewer.
     pub fn strike(&mut self, i: usize)
         requires { i < length self.old.spare }
         ensures { self.new ≡ record self.old { spare = remove self.old.spare i } }
     {
-        let Some(_) = self.list.remove(self.taken + i) else {
+        let Some(rid) = self.list.remove(self.taken + i) else {
             unreachable!();
         };
+        self.marks.unset((rid - self.fixed) as usize);
     }
 
     /// Takes back what was given out.
@@ -181,12 +205,14 @@ impl Numbers {
         requires none { self.old.given ≡ [] }
         ensures { self.new ≡ record self.old { spare = added self.old.spare rid } }
     {
-        if self.list.contains(&rid) {
+        let mark = (rid - self.fixed) as usize;
+        if self.marks.is_set(mark) {
             return;
         }
         let Ok(()) = self.list.push_back(rid) else {
             unreachable!();
         };
+        self.marks.set(mark);
     }
 
     /// Puts every so many-th spare number of another list into this one, from a place on.

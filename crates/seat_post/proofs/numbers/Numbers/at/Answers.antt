@@ -10,15 +10,15 @@ use Rattle.seat_post.proofs.numbers.Numbers.at.Goals as goal
 pub returns-then-i-len-clause-from : goal.returns-then-i-len-clause-from
 returns-then-i-len-clause-from c =
     let i = c.self.inside in
-    let within : i.taken + c.args.i < length i.list.items = let l = c.len.ensures in let o = i.list.ok in let t = c.if-i-len.true in let m = c.self.invariant.marked in omega arith in
-    let r = spare_in_range i.fixed i.records i.taken c.args.i c.index.result.now i.list.items _ c.self.invariant within c.index.ensures in
+    let within : i.taken + c.args.i < length i.list.items = let l = c.len.ensures in let o = i.list.ok in let t = c.if-i-len.true in let m = c.self.invariant.are.marked in omega arith in
+    let r = spare_in_range i.fixed i.records i.taken c.args.i c.index.result.now i.list.items _ c.self.invariant.are within c.index.ensures in
     subst (λ (n : NumbersView). n.fixed ≤ c.index.result.now) c.self.view_is r.0
 
 pub returns-then-i-len-clause-within : goal.returns-then-i-len-clause-within
 returns-then-i-len-clause-within c =
     let i = c.self.inside in
-    let within : i.taken + c.args.i < length i.list.items = let l = c.len.ensures in let o = i.list.ok in let t = c.if-i-len.true in let m = c.self.invariant.marked in omega arith in
-    let r = spare_in_range i.fixed i.records i.taken c.args.i c.index.result.now i.list.items _ c.self.invariant within c.index.ensures in
+    let within : i.taken + c.args.i < length i.list.items = let l = c.len.ensures in let o = i.list.ok in let t = c.if-i-len.true in let m = c.self.invariant.are.marked in omega arith in
+    let r = spare_in_range i.fixed i.records i.taken c.args.i c.index.result.now i.list.items _ c.self.invariant.are within c.index.ensures in
     subst (λ (n : NumbersView). c.index.result.now < n.records) c.self.view_is r.1
 
 pub returns-else-i-len-clause-at : goal.returns-else-i-len-clause-at
@@ -30,22 +30,22 @@ returns-else-i-len-clause-at c =
 pub returns-then-i-len-clause-not_given : goal.returns-then-i-len-clause-not_given
 returns-then-i-len-clause-not_given c =
     let i = c.self.inside in
-    let within : i.taken + c.args.i < length i.list.items = let l = c.len.ensures in let o = i.list.ok in let t = c.if-i-len.true in let m = c.self.invariant.marked in omega arith in
-    subst (λ (n : NumbersView). is_on n.given c.index.result.now ≡ false) c.self.view_is (not_given i.fixed i.records i.taken c.args.i c.index.result.now i.list.items _ c.self.invariant within c.index.ensures)
+    let within : i.taken + c.args.i < length i.list.items = let l = c.len.ensures in let o = i.list.ok in let t = c.if-i-len.true in let m = c.self.invariant.are.marked in omega arith in
+    subst (λ (n : NumbersView). is_on n.given c.index.result.now ≡ false) c.self.view_is (not_given i.fixed i.records i.taken c.args.i c.index.result.now i.list.items _ c.self.invariant.are within c.index.ensures)
 
 pub returns-then-i-len-clause-distinct : goal.returns-then-i-len-clause-distinct
 returns-then-i-len-clause-distinct c =
     let i = c.self.inside in
-    subst (λ (n : NumbersView). IsDistinct eqb n.spare) c.self.view_is (distinct_drop i.taken i.list.items c.self.invariant.distinct)
+    subst (λ (n : NumbersView). IsDistinct eqb n.spare) c.self.view_is (distinct_drop i.taken i.list.items c.self.invariant.are.distinct)
 
 pub returns-else-i-len-clause-distinct : goal.returns-else-i-len-clause-distinct
 returns-else-i-len-clause-distinct c =
     let i = c.self.inside in
-    subst (λ (n : NumbersView). IsDistinct eqb n.spare) c.self.view_is (distinct_drop i.taken i.list.items c.self.invariant.distinct)
+    subst (λ (n : NumbersView). IsDistinct eqb n.spare) c.self.view_is (distinct_drop i.taken i.list.items c.self.invariant.are.distinct)
 
 pub returns-then-i-len-clause-early : goal.returns-then-i-len-clause-early
 returns-then-i-len-clause-early c =
     let i = c.self.inside in
-    let within : i.taken + c.args.i < length i.list.items = let l = c.len.ensures in let o = i.list.ok in let t = c.if-i-len.true in let m = c.self.invariant.marked in omega arith in
-    let few = few_numbers i.fixed i.records i.taken i.list.items _ c.self.invariant in
+    let within : i.taken + c.args.i < length i.list.items = let l = c.len.ensures in let o = i.list.ok in let t = c.if-i-len.true in let m = c.self.invariant.are.marked in omega arith in
+    let few = few_numbers i.fixed i.records i.taken i.list.items _ c.self.invariant.are in
     subst (λ (n : NumbersView). c.args.i < n.records) c.self.view_is (omega arith)

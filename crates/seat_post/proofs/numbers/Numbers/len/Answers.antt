@@ -6,7 +6,7 @@ use Rattle.seat_post.proofs.numbers.Numbers.len.Goals as goal
 pub overflow_cast-result : goal.overflow_cast-result
 overflow_cast-result c =
     let i = c.self.inside in
-    let few = few_numbers i.fixed i.records i.taken i.list.items _ c.self.invariant in
+    let few = few_numbers i.fixed i.records i.taken i.list.items _ c.self.invariant.are in
     let same = ap (λ (n : NumbersView). n.records) c.self.view_is in
     let records = c.records.ensures in
     let o = i.list.ok in

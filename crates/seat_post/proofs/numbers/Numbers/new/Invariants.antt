@@ -1,10 +1,7 @@
-use Rattle.std.proofs.Common.{◌≡◌, ◌≤◌, ◌-◌}
+use Rattle.std.proofs.Common.{◌≡◌, ◌-◌}
 use Rattle.std.specs.List.{range_with_len}
-use Rattle.std.specs.VecDeque.{deque_capacity}
+use Rattle.seat_post.specs.Spare.{no_numbers}
 use Rattle.seat_post.proofs.numbers.Numbers.new.Given as goal
 
 abbrev pub invariant-loop-rid : goal.invariant-loop-rid
-invariant-loop-rid l = record {
-  items : l.list.items ≡ range_with_len l.fixed (l.rid - l.fixed);
-  room : l.records ≤ deque_capacity l.list;
-}
+invariant-loop-rid l = l.numbers ≡ record (no_numbers l.fixed l.records) { spare = range_with_len l.fixed (l.rid - l.fixed) }

@@ -48,6 +48,7 @@ pub mod Commands
 pub mod Listed
 pub mod ScanRows
 pub mod ReadingCommands
+pub mod Once
 pub mod Running
 pub mod Ending
 pub mod Declaring

@@ -12,6 +12,7 @@ use crate::entering::enter_row;
 use crate::head::index_of;
 use crate::leaving::leave_row;
 use crate::reading::{find_row, scan_rows, search_rows};
+use read_once::{Kept, ReadOnce};
 use record_store::{RecordRead, RecordStore, Walk};
 use replay_model::{Answer, Cause, Columns, Command};
 use std::alloc::Global;
@@ -66,9 +67,10 @@ pub fn read_command<S: RecordRead>(
     }
 }
 
-/// Runs a command.
+/// Runs a command, which reads each record once at most, save where there is no room in `kept`.
 pub fn run_command<S: RecordStore>(
     store: &mut S,
+    kept: &mut Kept,
     alloc: Global,
     command: &Command,
 ) -> Result<Ran, Walk<S::Fault>>
@@ -80,6 +82,46 @@ pub fn run_command<S: RecordStore>(
     ensures runs { Runs S.read_gives S.write_gives S.fresh_gives S.meaning (Stands (S.meaning store.old)) (MayAsk command.now) (Does command.now (S.meaning store.new)) 128 store.old store.new result }
     ensures idle { IsIdle command.now → store.new ≡ store.old }
     ensures answered { IsIdle command.now → IfOk result (λ ran. IsOk ran) }
+    ensures rest { S.rest store.new ≡ S.rest store.old }
+{
+    match *command {
+        Command::Get { .. } | Command::Scan { .. } | Command::Find { .. } => {
+            read_command(store, alloc, command)
+        }
+        _ => {
+            let mut once = ReadOnce::new(store, kept);
+            let ran = change_once(&mut once, command);
+            once.end();
+            ran
+        }
+    }
+}
+
+/// Runs a command that does not read alone, over a store that keeps what it reads. What is said is of the store below.
+fn change_once<S: RecordStore>(
+    once: &mut ReadOnce<'_, S>,
+    command: &Command,
+) -> Result<Ran, Walk<S::Fault>>
+    requires changes { ReadsAlone command.now → ⊥ }
+    requires column { NamesColumn command.now }
+    requires table { table_named command.now < 8 }
+    requires size { 4112 ≤ (S.meaning once.old.store.now).size }
+    requires fixed { 4112 ≤ (S.meaning once.old.store.now).fixed }
+    ensures same_reference { once.new.store.ghost_name ≡ once.old.store.ghost_name }
+    ensures runs { Runs S.read_gives S.write_gives S.fresh_gives S.meaning (Stands (S.meaning once.old.store.now)) (MayAsk command.now) (Does command.now (S.meaning once.new.store.now)) 105 once.old.store.now once.new.store.now result }
+    ensures rest { S.rest once.new.store.now ≡ S.rest once.old.store.now }
+{
+    change_command(once, command)
+}
+
+/// Runs a command that does not read alone.
+fn change_command<S: RecordStore>(store: &mut S, command: &Command) -> Result<Ran, Walk<S::Fault>>
+    requires changes { ReadsAlone command.now → ⊥ }
+    requires column { NamesColumn command.now }
+    requires table { table_named command.now < 8 }
+    requires size { 4112 ≤ (S.meaning store.old).size }
+    requires fixed { 4112 ≤ (S.meaning store.old).fixed }
+    ensures runs { Runs S.read_gives S.write_gives S.fresh_gives S.meaning (Stands (S.meaning store.old)) (MayAsk command.now) (Does command.now (S.meaning store.new)) 105 store.old store.new result }
     ensures rest { S.rest store.new ≡ S.rest store.old }
 {
     match *command {
@@ -98,9 +140,7 @@ pub fn run_command<S: RecordStore>(
             column,
             by,
         } => subtract_from_row(store, table, key, column, by),
-        Command::Get { .. } | Command::Scan { .. } | Command::Find { .. } => {
-            read_command(store, alloc, command)
-        }
+        _ => unreachable!(),
     }
 }
 

@@ -1,7 +1,10 @@
-// Loaded before the C library, refuses one request for memory of a program: the one of the number that FAIL_AT names, counted from 1.
+// Loaded before the C library, refuses one request for memory of a program, that of the number which FAIL_AT names, counted from 1; and then
+// makes the file that FAIL_MARK names.
 #define _GNU_SOURCE
 #include <dlfcn.h>
+#include <fcntl.h>
 #include <stdlib.h>
+#include <unistd.h>
 
 static long requests;
 
@@ -11,7 +14,10 @@ static int is_refused(void) {
         const char *named = getenv("FAIL_AT");
         number = named ? atol(named) : -1;
     }
-    return ++requests == number;
+    if (++requests != number) return 0;
+    const char *mark = getenv("FAIL_MARK");
+    if (mark) close(open(mark, O_WRONLY | O_CREAT, 0600));
+    return 1;
 }
 
 void *malloc(size_t bytes) {

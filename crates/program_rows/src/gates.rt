@@ -58,7 +58,7 @@ impl Gate for SecondLaneFirst {
         if lane != 1 || number != 1 {
             return;
         }
-        for _ in 0..10_000_000u32 {
+        for _ in 0..100_000_000u32 {
             if self.outcomes.load(Ordering::SeqCst) > 0 {
                 return;
             }

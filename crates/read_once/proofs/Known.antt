@@ -1,6 +1,6 @@
 -- What is kept stays what is known.
 use Rattle.std.proofs.Common.{◌≡◌, ℕ, Bool, true, false, cond, eqb, List, [], ◌∷◌, ◌++◌, Option, None, Some, Result, Ok, Err, refl, sym, ap, ◌∙◌, subst, inl, inr, eqb-true, eq-eqb}
-use Rattle.std.specs.Prelude.{is_some, IfOk, OnOk, OnErr, IsErrAnd}
+use Rattle.std.specs.Prelude.{is_some, IfOk, OnOk, OnErr, IsErrAnd, IsOk}
 use Rattle.std.specs.Map.{lookup}
 use Rattle.indexmap.specs.IndexMap.{insert_entry}
 use Rattle.record_store.specs.Meaning.{Meaning, value_at, with_value, known, after_read, after_write, after_fresh}
@@ -71,6 +71,10 @@ fresh_keeps m m' (Err fault) kept all ok err other is was = ap (λ (n : Meaning)
 pub inserted : {T E : Type 0} (result : Result T E) (rid : ℕ) (value copied : Option (List ℕ)) (before after : List (ℕ × Option (List ℕ))) → OnOk result (after ≡ insert_entry eqb before rid copied) → OnErr result (after ≡ before) → OnErr result (lookup (eqb rid) before ≡ None) → copied ≡ value → Keeps rid value before after
 inserted (Ok old) rid value copied before after ok same absent is = inl (ok ∙ insert_entry-with_value before rid copied ∙ ap (with_value before rid) is)
 inserted (Err fault) rid value copied before after ok same absent is = inr (same, sym (lookup-value_at before rid) ∙ absent)
+
+pub inserted_room : {T E : Type 0} (result : Result T E) (rid : ℕ) (value copied : Option (List ℕ)) (before after : List (ℕ × Option (List ℕ))) → OnOk result (after ≡ insert_entry eqb before rid copied) → IsOk result → copied ≡ value → after ≡ with_value before rid value
+inserted_room (Ok old) rid value copied before after ok is same = ok ∙ insert_entry-with_value before rid copied ∙ ap (with_value before rid) same
+inserted_room (Err fault) rid value copied before after ok is same = (let e : false ≡ true = is in cc)
 
 -- a fault is handed on
 pub refused : {T F : Type 0} (P : Result T F → Type 0) (fault : F) (answer : Result T F) → IsErrAnd answer (λ f. f ≡ fault) → P (Err fault) → P answer

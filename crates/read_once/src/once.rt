@@ -1,7 +1,9 @@
 //! Records that are kept once they were read or written.
 
-ghost use Rattle.std.specs.Prelude.{◌≡◌};
+ghost use Rattle.std.specs.Prelude.{◌≡◌, ◌<◌};
 ghost use Rattle.std.proofs.Props.{props};
+ghost use Rattle.indexmap.specs.IndexMap.{spare};
+ghost use Rattle.record_store.specs.Meaning.{with_value};
 ghost use Rattle.read_once.specs.Kept.{AreKnown, Keeps};
 
 use indexmap::IndexMap;
@@ -50,7 +52,8 @@ fn copy(value: &Option<Cells>) -> Option<Cells>
 
 /// Keeps a value, if there is room.
 fn keep(kept: &mut Kept, rid: u32, value: &Option<Cells>)
-    ensures { Keeps rid value.now kept.old.entries kept.new.entries }
+    ensures kept { Keeps rid value.now kept.old.entries kept.new.entries }
+    ensures room { 0 < spare kept.old → kept.new.entries ≡ with_value kept.old.entries rid value.now }
 {
     let _replaced = kept.insert(rid, copy(value));
 }
@@ -73,9 +76,9 @@ impl<S: RecordStore> RecordRead for ReadOnce<'_, S> {
         if let Some(value) = self.kept.get(&rid).copied() {
             return Ok(value);
         }
-        let value = self.store.read(rid)?;
-        keep(self.kept, rid, &value);
-        Ok(value)
+        let found = self.store.read(rid)?;
+        keep(self.kept, rid, &found);
+        Ok(found)
     }
 
     fn size(&self) -> u32 {

@@ -50,6 +50,11 @@ impl Beside {
         Ok(false)
     }
 
+    /// How many records the last block read.
+    pub fn records_read(&self) -> usize {
+        self.store.records_read()
+    }
+
     /// Runs a command that reads over both.
     fn look(&mut self, alloc: Global, command: Command) -> Result<(), Fail>
         requires table { table_named command < 8 }

@@ -5,6 +5,8 @@
 #[cfg(test)]
 mod beside;
 #[cfg(test)]
+mod counted;
+#[cfg(test)]
 mod draws;
 #[cfg(test)]
 mod filled;
@@ -12,6 +14,8 @@ mod filled;
 mod generated;
 #[cfg(test)]
 mod outcomes;
+#[cfg(test)]
+mod reads;
 #[cfg(test)]
 mod script;
 #[cfg(test)]

@@ -5,8 +5,9 @@ ghost use Rattle.record_store.specs.Limits.{record_limit};
 ghost use Rattle.replay_model.specs.Input.{AreCommands, IsColumn};
 ghost use Rattle.stored_tables.specs.Answers.{IsShort, ReadsAlone};
 
+use crate::counted::Counted;
 use crate::outcomes::compare;
-use record_store::{MapFault, MapStore, RecordRead, RecordStore, Walk};
+use record_store::{MapFault, RecordRead, RecordStore, Walk};
 use replay_model::{Cells, Commands, Outcome};
 use std::alloc::Global;
 use std::test::Fail;
@@ -15,10 +16,10 @@ use stored_tables::{declare_index, exec_snap, exec_txn};
 /// A map and the number of its records.
 #[derive(Drop)]
 pub struct Store {
-    map: MapStore,
+    map: Counted,
     size: u32,
-    ghost first_new: { map.fixed ≡ 4112 },
-    ghost sized: { map.size ≡ size },
+    ghost first_new: { map.map.fixed ≡ 4112 },
+    ghost sized: { map.map.size ≡ size },
     ghost least: { 4112 ≤ size },
     ghost most: { size ≤ record_limit },
 }
@@ -29,7 +30,7 @@ impl Store {
         requires least { 4112 ≤ size }
         requires most { size ≤ record_limit }
     {
-        let map = MapStore::new(alloc, 4112, size);
+        let map = Counted::new(alloc, size);
         Store { map, size }
     }
 
@@ -51,8 +52,23 @@ impl Store {
         requires commands { AreCommands 8 commands.now }
         requires short { All IsShort commands.now }
     {
+        self.map.begin();
         let got = exec_txn(&mut self.map, alloc, commands)?;
+        self.is_read_once(commands)?;
         compare(&got, due)
+    }
+
+    /// How many records the last block read.
+    pub fn records_read(&self) -> usize {
+        self.map.count()
+    }
+
+    /// Refuses a block of one command that read a record again.
+    fn is_read_once(&self, commands: &Commands) -> Result<(), Fail> {
+        if commands.len() == 1 && self.map.is_read_again() {
+            return Err("a command read a record again".into());
+        }
+        Ok(())
     }
 
     /// Runs a transaction that is refused, and so empties the store, which goes on as it was before.
@@ -80,7 +96,9 @@ impl Store {
         requires short { All IsShort commands.now }
         requires reads { All ReadsAlone commands.now }
     {
+        self.map.begin();
         let got = exec_snap(&mut self.map, alloc, commands)?;
+        self.is_read_once(commands)?;
         compare(&got, due)
     }
 

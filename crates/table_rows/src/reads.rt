@@ -1,0 +1,257 @@
+//! Commands that run one by one, of which none reads a record twice.
+
+ghost use Rattle.std.specs.Prelude.{◌<◌};
+ghost use Rattle.replay_model.specs.Input.{NamesColumn};
+ghost use Rattle.replay_model.specs.Report.{table_named};
+ghost use Rattle.stored_tables.specs.Answers.{IsShort};
+
+use crate::beside::Beside;
+use crate::script::Script;
+use crate::shapes::index_of;
+use replay_model::{Columns, Command};
+use std::alloc::Global;
+use std::test::Fail;
+
+/// The rows of each table, which have the numbers from 0.
+const ROWS: u64 = 1024;
+
+/// A row of a table.
+#[derive(Clone, Copy)]
+struct Row {
+    table: u32,
+    number: u64,
+    ghost known: { table < 8 },
+}
+
+impl Row {
+    /// Its key: one behind the other, all in one bucket, or far apart.
+    fn key(self) -> u64 {
+        let step = match self.table {
+            0 | 3 => 1,
+            1 => 511,
+            _ => 0x9e37_79b9_7f4a_7c15,
+        };
+        self.number.wrapping_mul(step)
+    }
+
+    /// Its columns, which order the rows otherwise than their keys; they are others at another turn.
+    fn columns(self, turn: u64) -> Columns {
+        let column = |factor: u64| (self.number.wrapping_mul(factor) ^ turn) & 0xfff;
+        Columns::new([
+            column(3),
+            column(5),
+            column(7),
+            column(9),
+            column(11),
+            column(13),
+        ])
+    }
+
+    fn put(self, turn: u64) -> Command
+        ensures table { table_named result < 8 }
+        ensures column { NamesColumn result }
+        ensures short { IsShort result }
+    {
+        Command::Put {
+            table: self.table,
+            key: self.key(),
+            values: self.columns(turn),
+        }
+    }
+
+    fn ins(self) -> Command
+        ensures table { table_named result < 8 }
+        ensures column { NamesColumn result }
+        ensures short { IsShort result }
+    {
+        Command::Ins {
+            table: self.table,
+            key: self.key(),
+            values: self.columns(0),
+        }
+    }
+
+    fn del(self) -> Command
+        ensures table { table_named result < 8 }
+        ensures column { NamesColumn result }
+        ensures short { IsShort result }
+    {
+        Command::Del {
+            table: self.table,
+            key: self.key(),
+        }
+    }
+
+    /// Adds to the column of the index, or to the first.
+    fn add(self, by: u64) -> Command
+        ensures table { table_named result < 8 }
+        ensures column { NamesColumn result }
+        ensures short { IsShort result }
+    {
+        Command::Add {
+            table: self.table,
+            key: self.key(),
+            column: index_of(self.table).max(1),
+            by,
+        }
+    }
+
+    fn sub(self, by: u64) -> Command
+        ensures table { table_named result < 8 }
+        ensures column { NamesColumn result }
+        ensures short { IsShort result }
+    {
+        Command::Sub {
+            table: self.table,
+            key: self.key(),
+            column: index_of(self.table).max(1),
+            by,
+        }
+    }
+
+    fn get(self) -> Command
+        ensures table { table_named result < 8 }
+        ensures column { NamesColumn result }
+        ensures short { IsShort result }
+    {
+        Command::Get {
+            table: self.table,
+            key: self.key(),
+            column: 1,
+        }
+    }
+
+    /// Lists 100 rows from this one on.
+    fn scan(self) -> Command
+        ensures table { table_named result < 8 }
+        ensures column { NamesColumn result }
+        ensures short { IsShort result }
+    {
+        Command::Scan {
+            table: self.table,
+            lo: self.key(),
+            hi: u64::MAX,
+            limit: 100,
+        }
+    }
+
+    /// Lists 100 rows by the index; refused where there is none.
+    fn find(self) -> Command
+        ensures table { table_named result < 8 }
+        ensures column { NamesColumn result }
+        ensures short { IsShort result }
+    {
+        Command::Find {
+            table: self.table,
+            column: index_of(self.table).max(1),
+            lo: self.number & 0xfff,
+            hi: u64::MAX,
+            limit: 100,
+        }
+    }
+}
+
+/// Adds the rows of a table.
+fn fill(alloc: Global, beside: &mut Beside, table: u32) -> Result<(), Fail>
+    requires { table < 8 }
+{
+    for block in 0..ROWS / 64 {
+        let mut script = Script::new(alloc);
+        for i in 0..64u64 {
+            let number = block << 6 | i;
+            script.push(Row { table, number }.ins())?;
+        }
+        if !beside.run(alloc, &script)? {
+            return Err("a block was refused".into());
+        }
+    }
+    Ok(())
+}
+
+/// Runs a command, and answers whether it was done; then it has to have read something.
+fn run(alloc: Global, beside: &mut Beside, command: Command) -> Result<bool, Fail>
+    requires table { table_named command < 8 }
+    requires column { NamesColumn command }
+    requires short { IsShort command }
+{
+    let mut script = Script::new(alloc);
+    script.push(command)?;
+    let done = beside.run(alloc, &script)?;
+    if done && beside.records_read() == 0 {
+        return Err("a command read nothing".into());
+    }
+    Ok(done)
+}
+
+/// Runs a command that has to be done.
+fn done(alloc: Global, beside: &mut Beside, command: Command) -> Result<(), Fail>
+    requires table { table_named command < 8 }
+    requires column { NamesColumn command }
+    requires short { IsShort command }
+{
+    if run(alloc, beside, command)? {
+        return Ok(());
+    }
+    Err("a command was refused".into())
+}
+
+/// Commands on a row that is there and on one that is not: rows are put, added and taken out, and entries of the index move and stay.
+fn change(alloc: Global, beside: &mut Beside, row: Row) -> Result<(), Fail> {
+    let new = Row {
+        table: row.table,
+        number: row.number.wrapping_add(ROWS),
+    };
+    done(alloc, beside, new.put(0))?;
+    done(alloc, beside, new.del())?;
+    done(alloc, beside, new.ins())?;
+    done(alloc, beside, row.put(0))?;
+    done(alloc, beside, row.put(1))?;
+    done(alloc, beside, row.put(0xaaa))?;
+    done(alloc, beside, row.add(0))?;
+    done(alloc, beside, row.add(1))?;
+    done(alloc, beside, row.add(1 << 40))?;
+    done(alloc, beside, row.sub(1))?;
+    done(alloc, beside, row.sub(1 << 39))?;
+    done(alloc, beside, row.sub(0))?;
+    done(alloc, beside, row.get())?;
+    done(alloc, beside, row.scan())?;
+    if index_of(row.table) != 0 {
+        done(alloc, beside, row.find())?;
+    }
+    Ok(())
+}
+
+/// Commands that are refused.
+fn refuse(alloc: Global, beside: &mut Beside, row: Row) -> Result<(), Fail> {
+    let new = Row {
+        table: row.table,
+        number: row.number.wrapping_add(ROWS),
+    };
+    let mut any = run(alloc, beside, row.ins())?;
+    any |= run(alloc, beside, new.del())?;
+    any |= run(alloc, beside, new.add(1))?;
+    any |= run(alloc, beside, new.sub(1))?;
+    any |= run(alloc, beside, row.add(u64::MAX))?;
+    any |= run(alloc, beside, row.sub(u64::MAX))?;
+    if index_of(row.table) == 0 {
+        any |= run(alloc, beside, row.find())?;
+    }
+    if any {
+        return Err("a command was done".into());
+    }
+    Ok(())
+}
+
+#[test]
+fn no_command_reads_a_record_twice(rt: HostRuntime) -> Result<(), Fail> {
+    let mut beside = Beside::new(rt.alloc(), 30_000)?;
+    for table in 0..4u32 {
+        fill(rt.alloc(), &mut beside, table)?;
+        refuse(rt.alloc(), &mut beside, Row { table, number: 7 })?;
+        for i in 0..40u64 {
+            let number = i.wrapping_mul(29) & 1023;
+            change(rt.alloc(), &mut beside, Row { table, number })?;
+        }
+    }
+    Ok(())
+}

@@ -1,0 +1,62 @@
+//! What is played on an engine: one function owns the engine of every test, since each such function is dear to prove.
+ghost use Rattle.std.specs.Prelude.{◌≡◌, false};
+ghost use Rattle.pass_rows.specs.Seats.{IsSeat};
+
+use crate::coming::{Size, begin};
+use crate::{limits, stress, threads};
+use histories::AnyState;
+use std::alloc::Global;
+use std::process::Abort;
+use std::sync::Wait;
+use std::test::Fail;
+use std::thread::Threads;
+use txn_engine::{Alone, Engine};
+
+/// What is played.
+#[derive(Clone, Copy, Drop)]
+pub enum Piece {
+    /// All seats touch all records.
+    Largest,
+    /// One pass commits so many times.
+    Commits(u32),
+    /// Every spare number is given out, and again after deletions.
+    Spare,
+    /// Four passes on few records.
+    Stress,
+    /// Two passes, of which the first reads one record and the second another; whether both commit is due.
+    Both(u32, u32, bool),
+}
+
+/// Plays on a new engine of so many seats.
+pub fn play<R: Threads + Wait + Abort + Sync>(
+    rt: &R,
+    alloc: Global,
+    seats: u32,
+    size: Size,
+    piece: Piece,
+) -> Result<(), Fail> {
+    let (engine, alone) = begin(alloc, seats, size)?;
+    play_on(rt, alloc, &engine, alone, piece)
+}
+
+// Plays on an engine.
+fn play_on<R: Threads + Wait + Abort + Sync>(
+    rt: &R,
+    alloc: Global,
+    engine: &Engine<AnyState>,
+    alone: Alone<AnyState>,
+    piece: Piece,
+) -> Result<(), Fail>
+    requires seat { IsSeat engine.now alone.pass }
+    requires not_shared { alone.shared ≡ false }
+{
+    match piece {
+        Piece::Largest => limits::touch_all(rt, alloc, engine, alone),
+        Piece::Commits(commits) => limits::commit_often(rt, engine, alone, commits),
+        Piece::Spare => limits::give_out_all(rt, engine, alone),
+        Piece::Stress => stress::run_and_check(rt, alloc, engine, alone),
+        Piece::Both(first, second, due) => {
+            threads::both_commit(rt, engine, alone, (first, second), due)
+        }
+    }
+}

@@ -77,7 +77,7 @@ fn each_read_that_fails_ends_the_run(rt: HostRuntime) -> Result<(), Fail> {
         let fails = [call].to_vec(alloc)?;
         let mut source = MemSource::new(Vec::from_slice(alloc, TEXT.as_bytes())?, 1, fails);
         let mut sink = CleanSink::new(alloc);
-        let finish = run_with(&rt, alloc, ONE, &mut source, &mut sink)?;
+        let finish = run_with(&rt, alloc, "", &mut source, &mut sink)?;
         assert_eq!(rt; finish.status, Status::ReadFault);
         assert!(rt; sink.taken().is_empty() && finish.order.is_empty());
     }

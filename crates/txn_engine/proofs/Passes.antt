@@ -18,8 +18,8 @@ use Rattle.rapid_gc.specs.Queues.{Waiting}
 use Rattle.validate_core.specs.declared.conflict.Conflict.{Conflict}
 use Rattle.seat_post.specs.declared.phase.Phase.TheVariants.{Open, Installed, Decided}
 use Rattle.seat_post.specs.Conflicts.{ShowsPending}
-use Rattle.seat_post.specs.Post.{PostView, known_at, with_clock, drawn_at, knowing, opened, closed, in_phase, noted, entered, entry_at}
-use Rattle.seat_post.specs.Seats.{Known}
+use Rattle.seat_post.specs.Post.{PostView, known_at, with_clock, drawn_at, knowing, opened, closed, in_phase, noted, entered, entry_at, observing}
+use Rattle.seat_post.specs.Seats.{Known, Observed}
 use Rattle.seat_post.specs.Spare.{NumbersView}
 use Rattle.txn_engine.specs.Inside.{IsPass}
 use Rattle.seat_post.specs.Collecting.{IsQueued, AreQueued}
@@ -63,6 +63,23 @@ pass_drawn p clock q n refusals dead counted is later = record {
 -- what it knows of lists is other
 pub pass_knowing : (p : PostView) (known : Known) (q : Waiting) (n : NumbersView) (refusals : ℕ) (dead : Option Conflict) (counted : Bool) → IsPass p q n refusals dead counted → IsPass (knowing p known) q n refusals dead counted
 pass_knowing p known q n refusals dead counted is = record {
+  records = is.records;
+  fixed = is.fixed;
+  counts = is.counts;
+  uncounted = is.uncounted;
+  commits = is.commits;
+  stamped = is.stamped;
+  snapshots = is.snapshots;
+  stopped = is.stopped;
+  alive = is.alive;
+  queued = is.queued;
+  logged = is.logged;
+  room = is.room;
+}
+
+-- and so is what its steps came upon
+pub pass_observing : (p : PostView) (observed : Observed) (q : Waiting) (n : NumbersView) (refusals : ℕ) (dead : Option Conflict) (counted : Bool) → IsPass p q n refusals dead counted → IsPass (observing p observed) q n refusals dead counted
+pass_observing p observed q n refusals dead counted is = record {
   records = is.records;
   fixed = is.fixed;
   counts = is.counts;

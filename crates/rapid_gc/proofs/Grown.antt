@@ -44,7 +44,7 @@ became_adds reached i CutBelow v w h =
     let u = h.1.under_lock in
     adds_both v.seen u.seen w.seen (adds_loads v.seen u.seen _ h.1.loads h.1.lost) (adds_loads u.seen w.seen _ h.1.cuts.loads h.1.cuts.lost)
 
-goes_adds : (reached : ℕ) (es : List Ended) (v w : View) → Goes reached es v w → Adds v.seen w.seen
+pub goes_adds : (reached : ℕ) (es : List Ended) (v w : View) → Goes reached es v w → Adds v.seen w.seen
 goes_adds reached _ _ _ (not_begun v) = adds_same v.seen v.seen refl
 goes_adds reached _ _ _ (goes_on es e v w x g b) = adds_both v.seen w.seen x.seen (goes_adds reached es v w g) (became_adds reached e.item e.end w x b)
 

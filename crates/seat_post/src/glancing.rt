@@ -13,7 +13,8 @@ ghost use Rattle.seat_post.specs.Glance.{with_read, entry_of_glance};
 ghost use Rattle.seat_post.specs.Glancing.{IsGlancing, Opens, Glances, glanced, IsLeftAt, entry_of_glances, glances_ended};
 ghost use Rattle.seat_post.specs.Logs.{AreBelow};
 ghost use Rattle.version_search.specs.Growing as growing;
-ghost use Rattle.seat_post.specs.Observing.{Grows};
+ghost use Rattle.word_layout.specs.Name.{published_write};
+ghost use Rattle.seat_post.specs.Observing.{Grows, ScansAll};
 ghost use Rattle.seat_post.specs.Post.{PostView, IsAlonePost, looking_at, looked_at, finished_at, observing};
 ghost use Rattle.seat_post.specs.Searched.{Finds};
 
@@ -119,6 +120,7 @@ impl<J: Keeps> Post<J> {
         requires idle { self.old.phase ≡ Phase.Idle }
         ensures after { self.new ≡ observing (looking_at self.old result) self.new.observed }
         ensures grows { Grows self.old.observed self.new.observed }
+        ensures scans { ScansAll published_write self.old.shared.size.seats self.old.observed self.new.observed }
         ensures met { self.old.met ≤ result + 1 }
         ensures snapshots { AreBelow self.old.log (result + 1) }
         ensures below { result < self.old.published }

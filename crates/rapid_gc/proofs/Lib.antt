@@ -3,6 +3,7 @@ pub mod Bounds
 pub mod Floors
 pub mod Freed
 pub mod Going
+pub mod Grown
 pub mod InKept
 pub mod Prepared
 pub mod Seeks

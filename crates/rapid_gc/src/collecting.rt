@@ -1,7 +1,7 @@
 //! Going through the queue.
-ghost use Rattle.std.specs.Prelude.{◌≡◌, ◌+◌, ◌<◌, ◌≤◌, [], vec_capacity};
+ghost use Rattle.std.specs.Prelude.{◌≡◌, ◌+◌, ◌<◌, ◌≤◌, List, [], ◌++◌, vec_capacity};
 ghost use Rattle.stamp_base.specs.Stamp.{bound_of_clock};
-ghost use Rattle.core_rule.specs.View.{no_item, collects, above_floor};
+ghost use Rattle.core_rule.specs.View.{Load, no_item, collects, above_floor};
 ghost use Rattle.core_rule.specs.Views.{IsAlone};
 ghost use Rattle.core_rule.specs.Searching.{Ends};
 ghost use Rattle.core_rule.specs.Collecting.{HasEntry};
@@ -96,6 +96,9 @@ pub fn collect<J: Keeps>(core: &Core<J>, hand: &mut Hand<J>, queue: &mut Queue) 
     ensures met { hand.old.view.clock.met ≤ hand.new.view.clock.met }
     ensures within { hand.new.view.clock.met ≤ hand.new.view.published.write }
     ensures seen { IsAlone hand.old.view → hand.new.view.clock.met ≡ hand.new.view.published.write }
+    // What was loaded and lost stands behind what was there.
+    ensures loads { (added : List Load) × (hand.new.view.seen.loads ≡ hand.old.view.seen.loads ++ added) }
+    ensures lost { (added : List Load) × (hand.new.view.seen.lost ≡ hand.old.view.seen.lost ++ added) }
     ensures room { queue.old.room ≤ queue.new.room }
     ensures log { hand.new.view.log ≡ hand.old.view.log }
     ensures held { hand.new.view.places ≡ hand.old.view.places }

@@ -18,10 +18,13 @@ use Rattle.validate_core.specs.declared.conflict.Conflict.TheVariants.{Pending, 
 use Rattle.validate_core.specs.Sets.{SetsView, SameWrites, Turn}
 use Rattle.validate_core.specs.Installing.{SameSets, InstallsHeld}
 use Rattle.validate_core.specs.Validating as validating
+use Rattle.version_search.specs.Growing.{Grows}
+use Rattle.version_search.proofs.Grown.{grows_both}
 use Rattle.seat_post.specs.Conflicts.{ShowsOf}
-use Rattle.seat_post.specs.Rewriting.{rewriting, LinksOne, Rewrites, IsStopped, others_in}
+use Rattle.seat_post.specs.Rewriting.{rewriting, LinksOne, Rewrites, IsStopped, IsLoadedIn, others_in}
 use Rattle.seat_post.proofs.EndMore.{same_values, stood_same, another_of}
 use Rattle.seat_post.proofs.Listed.{read_value-version, value_of-cells}
+use Rattle.seat_post.proofs.Observed.{shown_loaded, loaded_before}
 
 -- ---- it fits
 
@@ -71,11 +74,12 @@ module _ (z : Size) (before after' : SetsView) (rid place : ℕ) (value : Option
   pub linked_log : x.log ≡ v.log
   linked_log = ap (λ (y : View). y.log) installs.only
 
-  pub links_then : (w : View) → w ≡ record (validating.worked x w.work w.seen) { log = w.log } → Ends w.work → LinksOne rid place v.published.write v w
-  links_then w then ends = record {
+  pub links_then : (w : View) → w ≡ record (validating.worked x w.work w.seen) { log = w.log } → Grows x.seen w.seen → Ends w.work → LinksOne rid place v.published.write v w
+  links_then w then grows ends = record {
     only = subst (λ (y : View). y ≡ record v { places = y.places; work = y.work; counts = counted_more v.size rid v.published.write place v.counts; tops = record { record_number = rid; stamp = v.published.write } ∷ v.tops; front = y.front; log = y.log; seen = y.seen })
         (sym (then ∙ ap (λ (y : View). record (validating.worked y w.work w.seen) { log = w.log }) linked_only)) refl;
     held = ap (λ (y : View). y.places.held) then ∙ installs.held;
+    grows = grows_both v.seen x.seen w.seen installs.puts.linked.grows grows;
     ends = ends;
   }
 
@@ -110,7 +114,7 @@ rewrites_at kept records rid from wts place value z s s' v x y w whole read writ
     let then : w ≡ record (validating.worked x w.work w.seen) { log = w.log } =
     works.only ∙ ap (λ (u : View). validating.worked u w.work w.seen) decides.only ∙ ap (λ es. record (validating.worked x w.work w.seen) { log = es }) (sym log) in
     subst (λ (n : ℕ). Rewrites kept records rid place n value v w) at (record {
-      links = subst (λ (n : ℕ). LinksOne rid place n v w) (sym at) (links_then z s s' rid place value v x installs written w then ends);
+      links = subst (λ (n : ℕ). LinksOne rid place n v w) (sym at) (links_then z s s' rid place value v x installs written w then (grows_both x.seen y.seen w.seen decides.grows works.grows) ends);
       log = ap (λ es. map entry_of es) more ∙ map_push entry_of v.log (commit_of (writing t) s'.reads s'.writes) ∙ ap (λ e. map entry_of v.log ++ e ∷ []) entry;
       stood = stood_same kept records v.log (commit_of (writing t) s'.reads s'.writes) (rewriting t rid value) entry (subst (λ es. StoodAt kept records es (commit_of (writing t) s'.reads s'.writes)) before decides.stood);
       entered = has_entry t rid value s s' v.log w.log same written more;
@@ -155,8 +159,9 @@ stopped_at rid from wts place value z s s' v x w t conflict read written same in
     let size : x.size ≡ v.size = ap (λ (y : View). y.size) installs.only in
     let within : x.number < x.size.seats = rw (number, size) inside in
     record {
-      links = links_then z s s' rid place value v x installs written w then ends;
+      links = links_then z s s' rid place value v x installs written w then works.grows ends;
       log = log ∙ before;
       shown = subst (λ (n : ℕ). ShowsOf rid v.size v.number (others_in v) n conflict) at
           (subst (λ (y : View). ShowsOf rid y.size y.number (others_in y) t conflict) installs.only (shows_of rid from wts value s s' x w t conflict read written same stands within shown));
+      loaded = loaded_before v.published.write v x w conflict installs.puts.linked.grows (subst (λ (n : ℕ). IsLoadedIn n conflict x w) at (shown_loaded t s' x w conflict shown));
     }

@@ -22,9 +22,9 @@ use Rattle.validate_core.specs.Installing.{IsBegun, SameSets, Installs}
 use Rattle.validate_core.specs.Validating as validating
 use Rattle.seat_post.proofs.AloneSeats.{others_of, alone_told}
 use Rattle.seat_post.specs.Glance.{glance_of}
-use Rattle.seat_post.specs.Conflicts.{IsOfAnother}
+use Rattle.seat_post.specs.Conflicts.{IsOfAnother, Touches}
 use Rattle.seat_post.specs.Ends.{Stood}
-use Rattle.seat_post.specs.Post.{IsPost, AreSets, IsShownAt, entered, PostView, post_view, entry_at}
+use Rattle.seat_post.specs.Post.{IsPost, AreSets, IsShownAt, entered, PostView, post_view, entry_at, observing, observed_in}
 use Rattle.seat_post.specs.declared.phase.Phase.{Phase}
 use Rattle.seat_post.specs.declared.phase.Phase.TheVariants.{Idle, Open, Installed, Decided}
 use Rattle.seat_post.proofs.Posts.{own_ready, none_in_range}
@@ -120,7 +120,7 @@ stood_same kept records log c entry same stood = subst (λ (e : Entry). Stood ke
 })
 
 -- the post with the entry in its log
-pub decided_view : (kept : State → Type 0) (records : ℕ) (hand hand' : Seated) (phase : Phase) (stamp t t' : ℕ) (reads writes : List (ℕ × Option (List ℕ))) (sets : SetsView) → hand.view.flight ≡ writing t' → hand'.table ≡ hand.table → validating.Decides kept records t sets hand.view hand'.view → entry_of (commit_of (writing t) sets.reads sets.writes) ≡ entry_at (post_view hand phase stamp reads writes) → post_view hand' Decided stamp reads writes ≡ entered (post_view hand phase stamp reads writes)
+pub decided_view : (kept : State → Type 0) (records : ℕ) (hand hand' : Seated) (phase : Phase) (stamp t t' : ℕ) (reads writes : List (ℕ × Option (List ℕ))) (sets : SetsView) → hand.view.flight ≡ writing t' → hand'.table ≡ hand.table → validating.Decides kept records t sets hand.view hand'.view → entry_of (commit_of (writing t) sets.reads sets.writes) ≡ entry_at (post_view hand phase stamp reads writes) → post_view hand' Decided stamp reads writes ≡ observing (entered (post_view hand phase stamp reads writes)) (observed_in hand')
 decided_view kept records hand hand' phase stamp t t' reads writes sets flight table decides entry =
     let number : hand'.view.number ≡ hand.view.number = ap (λ (v : View). v.number) decides.only in
     let size : hand'.view.size ≡ hand.view.size = ap (λ (v : View). v.size) decides.only in
@@ -179,20 +179,35 @@ another_of v w n stands inside is =
     let apart : seat_of n ≢ v.number = λ e. is.another (e ∙ sym number) in
     record { another = apart; within = within; more = omega arith; not_alone = λ alone. is.not_alone (still_alone v w stands (alone_told v alone)) }
 
+-- what stands in the sets was read, or is written
+read_some : (sets : SetsView) (reads : List (ℕ × Option (List ℕ))) (rid version : ℕ) → read_values sets.reads ≡ reads → validating.HasRead rid version sets → IsSome (value_at reads rid)
+read_some sets reads rid version as_read d =
+    subst (λ (ws : List (ℕ × Option (List ℕ))). IsSome (value_at ws rid)) as_read (subst (λ (n : ℕ). IsSome (value_at (read_values sets.reads) n)) d.of_record (among_read sets.reads d.read d.among))
+
+written_some : (sets : SetsView) (writes : List (ℕ × Option (List ℕ))) (rid : ℕ) → written_values sets.writes ≡ writes → validating.Writes rid sets → IsSome (value_at writes rid)
+written_some sets writes rid as_written w =
+    subst (λ (ws : List (ℕ × Option (List ℕ))). IsSome (value_at ws rid)) as_written (subst (λ (n : ℕ). IsSome (value_at (written_values sets.writes) n)) w.of_record (among_written sets.writes w.write w.among))
+
 pub shown_at : (hand hand' : Seated) (phase : Phase) (stamp t : ℕ) (reads writes : List (ℕ × Option (List ℕ))) (sets : SetsView) (conflict : Conflict) → AreSets hand reads writes sets → hand.view.number < hand.view.size.seats → t ≡ stamp → validating.Stands hand.view hand'.view → validating.IsShown t sets hand.view hand'.view conflict → IsShownAt (post_view hand phase stamp reads writes) conflict
 shown_at hand hand' phase stamp t reads writes sets (Pending rid wts) are inside same stands shown =
     let other = another_of hand.view hand'.view wts stands inside shown.1 in
     (touched hand.view.size sets rid are.inside shown.2, subst (λ (n : ℕ). wts < n) same shown.0, other)
 shown_at hand hand' phase stamp t reads writes sets (ReadLater rid wts rts) are inside same stands shown =
     let other = another_of hand.view hand'.view rts stands inside shown.1 in
-    let w = shown.2 in
-    let some : IsSome (value_at writes rid) = subst (λ (ws : List (ℕ × Option (List ℕ))). IsSome (value_at ws rid)) are.as_written (subst (λ (n : ℕ). IsSome (value_at (written_values sets.writes) n)) w.of_record (among_written sets.writes w.write w.among)) in
-    (some, subst (λ (n : ℕ). wts < n) same shown.3.met.path.early, subst (λ (n : ℕ). n < rts) same shown.0, other)
+    (written_some sets writes rid are.as_written shown.2, subst (λ (n : ℕ). wts < n) same shown.3.met.path.early, subst (λ (n : ℕ). n < rts) same shown.0, other)
 shown_at hand hand' phase stamp t reads writes sets (Overtaken rid seen now) are inside same stands shown =
     let other = another_of hand.view hand'.view now stands inside shown.2 in
-    let d = shown.3 in
-    let some : IsSome (value_at reads rid) = subst (λ (ws : List (ℕ × Option (List ℕ))). IsSome (value_at ws rid)) are.as_read (subst (λ (n : ℕ). IsSome (value_at (read_values sets.reads) n)) d.of_record (among_read sets.reads d.read d.among)) in
-    (some, shown.0, subst (λ (n : ℕ). now < n) same shown.1, other)
+    (read_some sets reads rid seen are.as_read shown.3, shown.0, subst (λ (n : ℕ). now < n) same shown.1, other)
+
+-- it is of a record that was read or is written
+pub touches_at : (hand : Seated) (t : ℕ) (v w : View) (reads writes : List (ℕ × Option (List ℕ))) (sets : SetsView) (conflict : Conflict) → AreSets hand reads writes sets → validating.IsShown t sets v w conflict → Touches reads writes conflict
+touches_at hand t v w reads writes sets (Pending rid wts) are shown =
+    elim shown.2 as (λ _. IsSome (value_at reads rid) ⊎ IsSome (value_at writes rid)) [
+      | inl r ↦ inl (read_some sets reads rid r.0 are.as_read r.1)
+      | inr u ↦ inr (written_some sets writes rid are.as_written u)
+    ]
+touches_at hand t v w reads writes sets (ReadLater rid wts rts) are shown = written_some sets writes rid are.as_written shown.2
+touches_at hand t v w reads writes sets (Overtaken rid seen now) are shown = read_some sets reads rid seen are.as_read shown.3
 
 -- ---- counts
 

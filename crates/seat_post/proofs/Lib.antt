@@ -13,6 +13,7 @@ pub mod Looking
 pub mod MarkWords
 pub mod Marked
 pub mod NumberLists
+pub mod Observed
 pub mod Over
 pub mod Placed
 pub mod Posts
@@ -24,4 +25,5 @@ pub mod Rescanning
 pub mod Settlement
 pub mod Shares
 pub mod Steady
+pub mod Stuck
 pub mod WriteMore

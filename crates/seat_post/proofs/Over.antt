@@ -1,7 +1,7 @@
 -- What a post shows and keeps where its transaction has ended.
 use Rattle.std.proofs.Common.{◌≡◌, ℕ, List, [], ◌∷◌, false, Option, None, Some, refl, sym, ap, ◌∙◌}
 use Rattle.std.specs.Prelude.{is_some}
-use Rattle.core_rule.specs.View.{View, Flight, resting, writing, Read, Search, still}
+use Rattle.core_rule.specs.View.{View, Flight, resting, writing, Read, Search, still, Seen}
 use Rattle.core_rule.specs.Hands.{Shared, Seated, IsReady}
 use Rattle.core_rule.specs.Searching.{Ends}
 use Rattle.core_rule.specs.Snapshots.{AreAllWhole}
@@ -11,7 +11,7 @@ use Rattle.core_rule.specs.Versions.{read_version}
 use Rattle.seat_post.specs.Searched.{Finds, Stops}
 use Rattle.seat_post.specs.Seats.{Known}
 use Rattle.seat_post.specs.Glance.{glance_of}
-use Rattle.seat_post.specs.Post.{IsPost, post_view, closed, knowing}
+use Rattle.seat_post.specs.Post.{IsPost, post_view, closed, knowing, observing, observed_in}
 use Rattle.seat_post.specs.declared.phase.Phase.{Phase}
 use Rattle.seat_post.specs.declared.phase.Phase.TheVariants.{Idle}
 use Rattle.seat_post.proofs.Posts.{own_ready}
@@ -28,7 +28,7 @@ still_flying : (v w : View) (t : ℕ) → Stands v w → v.flight ≡ writing t 
 still_flying v w t stands flight = ap (λ (x : View). x.flight) stands.others ∙ flight
 
 -- the post of a transaction that has ended, as a word of the post before
-pub view_over : (hand hand' : Seated) (phase : Phase) (stamp stamp' t : ℕ) (reads reads' writes writes' : List (ℕ × Option (List ℕ))) → hand'.table ≡ hand.table → Stands hand.view hand'.view → hand.view.flight ≡ writing t → hand'.view.log ≡ hand.view.log → stamp' ≡ 0 → reads' ≡ [] → writes' ≡ [] → post_view hand' Idle stamp' reads' writes' ≡ closed (knowing (post_view hand phase stamp reads writes) record { counts = hand'.view.counts; tops = hand'.view.tops })
+pub view_over : (hand hand' : Seated) (phase : Phase) (stamp stamp' t : ℕ) (reads reads' writes writes' : List (ℕ × Option (List ℕ))) → hand'.table ≡ hand.table → Stands hand.view hand'.view → hand.view.flight ≡ writing t → hand'.view.log ≡ hand.view.log → stamp' ≡ 0 → reads' ≡ [] → writes' ≡ [] → post_view hand' Idle stamp' reads' writes' ≡ observing (closed (knowing (post_view hand phase stamp reads writes) record { counts = hand'.view.counts; tops = hand'.view.tops })) (observed_in hand')
 view_over hand hand' phase stamp stamp' t reads reads' writes writes' table stands flight log none no_reads no_writes =
     let size : hand'.view.size ≡ hand.view.size = ap (λ (v : View). v.size) stands.others in
     let number : hand'.view.number ≡ hand.view.number = ap (λ (v : View). v.number) stands.others in
@@ -38,13 +38,19 @@ view_over hand hand' phase stamp stamp' t reads reads' writes writes' table stan
     rw (glance', glance, table, size, number, splitting, stands.clock, stands.published, log, none, no_reads, no_writes) refl
 
 -- where what is known of lists stays too
-pub view_over_all : (hand hand' : Seated) (phase : Phase) (stamp stamp' t : ℕ) (reads reads' writes writes' : List (ℕ × Option (List ℕ))) → hand'.table ≡ hand.table → Stands hand.view hand'.view → Works hand.view hand'.view → hand.view.flight ≡ writing t → hand'.view.log ≡ hand.view.log → stamp' ≡ 0 → reads' ≡ [] → writes' ≡ [] → post_view hand' Idle stamp' reads' writes' ≡ closed (post_view hand phase stamp reads writes)
+pub view_over_all : (hand hand' : Seated) (phase : Phase) (stamp stamp' t : ℕ) (reads reads' writes writes' : List (ℕ × Option (List ℕ))) → hand'.table ≡ hand.table → Stands hand.view hand'.view → Works hand.view hand'.view → hand.view.flight ≡ writing t → hand'.view.log ≡ hand.view.log → stamp' ≡ 0 → reads' ≡ [] → writes' ≡ [] → post_view hand' Idle stamp' reads' writes' ≡ observing (closed (post_view hand phase stamp reads writes)) (observed_in hand')
 view_over_all hand hand' phase stamp stamp' t reads reads' writes writes' table stands works flight log none no_reads no_writes =
     let counts : hand'.view.counts ≡ hand.view.counts = ap (λ (v : View). v.counts) works.only in
     let tops : hand'.view.tops ≡ hand.view.tops = ap (λ (v : View). v.tops) works.only in
     let known : record { counts = hand'.view.counts; tops = hand'.view.tops } ≡ record { counts = hand.view.counts; tops = hand.view.tops } = rw (counts, tops) refl in
     view_over hand hand' phase stamp stamp' t reads reads' writes writes' table stands flight log none no_reads no_writes
-    ∙ ap (λ (k : Known). closed (knowing (post_view hand phase stamp reads writes) k)) known
+    ∙ ap (λ (k : Known). observing (closed (knowing (post_view hand phase stamp reads writes) k)) (observed_in hand')) known
+
+-- where nothing was loaded and lost
+pub view_over_same : (hand hand' : Seated) (phase : Phase) (stamp stamp' t : ℕ) (reads reads' writes writes' : List (ℕ × Option (List ℕ))) → hand'.table ≡ hand.table → Stands hand.view hand'.view → Works hand.view hand'.view → hand'.view.seen ≡ hand.view.seen → hand.view.flight ≡ writing t → hand'.view.log ≡ hand.view.log → stamp' ≡ 0 → reads' ≡ [] → writes' ≡ [] → post_view hand' Idle stamp' reads' writes' ≡ closed (post_view hand phase stamp reads writes)
+view_over_same hand hand' phase stamp stamp' t reads reads' writes writes' table stands works seen flight log none no_reads no_writes =
+    view_over_all hand hand' phase stamp stamp' t reads reads' writes writes' table stands works flight log none no_reads no_writes
+    ∙ ap (λ (s : Seen). observing (closed (post_view hand phase stamp reads writes)) (record { loads = s.loads; lost = s.lost })) seen
 
 -- it keeps what an idle post keeps
 pub post_over : (core : Shared) (hand hand' : Seated) (phase : Phase) (stamp stamp' t : ℕ) (reads reads' writes writes' : List (ℕ × Option (List ℕ))) (sets sets' : SetsView) → IsPost hand phase stamp reads writes sets → Stands hand.view hand'.view → hand'.view.counts.in_kept ≡ hand.view.counts.in_kept → hand.view.flight ≡ writing t → IsReady core hand' → Ends hand'.view.work → stamp' ≡ 0 → reads' ≡ [] → writes' ≡ [] → sets'.reads ≡ [] → sets'.writes ≡ [] → IsPost hand' Idle stamp' reads' writes' sets'
@@ -54,7 +60,7 @@ post_over core hand hand' phase stamp stamp' t reads reads' writes writes' sets 
     rw none (post_closed hand' reads' writes' sets' (own_ready core hand' ready) (rw size is.size) (stands.held ∙ is.holds_none) (kept ∙ is.keeps_none) ends whole no_reads no_writes none_read none_written)
 
 -- the post after a search, whose reads are now these
-view_searched : (hand hand' : Seated) (phase : Phase) (stamp t : ℕ) (reads writes : List (ℕ × Option (List ℕ))) (search : Search) (found : List Read) → hand'.table ≡ hand.table → hand'.view ≡ record hand.view { work = record hand.view.work { search = search; reads = found }; seen = hand'.view.seen } → hand.view.flight ≡ writing t → post_view hand' phase stamp reads writes ≡ post_view hand phase stamp reads writes
+view_searched : (hand hand' : Seated) (phase : Phase) (stamp t : ℕ) (reads writes : List (ℕ × Option (List ℕ))) (search : Search) (found : List Read) → hand'.table ≡ hand.table → hand'.view ≡ record hand.view { work = record hand.view.work { search = search; reads = found }; seen = hand'.view.seen } → hand.view.flight ≡ writing t → post_view hand' phase stamp reads writes ≡ observing (post_view hand phase stamp reads writes) (observed_in hand')
 view_searched hand hand' phase stamp t reads writes search found table view flight =
     let flying : hand'.view.flight ≡ writing t = ap (λ (v : View). v.flight) view ∙ flight in
     let glance' = none_glanced hand'.view.flight t hand'.view.published.read hand'.view.work.reads flying in
@@ -70,12 +76,12 @@ view_searched hand hand' phase stamp t reads writes search found table view flig
     rw (glance', glance, table, size, number, splitting, clock, published, counts, tops, log) refl
 
 -- one that found a version, and one that met a pending one
-pub view_found : (hand hand' : Seated) (phase : Phase) (stamp t rid place wts : ℕ) (value : Option (List ℕ)) (reads writes : List (ℕ × Option (List ℕ))) → hand'.table ≡ hand.table → Finds rid place wts value hand.view hand'.view → hand.view.flight ≡ writing t → post_view hand' phase stamp reads writes ≡ post_view hand phase stamp reads writes
+pub view_found : (hand hand' : Seated) (phase : Phase) (stamp t rid place wts : ℕ) (value : Option (List ℕ)) (reads writes : List (ℕ × Option (List ℕ))) → hand'.table ≡ hand.table → Finds rid place wts value hand.view hand'.view → hand.view.flight ≡ writing t → post_view hand' phase stamp reads writes ≡ observing (post_view hand phase stamp reads writes) (observed_in hand')
 view_found hand hand' phase stamp t rid place wts value reads writes table finds flight =
     view_searched hand hand' phase stamp t reads writes still (read_version rid place wts value ∷ hand.view.work.reads) table finds.view flight
 
-pub view_stopped : (hand hand' : Seated) (phase : Phase) (stamp t bound wts : ℕ) (reads writes : List (ℕ × Option (List ℕ))) → hand'.table ≡ hand.table → Stops bound wts hand.view hand'.view → hand.view.flight ≡ writing t → post_view hand' phase stamp reads writes ≡ post_view hand phase stamp reads writes
-view_stopped hand hand' phase stamp t bound wts reads writes table stops flight =
+pub view_stopped : (hand hand' : Seated) (phase : Phase) (stamp t bound rid wts : ℕ) (reads writes : List (ℕ × Option (List ℕ))) → hand'.table ≡ hand.table → Stops bound rid wts hand.view hand'.view → hand.view.flight ≡ writing t → post_view hand' phase stamp reads writes ≡ observing (post_view hand phase stamp reads writes) (observed_in hand')
+view_stopped hand hand' phase stamp t bound rid wts reads writes table stops flight =
     view_searched hand hand' phase stamp t reads writes stops.search hand.view.work.reads table stops.view flight
 
 pub none_of : (x : Option (List ℕ)) → is_some x ≡ false → x ≡ None

@@ -17,7 +17,7 @@ use Rattle.validate_core.specs.Installing.{IsBegun}
 use Rattle.validate_core.specs.Validating as validating
 use Rattle.seat_post.specs.declared.phase.Phase.{Phase}
 use Rattle.seat_post.specs.declared.phase.Phase.TheVariants.{Idle, Open, Installed, Decided}
-use Rattle.seat_post.specs.Post.{IsAt, IsIdleAt, IsPost, shared_of}
+use Rattle.seat_post.specs.Post.{IsAt, IsIdleAt, IsPost, shared_of, post_view, observing, with_clock, observed_in}
 
 -- a hand that is ready is ready at its own table
 pub own_ready : (core : Shared) (hand : Seated) → IsReady core hand → IsReady (shared_of hand) hand
@@ -102,6 +102,13 @@ post_turned core phase hand hand' stamp reads writes sets clock seen is ready vi
   keeps_none = rw view is.keeps_none;
   at = let same : turned_hand hand hand' clock seen ≡ hand' = ap (λ (v : View). record hand' { view = v }) (sym view) in subst (λ (h : Seated). IsAt phase h stamp reads writes sets) same (at_turned phase hand hand' stamp reads writes sets clock seen taken is.at);
 }
+
+-- what it shows
+pub seen_turned : (hand hand' : Seated) (phase : Phase) (stamp : ℕ) (reads writes : List (ℕ × Option (List ℕ))) (clock : Clock) (seen : Seen) → hand'.table ≡ hand.table → hand'.view ≡ turned hand.view clock seen → clock.taken_in ≡ hand.view.clock.taken_in → clock.met ≡ hand.view.clock.met → post_view hand' phase stamp reads writes ≡ observing (with_clock (post_view hand phase stamp reads writes) clock.clock) (record { loads = seen.loads; lost = seen.lost })
+seen_turned hand hand' phase stamp reads writes clock seen table view taken met = rw (table, view, taken, met) refl
+
+pub view_turned : (hand hand' : Seated) (phase : Phase) (stamp : ℕ) (reads writes : List (ℕ × Option (List ℕ))) (clock : Clock) (seen : Seen) → hand'.table ≡ hand.table → hand'.view ≡ turned hand.view clock seen → clock.taken_in ≡ hand.view.clock.taken_in → clock.met ≡ hand.view.clock.met → post_view hand' phase stamp reads writes ≡ observing (with_clock (post_view hand phase stamp reads writes) clock.clock) (observed_in hand')
+view_turned hand hand' phase stamp reads writes clock seen table view taken met = rw (table, view, taken, met) refl
 
 -- ---- drawing a stamp
 

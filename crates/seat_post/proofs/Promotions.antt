@@ -1,8 +1,9 @@
 -- What a promotion leaves of a hand, of a post and of a pass.
-use Rattle.std.proofs.Common.{◌≡◌, ◌≢◌, ℕ, ◌<◌, List, [], ◌∷◌, length, Option, Some, None, refl, sym, ap, ◌∙◌, subst, inl, inr, eq-eqb, ne_eqb, eqb, Bool, cond, arith}
-use Rattle.std.specs.Prelude.{IfSome}
+use Rattle.std.proofs.Common.{◌≡◌, ◌≢◌, ℕ, ◌<◌, List, [], ◌∷◌, ◌++◌, length, Option, Some, None, Result, Ok, Err, refl, sym, ap, ◌∙◌, subst, inl, inr, ⊎_elim, eq-eqb, ne_eqb, eqb, Bool, cond, arith}
+use Rattle.std.specs.Prelude.{IfSome, IfErr}
+use Rattle.std.specs.Result.{IsErrAnd}
 use Rattle.word_layout.specs.Size.{Size, IsSize, kept_place}
-use Rattle.core_rule.specs.View.{View, Work, Write, no_work, writing, version_kept}
+use Rattle.core_rule.specs.View.{View, Work, Write, Load, no_work, writing, version_kept}
 use Rattle.core_rule.specs.Views.{Among}
 use Rattle.core_rule.specs.Searching.{Ends, Rests, counted_more}
 use Rattle.core_rule.specs.Holding.{without}
@@ -10,24 +11,29 @@ use Rattle.core_rule.specs.Hands.{Shared, Seated, IsReady}
 use Rattle.clock_stamps.specs.Clocks.{drawn}
 use Rattle.validate_core.specs.Sets.{SetsView}
 use Rattle.plain_data.specs.State.{State}
-use Rattle.version_pool.specs.Takes.{TakesFree, after_taking, after_losing}
+use Rattle.version_pool.specs.Takes.{TakesFree, FindsNone, AreLostOn, after_taking, after_losing}
+use Rattle.version_search.specs.Growing.{Grows}
 use Rattle.version_search.specs.Finding.{Reads}
+use Rattle.version_search.proofs.Grown.{grows_none, grows_both, grows_lost}
 use Rattle.version_search.specs.Loading.{with_value}
 use Rattle.validate_core.specs.Validating.{worked}
 use Rattle.validate_core.specs.declared.conflict.Conflict.{Conflict}
 use Rattle.validate_core.specs.declared.conflict.Conflict.TheVariants.{Pending}
 use Rattle.seat_post.specs.Searched.{Stops}
-use Rattle.seat_post.specs.Promoting.{IsDrawn, MeetsPending, IsStoppedWriting, LoadsElsewhere, FindsOccupied, WritesInline, PromotesAt, FailsAt}
-use Rattle.seat_post.specs.Rewriting.{IsStopped, LinksOne}
+use Rattle.seat_post.specs.Promoting.{IsDrawn, MeetsPending, IsStoppedWriting, FindsElsewhere, LoadsElsewhere, FindsOccupied, WritesInline, PromotesAt, FailsAt, MeetsElsewhere, CameUpon, IsStoppedPost}
+use Rattle.seat_post.specs.Rewriting.{IsStopped, LinksOne, IsLoadedIn, others_in}
+use Rattle.seat_post.specs.Observing.{WasLost}
 use Rattle.seat_post.specs.declared.promoting.Promotion.{Promotion}
 use Rattle.seat_post.specs.declared.promoting.Promotion.TheVariants.{Promoted, Inline, Absent, Occupied}
-use Rattle.seat_post.specs.Post.{IsPost}
+use Rattle.seat_post.specs.Conflicts.{ShowsOf}
+use Rattle.seat_post.specs.Post.{IsPost, post_view}
 use Rattle.stamp_base.specs.Stamp.{stamp_of}
 use Rattle.seat_post.specs.declared.phase.Phase.{Phase}
 use Rattle.seat_post.specs.declared.phase.Phase.TheVariants.{Idle}
 use Rattle.seat_post.proofs.Posts.{at_phase, post_idle}
 use Rattle.seat_post.proofs.ReadMore.{met_at}
 use Rattle.seat_post.proofs.Over.{none_resting}
+use Rattle.seat_post.proofs.Observed.{seen_grows, reads_grow, met_found, met_then, loaded_before, drawn_grows}
 
 -- nothing is left to be done where nothing is linked
 ends_none : (work : Work) → Rests work.search → work.linked ≡ [] → work.item ≡ no_work.item → Ends work
@@ -37,13 +43,15 @@ ends_none work rests linked item = record {
   collected = item;
 }
 
-pub pending_at : (hand hand' : Seated) (stamp rid wts : ℕ) → Stops stamp wts hand.view hand'.view → hand.view.number < hand.view.size.seats → IsDrawn stamp hand.view → MeetsPending stamp rid hand.view hand'.view (Pending rid wts)
+pub pending_at : (hand hand' : Seated) (stamp rid wts : ℕ) → Stops stamp rid wts hand.view hand'.view → hand.view.number < hand.view.size.seats → IsDrawn stamp hand.view → MeetsPending stamp rid hand.view hand'.view (Pending rid wts)
 pending_at hand hand' stamp rid wts stops inside drawn =
-    let met = met_at hand hand' Idle stamp wts [] [] stops inside in
+    let met = met_at hand hand' Idle stamp rid wts [] [] stops inside in
     record {
       only = subst (λ (y : View). y ≡ worked hand.view y.work y.seen) (sym stops.view) refl;
       ends = ends_none hand'.view.work (rw stops.view stops.rests) (ap (λ (y : View). y.work.linked) stops.view ∙ ap (λ (w : Work). w.linked) drawn.work) (ap (λ (y : View). y.work.item) stops.view ∙ ap (λ (w : Work). w.item) drawn.work);
+      grows = stops.grows;
       shown = (refl, met.0, met.1);
+      loaded = stops.met;
     }
 
 -- the stamp is published still
@@ -51,12 +59,12 @@ pub still_published : (stamp rid place wts : ℕ) (words : List ℕ) (v b t l : 
 still_published stamp rid place wts words v b t l drawn found takes loads =
     ap (λ (y : View). y.published.write) loads ∙ ap (λ (y : View). y.published.write) takes.view ∙ ap (λ (y : View). y.published.write) found.view ∙ drawn.published
 
-pub stopped_writing : (value : Option (List ℕ)) (stamp rid place wts : ℕ) (v b t l w : View) (conflict : Conflict) → IsDrawn stamp v → value ≢ None → IfSome value (λ words. (length words ≡ 32) × (l ≡ with_value t words l.seen)) → place ≢ rid → Reads stamp rid place wts 3 v b → TakesFree rid b t → IsStopped rid rid l.published.write l w conflict → IsStoppedWriting stamp rid v w conflict
-stopped_writing None stamp rid place wts v b t l w conflict drawn present loads elsewhere found takes stops = absurd (present refl)
-stopped_writing (Some words) stamp rid place wts v b t l w conflict drawn present loads elsewhere found takes stops = record {
+pub stopped_writing : (value : Option (List ℕ)) (stamp rid place wts : ℕ) (v b t l w : View) (conflict : Conflict) → IsDrawn stamp v → value ≢ None → IfSome value (λ words. (length words ≡ 32) × (l ≡ with_value t words l.seen)) → Grows t.seen l.seen → place ≢ rid → Reads stamp rid place wts 3 v b → TakesFree rid b t → IsStopped rid rid l.published.write l w conflict → IsStoppedWriting stamp rid v w conflict
+stopped_writing None stamp rid place wts v b t l w conflict drawn present loads grows elsewhere found takes stops = absurd (present refl)
+stopped_writing (Some words) stamp rid place wts v b t l w conflict drawn present loads grows elsewhere found takes stops = record {
   words = words;
   loaded = l;
-  loads = record { between = b; finds = record { place = place; elsewhere = elsewhere; wts = wts; found = found }; taken = t; takes = takes; loads = loads.1 };
+  loads = record { between = b; finds = record { place = place; elsewhere = elsewhere; wts = wts; found = found }; taken = t; takes = takes; loads = loads.1; grows = grows };
   stops = subst (λ (n : ℕ). IsStopped rid rid n l w conflict) (still_published stamp rid place wts words v b t l drawn found takes loads.1) stops;
 }
 
@@ -146,6 +154,55 @@ pub fails_rested : (stamp rid : ℕ) (v w : View) (conflict : Conflict) → rid 
 fails_rested stamp rid v w conflict apart drawn (inl met) = works_rested v w drawn.holds_none met.only met.ends
 fails_rested stamp rid v w conflict apart drawn (inr stops) = stopped_linked stamp rid v w conflict apart drawn stops
 
+-- ---- what was come upon
+
+elsewhere_grows : (stamp rid : ℕ) (words : List ℕ) (v l : View) → LoadsElsewhere stamp rid words v l → Grows v.seen l.seen
+elsewhere_grows stamp rid words v l e =
+    let b = e.between in let t = e.taken in
+    grows_both v.seen b.seen l.seen (reads_grow stamp rid e.finds.place e.finds.wts 3 v b e.finds.found) (grows_both b.seen t.seen l.seen (seen_grows b.seen t.seen (ap (λ (y : View). y.seen) e.takes.view)) e.grows)
+
+occupied_grows : (stamp rid : ℕ) (v w : View) (f : FindsOccupied stamp rid v w) → Grows f.between.seen w.seen
+occupied_grows stamp rid v w f = grows_lost f.between.seen w.seen f.lost.lost (ap (λ (y : View). y.seen.loads) f.lost.view) (ap (λ (y : View). y.seen.lost) f.lost.view)
+
+pub promotes_grow : (kept : State → Type 0) (records stamp rid : ℕ) (v w : View) (told : Promotion) → PromotesAt kept records stamp rid v w told → Grows v.seen w.seen
+promotes_grow kept records stamp rid v w (Promoted at) told = grows_both v.seen told.1.loaded.seen w.seen (elsewhere_grows stamp rid told.1.words v told.1.loaded told.1.loads) told.1.rewrites.links.grows
+promotes_grow kept records stamp rid v w Inline found = reads_grow stamp rid rid found.wts 3 v w found.found
+promotes_grow kept records stamp rid v w Absent found = reads_grow stamp rid found.place found.wts 4 v w found.found
+promotes_grow kept records stamp rid v w Occupied found = grows_both v.seen found.between.seen w.seen (reads_grow stamp rid found.finds.place found.finds.wts 3 v found.between found.finds.found) (occupied_grows stamp rid v w found)
+
+pub fails_grow : (stamp rid : ℕ) (v w : View) (conflict : Conflict) → FailsAt stamp rid v w conflict → Grows v.seen w.seen
+fails_grow stamp rid v w conflict (inl met) = met.grows
+fails_grow stamp rid v w conflict (inr stops) = grows_both v.seen stops.loaded.seen w.seen (elsewhere_grows stamp rid stops.words v stops.loaded stops.loads) stops.stops.links.grows
+
+pub fails_loaded : (stamp rid : ℕ) (v w : View) (conflict : Conflict) → FailsAt stamp rid v w conflict → IsLoadedIn stamp conflict v w
+fails_loaded stamp rid v w conflict (inl met) = met.loaded
+fails_loaded stamp rid v w conflict (inr stops) = loaded_before stamp v stops.loaded w conflict (elsewhere_grows stamp rid stops.words v stops.loaded stops.loads) stops.stops.loaded
+
+-- the version was met elsewhere, and other loads followed
+met_elsewhere : (stamp rid : ℕ) (v b w : View) → FindsElsewhere stamp rid v b → Grows b.seen w.seen → MeetsElsewhere stamp rid (record { loads = v.seen.loads; lost = v.seen.lost }) (record { loads = w.seen.loads; lost = w.seen.lost })
+met_elsewhere stamp rid v b w f g =
+    let m = met_then stamp rid f.place f.wts 3 v b w f.found g in
+    record { visible = record { wts = f.wts; met = m.0 }; elsewhere = λ e. f.elsewhere (sym m.1 ∙ e) }
+
+-- the exchange on the inline place was lost
+lost_inline : (rid : ℕ) (v b w : View) → v.seen.lost ≡ b.seen.lost → FindsNone (rid ∷ []) b w → WasLost rid v.seen.lost w.seen.lost
+lost_inline rid v b w same f = lost_first f.lost f.not_free (ap (λ (y : View). y.seen.lost) f.view ∙ ap (λ (xs : List Load). xs ++ f.lost) (sym same)) where
+  lost_first : (lost : List Load) → AreLostOn (rid ∷ []) lost → w.seen.lost ≡ v.seen.lost ++ lost → WasLost rid v.seen.lost w.seen.lost
+  lost_first [] not is = absurd not
+  lost_first (l ∷ []) not is = record { earlier = []; exchange = l; later = []; not_free = not.0; lost = is }
+  lost_first (l ∷ k ∷ ls) not is = absurd not.1
+
+pub came_upon : (kept : State → Type 0) (records stamp rid : ℕ) (v w : View) (told : Promotion) → PromotesAt kept records stamp rid v w told → CameUpon stamp rid (record { loads = v.seen.loads; lost = v.seen.lost }) (record { loads = w.seen.loads; lost = w.seen.lost }) told
+came_upon kept records stamp rid v w (Promoted at) told =
+    let e = told.1.loads in let b = e.between in let t = e.taken in let l = told.1.loaded in
+    met_elsewhere stamp rid v b w e.finds (grows_both b.seen l.seen w.seen (grows_both b.seen t.seen l.seen (seen_grows b.seen t.seen (ap (λ (y : View). y.seen) e.takes.view)) e.grows) told.1.rewrites.links.grows)
+came_upon kept records stamp rid v w Inline found =
+    let m = met_then stamp rid rid found.wts 3 v w w found.found (grows_none w.seen) in
+    record { visible = record { wts = found.wts; met = m.0 }; inline = m.1 }
+came_upon kept records stamp rid v w Absent found = record { wts = found.wts; met = met_found stamp rid found.place found.wts 4 v w found.found }
+came_upon kept records stamp rid v w Occupied found =
+    (met_elsewhere stamp rid v found.between w found.finds (occupied_grows stamp rid v w found), lost_inline rid v found.between w (sym found.finds.found.lost) found.lost)
+
 -- ---- the post
 
 -- the stamp that was drawn is in flight still
@@ -174,3 +231,58 @@ is_drawn stamp clock v w none view published = record {
   work = ap (λ (y : View). y.work) view;
   holds_none = ap (λ (y : View). y.places.held) view ∙ none;
 }
+
+-- ---- what a conflict leaves of a post
+
+-- one version was linked since, which is aborted
+stopped_only : (stamp rid : ℕ) (v w : View) (conflict : Conflict) → IsStoppedWriting stamp rid v w conflict
+    → w ≡ record v { places = w.places; work = w.work; counts = counted_more v.size rid stamp rid v.counts; tops = record { record_number = rid; stamp = stamp } ∷ v.tops; front = w.front; seen = w.seen }
+stopped_only stamp rid v w conflict stops =
+    let l = stops.loaded in
+    let holds = loaded_since stamp rid stops.words v l stops.loads in
+    let log : w.log ≡ v.log = stops.stops.log ∙ ap (λ (y : View). y.log) holds.only in
+    stops.stops.links.only
+    ∙ ap (λ (y : View). record y { places = w.places; work = w.work; counts = counted_more y.size rid stamp rid y.counts; tops = record { record_number = rid; stamp = stamp } ∷ y.tops; front = w.front; log = w.log; seen = w.seen }) holds.only
+    ∙ ap (λ es. record v { places = w.places; work = w.work; counts = counted_more v.size rid stamp rid v.counts; tops = record { record_number = rid; stamp = stamp } ∷ v.tops; front = w.front; log = es; seen = w.seen }) log
+
+module _ (hand hand' : Seated) (phase : Phase) (ps : ℕ) (reads writes : List (ℕ × Option (List ℕ))) (v : View) (clock stamp rid : ℕ) (conflict : Conflict) (table : hand'.table ≡ hand.table) (drew : v ≡ drawn hand.view clock) (at : stamp ≡ stamp_of clock hand.view.number) where
+  shown_drawn : ShowsOf rid v.size v.number (others_in v) stamp conflict → ShowsOf rid hand.view.size hand.view.number (others_in hand.view) (stamp_of clock hand.view.number) conflict
+  shown_drawn shown =
+      subst (λ (n : ℕ). ShowsOf rid hand.view.size hand.view.number (others_in hand.view) n conflict) at
+      (subst (λ (y : View). ShowsOf rid y.size y.number (others_in y) stamp conflict) drew shown)
+
+  loaded_drawn : FailsAt stamp rid v hand'.view conflict → IsLoadedIn (stamp_of clock hand.view.number) conflict hand.view hand'.view
+  loaded_drawn fails =
+      subst (λ (n : ℕ). IsLoadedIn n conflict hand.view hand'.view) at
+      (loaded_before stamp hand.view v hand'.view conflict (drawn_grows hand.view v clock drew) (fails_loaded stamp rid v hand'.view conflict fails))
+
+  met_post : MeetsPending stamp rid v hand'.view conflict → IsStoppedPost rid clock (post_view hand phase ps reads writes) (post_view hand' phase ps reads writes) conflict
+  met_post met =
+      let is : hand'.view ≡ worked (drawn hand.view clock) hand'.view.work hand'.view.seen = met.only ∙ ap (λ (y : View). worked y hand'.view.work hand'.view.seen) drew in record {
+        after = rw (table, is) refl;
+        linked = inl (rw is refl);
+        shown = shown_drawn met.shown;
+        loaded = loaded_drawn (inl met);
+      }
+
+  stopped_post : IsStoppedWriting stamp rid v hand'.view conflict → IsStoppedPost rid clock (post_view hand phase ps reads writes) (post_view hand' phase ps reads writes) conflict
+  stopped_post stops =
+      let w = hand'.view in
+      let holds = loaded_since stamp rid stops.words v stops.loaded stops.loads in
+      let is : w ≡ record (drawn hand.view clock) { places = w.places; work = w.work; counts = counted_more hand.view.size rid stamp rid hand.view.counts; tops = record { record_number = rid; stamp = stamp } ∷ hand.view.tops; front = w.front; seen = w.seen } =
+      stopped_only stamp rid v w conflict stops
+      ∙ ap (λ (y : View). record y { places = w.places; work = w.work; counts = counted_more y.size rid stamp rid y.counts; tops = record { record_number = rid; stamp = stamp } ∷ y.tops; front = w.front; seen = w.seen }) drew in
+      record {
+        after = rw (table, is) refl;
+        linked = inr (rw (is, at) refl);
+        shown = shown_drawn (subst (λ (y : View). ShowsOf rid y.size y.number (others_in y) stamp conflict) holds.only stops.stops.shown);
+        loaded = loaded_drawn (inr stops);
+      }
+
+  pub fails_post : FailsAt stamp rid v hand'.view conflict → IsStoppedPost rid clock (post_view hand phase ps reads writes) (post_view hand' phase ps reads writes) conflict
+  fails_post fails = ⊎_elim (λ (met : MeetsPending stamp rid v hand'.view conflict). met_post met) (λ (stops : IsStoppedWriting stamp rid v hand'.view conflict). stopped_post stops) fails
+
+-- an error that is told in another type
+pub err_told : {T E : Type 0} (r : Result T E) (e : E) (P : E → Type 0) → IsErrAnd r (λ x. x ≡ e) → P e → IfErr r P
+err_told (Ok t) e P told holds = absurd told
+err_told (Err x) e P told holds = subst P (sym told) holds

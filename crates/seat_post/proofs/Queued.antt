@@ -1,10 +1,17 @@
 -- What a collection asks of a queue, and what becomes of its items.
-use Rattle.std.proofs.Common.{◌≡◌, ℕ, ◌<◌, Bool, true, false, List, [], ◌∷◌, Some, refl, sym, ap, subst, ◌∙◌, inl, inr, arith, cond, map}
-use Rattle.std.specs.Prelude.{◌↔◌, IsSome}
+use Rattle.std.proofs.Common.{◌≡◌, ℕ, ◌<◌, Bool, true, false, List, [], ◌∷◌, Some, refl, sym, ap, subst, ◌∙◌, inl, inr, arith, cond, map, ◌++◌, append_assoc, ◌+◌}
+use Rattle.std.specs.Prelude.{◌↔◌, IsSome, nat_lt}
 use Rattle.std.proofs.lemmas.Bool.Decides.{eqb_tells}
 use Rattle.plain_data.specs.declared.entry.Entry.{Entry}
 use Rattle.record_store.specs.Meaning.{value_at}
-use Rattle.core_rule.specs.View.{View, Write, Logged, Kept, nothing_kept}
+use Rattle.stamp_base.specs.Stamp.{bound_of_clock}
+use Rattle.word_layout.specs.Name.{published_write, published_read, min_write, min_read}
+use Rattle.word_layout.specs.Size.{Size}
+use Rattle.core_rule.specs.View.{View, Write, Logged, Kept, Seen, nothing_kept}
+use Rattle.core_rule.specs.Paths.{load}
+use Rattle.core_rule.specs.Hands.{Seated}
+use Rattle.clock_stamps.specs.Clocks.{rests}
+use Rattle.clock_stamps.specs.Minima.{loads_from, bounded}
 use Rattle.core_rule.specs.Views.{Among}
 use Rattle.core_rule.specs.Deciding.{entry_of, value_of, written_values}
 use Rattle.core_rule.specs.Collecting.{HasEntry}
@@ -18,6 +25,9 @@ use Rattle.rapid_gc.specs.Collections as collections
 use Rattle.rapid_gc.specs.InKept.{Remains}
 use Rattle.seat_post.specs.Collecting.{Collects, IsQueued, AreQueued}
 use Rattle.core_rule.proofs.Among.{Among-split}
+use Rattle.rapid_gc.proofs.Grown.{goes_adds}
+use Rattle.seat_post.specs.Observing.{ScansBoth}
+use Rattle.seat_post.specs.Post.{observed_in}
 
 -- what is not in the kept place does not come there
 pub nothing_left : (items : List Queued) (before after' : Kept) → Remains items before after' → before ≡ nothing_kept → after' ≡ nothing_kept
@@ -91,4 +101,49 @@ collects_items v w items items' tally is =
       locked = g.locked;
       dropped = g.dropped;
       cut = g.cut;
+    }
+
+-- ---- which words a collection loads
+
+idled_seen : (v : View) → (collections.idled v).seen ≡ v.seen
+idled_seen v = by_bool (nat_lt v.published.write (bound_of_clock v.clock.clock)) where
+  by_bool : (b : Bool) → (cond b (rests v) v).seen ≡ v.seen
+  by_bool true = refl
+  by_bool false = refl
+
+idled_size : (v : View) → (collections.idled v).size ≡ v.size
+idled_size v = by_bool (nat_lt v.published.write (bound_of_clock v.clock.clock)) where
+  by_bool : (b : Bool) → (cond b (rests v) v).size ≡ v.size
+  by_bool true = refl
+  by_bool false = refl
+
+pub collects_scans : (hand hand' : Seated) (items items' : List Queued) (tally : Collected) → collections.Collects hand.view items items' hand'.view tally → ScansBoth hand.view.size.seats (observed_in hand) (observed_in hand')
+collects_scans hand hand' items items' tally is =
+    let v = hand.view in
+    let p = is.prepares in
+    let b = bounded p.raised p.bound in
+    let w = p.raises_writes in
+    let r = p.raises_reads in
+    let more = (goes_adds hand'.view.reached is.goes_through.ended is.prepared hand'.view is.goes_through.goes).loads in
+    let writes = loads_from published_write 0 w.words in
+    let reads = loads_from published_read 0 r.words in
+    let raised = load min_write w.found ∷ [] in
+    let loaded = load min_write (p.bound + 1) ∷ [] in
+    let raised' = load min_read r.found ∷ [] in
+    record {
+      between = record { loads = b.seen.loads; lost = b.seen.lost };
+      writes = record {
+        words = w.words;
+        each_seat = w.each_seat ∙ ap (λ (z : Size). z.seats) (idled_size v);
+        later = raised ++ loaded;
+        loads = ap (λ (s : Seen). s.loads ++ loaded) w.seen ∙ ap (λ (s : Seen). s.loads ++ writes ++ raised ++ loaded) (idled_seen v)
+            ∙ append_assoc (v.seen.loads ++ writes) raised loaded ∙ append_assoc v.seen.loads writes (raised ++ loaded);
+      };
+      reads = record {
+        words = r.words;
+        each_seat = r.each_seat ∙ ap (λ (x : View). x.size.seats) p.raised_is ∙ ap (λ (z : Size). z.seats) (idled_size v);
+        later = raised' ++ more.0;
+        loads = more.1 ∙ ap (λ (s : Seen). s.loads ++ more.0) r.seen
+            ∙ append_assoc (b.seen.loads ++ reads) raised' more.0 ∙ append_assoc b.seen.loads reads (raised' ++ more.0);
+      };
     }

@@ -1,17 +1,19 @@
 -- What a post keeps through a read.
-use Rattle.std.proofs.Common.{◌≡◌, ◌≢◌, ℕ, ◌<◌, List, [], ◌∷◌, ◌++◌, Option, None, Some, cond, refl, sym, ap, ◌∙◌, subst, inl, inr, ◌⊎◌, ◌≤◌, map, length, arith, false, ◌+◌}
+use Rattle.std.proofs.Common.{◌≡◌, ◌≢◌, ℕ, ◌<◌, List, [], ◌∷◌, ◌++◌, Option, None, Some, cond, refl, sym, ap, ◌∙◌, subst, inl, inr, ◌⊎◌, ◌≤◌, map, length, arith, Bool, true, false, ◌+◌}
 use Rattle.std.specs.Prelude.{is_some}
 use Rattle.word_layout.specs.Size.{Size, places}
-use Rattle.core_rule.specs.View.{reads as for_reads, stands, shown, View, Read, Search, still, Seen}
+use Rattle.core_rule.specs.View.{reads as for_reads, stands, shown, View, Read, Search, still, Seen, writing}
 use Rattle.core_rule.specs.Views.{Among, IsAlone}
 use Rattle.core_rule.specs.Hands.{Shared, Seated, IsReady}
-use Rattle.core_rule.specs.Searching.{Rests, IsWhole}
+use Rattle.core_rule.specs.Searching.{Rests, IsWhole, limit_of}
 use Rattle.core_rule.specs.Deciding.{AreReads, read_values, entry_of}
 use Rattle.core_rule.specs.Versions.{read_version}
 use Rattle.record_store.specs.Meaning.{value_at}
 use Rattle.validate_core.specs.Sets.{SetsView, MayInstall}
 use Rattle.validate_core.specs.Installing.{IsBegun}
 use Rattle.version_search.specs.Finding as finding
+use Rattle.version_search.proofs.Grown.{grows_loads}
+use Rattle.validate_core.proofs.Staging.{met_now}
 use Rattle.seat_post.specs.Searched.{Finds, Stops}
 use Rattle.seat_post.specs.Conflicts.{IsOfAnother}
 use Rattle.seat_post.specs.Post.{PostView, IsPost, post_view}
@@ -23,7 +25,8 @@ use Rattle.std.proofs.lemmas.List.Elements.{All-push}
 use Rattle.seat_post.specs.Leaves.{LeavesValue, AreLeft}
 use Rattle.seat_post.specs.Logs.{IsAbove}
 use Rattle.seat_post.specs.Seats.{IsAloneAt}
-use Rattle.seat_post.proofs.Leaving.{post_left}
+use Rattle.seat_post.proofs.Leaving.{post_left, limit_is}
+use Rattle.validate_core.specs.Validating.{Met, no_more}
 use Rattle.seat_post.proofs.Listed.{unread, read_values-append, read_value-version}
 
 -- one of a list that has one more at its end
@@ -133,7 +136,7 @@ post_room hand stamp reads reads' writes sets sets' is same_reads set_reads set_
 }
 
 -- a search that met a pending version
-pub stops_at : (stamp rid place wts : ℕ) (v w : View) → finding.Finds for_reads (cond false (stamp + 1) stamp) rid place wts 2 v w → Stops stamp wts v w
+pub stops_at : (stamp rid place wts : ℕ) (v w : View) → finding.Finds for_reads (cond false (stamp + 1) stamp) rid place wts 2 v w → Stops stamp rid wts v w
 stops_at stamp rid place wts v w found =
     let r = found.reaches in
     let met = r.met refl in
@@ -142,6 +145,8 @@ stops_at stamp rid place wts v w found =
       search = stands (finding.stand_for for_reads rid place r.under) (shown wts 2);
       view = view;
       rests = tt;
+      met = met_now stamp rid place wts 2 v w found.path;
+      grows = grows_loads v.seen w.seen _ found.path.loads r.lost;
       before = r.early;
       another = λ e. met.another (rw view e);
       within = rw view at met.within;
@@ -149,8 +154,8 @@ stops_at stamp rid place wts v w found =
     }
 
 -- what it says of the transaction of a post
-pub met_at : (hand hand' : Seated) (phase : Phase) (stamp wts : ℕ) (reads writes : List (ℕ × Option (List ℕ))) → Stops stamp wts hand.view hand'.view → hand.view.number < hand.view.size.seats → (wts < stamp) × IsOfAnother hand.view.size hand.view.number (post_view hand phase stamp reads writes).others wts
-met_at hand hand' phase stamp wts reads writes stops inside =
+pub met_at : (hand hand' : Seated) (phase : Phase) (stamp rid wts : ℕ) (reads writes : List (ℕ × Option (List ℕ))) → Stops stamp rid wts hand.view hand'.view → hand.view.number < hand.view.size.seats → (wts < stamp) × IsOfAnother hand.view.size hand.view.number (post_view hand phase stamp reads writes).others wts
+met_at hand hand' phase stamp rid wts reads writes stops inside =
     let within = stops.within in
     let apart = stops.another in
     (stops.before, record { another = apart; within = within; more = omega arith; not_alone = λ alone. stops.not_alone (alone_told hand.view alone) })
@@ -184,8 +189,8 @@ post_read core hand hand' stamp rid place wts value reads reads' writes sets set
     }
 
 -- a pending version was met
-pub post_stopped : (core : Shared) (hand hand' : Seated) (stamp wts : ℕ) (reads writes : List (ℕ × Option (List ℕ))) (sets : SetsView) → IsPost hand Open stamp reads writes sets → IsReady core hand' → Stops stamp wts hand.view hand'.view → IsPost hand' Open stamp reads writes sets
-post_stopped core hand hand' stamp wts reads writes sets is ready stops = record {
+pub post_stopped : (core : Shared) (hand hand' : Seated) (stamp rid wts : ℕ) (reads writes : List (ℕ × Option (List ℕ))) (sets : SetsView) → IsPost hand Open stamp reads writes sets → IsReady core hand' → Stops stamp rid wts hand.view hand'.view → IsPost hand' Open stamp reads writes sets
+post_stopped core hand hand' stamp rid wts reads writes sets is ready stops = record {
   ready = own_ready core hand' ready;
   size = rw stops.view is.size;
   holds_none = rw stops.view is.holds_none;
@@ -228,6 +233,16 @@ post_passed core hand hand' stamp rid place wts value reads writes sets is ready
         left = rw finds.view is.at.left;
       };
     }
+
+-- it was met
+pub present_met : (hand hand' : Seated) (phase : Phase) (stamp rid place wts : ℕ) (value : Option (List ℕ)) (reads writes : List (ℕ × Option (List ℕ))) (sets : SetsView) (p : PostView) → IsPost hand phase stamp reads writes sets → post_view hand phase stamp reads writes ≡ p → p.phase ≡ Open → Finds rid place wts value hand.view hand'.view → is_some value ≡ true → Met p.stamp rid wts 3 no_more p.observed.loads hand'.view.seen.loads
+present_met hand hand' phase stamp rid place wts value reads writes sets p is same flying finds some =
+    let now = is_open phase hand stamp reads writes sets (ap (λ (q : PostView). q.phase) same ∙ flying) is in
+    let before = hand.view.seen.loads in
+    let after = hand'.view.seen.loads in
+    subst (λ (q : PostView). Met q.stamp rid wts 3 no_more q.observed.loads after) same
+    (subst (λ (n : ℕ). Met n rid wts 3 no_more before after) (limit_is hand.view stamp (now.at.begun.in_flight ∙ ap writing (sym now.at.at)))
+    (subst (λ (b : Bool). Met (limit_of hand.view.flight hand.view.published.read) rid wts (cond b 3 4) no_more before after) some finds.met))
 
 -- ---- what a log leaves
 

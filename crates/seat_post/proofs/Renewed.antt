@@ -5,7 +5,7 @@ use Rattle.plain_data.specs.declared.entry.Entry.{Entry}
 use Rattle.plain_data.specs.State.{State}
 use Rattle.stamp_base.specs.Stamp.{stamp_of, bound_of_clock}
 use Rattle.word_layout.specs.Size.{Size, kept_place}
-use Rattle.core_rule.specs.View.{View, Work, Write, no_work, Logged, Load, still}
+use Rattle.core_rule.specs.View.{View, Work, Write, no_work, Logged, Load, Seen, still}
 use Rattle.core_rule.specs.Views.{Has, Among, IsAlone}
 use Rattle.core_rule.specs.Versions.{read_version}
 use Rattle.core_rule.specs.Holding.{without}
@@ -16,6 +16,8 @@ use Rattle.core_rule.specs.Deciding as deciding
 use Rattle.core_rule.proofs.Among.{Among-split}
 use Rattle.clock_stamps.specs.Clocks.{drawn}
 use Rattle.version_pool.specs.Takes.{TakesFree, WasMet, after_losing}
+use Rattle.version_search.specs.Growing.{Grows}
+use Rattle.version_search.proofs.Grown.{grows_both, grows_lost}
 use Rattle.validate_core.specs.declared.conflict.Conflict.{Conflict}
 use Rattle.validate_core.specs.declared.conflict.Conflict.TheVariants.{Pending, ReadLater, Overtaken}
 use Rattle.seat_post.specs.Ends.{Stood}
@@ -40,21 +42,22 @@ pub record Drew (clock : ℕ) (held : List ℕ) (v w : View) : Type 0 where
   pub holds : w.places.held ≡ held
   pub published : w.published.write ≡ stamp_of clock v.number
   pub log : w.log ≡ v.log
+  pub grows : Grows v.seen w.seen
 
 -- then a version was found
 pub drew_found : (u v w : View) (clock rid place wts : ℕ) (value : Option (List ℕ)) → v ≡ drawn u clock → Finds rid place wts value v w → Drew clock u.places.held u w
 drew_found u v w clock rid place wts value drew found =
     let is = found.view ∙ ap (λ (y : View). record y { work = record y.work { search = still; reads = read_version rid place wts value ∷ y.work.reads }; seen = w.seen }) drew in
-    subst (λ (y : View). Drew clock u.places.held u y) (sym is) (record { number = refl; size = refl; splitting = refl; taken_in = refl; clock_is = refl; met = refl; holds = refl; published = refl; log = refl })
+    subst (λ (y : View). Drew clock u.places.held u y) (sym is) (record { number = refl; size = refl; splitting = refl; taken_in = refl; clock_is = refl; met = refl; holds = refl; published = refl; log = refl; grows = subst (λ (s : Seen). Grows s w.seen) (ap (λ (y : View). y.seen) drew) found.grows })
 
 -- exchanges were lost, and a place was taken
 drew_losing : (u w x : View) (clock : ℕ) (held : List ℕ) (lost : List Load) → Drew clock held u w → x ≡ after_losing w lost → Drew clock held u x
-drew_losing u w x clock held lost d is = subst (λ (y : View). Drew clock held u y) (sym is) (record { number = d.number; size = d.size; splitting = d.splitting; taken_in = d.taken_in; clock_is = d.clock_is; met = d.met; holds = d.holds; published = d.published; log = d.log })
+drew_losing u w x clock held lost d is = subst (λ (y : View). Drew clock held u y) (sym is) (record { number = d.number; size = d.size; splitting = d.splitting; taken_in = d.taken_in; clock_is = d.clock_is; met = d.met; holds = d.holds; published = d.published; log = d.log; grows = grows_both u.seen w.seen (after_losing w lost).seen d.grows (grows_lost w.seen (after_losing w lost).seen lost refl refl) })
 
 pub drew_taking : (u w x : View) (clock place : ℕ) (held : List ℕ) → Drew clock held u w → TakesAfter place w x → Drew clock (place ∷ held) u x
 drew_taking u w x clock place held d takes =
     let l = drew_losing u w (after_losing w takes.lost) clock held takes.lost d refl in
-    subst (λ (y : View). Drew clock (place ∷ held) u y) (sym takes.takes.view) (record { number = l.number; size = l.size; splitting = l.splitting; taken_in = l.taken_in; clock_is = l.clock_is; met = l.met; holds = ap (λ ps. place ∷ ps) l.holds; published = l.published; log = l.log })
+    subst (λ (y : View). Drew clock (place ∷ held) u y) (sym takes.takes.view) (record { number = l.number; size = l.size; splitting = l.splitting; taken_in = l.taken_in; clock_is = l.clock_is; met = l.met; holds = ap (λ ps. place ∷ ps) l.holds; published = l.published; log = l.log; grows = l.grows })
 
 -- nothing is left to be done after it
 pub found_ends : (rid place wts : ℕ) (value : Option (List ℕ)) (v w : View) (clock : ℕ) (u : View) → v ≡ drawn u clock → Finds rid place wts value v w → Ends w.work
@@ -85,6 +88,7 @@ none_taken kept u v w x clock rid place wts value is later drew found none =
         taken_in = d.taken_in;
         later = let h = d.clock_is in omega arith;
         met = let h = d.met in omega arith;
+        grows = d.grows;
         log = rw d.log none_yet;
         added = rw d.log (λ e among. inl among);
       },
@@ -159,6 +163,7 @@ module _ (u v w t : View) (clock rid from wts place : ℕ) (value : Option (List
       taken_in = taken_in_is;
       later = let h = clock_is in omega arith;
       met = let h = ap (λ (y : View). y.clock.met) links.only ∙ at_taken.met in omega arith;
+      grows = grows_both u.seen t.seen x.seen at_taken.grows links.grows;
       log = subst (λ es. Rewritings kept u.size.records (entries_of u) es) (sym log_is) (one_more (entries_of u) (stamp_of clock u.number) rid value none_yet stood_there above_there (left_drawn u v w clock rid from wts value drew found is.alone));
       added = λ e among. ⊎_elim (λ earlier. inl earlier) (λ last. ⊎_elim (λ same. inr (subst (λ (x : Entry). bound_of_clock u.clock.clock ≤ x.stamp) same stamp_later)) (λ none. absurd none) last)
           (Among-split e (entries_of u) (entry ∷ []) (subst (λ es. Among e es) log_is among));

@@ -14,16 +14,22 @@ use Rattle.version_search.specs.Finding.{Reads, new_read}
 use Rattle.seat_post.specs.Leaves.{LeavesAs, AreAbsent}
 use Rattle.seat_post.specs.Rescan.{Looks, looked_over}
 use Rattle.seat_post.specs.declared.phase.Phase.{Phase}
-use Rattle.seat_post.specs.Post.{post_view}
+use Rattle.seat_post.specs.Post.{post_view, observing, observed_in}
 use Rattle.seat_post.specs.Spare.{NumbersView, is_on, added}
 use Rattle.seat_post.proofs.Announcing.{word, Announces}
+use Rattle.version_search.proofs.Grown.{grows_none, grows_both}
 use Rattle.seat_post.proofs.NumberLists.{or_off, or_true, on_either}
+use Rattle.seat_post.proofs.Observed.{reads_grow}
 
 -- ---- searches
+
+pub looks_none : (v : View) → Rests v.work.search → Looks v v
+looks_none v rests = record { view = refl; grows = grows_none v.seen; rests = rests; ends = λ e. e }
 
 pub looks_more : (u v w : View) → Looks u v → Looks v w → Looks u w
 looks_more u v w first second = record {
   view = second.view ∙ ap (λ (x : View). record x { work = w.work; seen = w.seen }) first.view;
+  grows = grows_both u.seen v.seen w.seen first.grows second.grows;
   rests = second.rests;
   ends = λ e. second.ends (first.ends e);
 }
@@ -36,6 +42,7 @@ looks_read limit rid place w s v x is =
     let work : x.work ≡ record v.work { search = still; reads = new_read rid place w s ∷ v.work.reads } = ap (λ (y : View). y.work) is.view in
     record {
       view = is.view ∙ ap (λ (y : Work). record v { work = y; seen = x.seen }) (sym work);
+      grows = reads_grow limit rid place w s v x is;
       rests = subst (λ (y : Work). Rests y.search) (sym work) tt;
       ends = λ e. subst Ends (sym work) (ends_read v.work (new_read rid place w s) e);
     }
@@ -99,6 +106,14 @@ with_absent log limit from to rids some are left = record {
       | inl t ↦ rw (t.0, or_true (is_on rids r)) (subst (λ n. LeavesAs log n limit true) (sym t.1) left)
       | inr t ↦ (let apart = t.1 in rw (t.0, or_off (is_on rids r)) (are.each r from_is (omega arith)))
     ]
+
+-- none was looked at
+pub none_absent : (log : List Entry) (limit from to : ℕ) (rids : List ℕ) → to ≡ from → rids ≡ [] → AreAbsent log limit from to rids
+none_absent log limit from to rids same none = rw none (record {
+  rising = λ k within. absurd (omega arith);
+  in_range = λ r on. (let h : false ≡ true = on in cc);
+  each = λ r low below. absurd (omega arith);
+})
 
 pub present_more : (log : List Entry) (limit from to : ℕ) (rids : List ℕ) → from ≤ to → AreAbsent log limit from to rids → LeavesAs log to limit false → AreAbsent log limit from (to + 1) rids
 present_more log limit from to rids some are left = record {
@@ -168,7 +183,7 @@ overlooked v z w stamp last is view met below =
           ∙ ap (λ (n : ℕ). overlooked_at v n (word v) is.raises w.seen) less;
     }
 
-pub overlooked_view : (hand hand' : Seated) (phase : Phase) (stamp : ℕ) (reads writes : List (ℕ × Option (List ℕ))) → hand'.table ≡ hand.table → Overlooked hand.view hand'.view → post_view hand' phase stamp reads writes ≡ looked_over (post_view hand phase stamp reads writes)
+pub overlooked_view : (hand hand' : Seated) (phase : Phase) (stamp : ℕ) (reads writes : List (ℕ × Option (List ℕ))) → hand'.table ≡ hand.table → Overlooked hand.view hand'.view → post_view hand' phase stamp reads writes ≡ observing (looked_over (post_view hand phase stamp reads writes)) (observed_in hand')
 overlooked_view hand hand' phase stamp reads writes table is = rw (table, is.only) refl
 
 -- what is absent is so below what is published

@@ -13,12 +13,14 @@ use Rattle.core_rule.specs.Hands.{Shared, Seated, StaysReady}
 use Rattle.core_rule.specs.Deciding as deciding
 use Rattle.clock_stamps.specs.Minima.{bounded}
 use Rattle.version_search.specs.Finding.{Reads}
+use Rattle.version_search.proofs.Grown.{grows_both}
 use Rattle.rapid_gc.specs.Bounds.{IsOneLeft}
 use Rattle.seat_post.specs.declared.phase.Phase.{Phase}
 use Rattle.seat_post.specs.Glance.{first_glance}
 use Rattle.seat_post.specs.Post.{post_view}
 use Rattle.seat_post.specs.Rewriting.{Rewritings}
 use Rattle.seat_post.specs.Settling.{entries_of, IsSettling, Settles, AreSettled, AreLater, KeepsOthers, Draws, SettlesPost}
+use Rattle.seat_post.proofs.Observed.{observed_grows, bounded_grows}
 
 -- ---- a record
 
@@ -81,11 +83,12 @@ settles_post kept hand hand' last phase stamp bound reads writes table table' se
     let after' = post_view last phase stamp reads writes in
     let is : bound ≡ bound + 1 - 1 = omega arith in
     let glance : after'.glance ≡ first_glance (last.view.clock.met - 1) = rw view (ap first_glance is) in
-    let rest : record after' { glance = first_glance (last.view.clock.met - 1) } ≡ record before { clock = after'.clock; published = after'.published; met = after'.met; known = after'.known; log = after'.log; glance = first_glance (after'.met - 1) } = rw (table' ∙ table, number, size, splitting, taken) refl in
+    let rest : record after' { glance = first_glance (last.view.clock.met - 1) } ≡ record before { clock = after'.clock; published = after'.published; met = after'.met; known = after'.known; log = after'.log; observed = after'.observed; glance = first_glance (after'.met - 1) } = rw (table' ∙ table, number, size, splitting, taken) refl in
     record {
       only = ap (λ g. record after' { glance = g }) glance ∙ rest;
       later = omega arith;
       met = omega arith;
+      grows = observed_grows hand last (grows_both hand.view.seen hand'.view.seen last.view.seen settles.grows (bounded_grows hand'.view last.view bound view));
       log = subst (λ (es : List Logged). Rewritings kept hand.view.size.records (entries_of hand.view) (map deciding.entry_of es)) (sym log) settles.log;
       added = subst (λ (es : List Logged). AreLater (entries_of hand.view) (map deciding.entry_of es) (bound_of_clock hand.view.clock.clock)) (sym log) settles.added;
       above = rw (log, clock) settling.above;

@@ -10,10 +10,13 @@ use Rattle.core_rule.specs.Searching.{Ends}
 use Rattle.core_rule.specs.Hands.{Seated}
 use Rattle.clock_stamps.specs.Clocks.{rests}
 use Rattle.clock_stamps.specs.Minima.{raised_write, bounded}
+use Rattle.version_search.specs.Growing.{Grows}
 use Rattle.version_search.specs.Finding.{Reads}
+use Rattle.version_search.proofs.Grown.{grows_none, grows_both}
 use Rattle.rapid_gc.specs.Collections.{after_collecting}
 use Rattle.seat_post.specs.Rewriting.{Rewritings, none_yet, one_more}
 use Rattle.seat_post.specs.Settling.{entries_of, IsSettling, Settles}
+use Rattle.seat_post.proofs.Observed.{bounded_grows, reads_grow}
 
 -- the same seat with the same clock and log, and nothing in flight
 pub record Steady (v w : View) : Type 0 where
@@ -25,13 +28,14 @@ pub record Steady (v w : View) : Type 0 where
   pub met : v.clock.met ≤ w.clock.met
   pub log : w.log ≡ v.log
   pub held : w.places.held ≡ v.places.held
+  pub grows : Grows v.seen w.seen
   pub ends : Ends w.work
 
 nothing_ends : Ends no_work
 nothing_ends = record { rests = tt; settled = λ u among. absurd among; collected = refl }
 
 pub steady_same : (v w : View) → w ≡ v → Ends v.work → Steady v w
-steady_same v w same ends = subst (λ (y : View). Steady v y) (sym same) (record { number = refl; size = refl; splitting = refl; taken_in = refl; clock = refl; met = omega arith; log = refl; held = refl; ends = ends })
+steady_same v w same ends = subst (λ (y : View). Steady v y) (sym same) (record { number = refl; size = refl; splitting = refl; taken_in = refl; clock = refl; met = omega arith; log = refl; held = refl; grows = grows_none v.seen; ends = ends })
 
 pub steady_both : (u v w : View) → Steady u v → Steady v w → Steady u w
 steady_both u v w a b = record {
@@ -43,40 +47,41 @@ steady_both u v w a b = record {
   met = let h = a.met in let k = b.met in omega arith;
   log = b.log ∙ a.log;
   held = b.held ∙ a.held;
+  grows = grows_both u.seen v.seen w.seen a.grows b.grows;
   ends = b.ends;
 }
 
 steady_rests : (v w : View) → w ≡ rests v → Steady v w
-steady_rests v w is = subst (λ (y : View). Steady v y) (sym is) (record { number = refl; size = refl; splitting = refl; taken_in = refl; clock = refl; met = omega arith; log = refl; held = refl; ends = nothing_ends })
+steady_rests v w is = subst (λ (y : View). Steady v y) (sym is) (record { number = refl; size = refl; splitting = refl; taken_in = refl; clock = refl; met = omega arith; log = refl; held = refl; grows = grows_none v.seen; ends = nothing_ends })
 
 pub steady_idle : (h k : Seated) → Ends h.view.work → (h.view.published.write < bound_of_clock h.view.clock.clock → k.view ≡ rests h.view) → (bound_of_clock h.view.clock.clock ≤ h.view.published.write → k ≡ h) → Steady h.view k.view
 steady_idle h k ends rises unchanged =
     ⊎_elim (λ less. steady_rests h.view k.view (rises less)) (λ most. steady_same h.view k.view (ap (λ (x : Seated). x.view) (unchanged most)) ends) (cases_lt h.view.published.write (bound_of_clock h.view.clock.clock))
 
-pub steady_raised : (v w : View) (met : ℕ) (seen : Seen) → w ≡ raised_write v met seen → v.clock.met ≤ met → Ends v.work → Steady v w
-steady_raised v w met seen is later ends = subst (λ (y : View). Steady v y) (sym is) (record { number = refl; size = refl; splitting = refl; taken_in = refl; clock = refl; met = later; log = refl; held = refl; ends = ends })
+pub steady_raised : (v w : View) (met : ℕ) (seen : Seen) → w ≡ raised_write v met seen → Grows v.seen seen → v.clock.met ≤ met → Ends v.work → Steady v w
+steady_raised v w met seen is grows later ends = subst (λ (y : View). Steady v y) (sym is) (record { number = refl; size = refl; splitting = refl; taken_in = refl; clock = refl; met = later; log = refl; held = refl; grows = grows; ends = ends })
 
 pub steady_bounded : (v w : View) (bound : ℕ) → w ≡ bounded v bound → v.clock.met ≤ bound + 1 → Steady v w
-steady_bounded v w bound is later = subst (λ (y : View). Steady v y) (sym is) (record { number = refl; size = refl; splitting = refl; taken_in = refl; clock = refl; met = later; log = refl; held = refl; ends = nothing_ends })
+steady_bounded v w bound is later = subst (λ (y : View). Steady v y) (sym is) (record { number = refl; size = refl; splitting = refl; taken_in = refl; clock = refl; met = later; log = refl; held = refl; grows = bounded_grows v (bounded v bound) bound refl; ends = nothing_ends })
 
 pub steady_read : (limit rid place wts status : ℕ) (v w : View) → Reads limit rid place wts status v w → Ends v.work → Steady v w
-steady_read limit rid place wts status v w found ends = subst (λ (y : View). Steady v y) (sym found.view) (record { number = refl; size = refl; splitting = refl; taken_in = refl; clock = refl; met = omega arith; log = refl; held = refl; ends = record { rests = tt; settled = ends.settled; collected = ends.collected } })
+steady_read limit rid place wts status v w found ends = subst (λ (y : View). Steady v y) (sym found.view) (record { number = refl; size = refl; splitting = refl; taken_in = refl; clock = refl; met = omega arith; log = refl; held = refl; grows = reads_grow limit rid place wts status v w found; ends = record { rests = tt; settled = ends.settled; collected = ends.collected } })
 
 -- a search up to the published read stamp, after that was published anew
-pub steady_looked : (a b c d : Seated) (e : View) (met bound rid place wts status : ℕ) → Ends a.view.work → (a.view.published.write < bound_of_clock a.view.clock.clock → b.view ≡ rests a.view) → (bound_of_clock a.view.clock.clock ≤ a.view.published.write → b ≡ a) → c.view ≡ raised_write b.view met c.view.seen → b.view.clock.met ≤ met → d.view ≡ bounded c.view bound → c.view.clock.met ≤ bound + 1 → Reads (bound + 1) rid place wts status d.view e → Steady a.view e
-steady_looked a b c d e met bound rid place wts status ends rises unchanged raised not_back is later found =
+pub steady_looked : (a b c d : Seated) (e : View) (met bound rid place wts status : ℕ) → Ends a.view.work → (a.view.published.write < bound_of_clock a.view.clock.clock → b.view ≡ rests a.view) → (bound_of_clock a.view.clock.clock ≤ a.view.published.write → b ≡ a) → c.view ≡ raised_write b.view met c.view.seen → Grows b.view.seen c.view.seen → b.view.clock.met ≤ met → d.view ≡ bounded c.view bound → c.view.clock.met ≤ bound + 1 → Reads (bound + 1) rid place wts status d.view e → Steady a.view e
+steady_looked a b c d e met bound rid place wts status ends rises unchanged raised grows not_back is later found =
     let idled = steady_idle a b ends rises unchanged in
-    let raise = steady_raised b.view c.view met c.view.seen raised not_back idled.ends in
+    let raise = steady_raised b.view c.view met c.view.seen raised grows not_back idled.ends in
     let publish = steady_bounded c.view d.view bound is later in
     let read = steady_read (bound + 1) rid place wts status d.view e found publish.ends in
     steady_both a.view d.view e (steady_both a.view c.view d.view (steady_both a.view b.view c.view idled raise) publish) read
 
 -- the look at a first version, and a collection
-pub steady_first : (v w : View) (counts : Counted) (tops : List Top) (front : Front) (seen : Seen) → w ≡ record v { counts = counts; tops = tops; front = front; seen = seen } → Ends v.work → Steady v w
-steady_first v w counts tops front seen is ends = subst (λ (y : View). Steady v y) (sym is) (record { number = refl; size = refl; splitting = refl; taken_in = refl; clock = refl; met = omega arith; log = refl; held = refl; ends = ends })
+pub steady_first : (v w : View) (counts : Counted) (tops : List Top) (front : Front) (seen : Seen) → w ≡ record v { counts = counts; tops = tops; front = front; seen = seen } → Grows v.seen seen → Ends v.work → Steady v w
+steady_first v w counts tops front seen is grows ends = subst (λ (y : View). Steady v y) (sym is) (record { number = refl; size = refl; splitting = refl; taken_in = refl; clock = refl; met = omega arith; log = refl; held = refl; grows = grows; ends = ends })
 
-pub steady_collected : (v w : View) (bound reached : ℕ) (counts : Counted) (gone : Gone) (seen : Seen) → w ≡ after_collecting v bound reached counts gone seen → v.clock.met ≤ w.clock.met → Steady v w
-steady_collected v w bound reached counts gone seen is met = record {
+pub steady_collected : (v w : View) (bound reached : ℕ) (counts : Counted) (gone : Gone) (seen : Seen) → w ≡ after_collecting v bound reached counts gone seen → v.clock.met ≤ w.clock.met → Grows v.seen w.seen → Steady v w
+steady_collected v w bound reached counts gone seen is met grows = record {
   number = ap (λ (y : View). y.number) is;
   size = ap (λ (y : View). y.size) is;
   splitting = ap (λ (y : View). y.splitting) is;
@@ -85,6 +90,7 @@ steady_collected v w bound reached counts gone seen is met = record {
   met = met;
   log = ap (λ (y : View). y.log) is;
   held = ap (λ (y : View). y.places.held) is;
+  grows = grows;
   ends = subst (λ (y : Work). Ends y) (sym (ap (λ (y : View). y.work) is)) nothing_ends;
 }
 
@@ -109,6 +115,7 @@ steady_settles kept v w s = record {
   taken_in = s.taken_in;
   later = let h = s.clock in omega arith;
   met = s.met;
+  grows = s.grows;
   log = rw s.log none_yet;
   added = rw s.log (λ e among. inl among);
 }
@@ -129,6 +136,7 @@ settles_both kept u v w a b = record {
   taken_in = b.taken_in ∙ a.taken_in;
   later = let h = a.later in let k = b.later in omega arith;
   met = let h = a.met in let k = b.met in omega arith;
+  grows = grows_both u.seen v.seen w.seen a.grows b.grows;
   log = rewritings_both kept u.size.records (entries_of u) (entries_of v) (entries_of w) a.log (rw (← a.size) b.log);
   added = λ e among. ⊎_elim (λ earlier. a.added e earlier) (λ above. inr (later_stamp u v e.stamp a.later above)) (b.added e among);
 }

@@ -1,8 +1,9 @@
 -- What a conflict says of the transaction that it stops.
-use Rattle.std.specs.Prelude.{◌≡◌, ◌≢◌, ℕ, ◌<◌, List, Option, IsSome}
+use Rattle.std.specs.Prelude.{◌≡◌, ◌≢◌, ◌⊎◌, ℕ, ◌<◌, List, Option, IsSome}
 use Rattle.stamp_base.specs.Stamp.{seat_of}
 use Rattle.word_layout.specs.Size.{Size}
-use Rattle.seat_post.specs.Seats.{Others, IsAloneAt}
+use Rattle.validate_core.specs.Validating.{Met, MetFinal, no_more, its_read_stamp}
+use Rattle.seat_post.specs.Seats.{Others, Observed, IsAloneAt}
 use Rattle.record_store.specs.Meaning.{value_at}
 use Rattle.validate_core.specs.declared.conflict.Conflict.{Conflict}
 use Rattle.validate_core.specs.declared.conflict.Conflict.TheVariants.{Pending, ReadLater, Overtaken}
@@ -20,6 +21,19 @@ abbrev pub Shows : (size : Size) (seat : ℕ) (others : Others) (stamp : ℕ) (r
 Shows size seat others stamp reads writes (Pending rid wts) = (rid < size.records) × (wts < stamp) × IsOfAnother size seat others wts
 Shows size seat others stamp reads writes (ReadLater rid wts rts) = IsSome (value_at writes rid) × (wts < stamp) × (stamp < rts) × IsOfAnother size seat others rts
 Shows size seat others stamp reads writes (Overtaken rid seen now) = IsSome (value_at reads rid) × (seen < now) × (now < stamp) × IsOfAnother size seat others now
+
+-- It is of a record that was read or is written: one that is overwritten was written, and one that was overtaken was read.
+abbrev pub Touches : (reads writes : List (ℕ × Option (List ℕ))) → Conflict → Type 0
+Touches reads writes (Pending rid wts) = IsSome (value_at reads rid) ⊎ IsSome (value_at writes rid)
+Touches reads writes (ReadLater rid wts rts) = IsSome (value_at writes rid)
+Touches reads writes (Overtaken rid seen now) = IsSome (value_at reads rid)
+
+-- What it names was loaded between the two, at a version below the stamp to which the loads led: the status of a pending one; the
+-- read stamp of a committed or deleted one; the status of such a one.
+abbrev pub IsLoaded : (stamp : ℕ) → Conflict → (before after' : Observed) → Type 0
+IsLoaded stamp (Pending rid wts) before after' = Met stamp rid wts 2 no_more before.loads after'.loads
+IsLoaded stamp (ReadLater rid wts rts) before after' = MetFinal stamp rid wts (its_read_stamp rts) before.loads after'.loads
+IsLoaded stamp (Overtaken rid seen now) before after' = MetFinal stamp rid now no_more before.loads after'.loads
 
 -- a read meets a pending version alone
 abbrev pub ShowsPending : (size : Size) (seat : ℕ) (others : Others) (stamp : ℕ) → Conflict → Type 0

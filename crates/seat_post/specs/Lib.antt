@@ -1,5 +1,6 @@
 pub mod FirstRead
 pub mod Seats
+pub mod Observing
 pub mod Conflicts
 pub mod Logs
 pub mod Leaves

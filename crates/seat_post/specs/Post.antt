@@ -16,7 +16,7 @@ use Rattle.validate_core.specs.Validating as validating
 use Rattle.validate_core.specs.declared.conflict.Conflict.{Conflict}
 use Rattle.core_rule.specs.Snapshots.{AreAllWhole}
 use Rattle.seat_post.specs.Glance.{GlanceView, glance_of, first_glance, with_read}
-use Rattle.seat_post.specs.Seats.{Others, Known, IsAloneAt}
+use Rattle.seat_post.specs.Seats.{Others, Known, Observed, IsAloneAt}
 use Rattle.seat_post.specs.Conflicts.{Shows}
 use Rattle.seat_post.specs.Logs.{IsAbove}
 use Rattle.seat_post.specs.Leaves.{AreLeft}
@@ -25,7 +25,8 @@ use Rattle.seat_post.specs.declared.phase.Phase.{Phase}
 use Rattle.seat_post.specs.declared.phase.Phase.TheVariants.{Idle, Open, Installed, Decided}
 
 -- the table of the seat, its number, its clock, its published write word, the seats that it takes as open, what it knows of lists, the
--- greatest `min_wts` that it has met, its log, what a snapshot there has read; and how far the transaction is, its stamp, its reads and its writes
+-- greatest `min_wts` that it has met, its log, what its steps loaded and which exchanges they lost, what a snapshot there has read; and
+-- how far the transaction is, its stamp, its reads and its writes
 pub record PostView : Type 0 where
   pub shared : Shared
   pub seat : ℕ
@@ -35,6 +36,7 @@ pub record PostView : Type 0 where
   pub known : Known
   pub met : ℕ
   pub log : List Entry
+  pub observed : Observed
   pub glance : Option GlanceView
   pub phase : Phase
   pub stamp : ℕ
@@ -53,6 +55,10 @@ shared_of hand = record { table = hand.table; size = hand.view.size }
 abbrev pub known_in : Seated → Known
 known_in hand = record { counts = hand.view.counts; tops = hand.view.tops }
 
+-- what its steps came upon
+abbrev pub observed_in : Seated → Observed
+observed_in hand = record { loads = hand.view.seen.loads; lost = hand.view.seen.lost }
+
 abbrev pub post_view : Seated → Phase → ℕ → (reads writes : List (ℕ × Option (List ℕ))) → PostView
 post_view hand phase stamp reads writes = record {
   shared = shared_of hand;
@@ -63,6 +69,7 @@ post_view hand phase stamp reads writes = record {
   known = known_in hand;
   met = hand.view.clock.met;
   log = map deciding.entry_of hand.view.log;
+  observed = observed_in hand;
   glance = glance_of hand.view.flight hand.view.published.read hand.view.work.reads;
   phase = phase;
   stamp = stamp;
@@ -131,6 +138,10 @@ pub record IsPost (hand : Seated) (phase : Phase) (stamp : ℕ) (reads writes : 
   pub at : IsAt phase hand stamp reads writes sets
 
 -- ---- what its calls make of it
+
+-- its steps came upon this
+abbrev pub observing : PostView → Observed → PostView
+observing p observed = record p { observed = observed }
 
 abbrev pub opened : PostView → ℕ → PostView
 opened p clock = record p { clock = clock; published = stamp_of clock p.seat; glance = None; phase = Open; stamp = stamp_of clock p.seat }

@@ -5,19 +5,45 @@ use Rattle.stamp_base.specs.Stamp.{stamp_of}
 use Rattle.core_rule.specs.View.{View, writing, no_work}
 use Rattle.core_rule.specs.Searching.{Ends}
 use Rattle.version_pool.specs.Takes.{TakesFree, FindsNone}
+use Rattle.version_search.specs.Growing as growing
 use Rattle.version_search.specs.Finding.{Reads}
 use Rattle.version_search.specs.Loading.{with_value}
-use Rattle.validate_core.specs.Validating.{worked}
+use Rattle.validate_core.specs.Validating.{worked, Met, no_more}
 use Rattle.validate_core.specs.declared.conflict.Conflict.{Conflict}
 use Rattle.seat_post.specs.declared.promoting.Promotion.{Promotion}
 use Rattle.seat_post.specs.declared.promoting.Promotion.TheVariants.{Promoted, Inline, Absent, Occupied}
 use Rattle.seat_post.specs.declared.promoting.PromoteFault.{PromoteFault}
 use Rattle.seat_post.specs.declared.promoting.PromoteFault.TheVariants as fault
-use Rattle.seat_post.specs.Seats.{Known}
-use Rattle.seat_post.specs.Conflicts.{ShowsOf}
+use Rattle.seat_post.specs.Seats.{Known, Observed}
+use Rattle.seat_post.specs.Observing.{WasLost}
+use Rattle.seat_post.specs.Conflicts.{ShowsOf, IsLoaded}
 use Rattle.seat_post.specs.Ends.{Stood}
-use Rattle.seat_post.specs.Post.{PostView, drawn_at}
-use Rattle.seat_post.specs.Rewriting.{rewriting, linked_in, Rewrites, IsStopped, others_in}
+use Rattle.seat_post.specs.Post.{PostView, drawn_at, observing}
+use Rattle.seat_post.specs.Rewriting.{rewriting, linked_in, Rewrites, IsStopped, others_in, IsLoadedIn}
+
+-- ---- what was come upon
+
+-- the visible version below the stamp was loaded, with this status
+pub record MeetsAt (stamp rid status : ℕ) (before after' : Observed) : Type 0 where
+  pub wts : ℕ
+  pub met : Met stamp rid wts status no_more before.loads after'.loads
+
+-- in the inline place, present; elsewhere, present
+pub record MeetsInline (stamp rid : ℕ) (before after' : Observed) : Type 0 where
+  pub visible : MeetsAt stamp rid 3 before after'
+  pub inline : visible.met.place ≡ rid
+
+pub record MeetsElsewhere (stamp rid : ℕ) (before after' : Observed) : Type 0 where
+  pub visible : MeetsAt stamp rid 3 before after'
+  pub elsewhere : visible.met.place ≢ rid
+
+-- what each answer of a promotion was come upon by: the version was met elsewhere; in the inline place; deleted; elsewhere, and then
+-- the exchange on the inline place was lost
+abbrev pub CameUpon : (stamp rid : ℕ) (before after' : Observed) → Promotion → Type 0
+CameUpon stamp rid before after' (Promoted at) = MeetsElsewhere stamp rid before after'
+CameUpon stamp rid before after' Inline = MeetsInline stamp rid before after'
+CameUpon stamp rid before after' Absent = MeetsAt stamp rid 4 before after'
+CameUpon stamp rid before after' Occupied = MeetsElsewhere stamp rid before after' × WasLost rid before.lost after'.lost
 
 -- ---- the same of a post
 
@@ -33,19 +59,20 @@ stopped_at p clock known = record (drawn_at p clock) { known = known }
 pub record IsRewritten (kept : State → Type 0) (rid place clock : ℕ) (before after' : PostView) (stamp : ℕ) : Type 0 where
   pub at : stamp ≡ stamp_of clock before.seat
   pub words : List ℕ
-  pub after : after' ≡ rewritten_at before clock rid place (Some words)
+  pub after : after' ≡ observing (rewritten_at before clock rid place (Some words)) after'.observed
   pub stood : Stood kept before.shared.size.records before.log (rewriting stamp rid (Some words))
 
 pub record IsStoppedPost (rid clock : ℕ) (before after' : PostView) (conflict : Conflict) : Type 0 where
-  pub after : after' ≡ stopped_at before clock after'.known
+  pub after : after' ≡ observing (stopped_at before clock after'.known) after'.observed
   pub linked : (after'.known ≡ before.known) ⊎ (after'.known ≡ linked_in before.shared.size rid rid (stamp_of clock before.seat) before.known)
   pub shown : ShowsOf rid before.shared.size before.seat before.others (stamp_of clock before.seat) conflict
+  pub loaded : IsLoaded (stamp_of clock before.seat) conflict before.observed after'.observed
 
 abbrev pub PromotesPost : (kept : State → Type 0) (rid clock : ℕ) (before after' : PostView) → Promotion → Type 0
 PromotesPost kept rid clock before after' (Promoted stamp) = IsRewritten kept rid rid clock before after' stamp
-PromotesPost kept rid clock before after' Inline = after' ≡ drawn_at before clock
-PromotesPost kept rid clock before after' Absent = after' ≡ drawn_at before clock
-PromotesPost kept rid clock before after' Occupied = after' ≡ drawn_at before clock
+PromotesPost kept rid clock before after' Inline = after' ≡ observing (drawn_at before clock) after'.observed
+PromotesPost kept rid clock before after' Absent = after' ≡ observing (drawn_at before clock) after'.observed
+PromotesPost kept rid clock before after' Occupied = after' ≡ observing (drawn_at before clock) after'.observed
 
 abbrev pub FailsPost : (rid clock : ℕ) (before after' : PostView) → PromoteFault → Type 0
 FailsPost rid clock before after' fault.ClockOut = after' ≡ before
@@ -90,6 +117,7 @@ pub record LoadsElsewhere (stamp rid : ℕ) (words : List ℕ) (v w : View) : Ty
   pub taken : View
   pub takes : TakesFree rid between taken
   pub loads : w ≡ with_value taken words w.seen
+  pub grows : growing.Grows taken.seen w.seen
 
 -- and was written there again
 pub record WritesInline (kept : State → Type 0) (records stamp rid : ℕ) (v w : View) : Type 0 where
@@ -109,7 +137,9 @@ PromotesAt kept records stamp rid v w Occupied = FindsOccupied stamp rid v w
 pub record MeetsPending (stamp rid : ℕ) (v w : View) (conflict : Conflict) : Type 0 where
   pub only : w ≡ worked v w.work w.seen
   pub ends : Ends w.work
+  pub grows : growing.Grows v.seen w.seen
   pub shown : ShowsOf rid v.size v.number (others_in v) stamp conflict
+  pub loaded : IsLoadedIn stamp conflict v w
 
 -- a conflict stopped the writing
 pub record IsStoppedWriting (stamp rid : ℕ) (v w : View) (conflict : Conflict) : Type 0 where

@@ -11,11 +11,12 @@ use Rattle.core_rule.specs.Collecting.{HasEntry}
 use Rattle.core_rule.specs.Deciding as deciding
 use Rattle.validate_core.specs.Sets.{SetsView}
 use Rattle.validate_core.specs.declared.conflict.Conflict.{Conflict}
+use Rattle.version_search.specs.Growing.{Grows}
 use Rattle.rapid_gc.specs.Queues.{Waiting}
 use Rattle.seat_post.specs.Leaves.{LeavesValue}
 use Rattle.seat_post.specs.Logs.{IsAbove}
-use Rattle.seat_post.specs.Seats.{Others, Known}
-use Rattle.seat_post.specs.Conflicts.{ShowsOf}
+use Rattle.seat_post.specs.Seats.{Others, Known, Observed}
+use Rattle.seat_post.specs.Conflicts.{ShowsOf, IsLoaded}
 use Rattle.seat_post.specs.Ends.{Stood}
 
 -- sets in which nothing stands, with room for one read and one write
@@ -68,6 +69,7 @@ pub record LinksOne (rid place stamp : ℕ) (v w : View) : Type 0 where
     seen = w.seen;
   }
   pub held : w.places.held ≡ without place v.places.held
+  pub grows : Grows v.seen w.seen
   pub ends : Ends w.work
 
 -- the record's value was written again: the log has one more entry
@@ -81,8 +83,16 @@ pub record Rewrites (kept : State → Type 0) (records rid place stamp : ℕ) (v
 abbrev pub others_in : View → Others
 others_in v = record { splitting = v.splitting; taken_in = v.clock.taken_in }
 
+-- what a view's steps came upon, and what a conflict names was loaded between two views
+abbrev pub observed_of : View → Observed
+observed_of v = record { loads = v.seen.loads; lost = v.seen.lost }
+
+abbrev pub IsLoadedIn : (stamp : ℕ) → Conflict → View → View → Type 0
+IsLoadedIn stamp conflict v w = IsLoaded stamp conflict (observed_of v) (observed_of w)
+
 -- a conflict came between, and the version linked is aborted
 pub record IsStopped (rid place stamp : ℕ) (v w : View) (conflict : Conflict) : Type 0 where
   pub links : LinksOne rid place stamp v w
   pub log : w.log ≡ v.log
   pub shown : ShowsOf rid v.size v.number (others_in v) stamp conflict
+  pub loaded : IsLoadedIn stamp conflict v w

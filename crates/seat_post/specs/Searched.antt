@@ -1,5 +1,5 @@
 -- What a read of a record from the table comes to.
-use Rattle.std.specs.Prelude.{◌≡◌, ℕ, ◌<◌, List, ◌∷◌, map, Option}
+use Rattle.std.specs.Prelude.{◌≡◌, ℕ, ◌<◌, List, ◌∷◌, map, Option, is_some, if◌then◌else◌}
 use Rattle.word_layout.specs.Size.{places}
 use Rattle.core_rule.specs.View.{View, still, Search}
 use Rattle.core_rule.specs.Views.{IsAlone}
@@ -7,6 +7,8 @@ use Rattle.core_rule.specs.Searching.{Rests, IsWhole, limit_of}
 use Rattle.core_rule.specs.Deciding.{entry_of}
 use Rattle.core_rule.specs.Versions.{read_version}
 use Rattle.stamp_base.specs.Stamp.{seat_of}
+use Rattle.version_search.specs.Growing.{Grows}
+use Rattle.validate_core.specs.Validating.{Met, no_more}
 use Rattle.seat_post.specs.Leaves.{LeavesValue}
 
 -- the version of record rid in a place was found, with this value
@@ -14,14 +16,19 @@ pub record Finds (rid place wts : ℕ) (value : Option (List ℕ)) (v w : View) 
   pub view : w ≡ record v { work = record v.work { search = still; reads = read_version rid place wts value ∷ v.work.reads }; seen = w.seen }
   pub whole : IsWhole (read_version rid place wts value)
   pub inside : place < places v.size
+  -- it was loaded, and what was seen has grown
+  pub met : Met (limit_of v.flight v.published.read) rid wts (if is_some value then 3 else 4) no_more v.seen.loads w.seen.loads
+  pub grows : Grows v.seen w.seen
   -- a seat that is alone finds what its log leaves
   pub left : IsAlone v → LeavesValue (map entry_of v.log) rid (limit_of v.flight v.published.read) value
 
--- a pending version of another seat was met, and no version was found
-pub record Stops (stamp wts : ℕ) (v w : View) : Type 0 where
+-- a pending version of another seat was met in the list of record rid, and no version was found
+pub record Stops (stamp rid wts : ℕ) (v w : View) : Type 0 where
   pub search : Search
   pub view : w ≡ record v { work = record v.work { search = search }; seen = w.seen }
   pub rests : Rests search
+  pub met : Met stamp rid wts 2 no_more v.seen.loads w.seen.loads
+  pub grows : Grows v.seen w.seen
   pub before : wts < stamp
   pub another : seat_of wts ≡ v.number → ⊥
   pub within : seat_of wts < v.size.seats

@@ -1,7 +1,8 @@
--- Which seats of its engine a seat takes as open, and what it knows of the records' lists of versions while it is the only one.
-use Rattle.std.specs.Prelude.{◌≡◌, ℕ, zero, suc, Bool, true, ◌==◌, ◌&&◌, ◌||◌, List}
+-- Which seats of its engine a seat takes as open, what it knows of the records' lists of versions while it is the only one, and what
+-- its steps came upon.
+use Rattle.std.specs.Prelude.{◌≡◌, ℕ, zero, suc, Bool, true, ◌==◌, ◌&&◌, ◌||◌, List, []}
 use Rattle.std.specs.List.{list_any}
-use Rattle.core_rule.specs.View.{Splitting, Counted, Top}
+use Rattle.core_rule.specs.View.{Splitting, Counted, Top, Load}
 use Rattle.core_rule.specs.Offers.{made_within}
 use Rattle.word_layout.specs.Size.{Size}
 
@@ -27,3 +28,11 @@ IsAloneAt size seat others = is_alone_at size seat others ≡ true
 pub record Known : Type 0 where
   pub counts : Counted
   pub tops : List Top
+
+-- what its steps loaded, and the exchanges that they lost, in turn
+pub record Observed : Type 0 where
+  pub loads : List Load
+  pub lost : List Load
+
+abbrev pub nothing_observed : Observed
+nothing_observed = record { loads = []; lost = [] }

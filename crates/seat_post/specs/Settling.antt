@@ -13,12 +13,14 @@ use Rattle.core_rule.specs.Spares.{StandsKept}
 use Rattle.core_rule.specs.Deciding as deciding
 use Rattle.version_pool.specs.Takes.{TakesFree, WasMet, after_losing}
 use Rattle.version_search.specs.declared.fronts.First.{First}
+use Rattle.version_search.specs.Growing.{Grows}
 use Rattle.version_search.specs.Finding.{Reads}
 use Rattle.version_search.specs.Looking.{Looked}
 use Rattle.rapid_gc.specs.Bounds.{IsOneLeft}
 use Rattle.seat_post.specs.declared.settled.Settled.{Settled}
 use Rattle.seat_post.specs.Glance.{first_glance}
 use Rattle.seat_post.specs.Logs.{IsAbove}
+use Rattle.seat_post.specs.Observing as observing
 use Rattle.seat_post.specs.Post.{PostView}
 use Rattle.seat_post.specs.Rewriting.{Rewritings}
 
@@ -41,8 +43,10 @@ pub record SettlesPost (kept : State → Type 0) (before after' : PostView) : Ty
     met = after'.met;
     known = after'.known;
     log = after'.log;
+    observed = after'.observed;
     glance = first_glance (after'.met - 1);
   }
+  pub grows : observing.Grows before.observed after'.observed
   pub later : before.clock ≤ after'.clock
   pub met : before.met ≤ after'.met
   pub log : Rewritings kept before.shared.size.records before.log after'.log
@@ -74,6 +78,7 @@ pub record Settles (kept : State → Type 0) (v w : View) : Type 0 where
   pub taken_in : w.clock.taken_in ≡ v.clock.taken_in
   pub later : v.clock.clock ≤ w.clock.clock
   pub met : v.clock.met ≤ w.clock.met
+  pub grows : Grows v.seen w.seen
   pub log : Rewritings kept v.size.records (entries_of v) (entries_of w)
   pub added : AreLater (entries_of v) (entries_of w) (bound_of_clock v.clock.clock)
 

@@ -5,7 +5,7 @@ use Rattle.core_rule.specs.View.{sharing, shared, nothing_known}
 use Rattle.core_rule.specs.Offers.{made_of}
 use Rattle.seat_post.specs.declared.phase.Phase.TheVariants.{Idle}
 use Rattle.seat_post.specs.Post.{PostView}
-use Rattle.seat_post.specs.Seats.{Known}
+use Rattle.seat_post.specs.Seats.{Known, nothing_observed}
 
 -- nothing is known of lists
 abbrev pub no_knowledge : Known
@@ -29,6 +29,7 @@ made_next p = record {
   known = no_knowledge;
   met = p.met;
   log = [];
+  observed = nothing_observed;
   glance = None;
   phase = Idle;
   stamp = 0;

@@ -4,7 +4,8 @@ ghost use Rattle.stamp_base.specs.Stamp.{bound_of_clock};
 ghost use Rattle.rapid_gc.specs.Bounds.{AreKept, LeavesOne};
 ghost use Rattle.rapid_gc.specs.Queues.{AllBelow};
 ghost use Rattle.seat_post.specs.Collecting.{AreQueued, Collects};
-ghost use Rattle.seat_post.specs.Post.{PostView, IsAlonePost, collected_at};
+ghost use Rattle.seat_post.specs.Observing.{Grows, ScansBoth};
+ghost use Rattle.seat_post.specs.Post.{PostView, IsAlonePost, collected_at, observing};
 
 use crate::phase::Phase;
 use crate::post::Post;
@@ -18,7 +19,9 @@ impl<J: Keeps> Post<J> {
         requires idle { self.old.phase ≡ Phase.Idle }
         requires queued { AreQueued self.old.shared.size.records self.old.log queue.old.items }
         requires below { AllBelow (bound_of_clock self.old.clock) queue.old.items }
-        ensures after { self.new ≡ collected_at self.old self.new.met self.new.known }
+        ensures after { self.new ≡ observing (collected_at self.old self.new.met self.new.known) self.new.observed }
+        ensures grows { Grows self.old.observed self.new.observed }
+        ensures scans { ScansBoth self.old.shared.size.seats self.old.observed self.new.observed }
         ensures met { self.old.met ≤ self.new.met }
         ensures within { self.new.met ≤ self.new.published }
         ensures queue { Collects queue.old.items queue.new.items result }

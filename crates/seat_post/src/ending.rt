@@ -1,12 +1,15 @@
 //! Ending a transaction at a post: its versions are linked, it is decided, and they get their last status.
-ghost use Rattle.std.specs.Prelude.{◌≡◌, ◌≢◌, ◌+◌, ◌≤◌, [], length, OnOk, OnErr, IfOk, IfErr};
+ghost use Rattle.std.specs.Prelude.{◌≡◌, ◌≢◌, ◌+◌, ◌≤◌, ℕ, [], length, OnOk, OnErr, IfOk, IfErr, IsSome};
 ghost use Rattle.plain_data.specs.State.{Fits};
+ghost use Rattle.record_store.specs.Meaning.{value_at};
+ghost use Rattle.seat_post.specs.Conflicts.{Touches, IsLoaded};
 ghost use Rattle.seat_post.specs.Ends.{Stood};
 ghost use Rattle.seat_post.specs.Seats.{IsAloneAt};
 ghost use Rattle.seat_post.specs.Leaves.{AreLeft};
 ghost use Rattle.seat_post.specs.Logs.{IsAbove};
 ghost use Rattle.seat_post.specs.Lists.{AreLinked, AreSomeLinked, known_before, AreKnown, count_raised, IsFullAt};
-ghost use Rattle.seat_post.specs.Post.{PostView, knowing, in_phase, closed, entered, entry_at, IsShownAt};
+ghost use Rattle.seat_post.specs.Observing.{Grows, MeetsNoPlace};
+ghost use Rattle.seat_post.specs.Post.{PostView, knowing, in_phase, closed, entered, entry_at, observing, IsShownAt};
 
 use crate::phase::Phase;
 use crate::post::Post;
@@ -21,9 +24,12 @@ impl<J: Keeps> Post<J> {
     pub fn install(&mut self, core: &Core<J>) -> Result<Installed, PlacesOut>
         requires core { self.old.shared ≡ core.now }
         requires open { self.old.phase ≡ Phase.Open }
-        ensures ok { OnOk result (self.new ≡ in_phase (knowing self.old self.new.known) Phase.Installed) }
+        ensures ok { OnOk result (self.new ≡ observing (in_phase (knowing self.old self.new.known) Phase.Installed) self.new.observed) }
         ensures stamp { IfOk result (λ installed. installed.stamp ≡ self.old.stamp) }
-        ensures err { OnErr result (self.new ≡ closed (knowing self.old self.new.known)) }
+        ensures err { OnErr result (self.new ≡ observing (closed (knowing self.old self.new.known)) self.new.observed) }
+        ensures grows { Grows self.old.observed self.new.observed }
+        // For a record that is written each place was met not free.
+        ensures places_out { OnErr result ((rid : ℕ) × IsSome (value_at self.old.writes rid) × MeetsNoPlace self.old.shared.size rid self.old.observed self.new.observed) }
         ensures written { OnErr result (self.old.writes ≢ []) }
         ensures above { IsAbove self.old.log self.old.stamp }
         ensures read_left { IsAloneAt self.old.shared.size self.old.seat self.old.others → AreLeft self.old.log self.old.stamp self.old.reads }
@@ -66,11 +72,14 @@ impl<J: Keeps> Post<J> {
         requires phase { self.old.phase ≡ Phase.Installed }
         requires stamp { installed.stamp ≡ self.old.stamp }
         requires fits { Fits J.kept self.old.shared.size.records (entry_at self.old) }
-        ensures ok { OnOk result (self.new ≡ entered self.old) }
+        ensures ok { OnOk result (self.new ≡ observing (entered self.old) self.new.observed) }
         ensures stood { OnOk result (Stood J.kept self.old.shared.size.records self.old.log (entry_at self.old)) }
         ensures stamp { IfOk result (λ decided. decided.stamp ≡ self.old.stamp) }
-        ensures err { OnErr result (self.new ≡ closed self.old) }
+        ensures err { OnErr result (self.new ≡ observing (closed self.old) self.new.observed) }
+        ensures grows { Grows self.old.observed self.new.observed }
         ensures shown { IfErr result (IsShownAt self.old) }
+        ensures touches { IfErr result (Touches self.old.reads self.old.writes) }
+        ensures loaded { IfErr result (λ conflict. IsLoaded self.old.stamp conflict self.old.observed self.new.observed) }
     {
         match installed.decide(core, &mut self.hand, &self.sets) {
             Ok(decided) => {

@@ -12,7 +12,10 @@ ghost use Rattle.seat_post.specs.Ends.{Stood};
 ghost use Rattle.seat_post.specs.Glance.{with_read, entry_of_glance};
 ghost use Rattle.seat_post.specs.Glancing.{IsGlancing, Opens, Glances, glanced, IsLeftAt, entry_of_glances, glances_ended};
 ghost use Rattle.seat_post.specs.Logs.{AreBelow};
-ghost use Rattle.seat_post.specs.Post.{PostView, IsAlonePost, looking_at, looked_at, finished_at};
+ghost use Rattle.version_search.specs.Growing as growing;
+ghost use Rattle.word_layout.specs.Name.{published_write};
+ghost use Rattle.seat_post.specs.Observing.{Grows, ScansAll};
+ghost use Rattle.seat_post.specs.Post.{PostView, IsAlonePost, looking_at, looked_at, finished_at, observing};
 ghost use Rattle.seat_post.specs.Searched.{Finds};
 
 use crate::phase::Phase;
@@ -101,6 +104,7 @@ pub(crate) fn end_glances<J: Keeps>(core: &Core<J>, hand: &mut Hand<J>) -> u64
     requires glancing { IsGlancing hand.old.view }
     ensures stamp { result ≡ hand.old.view.published.read }
     ensures view { hand.new.view ≡ glances_ended hand.old.view hand.new.view.seen }
+    ensures grows { growing.Grows hand.old.view.seen hand.new.view.seen }
     ensures stood { StoodAt J.kept core.now.size.records hand.old.view.log (entry_of_glances hand.old.view) }
     ensures stays { StaysReady core.now hand.old hand.new }
 {
@@ -114,7 +118,9 @@ impl<J: Keeps> Post<J> {
     pub fn begin_snapshot(&mut self, core: &Core<J>) -> u64
         requires core { self.old.shared ≡ core.now }
         requires idle { self.old.phase ≡ Phase.Idle }
-        ensures after { self.new ≡ looking_at self.old result }
+        ensures after { self.new ≡ observing (looking_at self.old result) self.new.observed }
+        ensures grows { Grows self.old.observed self.new.observed }
+        ensures scans { ScansAll published_write self.old.shared.size.seats self.old.observed self.new.observed }
         ensures met { self.old.met ≤ result + 1 }
         ensures snapshots { AreBelow self.old.log (result + 1) }
         ensures below { result < self.old.published }
@@ -137,7 +143,8 @@ impl<J: Keeps> Post<J> {
         requires idle { self.old.phase ≡ Phase.Idle }
         requires looks { IsSome self.old.glance }
         requires rid { rid < self.old.shared.size.records }
-        ensures after { self.new ≡ looked_at self.old rid result }
+        ensures after { self.new ≡ observing (looked_at self.old rid result) self.new.observed }
+        ensures grows { Grows self.old.observed self.new.observed }
         ensures answer { IfSome self.new.glance (λ g. value_at g.reads rid ≡ Some result) }
         ensures left { IsAlonePost self.old → IfSome self.old.glance (λ g. IsValue (UpTo self.old.log g.stamp) rid result) }
     {
@@ -149,7 +156,8 @@ impl<J: Keeps> Post<J> {
         requires core { self.old.shared ≡ core.now }
         requires idle { self.old.phase ≡ Phase.Idle }
         requires looks { IsSome self.old.glance }
-        ensures after { IfSome self.old.glance (λ g. self.new ≡ finished_at self.old g) }
+        ensures after { IfSome self.old.glance (λ g. self.new ≡ observing (finished_at self.old g) self.new.observed) }
+        ensures grows { Grows self.old.observed self.new.observed }
         ensures stamp { IfSome self.old.glance (λ g. result ≡ g.stamp) }
         ensures stood { IfSome self.old.glance (λ g. Stood J.kept self.old.shared.size.records self.old.log (entry_of_glance g)) }
     {

@@ -13,7 +13,10 @@ ghost use Rattle.core_rule.specs.Stamps.{adopted};
 ghost use Rattle.clock_stamps.specs.Clocks.{drawn_clock};
 ghost use Rattle.seat_post.specs.FirstRead.{first_record};
 ghost use Rattle.seat_post.specs.Logs.{IsAbove};
-ghost use Rattle.seat_post.specs.Post.{PostView, shared_of, post_view, opened, drawn_at, with_clock, closed};
+ghost use Rattle.word_layout.specs.Name.{published_write};
+ghost use Rattle.core_rule.specs.Paths.{load};
+ghost use Rattle.seat_post.specs.Observing.{Grows, with_load};
+ghost use Rattle.seat_post.specs.Post.{PostView, shared_of, post_view, opened, drawn_at, with_clock, closed, observing};
 
 use crate::phase::Phase;
 use crate::rewriting::Room;
@@ -158,16 +161,18 @@ impl<J: Keeps> Post<J> {
     /// Adopts the clock of a stamp where that is greater.
     pub fn hear(&mut self, core: &Core<J>, stamp: Stamp)
         requires core { self.old.shared ≡ core.now }
-        ensures { self.new ≡ with_clock self.old (max self.old.clock (clock_of stamp)) }
+        ensures value { self.new ≡ observing (with_clock self.old (max self.old.clock (clock_of stamp))) self.new.observed }
+        ensures grows { Grows self.old.observed self.new.observed }
     {
         hear(core, &mut self.hand, stamp);
     }
 
-    /// Adopts what another seat's published word shows.
+    /// Loads another seat's published word, and adopts what it shows.
     pub fn sync(&mut self, core: &Core<J>, other: u32)
         requires core { self.old.shared ≡ core.now }
         requires seat { other < core.now.size.seats }
-        ensures { (word : ℕ) × (self.new ≡ with_clock self.old (adopted self.old.clock word)) }
+        ensures value { (word : ℕ) × (self.new ≡ observing (with_clock self.old (adopted self.old.clock word)) (with_load self.old.observed (load (published_write other) word))) }
+        ensures grows { Grows self.old.observed self.new.observed }
     {
         sync(core, &mut self.hand, other);
     }

@@ -6,7 +6,10 @@ ghost use Rattle.core_rule.specs.Hands.{IsReady, StaysReady};
 ghost use Rattle.core_rule.specs.Searching.{IsLoading, read_place, read_cells};
 ghost use Rattle.version_search.specs.Loading.{with_value};
 ghost use Rattle.clock_stamps.specs.Clocks.{drawn_clock};
-ghost use Rattle.seat_post.specs.Promoting.{PromotesPost, FailsPost, IsDrawn, PromotesAt, FailsAt};
+ghost use Rattle.stamp_base.specs.Stamp.{stamp_of};
+ghost use Rattle.version_search.specs.Growing as growing;
+ghost use Rattle.seat_post.specs.Observing.{Grows};
+ghost use Rattle.seat_post.specs.Promoting.{PromotesPost, FailsPost, CameUpon, IsDrawn, PromotesAt, FailsAt};
 
 use crate::phase::Phase;
 use crate::post::Post;
@@ -77,6 +80,8 @@ impl<J: Keeps> Post<J> {
         requires rid { rid < self.old.shared.size.records }
         ensures ok { IfOk result (PromotesPost J.kept rid (drawn_clock self.old.clock reading) self.old self.new) }
         ensures err { IfErr result (FailsPost rid (drawn_clock self.old.clock reading) self.old self.new) }
+        ensures grows { Grows self.old.observed self.new.observed }
+        ensures met { IfOk result (CameUpon (stamp_of (drawn_clock self.old.clock reading) self.old.seat) rid self.old.observed self.new.observed) }
         ensures clock_out { (result ≡ Err PromoteFault.ClockOut) ↔ (drawn_clock self.old.clock reading ≡ greatest_clock + 1) }
     {
         let stamp = draw(core, &mut self.hand, reading)?;
@@ -134,6 +139,7 @@ fn load<J: Keeps>(core: &Core<J>, hand: &mut Hand<J>, place: u32, wts: u64) -> R
     ensures wts { result.wts ≡ wts }
     ensures value { IfSome result.value (λ words. (length words ≡ 32) × (hand.new.view ≡ with_value hand.old.view words hand.new.view.seen)) }
     ensures present { result.value ≢ None }
+    ensures grows { growing.Grows hand.old.view.seen hand.new.view.seen }
     ensures stays { StaysReady core.now hand.old hand.new }
 {
     let cells = load_value(core, hand, place);

@@ -1,14 +1,17 @@
 //! Reading and writing at a post.
-ghost use Rattle.std.specs.Prelude.{◌≡◌, ◌≢◌, ◌+◌, ◌<◌, ◌≤◌, ◌++◌, ◌∷◌, [], None, Some, false, is_some, IfOk, IfErr, IfSome, OnOk, OnErr, length, if◌then◌else◌};
+ghost use Rattle.std.specs.Prelude.{ℕ, ◌≡◌, ◌≢◌, ◌+◌, ◌<◌, ◌≤◌, ◌++◌, ◌∷◌, [], None, Some, false, is_some, IfOk, IfErr, IfSome, OnOk, OnErr, length, if◌then◌else◌};
 ghost use Rattle.indexmap.specs.IndexMap.{spare};
 ghost use Rattle.core_rule.specs.Deciding.{read_values};
 ghost use Rattle.core_rule.specs.Versions.{read_version};
 ghost use Rattle.record_store.specs.Meaning.{value_at};
-ghost use Rattle.seat_post.specs.Post.{PostView, known_at, noted};
+ghost use Rattle.validate_core.specs.Validating.{Met, no_more};
+ghost use Rattle.validate_core.specs.declared.conflict.Conflict.TheVariants as conflict;
+ghost use Rattle.seat_post.specs.Observing.{Grows};
+ghost use Rattle.seat_post.specs.Post.{PostView, known_at, noted, observing};
 ghost use Rattle.seat_post.specs.Seats.{IsAloneAt};
 ghost use Rattle.seat_post.specs.Logs.{IsAbove};
 ghost use Rattle.seat_post.specs.Leaves.{LeavesValue, LeavesSome};
-ghost use Rattle.seat_post.specs.Conflicts.{IsOfAnother};
+ghost use Rattle.seat_post.specs.Conflicts.{IsOfAnother, IsLoaded};
 ghost use Rattle.seat_post.specs.Reading.{IfPending};
 
 use crate::phase::Phase;
@@ -96,9 +99,11 @@ impl<J: Keeps> Post<J> {
         requires open { self.old.phase ≡ Phase.Open }
         requires rid { rid < self.old.shared.size.records }
         requires first { known_at self.old rid ≡ None }
-        ensures ok { IfOk result (λ value. self.new ≡ noted self.old rid value) }
+        ensures ok { IfOk result (λ value. self.new ≡ observing (noted self.old rid value) self.new.observed) }
+        ensures grows { Grows self.old.observed self.new.observed }
         ensures left { IsAloneAt self.old.shared.size self.old.seat self.old.others → IfOk result (LeavesValue self.old.log rid self.old.stamp) }
-        ensures err { OnErr result (self.new ≡ self.old) }
+        ensures err { OnErr result (self.new ≡ observing self.old self.new.observed) }
+        ensures loaded { IfErr result (λ fault. IfPending fault (λ wts. IsLoaded self.old.stamp (conflict.Pending rid wts) self.old.observed self.new.observed)) }
         ensures met { IfErr result (λ fault. IfPending fault (λ wts. (wts < self.old.stamp) × IsOfAnother self.old.shared.size self.old.seat self.old.others wts)) }
     {
         make_room(&mut self.reads, &mut self.sets)?;
@@ -117,9 +122,13 @@ impl<J: Keeps> Post<J> {
         requires open { self.old.phase ≡ Phase.Open }
         requires rid { rid < self.old.shared.size.records }
         requires first { known_at self.old rid ≡ None }
-        ensures ok { IfOk result (λ absent. self.new ≡ (if absent then noted self.old rid None else self.old)) }
+        ensures ok { IfOk result (λ absent. self.new ≡ observing (if absent then noted self.old rid None else self.old) self.new.observed) }
+        ensures grows { Grows self.old.observed self.new.observed }
+        // Where it is present, its committed version was met.
+        ensures present { IfOk result (λ absent. absent ≡ false → (wts : ℕ) × Met self.old.stamp rid wts 3 no_more self.old.observed.loads self.new.observed.loads) }
         ensures left { IsAloneAt self.old.shared.size self.old.seat self.old.others → IfOk result (λ absent. absent ≡ false → LeavesSome self.old.log rid self.old.stamp) }
-        ensures err { OnErr result (self.new ≡ self.old) }
+        ensures err { OnErr result (self.new ≡ observing self.old self.new.observed) }
+        ensures loaded { IfErr result (λ fault. IfPending fault (λ wts. IsLoaded self.old.stamp (conflict.Pending rid wts) self.old.observed self.new.observed)) }
         ensures met { IfErr result (λ fault. IfPending fault (λ wts. (wts < self.old.stamp) × IsOfAnother self.old.shared.size self.old.seat self.old.others wts)) }
     {
         make_room(&mut self.reads, &mut self.sets)?;

@@ -6,7 +6,8 @@ ghost use Rattle.core_rule.specs.Searching.{Rests};
 ghost use Rattle.core_rule.specs.View.{resting};
 ghost use Rattle.core_rule.specs.Views as views;
 ghost use Rattle.seat_post.specs.Leaves.{LeavesAs, AreAbsent};
-ghost use Rattle.seat_post.specs.Post.{PostView};
+ghost use Rattle.seat_post.specs.Observing.{Grows};
+ghost use Rattle.seat_post.specs.Post.{PostView, observing};
 ghost use Rattle.seat_post.specs.Rescan.{Looks, looked_over};
 ghost use Rattle.seat_post.specs.Seats.{IsAloneAt};
 ghost use Rattle.seat_post.specs.Spare.{NumbersView};
@@ -73,7 +74,8 @@ impl<J: Keeps> Post<J> {
         requires fixed { numbers.old.fixed ≤ numbers.old.records }
         requires none { numbers.old.spare ≡ [] }
         requires none_given { numbers.old.given ≡ [] }
-        ensures value { self.new ≡ looked_over self.old }
+        ensures value { self.new ≡ observing (looked_over self.old) self.new.observed }
+        ensures grows { Grows self.old.observed self.new.observed }
         ensures not_back { self.old.met ≤ self.new.met }
         ensures numbers { numbers.new ≡ record numbers.old { spare = numbers.new.spare } }
         ensures absent { AreAbsent self.old.log self.new.published numbers.old.fixed numbers.old.records numbers.new.spare }

@@ -11,6 +11,7 @@ ghost use Rattle.rapid_gc.specs.Ends.{FreesCounted};
 ghost use Rattle.rapid_gc.specs.InKept.{Remains, CutsOff};
 ghost use Rattle.core_rule.specs.Versions.{read_version, written_version};
 ghost use Rattle.core_rule.specs.Hands.{IsReady, StaysReady};
+ghost use Rattle.version_search.specs.Growing.{Grows};
 ghost use Rattle.seat_post.specs.Rewriting.{IsRoom, HasFound, Rewrites, IsStopped};
 
 use crate::search::Read;
@@ -69,6 +70,7 @@ impl Room {
         requires below { stamp < bound_of_clock hand.old.view.clock.clock }
         ensures view { hand.new.view ≡ after_collecting hand.old.view hand.new.view.published.read hand.new.view.reached hand.new.view.counts hand.new.view.gone hand.new.view.seen }
         ensures met { hand.old.view.clock.met ≤ hand.new.view.clock.met }
+        ensures grows { Grows hand.old.view.seen hand.new.view.seen }
         ensures ends { Ends hand.new.view.work }
         ensures kept { AreKept (record { rid = rid; stamp = stamp } ∷ []) hand.old.view.counts hand.new.view.counts }
         ensures freed { FreesCounted result hand.old.view hand.new.view }

@@ -36,7 +36,7 @@ pub(crate) fn search<J: Keeps>(
     requires in_flight { hand.old.view.flight ≡ writing stamp }
     ensures ok { IfOk result (λ read. Finds rid read.place read.wts read.value hand.old.view hand.new.view) }
     ensures whole { IfOk result (λ read. IfSome read.value (λ words. length words ≡ 32)) }
-    ensures err { IfErr result (λ met. Stops stamp met.wts hand.old.view hand.new.view) }
+    ensures err { IfErr result (λ met. Stops stamp rid met.wts hand.old.view hand.new.view) }
     ensures stays { StaysReady core.now hand.old hand.new }
 {
     match find(core, hand, rid, stamp, false) {

@@ -1,6 +1,7 @@
 //! Sharing a seat at its post: it is announced, and makes the posts of the other seats.
 ghost use Rattle.std.specs.Prelude.{◌≡◌, ◌<◌, ◌≤◌};
 ghost use Rattle.core_rule.specs.Offers.{MayOffer, made_of};
+ghost use Rattle.seat_post.specs.Observing.{Grows};
 ghost use Rattle.seat_post.specs.Post.{PostView};
 ghost use Rattle.seat_post.specs.Seats.{IsAloneAt};
 ghost use Rattle.seat_post.specs.Sharing.{announced_at, one_more, made_next};
@@ -18,7 +19,8 @@ impl<J: Keeps> Post<J> {
         requires core { self.old.shared ≡ core.now }
         requires idle { self.old.phase ≡ Phase.Idle }
         requires alone { IsAloneAt self.old.shared.size self.old.seat self.old.others }
-        ensures value { self.new ≡ record (announced_at self.old) { glance = self.new.glance } }
+        ensures value { self.new ≡ record (announced_at self.old) { glance = self.new.glance; observed = self.new.observed } }
+        ensures grows { Grows self.old.observed self.new.observed }
         ensures not_back { self.old.met ≤ self.new.met }
     {
         idle(core, &mut self.hand);

@@ -1,6 +1,7 @@
 //! Telling that the log of a post that is alone is a lawful history.
 ghost use Rattle.std.specs.Prelude.{◌≡◌, ◌≤◌};
 ghost use Rattle.histories.specs.History.{Lawful};
+ghost use Rattle.seat_post.specs.Observing.{Grows};
 ghost use Rattle.seat_post.specs.Post.{PostView};
 ghost use Rattle.seat_post.specs.Seats.{IsAloneAt};
 
@@ -14,7 +15,8 @@ impl<J: Keeps> Post<J> {
         requires core { self.old.shared ≡ core.now }
         requires idle { self.old.phase ≡ Phase.Idle }
         requires alone { IsAloneAt self.old.shared.size self.old.seat self.old.others }
-        ensures value { self.new ≡ record self.old { met = self.new.met } }
+        ensures value { self.new ≡ record self.old { met = self.new.met; observed = self.new.observed } }
+        ensures grows { Grows self.old.observed self.new.observed }
         ensures not_back { self.old.met ≤ self.new.met }
         ensures lawful { Lawful J.kept self.old.shared.size.records self.old.log }
     {

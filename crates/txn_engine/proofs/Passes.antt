@@ -2,12 +2,8 @@
 use Rattle.std.proofs.Common.{◌≡◌, ℕ, ◌<◌, ◌≤◌, ◌+◌, Bool, true, false, List, [], ◌∷◌, ◌++◌, Option, None, Some, refl, sym, ap, subst, ◌∙◌, arith, length, inl, inr, ◌⊎◌, cond, eqb, suc, eq-eqb, append_assoc, length-append}
 use Rattle.std.specs.Prelude.{IfSome, IsSome, is_some, max, min, ◌==◌, if◌then◌else◌}
 use Rattle.stamp_base.specs.Limits.{end_of_stamps, greatest_adopted_clock}
-use Rattle.word_layout.specs.Size.{Size, IsSize}
 use Rattle.stamp_base.specs.Stamp.{clock_of, bound_of_clock}
-use Rattle.seat_post.specs.Logs.{IsAbove, AreBelow}
 use Rattle.core_rule.specs.Stamps.{adopted}
-use Rattle.clock_stamps.specs.Clocks.{drawn_clock}
-use Rattle.plain_data.specs.declared.entry.Entry.{Entry}
 use Rattle.core_rule.specs.Views.{Among}
 use Rattle.rapid_gc.specs.declared.queue.Queued.{Queued}
 use Rattle.std.proofs.lemmas.List.{map_push}
@@ -18,13 +14,13 @@ use Rattle.rapid_gc.specs.Queues.{Waiting}
 use Rattle.validate_core.specs.declared.conflict.Conflict.{Conflict}
 use Rattle.seat_post.specs.declared.phase.Phase.TheVariants.{Open, Installed, Decided}
 use Rattle.seat_post.specs.Conflicts.{ShowsPending}
-use Rattle.seat_post.specs.Post.{PostView, known_at, with_clock, drawn_at, knowing, opened, closed, in_phase, noted, entered, entry_at}
-use Rattle.seat_post.specs.Seats.{Known}
+use Rattle.seat_post.specs.Post.{PostView, known_at, with_clock, drawn_at, knowing, opened, closed, in_phase, noted, entered, entry_at, observing}
+use Rattle.seat_post.specs.Seats.{Known, Observed}
 use Rattle.seat_post.specs.Spare.{NumbersView}
 use Rattle.txn_engine.specs.Inside.{IsPass}
 use Rattle.seat_post.specs.Collecting.{IsQueued, AreQueued}
 use Rattle.seat_post.proofs.Bounds.{above_more, below_more, queued_more}
-use Rattle.core_rule.proofs.Among.{Among-last, Among-left, Among-split}
+use Rattle.core_rule.proofs.Among.{Among-last, Among-split}
 
 -- another clock
 pub pass_clock : (p : PostView) (clock : ℕ) (q : Waiting) (n : NumbersView) (refusals : ℕ) (dead : Option Conflict) (counted : Bool) → IsPass p q n refusals dead counted → p.clock ≤ clock → IsPass (with_clock p clock) q n refusals dead counted
@@ -63,6 +59,23 @@ pass_drawn p clock q n refusals dead counted is later = record {
 -- what it knows of lists is other
 pub pass_knowing : (p : PostView) (known : Known) (q : Waiting) (n : NumbersView) (refusals : ℕ) (dead : Option Conflict) (counted : Bool) → IsPass p q n refusals dead counted → IsPass (knowing p known) q n refusals dead counted
 pass_knowing p known q n refusals dead counted is = record {
+  records = is.records;
+  fixed = is.fixed;
+  counts = is.counts;
+  uncounted = is.uncounted;
+  commits = is.commits;
+  stamped = is.stamped;
+  snapshots = is.snapshots;
+  stopped = is.stopped;
+  alive = is.alive;
+  queued = is.queued;
+  logged = is.logged;
+  room = is.room;
+}
+
+-- and so is what its steps came upon
+pub pass_observing : (p : PostView) (observed : Observed) (q : Waiting) (n : NumbersView) (refusals : ℕ) (dead : Option Conflict) (counted : Bool) → IsPass p q n refusals dead counted → IsPass (observing p observed) q n refusals dead counted
+pass_observing p observed q n refusals dead counted is = record {
   records = is.records;
   fixed = is.fixed;
   counts = is.counts;

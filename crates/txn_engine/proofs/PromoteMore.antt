@@ -27,7 +27,7 @@ use Rattle.seat_post.specs.Rewriting.{rewriting, linked_in}
 use Rattle.txn_engine.specs.Promoting.{boost_after, Promotes, FailsToPromote}
 use Rattle.seat_post.specs.Promoting.{rewritten_at, PromotesPost, FailsPost}
 use Rattle.txn_engine.proofs.Accounting.{absent_entered}
-use Rattle.txn_engine.proofs.Passes.{pass_drawn, pass_knowing}
+use Rattle.txn_engine.proofs.Passes.{pass_drawn, pass_knowing, pass_observing}
 use Rattle.seat_post.proofs.Bounds.{above_more, below_more, queued_more}
 
 -- the log has one more entry, whose stamp was drawn
@@ -51,12 +51,12 @@ pass_rewritten p clock rid place value q n refusals dead counted is phase later 
     }
 
 pub pass_promoted : (kept : State → Type 0) (p r : PostView) (clock rid : ℕ) (told : Result Promotion PromoteFault) (q : Waiting) (n : NumbersView) (refusals : ℕ) (dead : Option Conflict) (counted : Bool) → IsPass p q n refusals dead counted → p.phase ≡ Idle → p.clock ≤ clock → p.seat < 64 → IfOk told (PromotesPost kept rid clock p r) → IfErr told (FailsPost rid clock p r) → IsPass r q n refusals dead counted
-pass_promoted kept p r clock rid (Ok (Promoted at)) q n refusals dead counted is phase later seat ok err = rw ok.after (pass_rewritten p clock rid rid (Some ok.words) q n refusals dead counted is phase later seat)
-pass_promoted kept p r clock rid (Ok Inline) q n refusals dead counted is phase later seat ok err = rw ok (pass_drawn p clock q n refusals dead counted is later)
-pass_promoted kept p r clock rid (Ok Absent) q n refusals dead counted is phase later seat ok err = rw ok (pass_drawn p clock q n refusals dead counted is later)
-pass_promoted kept p r clock rid (Ok Occupied) q n refusals dead counted is phase later seat ok err = rw ok (pass_drawn p clock q n refusals dead counted is later)
+pass_promoted kept p r clock rid (Ok (Promoted at)) q n refusals dead counted is phase later seat ok err = rw ok.after (pass_observing _ _ _ _ _ _ _ (pass_rewritten p clock rid rid (Some ok.words) q n refusals dead counted is phase later seat))
+pass_promoted kept p r clock rid (Ok Inline) q n refusals dead counted is phase later seat ok err = rw ok (pass_observing _ _ _ _ _ _ _ (pass_drawn p clock q n refusals dead counted is later))
+pass_promoted kept p r clock rid (Ok Absent) q n refusals dead counted is phase later seat ok err = rw ok (pass_observing _ _ _ _ _ _ _ (pass_drawn p clock q n refusals dead counted is later))
+pass_promoted kept p r clock rid (Ok Occupied) q n refusals dead counted is phase later seat ok err = rw ok (pass_observing _ _ _ _ _ _ _ (pass_drawn p clock q n refusals dead counted is later))
 pass_promoted kept p r clock rid (Err fault.ClockOut) q n refusals dead counted is phase later seat ok err = rw err is
-pass_promoted kept p r clock rid (Err (fault.Conflict conflict)) q n refusals dead counted is phase later seat ok err = subst (λ (x : PostView). IsPass x q n refusals dead counted) (sym err.after) (pass_knowing (drawn_at p clock) r.known q n refusals dead counted (pass_drawn p clock q n refusals dead counted is later))
+pass_promoted kept p r clock rid (Err (fault.Conflict conflict)) q n refusals dead counted is phase later seat ok err = subst (λ (x : PostView). IsPass x q n refusals dead counted) (sym err.after) (pass_observing _ r.observed q n refusals dead counted (pass_knowing (drawn_at p clock) r.known q n refusals dead counted (pass_drawn p clock q n refusals dead counted is later)))
 
 -- what it tells of the pass
 pub promotes_told : (kept : State → Type 0) (p r : PostView) (clock rid boost : ℕ) (told : Result Promotion PromoteFault) (q : Waiting) (n : NumbersView) (refusals : ℕ) (dead : Option Conflict) (counted : Bool) → IsAbove p.log (stamp_of clock p.seat) → IfOk told (PromotesPost kept rid clock p r) → IfOk told (Promotes kept rid clock (pass_view p boost q n refusals dead counted) (pass_view r (boost_after told boost) q n refusals dead counted))

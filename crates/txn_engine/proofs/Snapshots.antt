@@ -11,10 +11,11 @@ use Rattle.seat_post.specs.declared.phase.Phase.TheVariants.{Idle, Open, Install
 use Rattle.seat_post.specs.Glance.{GlanceView, entry_of_glance}
 use Rattle.txn_engine.specs.Inside.{IsPass}
 use Rattle.seat_post.specs.Logs.{AreBelow}
-use Rattle.seat_post.specs.Post.{PostView, looking_at, finished_at}
+use Rattle.seat_post.specs.Post.{PostView, looking_at, finished_at, observing}
 use Rattle.txn_engine.specs.Snapshot.{looks_in}
 use Rattle.seat_post.specs.Spare.{NumbersView}
 use Rattle.core_rule.proofs.Among.{Among-split}
+use Rattle.txn_engine.proofs.Passes.{pass_observing}
 use Rattle.seat_post.proofs.Bounds.{queued_more}
 
 -- ---- the pass
@@ -97,11 +98,11 @@ is_low Open g met on = cc
 is_low Installed g met on = cc
 is_low Decided g met on = cc
 
-ended_at : (p p' : PostView) (glance : Option GlanceView) (q : Waiting) (n : NumbersView) (refusals : ℕ) (dead : Option Conflict) (counted : Bool) → IsPass p q n refusals dead counted → looks_in p.phase glance p.met ≡ true → IfSome glance (λ g. p' ≡ finished_at p g) → IsPass p' q n refusals dead counted
+ended_at : (p p' : PostView) (glance : Option GlanceView) (q : Waiting) (n : NumbersView) (refusals : ℕ) (dead : Option Conflict) (counted : Bool) → IsPass p q n refusals dead counted → looks_in p.phase glance p.met ≡ true → IfSome glance (λ g. p' ≡ observing (finished_at p g) p'.observed) → IsPass p' q n refusals dead counted
 ended_at p p' None q n refusals dead counted is looks after = absurd (none_looks p.phase p.met looks)
 ended_at p p' (Some g) q n refusals dead counted is looks after =
     let low = is_low p.phase g p.met looks in
-    rw after (pass_finished p g q n refusals dead counted is low.0 low.1)
+    rw after (pass_observing (finished_at p g) p'.observed q n refusals dead counted (pass_finished p g q n refusals dead counted is low.0 low.1))
 
-pub pass_ended : (p p' : PostView) (q : Waiting) (n : NumbersView) (refusals : ℕ) (dead : Option Conflict) (counted : Bool) → IsPass p q n refusals dead counted → looks_in p.phase p.glance p.met ≡ true → IfSome p.glance (λ g. p' ≡ finished_at p g) → IsPass p' q n refusals dead counted
+pub pass_ended : (p p' : PostView) (q : Waiting) (n : NumbersView) (refusals : ℕ) (dead : Option Conflict) (counted : Bool) → IsPass p q n refusals dead counted → looks_in p.phase p.glance p.met ≡ true → IfSome p.glance (λ g. p' ≡ observing (finished_at p g) p'.observed) → IsPass p' q n refusals dead counted
 pass_ended p p' q n refusals dead counted is looks after = ended_at p p' p.glance q n refusals dead counted is looks after

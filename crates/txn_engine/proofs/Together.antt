@@ -4,9 +4,11 @@ use Rattle.validate_core.specs.declared.conflict.Conflict.{Conflict}
 use Rattle.rapid_gc.specs.Queues.{Waiting}
 use Rattle.seat_post.specs.Glance.{GlanceView}
 use Rattle.seat_post.specs.Post.{PostView}
+use Rattle.seat_post.specs.Seats.{Observed}
 use Rattle.seat_post.specs.Sharing.{announced_at, one_more}
 use Rattle.seat_post.specs.Spare.{NumbersView}
 use Rattle.txn_engine.specs.Inside.{IsPass}
+use Rattle.txn_engine.proofs.Passes.{pass_observing}
 
 -- the bound of its clock is published and met
 announced_kept : (p : PostView) (glance : Option GlanceView) (q : Waiting) (n : NumbersView) (refusals : ℕ) (dead : Option Conflict) (counted : Bool) → IsPass p q n refusals dead counted → p.met ≤ (announced_at p).met → IsPass (record (announced_at p) { glance = glance }) q n refusals dead counted
@@ -25,9 +27,9 @@ announced_kept p glance q n refusals dead counted is later = record {
   room = is.room;
 }
 
-pub pass_announced : (p p' : PostView) (glance : Option GlanceView) (q : Waiting) (n : NumbersView) (refusals : ℕ) (dead : Option Conflict) (counted : Bool) → IsPass p q n refusals dead counted → p' ≡ record (announced_at p) { glance = glance } → p.met ≤ p'.met → IsPass p' q n refusals dead counted
-pass_announced p p' glance q n refusals dead counted is same later =
-    subst (λ (x : PostView). IsPass x q n refusals dead counted) (sym same) (announced_kept p glance q n refusals dead counted is (subst (λ (x : PostView). p.met ≤ x.met) same later))
+pub pass_announced : (p p' : PostView) (glance : Option GlanceView) (observed : Observed) (q : Waiting) (n : NumbersView) (refusals : ℕ) (dead : Option Conflict) (counted : Bool) → IsPass p q n refusals dead counted → p' ≡ record (announced_at p) { glance = glance; observed = observed } → p.met ≤ p'.met → IsPass p' q n refusals dead counted
+pass_announced p p' glance observed q n refusals dead counted is same later =
+    subst (λ (x : PostView). IsPass x q n refusals dead counted) (sym same) (pass_observing (record (announced_at p) { glance = glance }) observed q n refusals dead counted (announced_kept p glance q n refusals dead counted is (subst (λ (x : PostView). p.met ≤ x.met) same later)))
 
 -- the next seat was made
 one_more_kept : (p : PostView) (glance : Option GlanceView) (q : Waiting) (n : NumbersView) (refusals : ℕ) (counted : Bool) → IsPass p q n refusals None counted → IsPass (record (one_more p) { glance = glance }) q n refusals None counted
@@ -69,5 +71,6 @@ met_kept p met q n refusals dead counted is later = record {
   room = is.room;
 }
 
-pub pass_met : (p p' : PostView) (q : Waiting) (n : NumbersView) (refusals : ℕ) (dead : Option Conflict) (counted : Bool) → IsPass p q n refusals dead counted → p' ≡ record p { met = p'.met } → p.met ≤ p'.met → IsPass p' q n refusals dead counted
-pass_met p p' q n refusals dead counted is same later = subst (λ (x : PostView). IsPass x q n refusals dead counted) (sym same) (met_kept p p'.met q n refusals dead counted is later)
+pub pass_met : (p p' : PostView) (q : Waiting) (n : NumbersView) (refusals : ℕ) (dead : Option Conflict) (counted : Bool) → IsPass p q n refusals dead counted → p' ≡ record p { met = p'.met; observed = p'.observed } → p.met ≤ p'.met → IsPass p' q n refusals dead counted
+pass_met p p' q n refusals dead counted is same later =
+    subst (λ (x : PostView). IsPass x q n refusals dead counted) (sym same) (pass_observing (record p { met = p'.met }) p'.observed q n refusals dead counted (met_kept p p'.met q n refusals dead counted is later))

@@ -52,7 +52,7 @@ module _ (stamp : ℕ) (s : SetsView) (i : ℕ) (u : Write) (place w n : ℕ) (v
   module _ (kept : State → Type 0) (now at : Seated) (r : ℕ) (here : now.view ≡ x)
       (step : Steps kept (load_read_stamp (stand_in now.view.work.search) (checked_in now.view.work.search) (stamp_seen (look_in now.view.work.search)) (state_seen (look_in now.view.work.search))) now r at) where
     pub passes_works : Works v at.view
-    passes_works = works_both v x at.view (found_works (checks u) stamp u.record_number place w n v x f) (subst (λ (y : View). Works y at.view) here (works_step now.view at.view _ _ _ step.view refl))
+    passes_works = works_both v x at.view (found_works (checks u) stamp u.record_number place w n v x f) (subst (λ (y : View). Works y at.view) here (works_step now.view at.view _ _ _ step.view refl refl))
 
     pub passes_stage : {up done : List Read} → Turn i s.writes u → Stage stamp s up done (take i s.writes) v → r ≤ stamp → Stage stamp s up done (take (i + 1) s.writes) at.view
     passes_stage {up} {done} turn st le =
@@ -93,7 +93,7 @@ checking_next core before stamp s i now at c stays works stage = record { stays 
 -- a greater read stamp, which the next load found at the place of the version
 pub later_shown : (stamp : ℕ) (s : SetsView) (i : ℕ) (u : Write) (place w n r : ℕ) (v x y : View) → Turn i s.writes u → Finds (checks u) stamp u.record_number place w n v x → n ≢ 2 → stamp < r → Works x y
     → y.seen.loads ≡ x.seen.loads ++ load (rts (stand_in x.work.search).place) r ∷ [] → IsOfAnother x r
-    → (stamp < r) × IsOfAnother y r × Writes u.record_number s × MetFinal stamp u.record_number w (its_read_stamp r) v y
+    → (stamp < r) × IsOfAnother y r × Writes u.record_number s × MetFinal stamp u.record_number w (its_read_stamp r) v.seen.loads y.seen.loads
 later_shown stamp s i u place w n r v x y turn f ne later works loads o =
     let range = f.reaches.state in let low = range.0 in let high = range.1 in
     let here : (stand_in x.work.search).place ≡ place = ap (λ (z : Search). (stand_in z).place) (found_search stamp s i u place w n v x f) in (
@@ -126,7 +126,7 @@ refused_works kept p u w n r now at step later =
       work = record x.work { search = still; passed = cond (nat_le r (stamp_in x.flight)) (u.record_number ∷ x.work.passed) x.work.passed; decided = nat_le r (stamp_in x.flight) };
       log = cond (fails i) (x.log ++ commit_of x.flight x.work.finished x.work.linked ∷ []) x.log;
       seen = record x.seen { loads = x.seen.loads ++ load (rts p.place) r ∷ [] };
-    })) refl
+    })) refl refl
 
 -- the entry that fits is the one that is decided
 pub fits_found : (kept : State → Type 0) (records stamp : ℕ) (s : SetsView) (checked : List Write) (x : View) → Stage stamp s s.reads s.reads checked x → IsFitting kept records (commit_of (writing stamp) s.reads s.writes)

@@ -1,5 +1,5 @@
 -- Writes installed one by one.
-use Rattle.std.proofs.Common.{◌≡◌, ◌≢◌, ℕ, ◌+◌, ◌<◌, ◌≤◌, false, Bool, cond, eqb, eq-eqb, ne_eqb, List, [], ◌∷◌, ◌++◌, append-nil, refl, sym, ap, ◌∙◌, subst, ⊎_elim, take, take_all, length, arith}
+use Rattle.std.proofs.Common.{◌≡◌, ◌≢◌, ℕ, ◌+◌, ◌<◌, ◌≤◌, false, Bool, cond, eqb, eq-eqb, ne_eqb, List, [], ◌∷◌, ◌++◌, refl, sym, ap, ◌∙◌, subst, ⊎_elim, take, take_all, length, arith}
 use Rattle.std.proofs.lemmas.List.{take_more_set}
 use Rattle.word_layout.specs.Size.{Size, places, kept_place}
 use Rattle.core_rule.specs.View.{View, writing, Read, Write, Seen, still, no_front, no_item, version_kept}
@@ -10,7 +10,9 @@ use Rattle.core_rule.specs.Deciding.{AreReads}
 use Rattle.core_rule.specs.Hands.{Shared, Seated, IsReady, StaysReady}
 use Rattle.version_pool.specs.Fills.{after_filling}
 use Rattle.version_pool.specs.Takes.{after_taking, after_losing}
+use Rattle.version_search.specs.Growing.{Grows}
 use Rattle.version_search.specs.Links.{IsLinked}
+use Rattle.version_search.proofs.Grown.{grows_none, grows_both, grows_lost}
 use Rattle.validate_core.specs.Sets.{SetsView, Turn, Once, IsInside, SameWrites}
 use Rattle.validate_core.specs.Validating.{Stands, worked, Works, IsInstalled}
 use Rattle.validate_core.specs.Installing.{IsBegun, SameSets, installed_in, Puts, InstallsOne, FindsNoneFor, LinksOne, LinksEach, none_yet, one_more, Installs, InstallsHeld, FindsNoPlace}
@@ -50,8 +52,18 @@ module _ (z : Size) (stamp : ℕ) (u : Write) (v w : View) (l : LinksOne z stamp
   one_linked : w.work.linked ≡ v.work.linked ++ u ∷ []
   one_linked = ap (λ (x : View). x.work.linked) one_view
 
+  one_grows : Grows v.seen w.seen
+  one_grows =
+      let e = l.takes.takes.view in
+      grows_both v.seen l.taken.seen w.seen (grows_lost v.seen l.taken.seen l.takes.lost (ap (λ (x : View). x.seen.loads) e) (ap (λ (x : View). x.seen.lost) e)) l.linked.grows
+
   one_rests : Rests w.work.search
   one_rests = subst (λ (x : View). Rests x.work.search) (sym one_view) tt
+
+-- what was seen has grown over all of them
+pub each_grows : (z : Size) (stamp : ℕ) (us : List Write) (v w : View) → LinksEach z stamp us v w → Grows v.seen w.seen
+each_grows z stamp _ _ _ (none_yet v) = grows_none v.seen
+each_grows z stamp _ _ _ (one_more us u v x w each l) = grows_both v.seen x.seen w.seen (each_grows z stamp us v x each) (one_grows z stamp u x w l)
 
 -- a version that is linked in a place other than the kept one
 pub linked_in_kept : (z : Size) (u : Write) (v w : View) → v.size ≡ z → u.place ≢ kept_place z → IsLinked u v w → w.counts.in_kept ≡ v.counts.in_kept
@@ -162,6 +174,7 @@ module _ (core : Shared) (before : Seated) (s0 : SetsView) (i : ℕ) (s : SetsVi
     published = ap (λ (x : View). x.published) p.only;
     held = p.held;
     others = subst (λ (y : View). y ≡ record before.view { places = y.places; work = y.work; counts = y.counts; tops = y.tops; front = y.front; log = y.log; seen = y.seen }) (sym p.only) refl;
+    grows = each_grows core.size before.view.published.write (take i s.writes) before.view now.view p.each;
   }
 
   -- all of them
@@ -193,7 +206,7 @@ module _ (core : Shared) (before : Seated) (s0 : SetsView) (i : ℕ) (s : SetsVi
     pub none_stands : (w : View) → Works x.view w → Stands before.view w
     none_stands w a =
         stands_both before.view now.view w placing_stands (stands_both now.view x.view w
-        (works_stands now.view x.view record { only = subst (λ (y : View). y ≡ worked now.view y.work y.seen) (sym f.none.view) refl; added = []; loads = ap (λ (y : View). y.seen.loads) f.none.view ∙ sym (append-nil now.view.seen.loads) })
+        (works_stands now.view x.view record { only = subst (λ (y : View). y ≡ worked now.view y.work y.seen) (sym f.none.view) refl; grows = grows_lost now.view.seen x.view.seen f.none.lost (ap (λ (y : View). y.seen.loads) f.none.view) (ap (λ (y : View). y.seen.lost) f.none.view) })
         (works_stands x.view w a))
 
     pub none_in_kept : (w : View) → Works x.view w → w.counts.in_kept ≡ before.view.counts.in_kept

@@ -56,7 +56,7 @@ module _ (core : Shared) (before : Seated) (s : SetsView) (count : ℕ) (decided
       let settled_is : next'.view.work.settled ≡ u.record_number ∷ now.view.work.settled = ap (λ (v : View). v.work.settled) e in
       record {
         stays = ready_both core before now next' at.stays (ready_after core now next' at.stays.ready step.seat (ap (λ (v : View). v.size) e) (ap (λ (v : View). v.number) e) (ap (λ (v : View). v.published) e));
-        works = works_both before.view now.view next'.view at.works (works_step now.view next'.view _ _ [] e (sym (append-nil now.view.seen.loads)));
+        works = works_both before.view now.view next'.view at.works (works_step now.view next'.view _ _ [] e (sym (append-nil now.view.seen.loads)) refl);
         seen = ap (λ (v : View). v.seen) e ∙ at.seen;
         rests = subst (λ (v : View). Rests v.work.search) (sym e) tt;
         linked = ap (λ (v : View). v.work.linked) e ∙ at.linked;

@@ -14,6 +14,7 @@ use Rattle.core_rule.specs.Kinds.{raise_read_stamp}
 use Rattle.core_rule.specs.Learnt.{IsOfAnother}
 use Rattle.core_rule.specs.Paths.{EndsAt}
 use Rattle.version_search.specs.Finding.{Finds, stand_for}
+use Rattle.version_search.proofs.Grown.{grows_both}
 use Rattle.validate_core.specs.Sets.{SetsView, Turn, IsInside, Once}
 use Rattle.validate_core.specs.Validating.{Works, Decides, Stage, Stopped, Met, MetFinal, no_more, its_read_stamp, IsShown, HasRead}
 use Rattle.validate_core.proofs.Works.{works_none, works_both, works_step, ready_after, ready_none, ready_both, among_turn, once_turn}
@@ -54,7 +55,7 @@ module _ (core : Shared) (before : Seated) (stamp : ℕ) (s : SetsView) (i : ℕ
   raises {kept} n next' step =
       let e = step.view in let st = at.stage in record {
         stays = ready_both core before now next' at.stays (ready_after core now next' at.stays.ready step.seat (ap (λ (v : View). v.size) e) (ap (λ (v : View). v.number) e) (ap (λ (v : View). v.published) e));
-        works = works_both before.view now.view next'.view at.works (works_step now.view next'.view _ _ _ e refl);
+        works = works_both before.view now.view next'.view at.works (works_step now.view next'.view _ _ _ e refl refl);
         stage = subst (Stage stamp s (take (i + 1) s.reads) [] []) (sym e) record {
           in_flight = st.in_flight;
           rests = st.rests;
@@ -74,17 +75,17 @@ raised_all core before stamp s i now over at = subst (λ (xs : List Read). Stage
 -- ---- conflicts
 
 -- where the call began earlier, and where it ends later
-met_earlier : (stamp rid w n : ℕ) (more : ℕ → List Load) (u v x : View) → Works u v → Met stamp rid w n more v x → Met stamp rid w n more u x
+met_earlier : (stamp rid w n : ℕ) (more : ℕ → List Load) (u v x : View) → Works u v → Met stamp rid w n more v.seen.loads x.seen.loads → Met stamp rid w n more u.seen.loads x.seen.loads
 met_earlier stamp rid w n more u v x a m = record {
   place = m.place;
-  earlier = a.added ++ m.earlier;
+  earlier = a.grows.loaded ++ m.earlier;
   met = m.met;
   later = m.later;
-  path = subst (λ (ls : List Load). EndsAt stamp rid m.place w n ls m.met) (ap (λ (ls : List Load). ls ++ m.earlier) a.loads ∙ append_assoc u.seen.loads a.added m.earlier) m.path;
+  path = subst (λ (ls : List Load). EndsAt stamp rid m.place w n ls m.met) (ap (λ (ls : List Load). ls ++ m.earlier) a.grows.loads ∙ append_assoc u.seen.loads a.grows.loaded m.earlier) m.path;
   loads = m.loads;
 }
 
-final_earlier : (stamp rid w : ℕ) (more : ℕ → List Load) (u v x : View) → Works u v → MetFinal stamp rid w more v x → MetFinal stamp rid w more u x
+final_earlier : (stamp rid w : ℕ) (more : ℕ → List Load) (u v x : View) → Works u v → MetFinal stamp rid w more v.seen.loads x.seen.loads → MetFinal stamp rid w more u.seen.loads x.seen.loads
 final_earlier stamp rid w more u v x a m = record { status = m.status; final = m.final; met = met_earlier stamp rid w m.status more u v x a m.met }
 
 pub shown_earlier : (stamp : ℕ) (s : SetsView) (u v x : View) (c : Conflict) → Works u v → IsShown stamp s v x c → IsShown stamp s u x c
@@ -96,18 +97,18 @@ pub another_works : (n : ℕ) (v x : View) → Works v x → IsOfAnother v n →
 another_works n v x a o =
     subst (λ (y : View). IsOfAnother y n) (sym a.only) record { another = o.another; within = o.within; not_alone = λ alone. o.not_alone alone }
 
-met_later : (stamp rid w n : ℕ) (more : ℕ → List Load) (u v x : View) → Works v x → Met stamp rid w n more u v → Met stamp rid w n more u x
+met_later : (stamp rid w n : ℕ) (more : ℕ → List Load) (u v x : View) → Works v x → Met stamp rid w n more u.seen.loads v.seen.loads → Met stamp rid w n more u.seen.loads x.seen.loads
 met_later stamp rid w n more u v x a m = record {
   place = m.place;
   earlier = m.earlier;
   met = m.met;
-  later = m.later ++ a.added;
+  later = m.later ++ a.grows.loaded;
   path = m.path;
-  loads = a.loads ∙ ap (λ (ls : List Load). ls ++ a.added) m.loads ∙ append_assoc m.met (more m.place ++ m.later) a.added
-      ∙ ap (λ (ls : List Load). m.met ++ ls) (append_assoc (more m.place) m.later a.added);
+  loads = a.grows.loads ∙ ap (λ (ls : List Load). ls ++ a.grows.loaded) m.loads ∙ append_assoc m.met (more m.place ++ m.later) a.grows.loaded
+      ∙ ap (λ (ls : List Load). m.met ++ ls) (append_assoc (more m.place) m.later a.grows.loaded);
 }
 
-final_later : (stamp rid w : ℕ) (more : ℕ → List Load) (u v x : View) → Works v x → MetFinal stamp rid w more u v → MetFinal stamp rid w more u x
+final_later : (stamp rid w : ℕ) (more : ℕ → List Load) (u v x : View) → Works v x → MetFinal stamp rid w more u.seen.loads v.seen.loads → MetFinal stamp rid w more u.seen.loads x.seen.loads
 final_later stamp rid w more u v x a m = record { status = m.status; final = m.final; met = met_later stamp rid w m.status more u v x a m.met }
 
 pub shown_later : (stamp : ℕ) (s : SetsView) (u v x : View) (c : Conflict) → Works v x → IsShown stamp s u v c → IsShown stamp s u x c
@@ -116,7 +117,7 @@ shown_later stamp s u v x (ReadLater rid w r) a h = (h.0, another_works r v x a 
 shown_later stamp s u v x (Overtaken rid seen now) a h = (h.0, h.1, another_works now v x a h.2, h.3, final_later stamp rid now no_more u v x a h.4)
 
 -- a path of this call
-pub met_now : (stamp rid place w n : ℕ) (v x : View) → EndsAt stamp rid place w n v.seen.loads x.seen.loads → Met stamp rid w n no_more v x
+pub met_now : (stamp rid place w n : ℕ) (v x : View) → EndsAt stamp rid place w n v.seen.loads x.seen.loads → Met stamp rid w n no_more v.seen.loads x.seen.loads
 met_now stamp rid place w n v x path = record {
   place = place;
   earlier = [];
@@ -133,7 +134,7 @@ rests_either true p look r = tt
 rests_either false p look r = r
 
 pub found_works : (aim : Aim) (limit rid place w n : ℕ) (v x : View) → Finds aim limit rid place w n v x → Works v x
-found_works aim limit rid place w n v x f = works_step v x _ x.seen _ f.reaches.view f.path.loads
+found_works aim limit rid place w n v x f = works_step v x _ x.seen _ f.reaches.view f.path.loads f.reaches.lost
 
 pub found_stops : (stamp : ℕ) (s : SetsView) (up done : List Read) (checked : List Write) (aim : Aim) (limit rid place w n : ℕ) (v x : View) → IsReading aim → Stage stamp s up done checked v → Finds aim limit rid place w n v x → Stopped s x
 found_stops stamp s up done checked aim limit rid place w n v x reading st f =
@@ -144,7 +145,7 @@ found_stops stamp s up done checked aim limit rid place w n v x reading st f =
       collected = st.collected;
     }
 
-pub pending_shown : (stamp : ℕ) (s : SetsView) (aim : Aim) (rid place w n : ℕ) (v x : View) → n ≡ 2 → Finds aim stamp rid place w n v x → (w < stamp) × IsOfAnother x w × Met stamp rid w 2 no_more v x
+pub pending_shown : (stamp : ℕ) (s : SetsView) (aim : Aim) (rid place w n : ℕ) (v x : View) → n ≡ 2 → Finds aim stamp rid place w n v x → (w < stamp) × IsOfAnother x w × Met stamp rid w 2 no_more v.seen.loads x.seen.loads
 pending_shown stamp s aim rid place w n v x is f =
     let m = f.reaches.met is in
     (f.reaches.early, record { another = m.another; within = m.within; not_alone = m.not_alone }, met_now stamp rid place w 2 v x (subst (λ (k : ℕ). EndsAt stamp rid place w k v.seen.loads x.seen.loads) is f.path))
@@ -187,7 +188,7 @@ again_begins stamp s i d v turn st = (
 )
 
 pub overtaken_shown : (stamp : ℕ) (s : SetsView) (i : ℕ) (d : Read) (place w n : ℕ) (v x : View) → Turn i s.reads d → Finds (again d) stamp d.record_number place w n v x → n ≢ 2 → w ≢ d.version
-    → (d.version < w) × (w < stamp) × IsOfAnother x w × HasRead d.record_number d.version s × MetFinal stamp d.record_number w no_more v x
+    → (d.version < w) × (w < stamp) × IsOfAnother x w × HasRead d.record_number d.version s × MetFinal stamp d.record_number w no_more v.seen.loads x.seen.loads
 overtaken_shown stamp s i d place w n v x turn f ne apart =
     let range = f.reaches.state in let low = range.0 in let high = range.1 in
     let o = f.reaches.overtaken (omega arith, high) in let over = o.0 in (
@@ -231,6 +232,7 @@ decides_earlier kept records stamp s u v x a d =
     let same : v.log ≡ u.log = ap (λ (y : View). y.log) a.only in record {
       log = d.log ∙ ap (λ (l : List Logged). l ++ commit_of (writing stamp) s.reads s.writes ∷ []) same;
       only = d.only ∙ ap (λ (y : View). record y { work = x.work; log = x.log; seen = x.seen }) a.only;
+      grows = grows_both u.seen v.seen x.seen a.grows d.grows;
       stood = subst (λ (l : List Logged). StoodAt kept records l (commit_of (writing stamp) s.reads s.writes)) same d.stood;
       decided = d.decided;
     }

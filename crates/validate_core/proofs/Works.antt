@@ -1,27 +1,28 @@
 -- Views from step to step, where what is in flight and the loads alone change.
-use Rattle.std.proofs.Common.{◌≡◌, ◌≢◌, ℕ, suc, ◌<◌, ◌⊎◌, List, [], ◌∷◌, ◌++◌, append_assoc, append-nil, refl, sym, ap, ◌∙◌, subst, inl, inr, ⊎_elim, take, drop}
+use Rattle.std.proofs.Common.{◌≡◌, ◌≢◌, ℕ, suc, ◌<◌, ◌⊎◌, List, [], ◌∷◌, ◌++◌, refl, sym, ap, ◌∙◌, subst, inl, inr, ⊎_elim, take, drop}
 use Rattle.stamp_base.specs.Limits.{end_of_stamps}
 use Rattle.core_rule.specs.View.{View, Published, Work, Load, Seen}
 use Rattle.core_rule.specs.Views.{Among}
 use Rattle.core_rule.specs.Hands.{Shared, Seated, IsReady, IsSameSeat, StaysReady}
+use Rattle.version_search.specs.Growing.{Grows}
+use Rattle.version_search.proofs.Grown.{grows_none, grows_both, grows_loads}
 use Rattle.validate_core.specs.Validating.{worked, Works, Stands}
 use Rattle.validate_core.specs.Sets.{Once, Turn}
 
 pub works_none : (v : View) → Works v v
-works_none v = record { only = refl; added = []; loads = sym (append-nil v.seen.loads) }
+works_none v = record { only = refl; grows = grows_none v.seen }
 
 pub works_both : (u v w : View) → Works u v → Works v w → Works u w
 works_both u v w a b = record {
   only = b.only ∙ ap (λ (x : View). record x { work = w.work; seen = w.seen }) a.only;
-  added = a.added ++ b.added;
-  loads = b.loads ∙ ap (λ (x : List Load). x ++ b.added) a.loads ∙ append_assoc u.seen.loads a.added b.added;
+  grows = grows_both u.seen v.seen w.seen a.grows b.grows;
 }
 
-pub works_step : (v x : View) (w : Work) (t : Seen) (ls : List Load) → x ≡ worked v w t → t.loads ≡ v.seen.loads ++ ls → Works v x
-works_step v x w t ls e h = record {
+-- after loads alone
+pub works_step : (v x : View) (w : Work) (t : Seen) (ls : List Load) → x ≡ worked v w t → t.loads ≡ v.seen.loads ++ ls → t.lost ≡ v.seen.lost → Works v x
+works_step v x w t ls e h k = record {
   only = e ∙ (λ i. record v { work = sym (ap (λ (y : View). y.work) e) i; seen = sym (ap (λ (y : View). y.seen) e) i });
-  added = ls;
-  loads = ap (λ (y : View). y.seen.loads) e ∙ h;
+  grows = grows_loads v.seen x.seen ls (ap (λ (y : View). y.seen.loads) e ∙ h) (ap (λ (y : View). y.seen.lost) e ∙ k);
 }
 
 pub works_stands : (v w : View) → Works v w → Stands v w
@@ -30,6 +31,7 @@ works_stands v w a = record {
   published = ap (λ (y : View). y.published) a.only;
   held = ap (λ (y : View). y.places.held) a.only;
   others = subst (λ (y : View). y ≡ record v { places = y.places; work = y.work; counts = y.counts; tops = y.tops; front = y.front; log = y.log; seen = y.seen }) (sym a.only) refl;
+  grows = a.grows;
 }
 
 pub stands_both : (u v w : View) → Stands u v → Stands v w → Stands u w
@@ -38,15 +40,17 @@ stands_both u v w a b = record {
   published = b.published ∙ a.published;
   held = b.held ∙ a.held;
   others = b.others ∙ ap (λ (y : View). record y { places = w.places; work = w.work; counts = w.counts; tops = w.tops; front = w.front; log = w.log; seen = w.seen }) a.others;
+  grows = grows_both u.seen v.seen w.seen a.grows b.grows;
 }
 
 -- where the log has more as well
-pub logs_stand : (v w : View) → w ≡ record (worked v w.work w.seen) { log = w.log } → Stands v w
-logs_stand v w e = record {
+pub logs_stand : (v w : View) → w ≡ record (worked v w.work w.seen) { log = w.log } → Grows v.seen w.seen → Stands v w
+logs_stand v w e grows = record {
   clock = ap (λ (y : View). y.clock) e;
   published = ap (λ (y : View). y.published) e;
   held = ap (λ (y : View). y.places.held) e;
   others = subst (λ (y : View). y ≡ record v { places = y.places; work = y.work; counts = y.counts; tops = y.tops; front = y.front; log = y.log; seen = y.seen }) (sym e) refl;
+  grows = grows;
 }
 
 -- a hand stays ready over a step that changes none of its published words

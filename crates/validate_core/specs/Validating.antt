@@ -8,27 +8,28 @@ use Rattle.core_rule.specs.Searching.{Rests, Ends, IsFinal, AllPassed}
 use Rattle.core_rule.specs.Learnt.{IsOfAnother}
 use Rattle.core_rule.specs.Deciding.{commit_of, AreReads, IsUndecided, StoodAt}
 use Rattle.core_rule.specs.Paths.{EndsAt, load}
+use Rattle.version_search.specs.Growing.{Grows}
 use Rattle.validate_core.specs.Sets.{SetsView}
 use Rattle.validate_core.specs.declared.conflict.Conflict.{Conflict}
 use Rattle.validate_core.specs.declared.conflict.Conflict.TheVariants.{Pending, ReadLater, Overtaken}
 
 -- what a call leaves as it was: the clock, the two published words and the places held, and all else but what is stored in places,
--- what is in flight, what is known of lists, the log, and what was seen
+-- what is in flight, what is known of lists, the log, and what was seen, which has grown
 pub record Stands (v w : View) : Type 0 where
   pub clock : w.clock ≡ v.clock
   pub published : w.published ≡ v.published
   pub held : w.places.held ≡ v.places.held
   pub others : w ≡ record v { places = w.places; work = w.work; counts = w.counts; tops = w.tops; front = w.front; log = w.log; seen = w.seen }
+  pub grows : Grows v.seen w.seen
 
--- the view with this in flight, and these loads
+-- the view with this in flight, and this seen
 abbrev pub worked : View → Work → Seen → View
 worked v w seen = record v { work = w; seen = seen }
 
--- what is in flight and the loads alone have changed, which have grown
+-- what is in flight and what was seen alone have changed, which has grown
 pub record Works (v w : View) : Type 0 where
   pub only : w ≡ worked v w.work w.seen
-  pub added : List Load
-  pub loads : w.seen.loads ≡ v.seen.loads ++ added
+  pub grows : Grows v.seen w.seen
 
 -- the transaction at this stamp has these reads and writes, which are linked; of the reads so many are raised, and finished; and
 -- these writes have passed the check
@@ -65,10 +66,11 @@ pub record IsDecidedAt (stamp : ℕ) (s : SetsView) (v : View) : Type 0 where
   pub collected : v.work.item ≡ no_item
 
 -- the log has one more entry, the commit entry of the sets, at the end of a lawful history in which a kept state agrees with its
--- reads. All else but what is in flight is as before
+-- reads. All else but what is in flight and what was seen is as before
 pub record Decides (kept : State → Type 0) (records stamp : ℕ) (s : SetsView) (v w : View) : Type 0 where
   pub log : w.log ≡ v.log ++ commit_of (writing stamp) s.reads s.writes ∷ []
   pub only : w ≡ record (worked v w.work w.seen) { log = w.log }
+  pub grows : Grows v.seen w.seen
   pub stood : StoodAt kept records v.log (commit_of (writing stamp) s.reads s.writes)
   pub decided : IsDecidedAt stamp s w
 
@@ -78,15 +80,15 @@ pub record IsOver (decided : Bool) (s : SetsView) (v : View) : Type 0 where
   pub settled : Settled s.writes v
   pub ends : Ends v.work
 
--- loads of the call between two views led to a version of record rid below the stamp, which showed this status; and the next
--- loads at its place were these
-pub record Met (stamp rid wts status : ℕ) (more : ℕ → List Load) (v w : View) : Type 0 where
+-- of the loads that one list has behind those of the other, some led to a version of record rid below the stamp, which showed this
+-- status; and the next loads at its place were these
+pub record Met (stamp rid wts status : ℕ) (more : ℕ → List Load) (before after' : List Load) : Type 0 where
   pub place : ℕ
   pub earlier : List Load
   pub met : List Load
   pub later : List Load
-  pub path : EndsAt stamp rid place wts status (v.seen.loads ++ earlier) met
-  pub loads : w.seen.loads ≡ met ++ (more place ++ later)
+  pub path : EndsAt stamp rid place wts status (before ++ earlier) met
+  pub loads : after' ≡ met ++ (more place ++ later)
 
 abbrev pub no_more : ℕ → List Load
 no_more place = []
@@ -95,10 +97,10 @@ abbrev pub its_read_stamp : ℕ → ℕ → List Load
 its_read_stamp n place = load (rts place) n ∷ []
 
 -- such a version, committed or deleted
-pub record MetFinal (stamp rid wts : ℕ) (more : ℕ → List Load) (v w : View) : Type 0 where
+pub record MetFinal (stamp rid wts : ℕ) (more : ℕ → List Load) (before after' : List Load) : Type 0 where
   pub status : ℕ
   pub final : IsFinal status
-  pub met : Met stamp rid wts status more v w
+  pub met : Met stamp rid wts status more before after'
 
 -- a version that the transaction has read; a record that it writes; a record that it has read or writes
 pub record HasRead (rid version : ℕ) (s : SetsView) : Type 0 where
@@ -117,11 +119,11 @@ Touches rid s = ((version : ℕ) × HasRead rid version s) ⊎ Writes rid s
 
 -- the conflict was shown by the loads of the call between two views
 abbrev pub IsShown : ℕ → SetsView → View → View → Conflict → Type 0
-IsShown stamp s v w (Pending rid wts) = (wts < stamp) × IsOfAnother w wts × Touches rid s × Met stamp rid wts 2 no_more v w
+IsShown stamp s v w (Pending rid wts) = (wts < stamp) × IsOfAnother w wts × Touches rid s × Met stamp rid wts 2 no_more v.seen.loads w.seen.loads
 IsShown stamp s v w (ReadLater rid wts read_stamp) =
-    (stamp < read_stamp) × IsOfAnother w read_stamp × Writes rid s × MetFinal stamp rid wts (its_read_stamp read_stamp) v w
+    (stamp < read_stamp) × IsOfAnother w read_stamp × Writes rid s × MetFinal stamp rid wts (its_read_stamp read_stamp) v.seen.loads w.seen.loads
 IsShown stamp s v w (Overtaken rid seen now) =
-    (seen < now) × (now < stamp) × IsOfAnother w now × HasRead rid seen s × MetFinal stamp rid now no_more v w
+    (seen < now) × (now < stamp) × IsOfAnother w now × HasRead rid seen s × MetFinal stamp rid now no_more v.seen.loads w.seen.loads
 
 -- a conflict was met, and nothing is stored yet
 pub record Stopped (s : SetsView) (v : View) : Type 0 where

@@ -63,6 +63,7 @@ impl Installed {
         ensures log { hand.new.view.log ≡ hand.old.view.log }
         ensures aborted { IsOver false sets.now hand.new.view }
         ensures as_before { Works hand.old.view hand.new.view }
+        ensures seen { hand.new.view.seen ≡ hand.old.view.seen }
         ensures stays { StaysReady core.now hand.old hand.new }
     {
         let Installed { stamp: _ } = self;
@@ -80,6 +81,7 @@ impl Decided {
         ensures log { hand.new.view.log ≡ hand.old.view.log }
         ensures published { IsOver true sets.now hand.new.view }
         ensures as_before { Works hand.old.view hand.new.view }
+        ensures seen { hand.new.view.seen ≡ hand.old.view.seen }
         ensures stays { StaysReady core.now hand.old hand.new }
     {
         let Decided { stamp: _ } = self;

@@ -22,6 +22,7 @@ pub(crate) fn store_all<J: Keeps>(core: &Core<J>, hand: &mut Hand<J>, sets: &Set
     requires decided { hand.old.view.work.decided ≡ decided }
     requires collected { hand.old.view.work.item ≡ no_item }
     ensures works { Works hand.old.view hand.new.view }
+    ensures seen { hand.new.view.seen ≡ hand.old.view.seen }
     ensures settled { Settled sets.now.writes hand.new.view }
     ensures ends { Ends hand.new.view.work }
     ensures decided { hand.new.view.work.decided ≡ decided }

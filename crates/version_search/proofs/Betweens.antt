@@ -11,8 +11,10 @@ use Rattle.core_rule.specs.Hands.{Shared, Seated, IsReady, IsSameSeat, StaysRead
 use Rattle.core_rule.specs.Kinds.{mark, load_head, load_next, load_stamp, point, linked_after}
 use Rattle.core_rule.specs.Learnt.{IsLink}
 use Rattle.version_search.specs.Finding.{with_work}
+use Rattle.version_search.specs.Growing.{Grows}
 use Rattle.version_search.specs.Links.{joined_at, IsLinked}
 use Rattle.version_search.proofs.Calls.{stays-ready, starts-ready, both-ready, only_of}
+use Rattle.version_search.proofs.Grown.{grows_both, grows_loads, grows_same}
 
 abbrev pub between : Write → Option ℕ → (below under least : ℕ) → Bool → Stand
 between u above below under least done =
@@ -36,6 +38,7 @@ pub record Between (core : Shared) (layout : Size) (before now : Seated) (u : Wr
   pub above_inside : ForSome above (λ a. a < places core.size)
   pub flight : now.view.flight ≡ writing u.stamp
   pub view : now.view ≡ marked_with before.view u.place now.view.work.search now.view.seen
+  pub grows : Grows before.view.seen now.view.seen
 
 marked_then : (v w x : View) (p : ℕ) → w ≡ marked_with v p w.work.search w.seen → x ≡ with_work w x.work.search x.seen → x ≡ marked_with v p x.work.search x.seen
 marked_then v w x p e f =
@@ -72,6 +75,8 @@ module _ (core : Shared) (layout : Size) (layout_is : layout ≡ core.size) (bef
         flight = ap (λ (v : View). v.flight) g ∙ ap (λ (v : View). v.flight) e ∙ flight;
         view = marked_then before.view a.view now.view f.place
             (e ∙ same_marked before.view f.place _ _ _ _ (sym (ap (λ (v : View). v.work.search) e)) (sym (ap (λ (v : View). v.seen) e))) (only_of a.view now.view _ _ g);
+        grows = grows_both before.view.seen a.view.seen now.view.seen (grows_same before.view.seen a.view.seen (ap (λ (v : View). v.seen.loads) e) (ap (λ (v : View). v.seen.lost) e))
+            (grows_loads a.view.seen now.view.seen _ (ap (λ (v : View). v.seen.loads) g) (ap (λ (v : View). v.seen.lost) g));
       }
 
   module _ {kept : State → Type 0} (u : Write) (above : Option ℕ) (below wts : ℕ) (now at : Seated) (b : Between core layout before now u above below) (looked : Steps kept (load_stamp (stand_in now.view.work.search)) now wts at) where
@@ -85,6 +90,9 @@ module _ (core : Shared) (layout : Size) (layout_is : layout ≡ core.size) (bef
 
     at_view : at.view ≡ marked_with before.view u.place at.view.work.search at.view.seen
     at_view = marked_then before.view now.view at.view u.place b.view (only_of now.view at.view _ _ looked.view)
+
+    at_grows : Grows before.view.seen at.view.seen
+    at_grows = grows_both before.view.seen now.view.seen at.view.seen b.grows (grows_loads now.view.seen at.view.seen _ (ap (λ (v : View). v.seen.loads) looked.view) (ap (λ (v : View). v.seen.lost) looked.view))
 
     at_flight : at.view.flight ≡ writing u.stamp
     at_flight = ap (λ (v : View). v.flight) looked.view ∙ b.flight
@@ -108,12 +116,18 @@ module _ (core : Shared) (layout : Size) (layout_is : layout ≡ core.size) (bef
           above_inside = λ a e. let same : below ≡ a = cc in subst (λ (x : ℕ). x < places core.size) same b.inside;
           flight = ap (λ (v : View). v.flight) e ∙ at_flight;
           view = marked_then before.view at.view next'.view u.place at_view (only_of at.view next'.view _ _ e);
+          grows = grows_both before.view.seen at.view.seen next'.view.seen at_grows (grows_loads at.view.seen next'.view.seen _ (ap (λ (v : View). v.seen.loads) e) (ap (λ (v : View). v.seen.lost) e));
         }
+
+    joined_grows : (po jo : Seated) → Steps kept (point (stand_in at.view.work.search) (joint_in at.view.work.search) (stamp_seen (look_in at.view.work.search))) at (suc below) po → Grows po.view.seen jo.view.seen → Grows before.view.seen jo.view.seen
+    joined_grows po jo pointed grows =
+        grows_both before.view.seen at.view.seen jo.view.seen at_grows (grows_both at.view.seen po.view.seen jo.view.seen
+        (grows_same at.view.seen po.view.seen (ap (λ (v : View). v.seen.loads) pointed.view) (ap (λ (v : View). v.seen.lost) pointed.view)) grows)
 
     -- the exchange is lost
     pub loses : (n : ℕ) (po jo : Seated) → Steps kept (point (stand_in at.view.work.search) (joint_in at.view.work.search) (stamp_seen (look_in at.view.work.search))) at (suc below) po → StaysReady core po jo
-        → jo.view ≡ joined_at po.view n jo.view.seen → IsLink (places core.size) n → n ≢ suc below → Between core layout before jo u above (n - 1)
-    loses n po jo pointed stays joined link ne =
+        → jo.view ≡ joined_at po.view n jo.view.seen → Grows po.view.seen jo.view.seen → IsLink (places core.size) n → n ≢ suc below → Between core layout before jo u above (n - 1)
+    loses n po jo pointed stays joined grows link ne =
         let e = pointed.view in
         let s : stand_in at.view.work.search ≡ between u above below b.under b.least false = ap stand_in at_search in
         let j : joint_in at.view.work.search ≡ record { write = u; above = above; least = b.least; stored = false } = ap joint_in at_search in
@@ -160,12 +174,13 @@ module _ (core : Shared) (layout : Size) (layout_is : layout ≡ core.size) (bef
           above_inside = b.above_inside;
           flight = ap (λ (v : View). v.flight) jo_view ∙ ap (λ (v : View). v.flight) e ∙ at_flight;
           view = marked_then before.view po.view jo.view u.place (marked_then before.view at.view po.view u.place at_view (only_of at.view po.view _ _ e)) (only_of po.view jo.view _ _ jo_view);
+          grows = joined_grows po jo pointed grows;
         }
 
     -- the exchange is won
     pub wins : (n : ℕ) (po jo : Seated) → Steps kept (point (stand_in at.view.work.search) (joint_in at.view.work.search) (stamp_seen (look_in at.view.work.search))) at (suc below) po
-        → jo.view ≡ joined_at po.view n jo.view.seen → n ≡ suc below → IsLinked u before.view jo.view
-    wins n po jo pointed joined is =
+        → jo.view ≡ joined_at po.view n jo.view.seen → Grows po.view.seen jo.view.seen → n ≡ suc below → IsLinked u before.view jo.view
+    wins n po jo pointed joined grows is =
         let e = pointed.view in
         let s : stand_in at.view.work.search ≡ between u above below b.under b.least false = ap stand_in at_search in
         let j : joint_in at.view.work.search ≡ record { write = u; above = above; least = b.least; stored = false } = ap joint_in at_search in
@@ -202,4 +217,5 @@ module _ (core : Shared) (layout : Size) (layout_is : layout ≡ core.size) (bef
                 front = no_front;
                 seen = jo.view.seen;
               }) po_view;
+          grows = joined_grows po jo pointed grows;
         }

@@ -8,7 +8,9 @@ use Rattle.core_rule.specs.Hands.{Shared, Seated, IsReady, StaysReady, Steps}
 use Rattle.core_rule.specs.Kinds.{load_cell}
 use Rattle.core_rule.specs.Left.{LeavesCells}
 use Rattle.version_search.specs.Loading.{with_cells, with_value, IsLeftIn}
+use Rattle.version_search.specs.Growing.{Grows}
 use Rattle.version_search.proofs.Calls.{stays-ready, starts-ready}
+use Rattle.version_search.proofs.Grown.{grows_none, grows_both, grows_loads}
 
 pub loading_still : (cells : List ℕ) (ds : List Read) → IsLoading ds → IsLoading (with_cells cells ds)
 loading_still cells [] h = absurd h
@@ -40,6 +42,7 @@ pub record Loaded (core : Shared) (before : Seated) (words : List ℕ) (n : ℕ)
   pub count : length words ≡ 32
   pub view : now.view ≡ with_value before.view (take n words) now.view.seen
   pub left : n ≡ 32 → IsLeftIn now.view (newest now.view.work.reads).cells
+  pub grows : Grows before.view.seen now.view.seen
 
 pub reads_of : (core : Shared) (before : Seated) (words : List ℕ) (n : ℕ) (now : Seated) → Loaded core before words n now → now.view.work.reads ≡ with_cells (take n words) before.view.work.reads
 reads_of core before words n now l = ap (λ (v : View). v.work.reads) l.view
@@ -50,6 +53,7 @@ begins core before words ready count = record {
   count = count;
   view = λ i. record before.view { work = record before.view.work { reads = with_none before.view.work.reads i } };
   left = λ all. absurd (omega arith);
+  grows = grows_none before.view.seen;
 }
 
 newest_more : (n : ℕ) (ds : List Read) → IsLoading ds → newest (more_read n ds) ≡ record (newest ds) { cells = (newest ds).cells ++ n ∷ [] }
@@ -84,6 +88,7 @@ module _ (core : Shared) (before : Seated) (words : List ℕ) (loading : IsLoadi
             subst (λ (v : View). IsLeftIn v (newest v.work.reads).cells) (sym view) (λ alone.
             subst (λ (d : Read). LeavesCells now.view.log d.record_number (limit_of now.view.flight now.view.published.read) d.version d.cells) (sym (newest_more n now.view.work.reads (still_loading i now l)))
             (step.learnt alone (omega arith)));
+        grows = grows_both before.view.seen now.view.seen next'.view.seen l.grows (grows_loads now.view.seen next'.view.seen _ (ap (λ (v : View). v.seen.loads) view) (ap (λ (v : View). v.seen.lost) view));
       }
 
   -- all cells are loaded

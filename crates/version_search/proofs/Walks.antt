@@ -54,6 +54,7 @@ module _ (aim : Aim) (limit rid place under w n : ℕ) (v : View) where
           overtaken = subst (λ (y : View). IsOvertaken y aim w n) (sym x_of) (overtaken_after aim w n u _ _ told.3);
           left = subst (λ (l : ℕ). IsAlone x → IsFinal n → IsLeft x.log rid l w n) at_limit
               (subst (λ (y : View). IsAlone y → IsFinal n → IsLeft y.log rid (limit_of y.flight y.published.read) w n) (sym x_of) told.4);
+          lost = ap (λ (y : View). y.seen.lost) x_here;
           view = x_here ∙ (λ i. record v { work = reached here w n v.work; seen = seen_is i });
         };
         loads = ap (λ (y : View). y.seen.loads) x_here ∙ simp append_assoc;
@@ -69,6 +70,7 @@ pub record Going (core : Shared) (layout : Size) (before now : Seated) (aim : Ai
   pub ways : List Load
   pub leads : (way : List Load) → Way limit rid way from → Way limit rid (way ++ ways) place
   pub loads : now.view.seen.loads ≡ before.view.seen.loads ++ ways
+  pub lost : now.view.seen.lost ≡ before.view.seen.lost
 
 leads_on : (limit rid place n : ℕ) (way : List Load) (look : Look) → IsPassed limit look → Way limit rid way place → Way limit rid (way ++ (glanced place look ++ load (next place) n ∷ [])) (n - 1)
 leads_on limit rid place n way blank passed leads = absurd passed
@@ -91,6 +93,7 @@ module _ (core : Shared) (layout : Size) (layout_is : layout ≡ core.size) (bef
     ways = [];
     leads = λ way leads. subst (λ (x : List Load). Way limit rid x from) (simp append-nil) leads;
     loads = simp append-nil;
+    lost = refl;
   }
 
   -- it goes on from a place that is passed, to one with a lesser stamp
@@ -128,6 +131,7 @@ module _ (core : Shared) (layout : Size) (layout_is : layout ≡ core.size) (bef
           loads =
               let last : next'.view.seen.loads ≡ at.view.seen.loads ++ load (next place) n ∷ [] = subst (λ (x : Stand). next'.view.seen.loads ≡ at.view.seen.loads ++ load (next x.place) n ∷ []) here_is (ap (λ (v : View). v.seen.loads) view) in
               joined_loads before.view.seen.loads going.ways (glanced place passes.look) (load (next place) n ∷ []) now.view.seen.loads at.view.seen.loads next'.view.seen.loads going.loads passes.loads last;
+          lost = ap (λ (v : View). v.seen.lost) view ∙ passes.lost ∙ going.lost;
         },
         omega arith,
       )
@@ -142,6 +146,7 @@ module _ (core : Shared) (layout : Size) (layout_is : layout ≡ core.size) (bef
       met = sees.reaches.met;
       overtaken = sees.reaches.overtaken;
       left = sees.reaches.left;
+      lost = sees.reaches.lost ∙ going.lost;
       view = sees.reaches.view ∙ ap (λ (v : View). record v { work = reached (stand_for aim rid place sees.reaches.under) w s v.work; seen = at.view.seen }) going.view;
     };
     ways = going.ways;
@@ -170,6 +175,7 @@ module _ (kept : State → Type 0) (core : Shared) (before now : Seated) (aim : 
       met = a.reaches.met;
       overtaken = a.reaches.overtaken;
       left = a.reaches.left;
+      lost = a.reaches.lost ∙ ap (λ (v : View). v.seen.lost) step.view;
       view = a.reaches.view ∙ ap (λ (v : View). record v { work = reached (stand_for aim rid place a.reaches.under) w s v.work; seen = x.seen }) step.view;
     };
     path = record {
@@ -191,6 +197,7 @@ reads_it limit rid place w s v x low high f =
     let final : is_final s ≡ true = rw (le-leb 3 s low, le-leb s 4 high) refl in record {
       path = f.path;
       left = λ alone. f.reaches.left alone (low, high);
+      lost = f.reaches.lost;
       view = f.reaches.view ∙ (λ i. record v {
         work = record v.work {
           search = cond (final i) still (stands (stand_for reads rid place f.reaches.under) (shown w s));

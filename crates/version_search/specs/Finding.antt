@@ -40,6 +40,7 @@ pub record Passes (place limit : ℕ) (v w : View) : Type 0 where
   pub loads : w.seen.loads ≡ v.seen.loads ++ glanced place look
   pub passed : IsPassed limit look
   pub falls : stamp_seen look < (stand_in v.work.search).under
+  pub lost : w.seen.lost ≡ v.seen.lost
   pub seen : Seen
   pub view : w ≡ with_work v (stands (stand_in v.work.search) look) seen
 
@@ -67,6 +68,8 @@ pub record Reaches (aim : Aim) (limit rid place w s : ℕ) (v x : View) : Type 0
   pub overtaken : IsOvertaken x aim w s
   -- a seat that is alone finds what its log leaves
   pub left : IsAlone x → IsFinal s → IsLeft x.log rid limit w s
+  -- it lost no exchange
+  pub lost : x.seen.lost ≡ v.seen.lost
   pub view : x ≡ record v { work = reached (stand_for aim rid place under) w s v.work; seen = x.seen }
 
 -- it was loaded there
@@ -95,6 +98,7 @@ pub record Reads (limit rid place w s : ℕ) (v x : View) : Type 0 where
   pub path : EndsAt limit rid place w s v.seen.loads x.seen.loads
   -- a seat that is alone finds what its log leaves
   pub left : IsAlone x → IsLeft x.log rid limit w s
+  pub lost : x.seen.lost ≡ v.seen.lost
   pub view : x ≡ record v {
     work = record v.work { search = still; reads = new_read rid place w s ∷ v.work.reads };
     seen = x.seen;

@@ -1,3 +1,4 @@
+pub mod Growing
 pub mod Finding
 pub mod Links
 pub mod Loading

@@ -4,6 +4,7 @@ use Rattle.core_rule.specs.View.{View, still, Write, Seen, no_front}
 use Rattle.core_rule.specs.Searching.{stand_in, look_in, joint_in, stamp_seen, counted_more}
 use Rattle.core_rule.specs.Holding.{without, without_fill}
 use Rattle.core_rule.specs.Kinds.{linked_after}
+use Rattle.version_search.specs.Growing.{Grows}
 
 -- the view after an exchange that found this number, where a version is linked
 abbrev pub joined_at : View → ℕ → Seen → View
@@ -15,7 +16,7 @@ joined_at v n seen = record v {
   seen = seen;
 }
 
--- the view after a version was linked
+-- the view after a version was linked, by searches of its place and by exchanges, of which the last was won
 pub record IsLinked (u : Write) (v w : View) : Type 0 where
   pub view : w ≡ record v {
     places = record v.places { held = without u.place v.places.held; fills = without_fill u.place v.places.fills };
@@ -25,3 +26,4 @@ pub record IsLinked (u : Write) (v w : View) : Type 0 where
     front = no_front;
     seen = w.seen;
   }
+  pub grows : Grows v.seen w.seen

@@ -21,6 +21,7 @@ pub fn first<J: Keeps>(core: &Core<J>, hand: &mut Hand<J>, rid: u32) -> First
     // What it knows of the other lists and of the kept place is as before, and so is all else but the loads.
     ensures others { (r : ℕ) → r ≢ rid → known_of hand.new.view.counts r ≡ known_of hand.old.view.counts r }
     ensures in_kept { hand.new.view.counts.in_kept ≡ hand.old.view.counts.in_kept }
+    ensures lost { hand.new.view.seen.lost ≡ hand.old.view.seen.lost }
     ensures view { hand.new.view ≡ record hand.old.view { counts = hand.new.view.counts; tops = hand.new.view.tops; front = hand.new.view.front; seen = hand.new.view.seen } }
     ensures stays { StaysReady core.now hand.old hand.new }
 {

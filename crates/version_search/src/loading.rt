@@ -3,6 +3,7 @@ ghost use Rattle.std.specs.Prelude.{◌≡◌, ◌<◌};
 ghost use Rattle.word_layout.specs.Size.{places};
 ghost use Rattle.core_rule.specs.Searching.{IsLoading, read_place, read_cells};
 ghost use Rattle.core_rule.specs.Hands.{IsReady, StaysReady};
+ghost use Rattle.version_search.specs.Growing.{Grows};
 ghost use Rattle.version_search.specs.Loading.{with_value, IsLeftIn};
 
 use core_rule::{Core, Hand, Keeps};
@@ -18,6 +19,7 @@ pub fn load_value<J: Keeps>(core: &Core<J>, hand: &mut Hand<J>, place: u32) -> C
     requires begins { read_cells hand.old.view.work.reads ≡ 0 }
     ensures view { hand.new.view ≡ with_value hand.old.view result hand.new.view.seen }
     ensures left { IsLeftIn hand.new.view result }
+    ensures grows { Grows hand.old.view.seen hand.new.view.seen }
     ensures stays { StaysReady core.now hand.old hand.new }
 {
     let mut words = [0; 32];

@@ -8,6 +8,7 @@ use Rattle.rapid_gc.specs.Queues.{Waiting}
 use Rattle.rapid_gc.specs.Collections.{idled, Prepares, GoesThrough, after_collecting}
 use Rattle.rapid_gc.proofs.Alone.{idled_alone, nothing_stays}
 use Rattle.rapid_gc.proofs.Bounds.{are_kept, leaves_one}
+use Rattle.rapid_gc.proofs.Grown.{collects_adds}
 use Rattle.rapid_gc.proofs.InKept.{is_left, cuts_off}
 use Rattle.rapid_gc.proofs.Prepared.{idled_is, ends_idled, collects_view}
 use Rattle.rapid_gc.proofs.collecting.collect.Goals as goal
@@ -84,6 +85,12 @@ returns-clause-seen g c = λ alone.
     let published : c.go_through.new.hand.view.published.write ≡ raised.published.write =
     ap (λ (v : View). v.published.write) c.go_through.ensures.view ∙ ap (λ (v : View). v.published.write) c.raise_min_read-reached.ensures.view ∙ ap (λ (v : View). v.published.write) c.publish_read.ensures.view in
     omega arith
+
+pub returns-clause-loads : goal.returns-clause-loads
+returns-clause-loads g c = (collects_adds c.args.hand.now.view c.args.queue.now.items c.go_through.new.items.items c.go_through.new.hand.view c.go_through.result (returns-clause-collects g c)).loads
+
+pub returns-clause-lost : goal.returns-clause-lost
+returns-clause-lost g c = (collects_adds c.args.hand.now.view c.args.queue.now.items c.go_through.new.items.items c.go_through.new.hand.view c.go_through.result (returns-clause-collects g c)).lost
 
 pub returns-clause-log : goal.returns-clause-log
 returns-clause-log g c = ap (λ (v : View). v.log) (returns-clause-view g c)

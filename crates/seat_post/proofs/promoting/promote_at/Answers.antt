@@ -16,4 +16,4 @@ returns-in-Err-clause-err g c =
     let r = c.load-read in
     let v = c.args.hand.now.view in
     let found : Reads c.args.stamp c.args.rid m.place m.wts 3 v c.find.new.hand.view = rw m.absent-test at (rw c.number.ensures.value at m.ensures.version) in
-    inr (stopped_writing r.result.value c.args.stamp c.args.rid m.place m.wts v c.find.new.hand.view c.take_inline.new.hand.view r.new.hand.view c.rewrite.new.hand.view c.in-Err.conflict c.requires.drawn r.ensures.present r.ensures.value c.if-place-rid.false found c.if-not-take_inline.ensures.taken c.in-Err.ensures.err)
+    inr (stopped_writing r.result.value c.args.stamp c.args.rid m.place m.wts v c.find.new.hand.view c.take_inline.new.hand.view r.new.hand.view c.rewrite.new.hand.view c.in-Err.conflict c.requires.drawn r.ensures.present r.ensures.value r.ensures.grows c.if-place-rid.false found c.if-not-take_inline.ensures.taken c.in-Err.ensures.err)

@@ -1,12 +1,24 @@
-use Rattle.std.proofs.Common.{◌≡◌, ◌≤◌, ◌+◌, List, map, ap, ◌∙◌, sym, subst, Bool, arith}
+use Rattle.std.proofs.Common.{◌≡◌, ◌≤◌, ◌+◌, List, map, refl, ap, ◌∙◌, sym, subst, Bool, arith}
 use Rattle.plain_data.specs.declared.entry.Entry.{Entry}
 use Rattle.core_rule.specs.Deciding.{entry_of}
 use Rattle.core_rule.specs.View.{View}
 use Rattle.seat_post.specs.Leaves.{AreAbsent, LeavesAs}
 use Rattle.seat_post.specs.Spare.{NumbersView, added}
-use Rattle.seat_post.proofs.Rescanning.{looks_more, looks_alone, absent_more, present_more, added_same}
+use Rattle.seat_post.proofs.Rescanning.{looks_none, none_absent, looks_more, looks_alone, absent_more, present_more, added_same}
 use Rattle.seat_post.proofs.rescan.list_absent.Goals as goal
 use Rattle.seat_post.proofs.rescan.list_absent.Goals.{then-is_absent, else-is_absent}
+
+pub loop-rid-init : goal.loop-rid-init
+loop-rid-init g c =
+    let r = c.requires in
+    let n = c.args.numbers.now in
+    record {
+      looks = looks_none c.args.hand.now.view r.rests;
+      ready = r.ready;
+      seat = record { same_table = refl; same_id = refl };
+      numbers = refl;
+      absent = none_absent (map entry_of c.args.hand.now.view.log) (c.args.stamp + 1) n.fixed c.fixed-rid.result n.spare c.fixed-rid.ensures r.none;
+    }
 
 pub loop-rid-preserved : goal.loop-rid-preserved
 loop-rid-preserved g c =

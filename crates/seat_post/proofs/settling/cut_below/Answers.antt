@@ -8,9 +8,9 @@ collect-requires-clause-below g c = entry_below c.args.hand.now.view c.args.rid 
 pub returns-clause-settling : goal.returns-clause-settling
 returns-clause-settling g c =
     let e = c.collect.ensures in
-    steady_settling c.args.hand.now.view c.collect.new.hand.view c.requires.settling (steady_collected c.args.hand.now.view c.collect.new.hand.view _ _ _ _ _ e.view e.met)
+    steady_settling c.args.hand.now.view c.collect.new.hand.view c.requires.settling (steady_collected c.args.hand.now.view c.collect.new.hand.view _ _ _ _ _ e.view e.met e.grows)
 
 pub returns-clause-settles : goal.returns-clause-settles
 returns-clause-settles g c =
     let e = c.collect.ensures in
-    steady_settles g.J.Keeps.kept c.args.hand.now.view c.collect.new.hand.view (steady_collected c.args.hand.now.view c.collect.new.hand.view _ _ _ _ _ e.view e.met)
+    steady_settles g.J.Keeps.kept c.args.hand.now.view c.collect.new.hand.view (steady_collected c.args.hand.now.view c.collect.new.hand.view _ _ _ _ _ e.view e.met e.grows)

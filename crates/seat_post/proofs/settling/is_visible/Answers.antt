@@ -1,5 +1,6 @@
 use Rattle.std.proofs.Common.{refl}
 use Rattle.seat_post.proofs.Steady.{steady_same, steady_idle, steady_raised, steady_looked, steady_settling, steady_settles}
+use Rattle.seat_post.proofs.Observed.{raises_grow}
 use Rattle.seat_post.proofs.Settlement.{visible_entered}
 use Rattle.seat_post.proofs.settling.is_visible.Goals as goal
 
@@ -7,14 +8,14 @@ pub publish_read-bound-requires-clause-ends : goal.publish_read-bound-requires-c
 publish_read-bound-requires-clause-ends g c =
     let idled = steady_idle c.args.hand.now c.idle.new.hand c.requires.settling.ends c.idle.ensures.rises c.idle.ensures.unchanged in
     let r = c.raise_min_write in
-    (steady_raised c.idle.new.hand.view r.new.hand.view r.result r.new.hand.view.seen r.ensures.view r.ensures.not_back idled.ends).ends
+    (steady_raised c.idle.new.hand.view r.new.hand.view r.result r.new.hand.view.seen r.ensures.view (raises_grow _ _ _ c.idle.new.hand.view r.result r.new.hand.view r.ensures.raises) r.ensures.not_back idled.ends).ends
 
 pub returns-then-found-first-clause-settling : goal.returns-then-found-first-clause-settling
 returns-then-found-first-clause-settling g c =
     let i = c.idle.ensures in
     let r = c.raise_min_write in
     let b = c.publish_read-bound in
-    let steady = steady_looked c.args.hand.now c.idle.new.hand r.new.hand b.new.hand c.find.new.hand.view r.result b.result c.args.rid c.in-Version.place c.in-Version.found _ c.requires.settling.ends i.rises i.unchanged r.ensures.view r.ensures.not_back b.ensures.view b.ensures.met c.in-Version.ensures.version in
+    let steady = steady_looked c.args.hand.now c.idle.new.hand r.new.hand b.new.hand c.find.new.hand.view r.result b.result c.args.rid c.in-Version.place c.in-Version.found _ c.requires.settling.ends i.rises i.unchanged r.ensures.view (raises_grow _ _ _ c.idle.new.hand.view r.result r.new.hand.view r.ensures.raises) r.ensures.not_back b.ensures.view b.ensures.met c.in-Version.ensures.version in
     steady_settling c.args.hand.now.view c.find.new.hand.view c.requires.settling steady
 
 pub returns-then-found-first-clause-settles : goal.returns-then-found-first-clause-settles
@@ -22,7 +23,7 @@ returns-then-found-first-clause-settles g c =
     let i = c.idle.ensures in
     let r = c.raise_min_write in
     let b = c.publish_read-bound in
-    let steady = steady_looked c.args.hand.now c.idle.new.hand r.new.hand b.new.hand c.find.new.hand.view r.result b.result c.args.rid c.in-Version.place c.in-Version.found _ c.requires.settling.ends i.rises i.unchanged r.ensures.view r.ensures.not_back b.ensures.view b.ensures.met c.in-Version.ensures.version in
+    let steady = steady_looked c.args.hand.now c.idle.new.hand r.new.hand b.new.hand c.find.new.hand.view r.result b.result c.args.rid c.in-Version.place c.in-Version.found _ c.requires.settling.ends i.rises i.unchanged r.ensures.view (raises_grow _ _ _ c.idle.new.hand.view r.result r.new.hand.view r.ensures.raises) r.ensures.not_back b.ensures.view b.ensures.met c.in-Version.ensures.version in
     steady_settles g.J.Keeps.kept c.args.hand.now.view c.find.new.hand.view steady
 
 pub returns-then-found-first-clause-entered : goal.returns-then-found-first-clause-entered
@@ -31,7 +32,7 @@ returns-then-found-first-clause-entered g c = λ above.
     let r = c.raise_min_write in
     let b = c.publish_read-bound in
     let found = c.in-Version.ensures.version in
-    let steady = steady_looked c.args.hand.now c.idle.new.hand r.new.hand b.new.hand c.find.new.hand.view r.result b.result c.args.rid c.in-Version.place c.in-Version.found _ c.requires.settling.ends i.rises i.unchanged r.ensures.view r.ensures.not_back b.ensures.view b.ensures.met found in
+    let steady = steady_looked c.args.hand.now c.idle.new.hand r.new.hand b.new.hand c.find.new.hand.view r.result b.result c.args.rid c.in-Version.place c.in-Version.found _ c.requires.settling.ends i.rises i.unchanged r.ensures.view (raises_grow _ _ _ c.idle.new.hand.view r.result r.new.hand.view r.ensures.raises) r.ensures.not_back b.ensures.view b.ensures.met found in
     let alone = (steady_settling c.args.hand.now.view c.find.new.hand.view c.requires.settling steady).alone in
     visible_entered _ c.args.rid _ c.in-Version.found c.args.first.wts _ b.new.hand.view c.find.new.hand.view alone c.if-found-first.true above found
 
@@ -40,7 +41,7 @@ returns-else-found-first-clause-settling g c =
     let i = c.idle.ensures in
     let r = c.raise_min_write in
     let b = c.publish_read-bound in
-    let steady = steady_looked c.args.hand.now c.idle.new.hand r.new.hand b.new.hand c.find.new.hand.view r.result b.result c.args.rid c.in-Version.place c.in-Version.found _ c.requires.settling.ends i.rises i.unchanged r.ensures.view r.ensures.not_back b.ensures.view b.ensures.met c.in-Version.ensures.version in
+    let steady = steady_looked c.args.hand.now c.idle.new.hand r.new.hand b.new.hand c.find.new.hand.view r.result b.result c.args.rid c.in-Version.place c.in-Version.found _ c.requires.settling.ends i.rises i.unchanged r.ensures.view (raises_grow _ _ _ c.idle.new.hand.view r.result r.new.hand.view r.ensures.raises) r.ensures.not_back b.ensures.view b.ensures.met c.in-Version.ensures.version in
     steady_settling c.args.hand.now.view c.find.new.hand.view c.requires.settling steady
 
 pub returns-else-found-first-clause-settles : goal.returns-else-found-first-clause-settles
@@ -48,7 +49,7 @@ returns-else-found-first-clause-settles g c =
     let i = c.idle.ensures in
     let r = c.raise_min_write in
     let b = c.publish_read-bound in
-    let steady = steady_looked c.args.hand.now c.idle.new.hand r.new.hand b.new.hand c.find.new.hand.view r.result b.result c.args.rid c.in-Version.place c.in-Version.found _ c.requires.settling.ends i.rises i.unchanged r.ensures.view r.ensures.not_back b.ensures.view b.ensures.met c.in-Version.ensures.version in
+    let steady = steady_looked c.args.hand.now c.idle.new.hand r.new.hand b.new.hand c.find.new.hand.view r.result b.result c.args.rid c.in-Version.place c.in-Version.found _ c.requires.settling.ends i.rises i.unchanged r.ensures.view (raises_grow _ _ _ c.idle.new.hand.view r.result r.new.hand.view r.ensures.raises) r.ensures.not_back b.ensures.view b.ensures.met c.in-Version.ensures.version in
     steady_settles g.J.Keeps.kept c.args.hand.now.view c.find.new.hand.view steady
 
 pub returns-then-not-first-clause-settles : goal.returns-then-not-first-clause-settles

@@ -34,7 +34,7 @@ returns-then-rts-stamp-clause-conflict g c =
     let in_flight : stamp_in x.view.flight ≡ c.args.stamp = ap stamp_in sx.in_flight in
     let later = c.if-rts-stamp.true in
     let loads = ap (λ (v : View). v.seen.loads) e in
-    let works = works_step x.view y.view _ _ _ e refl in
+    let works = works_step x.view y.view _ _ _ e refl refl in
     subst (λ (n : ℕ). IsShown c.args.stamp c.args.sets.now c.args.hand.now.view y.view (ReadLater n f.wts r)) (sym c.rid-then-rts-stamp.ensures)
     (later_shown c.args.stamp c.args.sets.now c.args.i u f.place f.wts f.status r c.args.hand.now.view x.view y.view c.write_at-write.ensures found c.if-shown-eq-PENDING.false later works loads (c.load_read_stamp-rts.ensures.learnt (omega arith)))
 

@@ -2,9 +2,12 @@ use Rattle.std.proofs.Common.{◌≡◌, ◌≢◌, ℕ, refl, sym, ◌∙◌, s
 use Rattle.core_rule.specs.View.{again}
 use Rattle.validate_core.specs.Validating.{IsShown}
 use Rattle.validate_core.specs.declared.conflict.Conflict.TheVariants.{Pending, Overtaken}
-use Rattle.validate_core.proofs.Staging.{again_begins, again_next, overtaken_shown, pending_shown, shown_earlier}
+use Rattle.validate_core.proofs.Staging.{again_starts, again_begins, again_next, overtaken_shown, pending_shown, shown_earlier}
 use Rattle.validate_core.proofs.Works.{among_turn}
 use Rattle.validate_core.proofs.checking.search_again.Goals as goal
+
+pub loop-i-init : goal.loop-i-init
+loop-i-init g c = again_starts c.args.core.now c.args.hand.now c.args.stamp c.args.sets.now c.requires.ready c.requires.stage
 
 pub find_again-shown-requires-clause-rid : goal.find_again-shown-requires-clause-rid
 find_again-shown-requires-clause-rid g c = (c.requires.inside.reads c.read_at-read.result.now (among_turn c.loop-i.i c.args.sets.now.reads c.read_at-read.result.now c.read_at-read.ensures)).0

@@ -1,6 +1,9 @@
 use Rattle.std.proofs.Common.{◌≡◌, ◌<◌, arith}
-use Rattle.validate_core.proofs.Settling.{is_first, is_linked, not_settled, stores, settled_all, ends_all}
+use Rattle.validate_core.proofs.Settling.{starts, is_first, is_linked, not_settled, stores, settled_all, ends_all}
 use Rattle.validate_core.proofs.statuses.store_first.Goals as goal
+
+pub loop-i-init : goal.loop-i-init
+loop-i-init g c = let r = c.requires in starts c.args.core.now c.args.hand.now c.args.sets.now c.args.count c.args.decided r.ready r.rests r.linked r.unsettled r.decided r.collected
 
 pub store_status-requires-clause-inside : goal.store_status-requires-clause-inside
 store_status-requires-clause-inside g c =

@@ -1,7 +1,10 @@
-use Rattle.std.proofs.Common.{ℕ, ◌≡◌, sym, subst, arith}
+use Rattle.std.proofs.Common.{ℕ, ◌≡◌, refl, sym, subst, arith}
 use Rattle.version_search.specs.Loading.{IsLeftIn}
-use Rattle.version_search.proofs.Cells.{Loaded, one_more, leaves}
+use Rattle.version_search.proofs.Cells.{Loaded, begins, one_more, leaves}
 use Rattle.version_search.proofs.loading.load_value.Goals as goal
+
+pub loop-i-init : goal.loop-i-init
+loop-i-init g c = begins c.args.core.now c.args.hand.now _ c.requires.ready refl
 
 pub loop-i-preserved : goal.loop-i-preserved
 loop-i-preserved g c =

@@ -5,7 +5,7 @@ use Rattle.validate_core.specs.Sets.{IsInside}
 use Rattle.validate_core.specs.Validating.{IsInstalled}
 use Rattle.seat_post.specs.Post.{PostView, closed}
 use Rattle.seat_post.proofs.EndMore.{at_known}
-use Rattle.seat_post.proofs.Over.{view_over_all, post_over}
+use Rattle.seat_post.proofs.Over.{view_over_same, post_over}
 use Rattle.seat_post.proofs.post.Post.abort.Goals as goal
 
 pub abort-requires-clause-inside : goal.abort-requires-clause-inside
@@ -31,5 +31,5 @@ returns g c =
     let is = at_known _ _ _ _ _ _ _ (ap (λ (p : PostView). p.phase) c.self.view_is ∙ c.requires.phase) c.self.invariant in
     let a = c.abort.ensures in
     let e = c.clear.ensures in
-    view_over_all i.hand c.abort.new.hand i.phase i.stamp _ _ i.reads.entries _ i.writes.entries _ a.stays.seat.same_table a.stands a.as_before is.at.installed.in_flight a.log c.make-self-inside.ensures.number e.no_reads e.no_writes
+    view_over_same i.hand c.abort.new.hand i.phase i.stamp _ _ i.reads.entries _ i.writes.entries _ a.stays.seat.same_table a.stands a.as_before a.seen is.at.installed.in_flight a.log c.make-self-inside.ensures.number e.no_reads e.no_writes
     ∙ ap closed c.self.view_is

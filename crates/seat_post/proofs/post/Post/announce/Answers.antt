@@ -1,11 +1,13 @@
 use Rattle.std.proofs.Common.{ap, ◌∙◌, sym, subst}
 use Rattle.core_rule.specs.View.{View}
-use Rattle.seat_post.specs.Post.{PostView, post_view}
+use Rattle.seat_post.specs.Post.{PostView, post_view, observed_in}
 use Rattle.seat_post.specs.Seats.{IsAloneAt}
 use Rattle.seat_post.specs.Sharing.{announced_at}
 use Rattle.seat_post.specs.declared.phase.Phase.TheVariants.{Idle}
 use Rattle.seat_post.proofs.Posts.{at_phase}
 use Rattle.seat_post.proofs.Announcing.{announces, announced_view, post_ended}
+use Rattle.version_search.proofs.Grown.{grows_both}
+use Rattle.seat_post.proofs.Observed.{post_grows, idle_grows, raises_grow}
 use Rattle.seat_post.proofs.post.Post.announce.Goals as goal
 
 pub idle-requires-clause-ends : goal.idle-requires-clause-ends
@@ -28,4 +30,12 @@ returns-clause-value g c =
     let alone = subst (λ (p : PostView). IsAloneAt p.shared.size p.seat p.others) (sym c.self.view_is) c.requires.alone in
     let is = announces i.hand c.idle.new.hand c.raise_min_write.new.hand c.raise_min_write.result at.ends at.whole c.idle.ensures.rises c.idle.ensures.unchanged alone c.raise_min_write.ensures.raises c.raise_min_write.ensures.view in
     let table = c.raise_min_write.ensures.ready.seat.same_table ∙ c.idle.ensures.ready.seat.same_table in
-    announced_view i.hand c.raise_min_write.new.hand i.phase i.stamp i.reads.entries i.writes.entries table is ∙ ap (λ (p : PostView). record (announced_at p) { glance = (post_view c.raise_min_write.new.hand i.phase i.stamp i.reads.entries i.writes.entries).glance }) c.self.view_is
+    announced_view i.hand c.raise_min_write.new.hand i.phase i.stamp i.reads.entries i.writes.entries table is ∙ ap (λ (p : PostView). record (announced_at p) { glance = (post_view c.raise_min_write.new.hand i.phase i.stamp i.reads.entries i.writes.entries).glance; observed = observed_in c.raise_min_write.new.hand }) c.self.view_is
+
+pub returns-clause-grows : goal.returns-clause-grows
+returns-clause-grows g c =
+    let i = c.self.inside in
+    let r = c.raise_min_write in
+    post_grows i.hand r.new.hand i.phase i.stamp i.reads.entries i.writes.entries c.args.self.now c.self.view_is
+    (grows_both i.hand.view.seen c.idle.new.hand.view.seen r.new.hand.view.seen (idle_grows i.hand c.idle.new.hand c.idle.ensures.rises c.idle.ensures.unchanged)
+    (raises_grow _ _ _ c.idle.new.hand.view r.result r.new.hand.view r.ensures.raises))

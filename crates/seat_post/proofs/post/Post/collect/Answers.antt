@@ -9,10 +9,12 @@ use Rattle.rapid_gc.specs.Bounds.{AreKept, LeavesOne}
 use Rattle.rapid_gc.specs.Queues.{AreCommitted, AllBelow}
 use Rattle.seat_post.specs.declared.phase.Phase.TheVariants.{Idle}
 use Rattle.seat_post.specs.Collecting.{AreQueued}
-use Rattle.seat_post.specs.Post.{PostView, IsAlonePost}
+use Rattle.seat_post.specs.Observing.{ScansBoth}
+use Rattle.seat_post.specs.Post.{PostView, IsAlonePost, observed_in}
 use Rattle.seat_post.proofs.AloneSeats.{alone_told}
-use Rattle.seat_post.proofs.Queued.{are_committed, collects_items, nothing_left}
+use Rattle.seat_post.proofs.Queued.{are_committed, collects_items, collects_scans, nothing_left}
 use Rattle.seat_post.proofs.Posts.{at_phase, post_idle}
+use Rattle.seat_post.proofs.Observed.{post_grows}
 use Rattle.seat_post.proofs.post.Post.collect.Goals as goal
 
 pub collect-requires-clause-ends : goal.collect-requires-clause-ends
@@ -61,3 +63,14 @@ returns-clause-one_left g c = λ alone.
     let is = alone_told c.self.inside.hand.view (subst IsAlonePost (sym c.self.view_is) alone) in
     let one = c.collect.ensures.one_left is (subst (λ (p : PostView). AllBelow (bound_of_clock p.clock) c.args.queue.now.items) (sym c.self.view_is) c.requires.below) in
     subst (λ (p : PostView). LeavesOne c.args.queue.now.items p.known.tops c.collect.new.hand.view.counts) c.self.view_is one
+
+pub returns-clause-grows : goal.returns-clause-grows
+returns-clause-grows g c =
+    let i = c.self.inside in
+    let e = c.collect.ensures in
+    post_grows i.hand c.collect.new.hand i.phase i.stamp i.reads.entries i.writes.entries c.args.self.now c.self.view_is (record { loaded = e.loads.0; missed = e.lost.0; loads = e.loads.1; lost = e.lost.1 })
+
+pub returns-clause-scans : goal.returns-clause-scans
+returns-clause-scans g c =
+    let hand' = c.collect.new.hand in
+    subst (λ (p : PostView). ScansBoth p.shared.size.seats p.observed (observed_in hand')) c.self.view_is (collects_scans c.self.inside.hand hand' _ _ _ c.collect.ensures.collects)

@@ -9,6 +9,7 @@ use Rattle.seat_post.specs.Post.{PostView}
 use Rattle.seat_post.specs.Glance.{entry_of_glance}
 use Rattle.seat_post.proofs.Looking.{glancing_of, post_ended, stood_glance}
 use Rattle.seat_post.proofs.Posts.{at_phase}
+use Rattle.seat_post.proofs.Observed.{post_grows}
 use Rattle.seat_post.proofs.post.Post.end_snapshot.Goals as goal
 
 pub end_glances-requires-clause-glancing : goal.end_glances-requires-clause-glancing
@@ -32,3 +33,6 @@ returns-clause-stood g c =
     let stood = subst (λ (x : Shared). StoodAt g.J.Keeps.kept x.size.records v.log (entry_of_glances v)) (sym core) c.end_glances.ensures.stood in
     let told = stood_glance g.J.Keeps.kept v.size.records v rests stood in
     subst (λ (p : PostView). IfSome p.glance (λ o. Stood g.J.Keeps.kept p.shared.size.records p.log (entry_of_glance o))) c.self.view_is told
+
+pub returns-clause-grows : goal.returns-clause-grows
+returns-clause-grows g c = let i = c.self.inside in post_grows i.hand c.end_glances.new.hand i.phase i.stamp i.reads.entries i.writes.entries c.args.self.now c.self.view_is c.end_glances.ensures.grows

@@ -1,7 +1,10 @@
 use Rattle.std.proofs.Common.{◌≡◌, ap, sym, subst, ◌∙◌, length}
+use Rattle.std.specs.Prelude.{IsSome}
 use Rattle.core_rule.specs.Hands.{Shared}
 use Rattle.validate_core.specs.Installing.{IsBegun, Installs}
-use Rattle.seat_post.specs.Post.{PostView, closed, knowing, known_in}
+use Rattle.record_store.specs.Meaning.{value_at}
+use Rattle.seat_post.specs.Observing.{MeetsNoPlace}
+use Rattle.seat_post.specs.Post.{PostView, closed, knowing, known_in, observing, observed_in}
 use Rattle.seat_post.proofs.EndMore.{at_known, begun_filled, post_installed, turned_written, same_values}
 use Rattle.seat_post.proofs.Over.{view_over, post_over}
 use Rattle.seat_post.specs.Seats.{IsAloneAt}
@@ -12,6 +15,8 @@ use Rattle.seat_post.proofs.AloneSeats.{alone_told}
 use Rattle.seat_post.proofs.Listed.{length-written}
 use Rattle.seat_post.proofs.Placed.{each_before}
 use Rattle.seat_post.proofs.Linked.{post_linked, post_stuck, post_full}
+use Rattle.seat_post.proofs.Observed.{post_grows}
+use Rattle.seat_post.proofs.Stuck.{meets_none, turned_some}
 use Rattle.seat_post.proofs.post.Post.install.Goals as goal
 
 pub fill-requires-clause-none : goal.fill-requires-clause-none
@@ -62,7 +67,26 @@ returns-in-Err-clause-err g c =
     let n = c.install.ensures in
     let e = c.clear.ensures in
     view_over i.hand c.install.new.hand i.phase i.stamp _ _ i.reads.entries _ i.writes.entries _ n.stays.seat.same_table n.stands is.at.begun.in_flight n.log c.make-self-inside.ensures.number e.no_reads e.no_writes
-    ∙ ap (λ (p : PostView). closed (knowing p record { counts = c.install.new.hand.view.counts; tops = c.install.new.hand.view.tops })) c.self.view_is
+    ∙ ap (λ (p : PostView). observing (closed (knowing p record { counts = c.install.new.hand.view.counts; tops = c.install.new.hand.view.tops })) (observed_in c.install.new.hand)) c.self.view_is
+
+pub returns-in-Ok-clause-grows : goal.returns-in-Ok-clause-grows
+returns-in-Ok-clause-grows g c = let i = c.self.inside in post_grows i.hand c.install.new.hand i.phase i.stamp i.reads.entries i.writes.entries c.args.self.now c.self.view_is c.install.ensures.stands.grows
+
+pub returns-in-Err-clause-grows : goal.returns-in-Err-clause-grows
+returns-in-Err-clause-grows g c = let i = c.self.inside in post_grows i.hand c.install.new.hand i.phase i.stamp i.reads.entries i.writes.entries c.args.self.now c.self.view_is c.install.ensures.stands.grows
+
+pub returns-in-Err-clause-places_out : goal.returns-in-Err-clause-places_out
+returns-in-Err-clause-places_out g c =
+    let i = c.self.inside in
+    let f = c.in-Err.ensures.err in
+    let us = c.install.new.sets.writes in
+    let values = same_values c.fill.new.sets.writes us c.install.ensures.same.writes ∙ c.fill.ensures.written ∙ ap (λ (p : PostView). p.writes) c.self.view_is in
+    let met = meets_none c.args.core.now.size c.install.new.sets i.hand.view c.install.new.hand.view f in (
+      f.write.record_number,
+      subst (λ ws. IsSome (value_at ws f.write.record_number)) values (turned_some f.number us f.write f.turn),
+      subst (λ (p : PostView). MeetsNoPlace p.shared.size f.write.record_number p.observed (observed_in c.install.new.hand)) c.self.view_is
+          (subst (λ (x : Shared). MeetsNoPlace x.size f.write.record_number (observed_in i.hand) (observed_in c.install.new.hand)) (sym (ap (λ (p : PostView). p.shared) c.self.view_is ∙ c.requires.core)) met),
+    )
 
 pub returns-in-Ok-clause-linked : goal.returns-in-Ok-clause-linked
 returns-in-Ok-clause-linked g c =

@@ -7,6 +7,7 @@ use Rattle.seat_post.specs.Post.{PostView, IsAlonePost}
 use Rattle.seat_post.proofs.AloneSeats.{alone_told}
 use Rattle.seat_post.proofs.Looking.{glancing_of, post_glancing, left_glance}
 use Rattle.seat_post.proofs.Posts.{at_phase}
+use Rattle.seat_post.proofs.Observed.{post_grows}
 use Rattle.seat_post.proofs.post.Post.look.Goals as goal
 
 pub glance-requires-clause-glancing : goal.glance-requires-clause-glancing
@@ -28,3 +29,6 @@ returns-clause-left g c =
     let idle = at_phase _ Idle _ _ _ _ _ c.self.invariant (ap (λ (p : PostView). p.phase) c.self.view_is ∙ c.requires.idle) in
     let rests = (glancing_of _ _ _ _ _ idle (subst (λ (p : PostView). IsSome p.glance) (sym c.self.view_is) c.requires.looks)).rests in
     subst (λ (p : PostView). IsAlonePost p → IfSome p.glance (λ o. IsValue (UpTo p.log o.stamp) c.args.rid c.glance.result)) c.self.view_is (λ alone. left_glance v c.args.rid c.glance.result rests (c.glance.ensures.left (alone_told v alone)))
+
+pub returns-clause-grows : goal.returns-clause-grows
+returns-clause-grows g c = let i = c.self.inside in post_grows i.hand c.glance.new.hand i.phase i.stamp i.reads.entries i.writes.entries c.args.self.now c.self.view_is c.glance.ensures.glances.finds.grows

@@ -1,7 +1,7 @@
 use Rattle.std.proofs.Common.{ap, ◌∙◌, sym, subst}
 use Rattle.core_rule.specs.View.{View}
 use Rattle.seat_post.specs.Leaves.{AreAbsent}
-use Rattle.seat_post.specs.Post.{PostView}
+use Rattle.seat_post.specs.Post.{PostView, observing, observed_in}
 use Rattle.seat_post.specs.Seats.{IsAloneAt}
 use Rattle.seat_post.specs.Rescan.{looked_over}
 use Rattle.seat_post.specs.declared.phase.Phase.TheVariants.{Idle}
@@ -9,6 +9,8 @@ use Rattle.seat_post.proofs.AloneSeats.{alone_told}
 use Rattle.seat_post.proofs.Posts.{at_phase}
 use Rattle.seat_post.proofs.Announcing.{announces, ended, none_read, post_ended}
 use Rattle.seat_post.proofs.Rescanning.{bounded_alone, overlooks, overlooked, overlooked_view, absent_below}
+use Rattle.version_search.proofs.Grown.{grows_both}
+use Rattle.seat_post.proofs.Observed.{post_grows, idle_grows, raises_grow, bounded_grows}
 use Rattle.seat_post.proofs.post.Post.look_over.Goals as goal
 
 pub idle-requires-clause-ends : goal.idle-requires-clause-ends
@@ -58,7 +60,7 @@ returns-clause-value g c =
     let last = c.publish_read.ensures in
     let end = overlooked i.hand.view c.list_absent.new.hand.view c.publish_read.new.hand.view c.publish_read-stamp.result c.publish_read.result over last.view last.met last.below in
     let table = last.ready.seat.same_table ∙ c.list_absent.ensures.stays.seat.same_table ∙ r.ready.seat.same_table ∙ c.raise_min_write.ensures.ready.seat.same_table ∙ c.idle.ensures.ready.seat.same_table in
-    overlooked_view i.hand c.publish_read.new.hand i.phase i.stamp i.reads.entries i.writes.entries table end ∙ ap looked_over c.self.view_is
+    overlooked_view i.hand c.publish_read.new.hand i.phase i.stamp i.reads.entries i.writes.entries table end ∙ ap (λ (p : PostView). observing (looked_over p) (observed_in c.publish_read.new.hand)) c.self.view_is
 
 pub returns-clause-absent : goal.returns-clause-absent
 returns-clause-absent g c =
@@ -77,3 +79,14 @@ returns-clause-absent g c =
 
 pub publish_read-requires-clause-ends : goal.publish_read-requires-clause-ends
 publish_read-requires-clause-ends g c = c.list_absent.ensures.looks.ends (ended _ (ap (λ (v : View). v.work) c.publish_read-stamp.ensures.view))
+
+pub returns-clause-grows : goal.returns-clause-grows
+returns-clause-grows g c =
+    let i = c.self.inside in
+    let r = c.raise_min_write in let b = c.publish_read-stamp in let l = c.list_absent in let last = c.publish_read in
+    post_grows i.hand last.new.hand i.phase i.stamp i.reads.entries i.writes.entries c.args.self.now c.self.view_is
+    (grows_both i.hand.view.seen c.idle.new.hand.view.seen last.new.hand.view.seen (idle_grows i.hand c.idle.new.hand c.idle.ensures.rises c.idle.ensures.unchanged)
+    (grows_both c.idle.new.hand.view.seen r.new.hand.view.seen last.new.hand.view.seen (raises_grow _ _ _ c.idle.new.hand.view r.result r.new.hand.view r.ensures.raises)
+    (grows_both r.new.hand.view.seen b.new.hand.view.seen last.new.hand.view.seen (bounded_grows r.new.hand.view b.new.hand.view b.result b.ensures.view)
+    (grows_both b.new.hand.view.seen l.new.hand.view.seen last.new.hand.view.seen l.ensures.looks.grows
+    (bounded_grows l.new.hand.view last.new.hand.view last.result last.ensures.view)))))

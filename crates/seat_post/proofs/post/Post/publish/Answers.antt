@@ -9,7 +9,7 @@ use Rattle.validate_core.specs.Validating.{IsDecidedAt}
 use Rattle.seat_post.specs.Post.{PostView, closed}
 use Rattle.seat_post.proofs.Placed.{placed_shown}
 use Rattle.seat_post.proofs.EndMore.{at_known, length_sets}
-use Rattle.seat_post.proofs.Over.{view_over_all, post_over}
+use Rattle.seat_post.proofs.Over.{view_over_same, post_over}
 use Rattle.seat_post.proofs.post.Post.publish.Goals as goal
 
 pub publish-requires-clause-inside : goal.publish-requires-clause-inside
@@ -43,7 +43,7 @@ returns-clause-closed g c =
     let is = at_known _ _ _ _ _ _ _ (ap (λ (p : PostView). p.phase) c.self.view_is ∙ c.requires.phase) c.self.invariant in
     let p = c.publish.ensures in
     let e = c.clear.ensures in
-    view_over_all i.hand c.publish.new.hand i.phase i.stamp _ _ i.reads.entries _ i.writes.entries _ p.stays.seat.same_table p.stands p.as_before is.at.decided.in_flight p.log c.make-self-inside.ensures.number e.no_reads e.no_writes
+    view_over_same i.hand c.publish.new.hand i.phase i.stamp _ _ i.reads.entries _ i.writes.entries _ p.stays.seat.same_table p.stands p.as_before p.seen is.at.decided.in_flight p.log c.make-self-inside.ensures.number e.no_reads e.no_writes
     ∙ ap closed c.self.view_is
 
 pub returns-clause-placed : goal.returns-clause-placed

@@ -1,10 +1,13 @@
-use Rattle.std.proofs.Common.{◌≡◌, ◌<◌, subst, sym, ap, ◌∙◌, None, [], ◌∷◌, ◌++◌}
+use Rattle.std.proofs.Common.{◌≡◌, ◌<◌, subst, sym, ap, ◌∙◌, None, [], ◌∷◌, ◌++◌, ℕ}
 use Rattle.core_rule.specs.View.{writing}
 use Rattle.record_store.specs.Meaning.{value_at}
 use Rattle.seat_post.specs.Conflicts.{IsOfAnother}
-use Rattle.seat_post.specs.Post.{PostView, post_view, noted}
+use Rattle.seat_post.specs.Post.{PostView, post_view, noted, observing, observed_in}
 use Rattle.seat_post.proofs.ReadMore.{met_at, is_open, open_at, post_room, post_read, post_stopped, not_read, found_left}
-use Rattle.seat_post.proofs.Over.{view_found}
+use Rattle.seat_post.proofs.Over.{view_found, view_stopped}
+use Rattle.version_search.proofs.Grown.{grows_none}
+use Rattle.seat_post.proofs.Observed.{post_grows}
+use Rattle.validate_core.specs.Validating.{Met, no_more}
 use Rattle.seat_post.proofs.post.Post.read.Goals as goal
 
 pub invariant_of-self : goal.invariant_of-self
@@ -29,7 +32,7 @@ invariant_of-self-in-Err g c =
     let phase = ap (λ (p : PostView). p.phase) c.self.view_is ∙ c.requires.open in
     let m = c.make_room.ensures in
     let room = post_room c.self.inside.hand c.self.inside.stamp c.self.inside.reads.entries c.make_room.new.reads.entries c.self.inside.writes.entries c.self.inside.sets c.make_room.new.sets (is_open _ _ _ _ _ _ phase c.self.invariant) m.entries m.reads m.writes m.not_less in
-    open_at _ _ _ _ _ _ phase (post_stopped c.args.core.now _ _ _ _ _ _ _ room c.search.ensures.stays.ready (rw c.number.ensures.value at c.in-Err.ensures.err))
+    open_at _ _ _ _ _ _ phase (post_stopped c.args.core.now _ _ _ c.args.rid _ _ _ _ room c.search.ensures.stays.ready (rw c.number.ensures.value at c.in-Err.ensures.err))
 
 pub note-requires-clause-same : goal.note-requires-clause-same
 note-requires-clause-same g c =
@@ -51,7 +54,7 @@ invariant_of-self-in-Ok g c =
 pub returns-in-Err-clause-met : goal.returns-in-Err-clause-met
 returns-in-Err-clause-met g c =
     let i = c.self.inside in
-    let met = met_at i.hand c.search.new.hand i.phase i.stamp c.in-Err.met.wts i.reads.entries i.writes.entries (rw c.number.ensures.value at c.in-Err.ensures.err) c.self.invariant.ready.hand_of.in_range in
+    let met = met_at i.hand c.search.new.hand i.phase i.stamp c.args.rid c.in-Err.met.wts i.reads.entries i.writes.entries (rw c.number.ensures.value at c.in-Err.ensures.err) c.self.invariant.ready.hand_of.in_range in
     subst (λ (p : PostView). (c.in-Err.met.wts < p.stamp) × IsOfAnother p.shared.size p.seat p.others c.in-Err.met.wts) c.self.view_is met
 
 pub returns-in-Ok-clause-ok : goal.returns-in-Ok-clause-ok
@@ -62,10 +65,34 @@ returns-in-Ok-clause-ok g c =
     let read = c.in-Ok.read in
     let more = c.note.ensures.entries ∙ ap (λ es. es ++ (c.args.rid, read.value) ∷ []) c.make_room.ensures.entries in
     view_found i.hand c.search.new.hand i.phase i.stamp _ _ _ _ _ c.note.new.reads.entries i.writes.entries c.search.ensures.stays.seat.same_table c.in-Ok.ensures.ok flight
-    ∙ ap (λ es. post_view i.hand i.phase i.stamp es i.writes.entries) more
-    ∙ ap (λ (p : PostView). noted p c.args.rid read.value) c.self.view_is
+    ∙ ap (λ es. observing (post_view i.hand i.phase i.stamp es i.writes.entries) (observed_in c.search.new.hand)) more
+    ∙ ap (λ (p : PostView). observing (noted p c.args.rid read.value) (observed_in c.search.new.hand)) c.self.view_is
 
 pub returns-in-Ok-clause-left : goal.returns-in-Ok-clause-left
 returns-in-Ok-clause-left g c =
     let i = c.self.inside in
     found_left i.hand c.search.new.hand i.phase i.stamp c.args.rid _ _ _ i.reads.entries i.writes.entries i.sets c.args.self.now c.self.invariant c.self.view_is c.requires.open c.in-Ok.ensures.ok
+
+pub returns-in-Err-clause-grows : goal.returns-in-Err-clause-grows
+returns-in-Err-clause-grows g c = let i = c.self.inside in post_grows i.hand c.search.new.hand i.phase i.stamp i.reads.entries i.writes.entries c.args.self.now c.self.view_is c.in-Err.ensures.err.grows
+
+pub returns-in-Err-clause-loaded : goal.returns-in-Err-clause-loaded
+returns-in-Err-clause-loaded g c =
+    let loads = c.search.new.hand.view.seen.loads in
+    subst (λ (p : PostView). Met p.stamp c.args.rid c.in-Err.met.wts 2 no_more p.observed.loads loads) c.self.view_is
+    (subst (λ (n : ℕ). Met n c.args.rid c.in-Err.met.wts 2 no_more c.self.inside.hand.view.seen.loads loads) c.number.ensures.value c.in-Err.ensures.err.met)
+
+pub returns-in-Err-clause-err : goal.returns-in-Err-clause-err
+returns-in-Err-clause-err g c =
+    let i = c.self.inside in
+    let phase = ap (λ (p : PostView). p.phase) c.self.view_is ∙ c.requires.open in
+    let flight = (is_open _ _ _ _ _ _ phase c.self.invariant).at.begun.in_flight in
+    view_stopped i.hand c.search.new.hand i.phase i.stamp _ _ c.args.rid c.in-Err.met.wts c.make_room.new.reads.entries i.writes.entries c.search.ensures.stays.seat.same_table c.in-Err.ensures.err flight
+    ∙ ap (λ es. observing (post_view i.hand i.phase i.stamp es i.writes.entries) (observed_in c.search.new.hand)) c.make_room.ensures.entries
+    ∙ ap (λ (p : PostView). observing p (observed_in c.search.new.hand)) c.self.view_is
+
+pub returns-in-Ok-clause-grows : goal.returns-in-Ok-clause-grows
+returns-in-Ok-clause-grows g c = let i = c.self.inside in post_grows i.hand c.search.new.hand i.phase i.stamp i.reads.entries i.writes.entries c.args.self.now c.self.view_is c.in-Ok.ensures.ok.grows
+
+pub returns-in_err-make_room-clause-grows : goal.returns-in_err-make_room-clause-grows
+returns-in_err-make_room-clause-grows g c = let i = c.self.inside in post_grows i.hand i.hand i.phase i.stamp i.reads.entries i.writes.entries c.args.self.now c.self.view_is (grows_none i.hand.view.seen)

@@ -9,6 +9,8 @@ use Rattle.seat_post.specs.declared.phase.Phase.TheVariants.{Idle}
 use Rattle.seat_post.proofs.AloneSeats.{alone_told}
 use Rattle.seat_post.proofs.Posts.{at_phase}
 use Rattle.seat_post.proofs.Announcing.{post_ended, ready_same}
+use Rattle.version_search.proofs.Grown.{grows_loads}
+use Rattle.seat_post.proofs.Observed.{post_grows}
 use Rattle.seat_post.proofs.post.Post.tell.Goals as goal
 
 pub invariant_of-self : goal.invariant_of-self
@@ -24,3 +26,9 @@ pub returns-clause-lawful : goal.returns-clause-lawful
 returns-clause-lawful g c =
     let alone = subst (λ (p : PostView). IsAloneAt p.shared.size p.seat p.others) (sym c.self.view_is) c.requires.alone in
     subst (λ (p : PostView). Lawful g.J.Keeps.kept p.shared.size.records p.log) c.self.view_is (c.load_min_write.ensures.learnt.5 (alone_told c.self.inside.hand.view alone))
+
+pub returns-clause-grows : goal.returns-clause-grows
+returns-clause-grows g c =
+    let i = c.self.inside in
+    let e = c.load_min_write.ensures.view in
+    post_grows i.hand c.load_min_write.new.hand i.phase i.stamp i.reads.entries i.writes.entries c.args.self.now c.self.view_is (grows_loads _ _ _ (ap (λ (v : View). v.seen.loads) e) (ap (λ (v : View). v.seen.lost) e))

@@ -36,3 +36,6 @@ returns-clause-cut_off g c =
     let items = one_item c.add.new.self.items c.self.inside.queue.items _ c.add.ensures.items c.self.invariant.1.none in
     let below = subst (λ is. AllBelow (bound_of_clock v.clock.clock) is) (sym items) (one_below (record { rid = c.args.rid; stamp = c.args.stamp }) (bound_of_clock v.clock.clock) c.requires.below) in
     subst (λ is. CutsOff is v.tops v.counts.in_kept c.collect-collected.new.hand.view.counts.in_kept) items (c.collect-collected.ensures.cut_off c.requires.alone below)
+
+pub returns-clause-grows : goal.returns-clause-grows
+returns-clause-grows g c = let e = c.collect-collected.ensures in record { loaded = e.loads.0; missed = e.lost.0; loads = e.loads.1; lost = e.lost.1 }

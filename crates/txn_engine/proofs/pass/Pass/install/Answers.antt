@@ -3,14 +3,14 @@ use Rattle.txn_engine.specs.Pass.{PassView, IsAlone}
 use Rattle.seat_post.specs.Logs.{IsAbove}
 use Rattle.seat_post.specs.Leaves.{AreLeft}
 use Rattle.seat_post.specs.Post.{knowing}
-use Rattle.txn_engine.proofs.Passes.{pass_knowing, pass_closed, pass_installed, no_conflict}
+use Rattle.txn_engine.proofs.Passes.{pass_knowing, pass_closed, pass_installed, no_conflict, pass_observing}
 use Rattle.txn_engine.proofs.pass.Pass.install.Goals as goal
 
 pub invariant_of-self : goal.invariant_of-self
-invariant_of-self g c = rw c.in-Ok.ensures.ok (pass_installed (knowing c.self.inside.post _) _ _ _ _ _ (pass_knowing c.self.inside.post _ _ _ _ _ _ c.self.invariant) (no_conflict c.self.inside.dead c.in_default.not-Some))
+invariant_of-self g c = rw c.in-Ok.ensures.ok (pass_observing _ _ _ _ _ _ _ (pass_installed (knowing c.self.inside.post _) _ _ _ _ _ (pass_knowing c.self.inside.post _ _ _ _ _ _ c.self.invariant) (no_conflict c.self.inside.dead c.in_default.not-Some)))
 
 pub invariant_of-self-in-Err : goal.invariant_of-self-in-Err
-invariant_of-self-in-Err g c = rw c.in-Err.ensures.err (pass_closed (knowing c.self.inside.post _) _ _ _ _ _ (pass_knowing c.self.inside.post _ _ _ _ _ _ c.self.invariant) (no_conflict c.self.inside.dead c.in_default.not-Some))
+invariant_of-self-in-Err g c = rw c.in-Err.ensures.err (pass_observing _ _ _ _ _ _ _ (pass_closed (knowing c.self.inside.post _) _ _ _ _ _ (pass_knowing c.self.inside.post _ _ _ _ _ _ c.self.invariant) (no_conflict c.self.inside.dead c.in_default.not-Some)))
 
 pub returns-in-Ok-clause-read_left : goal.returns-in-Ok-clause-read_left
 returns-in-Ok-clause-read_left g c = λ alone.

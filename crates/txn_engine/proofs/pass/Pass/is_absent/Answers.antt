@@ -4,12 +4,13 @@ use Rattle.txn_engine.specs.Pass.{PassView, IsAlone}
 use Rattle.seat_post.specs.Leaves.{LeavesValue, LeavesSome, IsPresent}
 use Rattle.seat_post.proofs.Leaving.{some_words, present_all}
 use Rattle.txn_engine.proofs.Asking.{pass_asked}
+use Rattle.txn_engine.proofs.Passes.{pass_observing}
 use Rattle.txn_engine.proofs.pass.Pass.is_absent.Goals as goal
 
 pub invariant_of-self : goal.invariant_of-self
 invariant_of-self g c =
     let phase = ap (λ (x : PassView). x.desk.phase) c.self.view_is ∙ c.requires.open in
-    rw c.in-Ok.ensures.ok (pass_asked c.self.inside.post c.args.rid c.in-Ok.absent _ _ _ _ _ c.self.invariant phase)
+    rw c.in-Ok.ensures.ok (pass_observing _ _ _ _ _ _ _ (pass_asked c.self.inside.post c.args.rid c.in-Ok.absent _ _ _ _ _ c.self.invariant phase))
 
 pub returns-in-Some-clause-present : goal.returns-in-Some-clause-present
 returns-in-Some-clause-present g c = λ alone off.
@@ -27,3 +28,9 @@ returns-in-Ok-clause-present g c = λ alone off.
     let some = c.in-Ok.ensures.left (subst (λ (x : PassView). IsAlone x) (sym c.self.view_is) alone) off in
     let p = c.self.inside.post in
     subst (λ (x : PassView). IsPresent x.log c.args.rid) c.self.view_is (present_all p.log c.args.rid p.stamp (c.known.ensures.above flying) some)
+
+pub invariant_of-self-in-Err-Pending : goal.invariant_of-self-in-Err-Pending
+invariant_of-self-in-Err-Pending g c = rw c.in-Err-Pending.ensures.err (pass_observing _ _ _ _ _ _ _ c.self.invariant)
+
+pub invariant_of-self-in-Err-NoMemory : goal.invariant_of-self-in-Err-NoMemory
+invariant_of-self-in-Err-NoMemory g c = rw c.in-Err-NoMemory.ensures.err (pass_observing _ _ _ _ _ _ _ c.self.invariant)

@@ -1,16 +1,28 @@
-use Rattle.std.proofs.Common.{◌≡◌, None, ap, ◌∙◌, sym}
-use Rattle.txn_engine.specs.Pass.{PassView}
+use Rattle.std.proofs.Common.{◌≡◌, None, ap, ◌∙◌, sym, subst}
+use Rattle.txn_engine.specs.Pass.{PassView, IsAlone}
+use Rattle.seat_post.specs.Leaves.{LeavesValue}
 use Rattle.seat_post.specs.Post.{PostView, known_at}
-use Rattle.txn_engine.proofs.Passes.{pass_read, none_known, known_noted}
+use Rattle.txn_engine.proofs.Passes.{pass_read, none_known, known_noted, pass_observing}
 use Rattle.txn_engine.proofs.pass.Pass.read.Goals as goal
 
 pub invariant_of-self : goal.invariant_of-self
 invariant_of-self g c =
     let phase = ap (λ (x : PassView). x.desk.phase) c.self.view_is ∙ ap (λ (x : PassView). x.desk.phase) c.in_ok-stopped.ensures.ok.0 ∙ c.requires.open in
-    rw c.in-Ok.ensures.ok (pass_read c.self.inside.post _ _ _ _ _ _ _ c.self.invariant phase)
+    rw c.in-Ok.ensures.ok (pass_observing _ _ _ _ _ _ _ (pass_read c.self.inside.post _ _ _ _ _ _ _ c.self.invariant phase))
 
 pub returns-in-Ok-clause-answer : goal.returns-in-Ok-clause-answer
 returns-in-Ok-clause-answer g c =
     let p = c.self.inside.post in
     let unknown : known_at p c.args.rid ≡ None = sym c.known.ensures.value ∙ none_known c.known.result c.in_default.not-Some in
     ap (λ (x : PostView). known_at x c.args.rid) c.in-Ok.ensures.ok ∙ known_noted p c.args.rid c.in-Ok.value unknown
+
+pub invariant_of-self-in-Err-Pending : goal.invariant_of-self-in-Err-Pending
+invariant_of-self-in-Err-Pending g c = rw c.in-Err-Pending.ensures.err (pass_observing _ _ _ _ _ _ _ c.self.invariant)
+
+pub invariant_of-self-in-Err-NoMemory : goal.invariant_of-self-in-Err-NoMemory
+invariant_of-self-in-Err-NoMemory g c = rw c.in-Err-NoMemory.ensures.err (pass_observing _ _ _ _ _ _ _ c.self.invariant)
+
+pub returns-in-Ok-clause-left : goal.returns-in-Ok-clause-left
+returns-in-Ok-clause-left g c = λ alone unwritten.
+    let same = c.self.view_is ∙ c.in_ok-stopped.ensures.ok.0 in
+    subst (λ (x : PassView). LeavesValue x.log c.args.rid x.desk.stamp c.in-Ok.value) same (c.in-Ok.ensures.left (subst (λ (x : PassView). IsAlone x) (sym same) alone))

@@ -7,7 +7,7 @@ returns-in-Err-clause-conflict g c =
     shown_later c.args.self.stamp c.args.sets.now c.args.hand.now.view c.validate.new.hand.view c.store_all.new.hand.view c.in-Err.conflict c.store_all.ensures.works c.in-Err.ensures.conflict
 
 pub returns-in-Ok-clause-stands : goal.returns-in-Ok-clause-stands
-returns-in-Ok-clause-stands g c = logs_stand c.args.hand.now.view c.validate.new.hand.view c.in-Ok.ensures.ok.only
+returns-in-Ok-clause-stands g c = logs_stand c.args.hand.now.view c.validate.new.hand.view c.in-Ok.ensures.ok.only c.in-Ok.ensures.ok.grows
 
 pub returns-in-Err-clause-stands : goal.returns-in-Err-clause-stands
 returns-in-Err-clause-stands g c =

@@ -1,0 +1,121 @@
+-- What the steps of a call came upon, from view to view and from post to post.
+use Rattle.std.proofs.Common.{◌≡◌, ℕ, ◌<◌, ◌≤◌, List, [], ◌∷◌, ◌++◌, Option, append_assoc, append-nil, refl, sym, ap, ◌∙◌, subst, ⊎_elim}
+use Rattle.std.proofs.lemmas.Bool.{cases_lt}
+use Rattle.stamp_base.specs.Stamp.{bound_of_clock}
+use Rattle.word_layout.specs.Name.{Name}
+use Rattle.core_rule.specs.View.{View, Load, Seen}
+use Rattle.core_rule.specs.Paths.{EndsAt, load}
+use Rattle.core_rule.specs.Hands.{Seated}
+use Rattle.clock_stamps.specs.Clocks.{rests, drawn}
+use Rattle.clock_stamps.specs.Minima.{Raises, loads_from, bounded}
+use Rattle.version_pool.specs.Takes.{WasMet}
+use Rattle.version_search.specs.Growing as growing
+use Rattle.version_search.specs.Finding.{Reads}
+use Rattle.version_search.proofs.Grown.{grows_loads, grows_same}
+use Rattle.validate_core.specs.Sets.{SetsView}
+use Rattle.validate_core.specs.Validating.{Met, MetFinal, no_more, its_read_stamp, IsShown}
+use Rattle.validate_core.specs.declared.conflict.Conflict.{Conflict}
+use Rattle.validate_core.specs.declared.conflict.Conflict.TheVariants.{Pending, ReadLater, Overtaken}
+use Rattle.seat_post.specs.declared.phase.Phase.{Phase}
+use Rattle.seat_post.specs.Observing.{Grows, WasLost}
+use Rattle.seat_post.specs.Rewriting.{IsLoadedIn}
+use Rattle.seat_post.specs.Post.{PostView, post_view, observed_in}
+
+-- ---- what was added
+
+pub observed_grows : (h k : Seated) → growing.Grows h.view.seen k.view.seen → Grows (observed_in h) (observed_in k)
+observed_grows h k g = record { loaded = g.loaded; missed = g.missed; loads = g.loads; lost = g.lost }
+
+pub post_grows : (hand hand' : Seated) (phase : Phase) (stamp : ℕ) (reads writes : List (ℕ × Option (List ℕ))) (p : PostView) → post_view hand phase stamp reads writes ≡ p → growing.Grows hand.view.seen hand'.view.seen → Grows p.observed (observed_in hand')
+post_grows hand hand' phase stamp reads writes p same g = subst (λ (q : PostView). Grows q.observed (observed_in hand')) same (observed_grows hand hand' g)
+
+-- by nothing
+pub seen_grows : (s t : Seen) → t ≡ s → growing.Grows s t
+seen_grows s t e = grows_same s t (ap (λ (x : Seen). x.loads) e) (ap (λ (x : Seen). x.lost) e)
+
+-- by the calls on clocks and minima
+pub idle_grows : (h k : Seated) → (h.view.published.write < bound_of_clock h.view.clock.clock → k.view ≡ rests h.view) → (bound_of_clock h.view.clock.clock ≤ h.view.published.write → k ≡ h) → growing.Grows h.view.seen k.view.seen
+idle_grows h k rises unchanged =
+    seen_grows h.view.seen k.view.seen
+    (⊎_elim (λ less. ap (λ (v : View). v.seen) (rises less)) (λ most. ap (λ (x : Seated). x.view.seen) (unchanged most)) (cases_lt h.view.published.write (bound_of_clock h.view.clock.clock)))
+
+pub raises_grow : (family : ℕ → Name) (minimum : Name) (own : ℕ) (v : View) (result : ℕ) (w : View) → Raises family minimum own v result w → growing.Grows v.seen w.seen
+raises_grow family minimum own v result w r =
+    grows_loads v.seen w.seen (loads_from family 0 r.words ++ load minimum r.found ∷ [])
+    (ap (λ (s : Seen). s.loads) r.seen ∙ append_assoc v.seen.loads (loads_from family 0 r.words) (load minimum r.found ∷ [])) (ap (λ (s : Seen). s.lost) r.seen)
+
+pub bounded_grows : (v w : View) (bound : ℕ) → w ≡ bounded v bound → growing.Grows v.seen w.seen
+bounded_grows v w bound is = grows_loads v.seen w.seen _ (ap (λ (y : View). y.seen.loads) is) (ap (λ (y : View). y.seen.lost) is)
+
+pub drawn_grows : (v w : View) (clock : ℕ) → w ≡ drawn v clock → growing.Grows v.seen w.seen
+drawn_grows v w clock is = seen_grows v.seen w.seen (ap (λ (y : View). y.seen) is)
+
+-- by a search
+pub reads_grow : (limit rid place wts status : ℕ) (v w : View) → Reads limit rid place wts status v w → growing.Grows v.seen w.seen
+reads_grow limit rid place wts status v w found = grows_loads v.seen w.seen _ found.path.loads found.lost
+
+-- ---- what was met
+
+-- where the call began earlier, and where it ends later
+pub met_before : (stamp rid w n : ℕ) (more : ℕ → List Load) (a b c ls : List Load) → b ≡ a ++ ls → Met stamp rid w n more b c → Met stamp rid w n more a c
+met_before stamp rid w n more a b c ls e m = record {
+  place = m.place;
+  earlier = ls ++ m.earlier;
+  met = m.met;
+  later = m.later;
+  path = subst (λ (xs : List Load). EndsAt stamp rid m.place w n xs m.met) (ap (λ (xs : List Load). xs ++ m.earlier) e ∙ append_assoc a ls m.earlier) m.path;
+  loads = m.loads;
+}
+
+pub met_after : (stamp rid w n : ℕ) (more : ℕ → List Load) (a b c ls : List Load) → c ≡ b ++ ls → Met stamp rid w n more a b → Met stamp rid w n more a c
+met_after stamp rid w n more a b c ls e m = record {
+  place = m.place;
+  earlier = m.earlier;
+  met = m.met;
+  later = m.later ++ ls;
+  path = m.path;
+  loads = e ∙ ap (λ (xs : List Load). xs ++ ls) m.loads ∙ append_assoc m.met (more m.place ++ m.later) ls
+      ∙ ap (λ (xs : List Load). m.met ++ xs) (append_assoc (more m.place) m.later ls);
+}
+
+final_before : (stamp rid w : ℕ) (more : ℕ → List Load) (a b c ls : List Load) → b ≡ a ++ ls → MetFinal stamp rid w more b c → MetFinal stamp rid w more a c
+final_before stamp rid w more a b c ls e m = record { status = m.status; final = m.final; met = met_before stamp rid w m.status more a b c ls e m.met }
+
+-- a version that a search found
+pub met_found : (limit rid place wts status : ℕ) (v w : View) → Reads limit rid place wts status v w → Met limit rid wts status no_more v.seen.loads w.seen.loads
+met_found limit rid place wts status v w found = record {
+  place = place;
+  earlier = [];
+  met = w.seen.loads;
+  later = [];
+  path = subst (λ (xs : List Load). EndsAt limit rid place wts status xs w.seen.loads) (sym (append-nil v.seen.loads)) found.path;
+  loads = sym (append-nil w.seen.loads);
+}
+
+-- where more was loaded afterwards, with its place
+pub met_then : (limit rid place wts status : ℕ) (v w x : View) → Reads limit rid place wts status v w → growing.Grows w.seen x.seen → (m : Met limit rid wts status no_more v.seen.loads x.seen.loads) × (m.place ≡ place)
+unfolding met_after met_found
+met_then limit rid place wts status v w x found g = (met_after limit rid wts status no_more v.seen.loads w.seen.loads x.seen.loads g.loaded g.loads (met_found limit rid place wts status v w found), refl)
+
+-- what a conflict names
+pub shown_loaded : (stamp : ℕ) (s : SetsView) (v w : View) (conflict : Conflict) → IsShown stamp s v w conflict → IsLoadedIn stamp conflict v w
+shown_loaded stamp s v w (Pending rid wts) h = h.3
+shown_loaded stamp s v w (ReadLater rid wts rts) h = h.3
+shown_loaded stamp s v w (Overtaken rid seen now) h = h.4
+
+pub loaded_before : (stamp : ℕ) (u v w : View) (conflict : Conflict) → growing.Grows u.seen v.seen → IsLoadedIn stamp conflict v w → IsLoadedIn stamp conflict u w
+loaded_before stamp u v w (Pending rid wts) g m = met_before stamp rid wts 2 no_more u.seen.loads v.seen.loads w.seen.loads g.loaded g.loads m
+loaded_before stamp u v w (ReadLater rid wts rts) g m = final_before stamp rid wts (its_read_stamp rts) u.seen.loads v.seen.loads w.seen.loads g.loaded g.loads m
+loaded_before stamp u v w (Overtaken rid seen now) g m = final_before stamp rid now no_more u.seen.loads v.seen.loads w.seen.loads g.loaded g.loads m
+
+-- a place that was met not free, where the call began earlier
+pub lost_before : (place : ℕ) (u v w x : View) → growing.Grows u.seen v.seen → WasMet place v w → x.seen ≡ w.seen → WasLost place u.seen.lost x.seen.lost
+lost_before place u v w x g m same = record {
+  earlier = g.missed ++ m.earlier;
+  exchange = m.exchange;
+  later = m.later;
+  not_free = m.not_free;
+  lost = ap (λ (s : Seen). s.lost) same ∙ m.seen ∙ ap (λ (xs : List Load). xs ++ (m.earlier ++ m.exchange ∷ m.later)) g.lost
+      ∙ append_assoc u.seen.lost g.missed (m.earlier ++ m.exchange ∷ m.later)
+      ∙ ap (λ (xs : List Load). u.seen.lost ++ xs) (sym (append_assoc g.missed m.earlier (m.exchange ∷ m.later)));
+}

@@ -12,7 +12,6 @@ use Rattle.std.proofs.lemmas.Map.Keys.{IsDistinct-IsPermutation, IsDistinct-head
 use Rattle.std.proofs.lemmas.Map.Steps.{length-le_from_distinct_below}
 use Rattle.std.proofs.lemmas.Grind.{get_or_default_zero}
 use Rattle.std.proofs.lemmas.Cmp.{nat_eq_equiv}
-use Rattle.std.proofs.lemmas.Option.{slice_get_read}
 use Rattle.std.proofs.lemmas.Bool.Decides.{eqb_tells}
 use Rattle.seat_post.specs.Spare.{AreNumbers, NumbersView, is_on, added, is_deletion, with_deleted}
 use Rattle.seat_post.proofs.Listed.{drop_one}

@@ -2,12 +2,8 @@
 use Rattle.std.proofs.Common.{◌≡◌, ℕ, ◌<◌, ◌≤◌, ◌+◌, Bool, true, false, List, [], ◌∷◌, ◌++◌, Option, None, Some, refl, sym, ap, subst, ◌∙◌, arith, length, inl, inr, ◌⊎◌, cond, eqb, suc, eq-eqb, append_assoc, length-append}
 use Rattle.std.specs.Prelude.{IfSome, IsSome, is_some, max, min, ◌==◌, if◌then◌else◌}
 use Rattle.stamp_base.specs.Limits.{end_of_stamps, greatest_adopted_clock}
-use Rattle.word_layout.specs.Size.{Size, IsSize}
 use Rattle.stamp_base.specs.Stamp.{clock_of, bound_of_clock}
-use Rattle.seat_post.specs.Logs.{IsAbove, AreBelow}
 use Rattle.core_rule.specs.Stamps.{adopted}
-use Rattle.clock_stamps.specs.Clocks.{drawn_clock}
-use Rattle.plain_data.specs.declared.entry.Entry.{Entry}
 use Rattle.core_rule.specs.Views.{Among}
 use Rattle.rapid_gc.specs.declared.queue.Queued.{Queued}
 use Rattle.std.proofs.lemmas.List.{map_push}
@@ -24,7 +20,7 @@ use Rattle.seat_post.specs.Spare.{NumbersView}
 use Rattle.txn_engine.specs.Inside.{IsPass}
 use Rattle.seat_post.specs.Collecting.{IsQueued, AreQueued}
 use Rattle.seat_post.proofs.Bounds.{above_more, below_more, queued_more}
-use Rattle.core_rule.proofs.Among.{Among-last, Among-left, Among-split}
+use Rattle.core_rule.proofs.Among.{Among-last, Among-split}
 
 -- another clock
 pub pass_clock : (p : PostView) (clock : ℕ) (q : Waiting) (n : NumbersView) (refusals : ℕ) (dead : Option Conflict) (counted : Bool) → IsPass p q n refusals dead counted → p.clock ≤ clock → IsPass (with_clock p clock) q n refusals dead counted

@@ -1,5 +1,5 @@
 -- Lists that are shared out, and the seats that are made for them.
-use Rattle.std.proofs.Common.{◌≡◌, ℕ, zero, suc, ◌+◌, ◌-◌, ◌<◌, Bool, true, false, ◌||◌, cond, Option, None, Some, List, [], ◌∷◌, ◌++◌, refl, sym, ap, subst, ◌∙◌, arith, drop, eqb, append_assoc}
+use Rattle.std.proofs.Common.{◌≡◌, ℕ, zero, suc, ◌+◌, ◌-◌, ◌<◌, length, Bool, true, false, ◌||◌, cond, Option, None, Some, List, [], ◌∷◌, ◌++◌, refl, sym, ap, subst, ◌∙◌, arith, drop, remove, eqb, append_assoc}
 use Rattle.std.specs.Prelude.{slice_get}
 use Rattle.std.specs.List.{IsDistinct, AllByRecursion, list_any}
 use Rattle.std.proofs.lemmas.List.{append-nil, drop-drop}
@@ -85,3 +85,50 @@ fill_first step first from spare none = rw none (sym (every_from step first from
 pub none_found : (found : Option ℕ) → ((x : ℕ) → found ≡ Some x → ⊥) → found ≡ None
 none_found None none = refl
 none_found (Some x) none = absurd (none x refl)
+
+-- ---- every so many-th is kept, and the others are struck off
+
+-- The front of a list was gone through: what is left of it stands in front of what was kept. So many are struck off before the next one that
+-- is kept.
+pub record KeepsEvery (step left : ℕ) (all rest spare : List ℕ) : Type 0 where
+  pub kept : List ℕ
+  pub spare_is : spare ≡ rest ++ kept
+  pub whole : every step 0 all ≡ kept ++ every step left rest
+
+not_on : (xs : List ℕ) (y : ℕ) → AllByRecursion (λ z. eqb y z ≡ false) xs → is_on xs y ≡ false
+not_on [] y apart = refl
+not_on (x ∷ xs) y apart = neither (eqb y x) (list_any (eqb y) xs) apart.0 (not_on xs y apart.1)
+
+pub keep_none : (step : ℕ) (all : List ℕ) → KeepsEvery step 0 all all all
+keep_none step all = record { kept = []; spare_is = sym (append-nil all); whole = refl }
+
+pub keep_one : (step x : ℕ) (all rest spare : List ℕ) → IsDistinct eqb spare → KeepsEvery step 0 all (x ∷ rest) spare → KeepsEvery step (step - 1) all rest (added (remove spare 0) x)
+keep_one step x all rest spare distinct k =
+    let struck : remove spare 0 ≡ rest ++ k.kept = ap (λ ys. remove ys 0) k.spare_is in
+    let off : is_on (rest ++ k.kept) x ≡ false = not_on (rest ++ k.kept) x (IsDistinct-head eqb x (rest ++ k.kept) (subst (IsDistinct eqb) k.spare_is distinct)) in
+    record {
+      kept = k.kept ++ x ∷ [];
+      spare_is = ap (λ ys. added ys x) struck ∙ ap (λ (b : Bool). cond b (rest ++ k.kept) ((rest ++ k.kept) ++ x ∷ [])) off ∙ append_assoc rest k.kept (x ∷ []);
+      whole = k.whole ∙ sym (append_assoc k.kept (x ∷ []) (every step (step - 1) rest));
+    }
+
+pub strike_one : (step left x : ℕ) (all rest spare : List ℕ) → KeepsEvery step (suc left) all (x ∷ rest) spare → KeepsEvery step left all rest (remove spare 0)
+strike_one step left x all rest spare k = record { kept = k.kept; spare_is = ap (λ ys. remove ys 0) k.spare_is; whole = k.whole }
+
+front : (xs : List ℕ) (n : ℕ) → n < length xs → (y : ℕ) × (drop n xs ≡ y ∷ drop (n + 1) xs)
+front [] n within = let no : ⊥ = omega arith in absurd no
+front (x ∷ xs) zero within = (x, refl)
+front (x ∷ xs) (suc n) within = let f = front xs n (omega arith) in (f.0, f.1 ∙ ap (λ m. f.0 ∷ drop m (x ∷ xs)) (one_later n))
+
+same_front : (x y : ℕ) (xs spare : List ℕ) → spare ≡ x ∷ xs → slice_get spare 0 ≡ Some y → x ≡ y
+same_front x y xs spare is at = let told : Some x ≡ Some y = ap (λ ys. slice_get ys 0) (sym is) ∙ at in cc
+
+-- what is left begins with the first number of the list
+pub goes_on : (step left n x : ℕ) (all spare : List ℕ) → n < length all → slice_get spare 0 ≡ Some x → KeepsEvery step left all (drop n all) spare → KeepsEvery step left all (x ∷ drop (n + 1) all) spare
+goes_on step left n x all spare within at k =
+    let f = front all n within in
+    let same : f.0 ≡ x = same_front f.0 x (drop (n + 1) all ++ k.kept) spare (k.spare_is ∙ ap (λ ys. ys ++ k.kept) f.1) at in
+    subst (λ ys. KeepsEvery step left all ys spare) (f.1 ∙ ap (λ y. y ∷ drop (n + 1) all) same) k
+
+pub keeps_all : (step left : ℕ) (all rest spare : List ℕ) → rest ≡ [] → KeepsEvery step left all rest spare → spare ≡ every step 0 all
+keeps_all step left all rest spare none k = k.spare_is ∙ ap (λ ys. ys ++ k.kept) none ∙ sym (append-nil k.kept) ∙ ap (λ ys. k.kept ++ every step left ys) (sym none) ∙ sym k.whole

@@ -233,6 +233,28 @@ impl Numbers {
         }
     }
 
+    /// Keeps every so many-th spare number, from the first one on, and strikes the others off. The order stays, and no room is asked
+    /// for.
+    pub fn keep_every(&mut self, step: u32)
+        requires step { 0 < step }
+        requires none_given { self.old.given ≡ [] }
+        ensures { self.new ≡ record self.old { spare = every step 0 self.old.spare } }
+    {
+        // So many are struck off before the next one that is kept.
+        let mut left = 0;
+        for _number in 0..self.len() {
+            let Some(rid) = self.at(0) else {
+                unreachable!();
+            };
+            self.strike(0);
+            if left == 0 {
+                self.add(rid);
+                left = step;
+            }
+            left -= 1;
+        }
+    }
+
     /// Adds the spare numbers of another list that are not on this one.
     pub fn add_all(&mut self, other: &Numbers)
         requires fixed { self.old.fixed ≡ other.now.fixed }

@@ -1,5 +1,5 @@
 -- What contracts see of the seat that is alone, what it keeps, and what its calls make of it.
-use Rattle.std.specs.Prelude.{◌≡◌, ℕ, ◌+◌, ◌*◌, ◌≤◌, Bool, true, not, is_some, List, [], Option, IfSome, Result, IfErr, length}
+use Rattle.std.specs.Prelude.{◌≡◌, ℕ, ◌+◌, ◌-◌, ◌*◌, ◌≤◌, Bool, true, not, is_some, List, [], Option, IfSome, Result, IfErr, length}
 use Rattle.std.specs.Borrow.{GName}
 use Rattle.core_rule.specs.View.{single}
 use Rattle.core_rule.specs.Views.{Among}
@@ -24,9 +24,9 @@ pub record PartsView : Type 0 where
   pub lists : List NumbersView
   pub room : ℕ
 
--- there is room for a pass of each seat, and an empty list for each
+-- there is room for a pass of each seat, and an empty list for each but the first, which keeps its own
 pub record HasParts (seats fixed records : ℕ) (parts : PartsView) : Type 0 where
-  pub count : length parts.lists ≡ seats
+  pub count : length parts.lists ≡ seats - 1
   pub room : seats ≤ parts.room
   pub empty : (n : NumbersView) → Among n parts.lists → n ≡ no_numbers fixed records
 

@@ -1,5 +1,5 @@
 //! What the passes are made of that a share gives.
-ghost use Rattle.std.specs.Prelude.{◌≡◌, IfOk};
+ghost use Rattle.std.specs.Prelude.{◌≡◌, ◌<◌, IfOk};
 ghost use Rattle.txn_engine.specs.Alone.{HasParts};
 ghost use Rattle.seat_post.specs.Spare.{no_numbers};
 
@@ -56,12 +56,13 @@ impl<J> Model for Parts<J> {
 }
 
 impl<J> Parts<J> {
-    /// The parts for so many seats, over these records.
+    /// The parts for so many seats, over these records. Seat 0 keeps its own list.
     pub(crate) fn new(alloc: Global, seats: u32, fixed: u32, records: u32) -> Result<Self, NoMemory>
+        requires { 0 < seats }
         ensures { IfOk result (HasParts seats fixed records) }
     {
-        let mut lists = Vec::with_capacity(alloc, seats as usize)?;
-        for _seat in 0..seats {
+        let mut lists = Vec::with_capacity(alloc, (seats - 1) as usize)?;
+        for _seat in 1..seats {
             lists.push(Part::empty(alloc, fixed, records)?)?;
         }
         let passes = Vec::with_capacity(alloc, seats as usize)?;

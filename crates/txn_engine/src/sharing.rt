@@ -57,19 +57,13 @@ impl<J: Keeps> Pass<J> {
         }
     }
 
-    // Keeps its share of the spare numbers, in this list.
-    fn keep_share(&mut self, seats: u32, list: Part)
+    // Keeps its share of the spare numbers.
+    fn keep_share(&mut self, seats: u32)
         requires seats { 0 < seats }
-        requires list { list ≡ no_numbers self.old.engine.fixed self.old.engine.size.records }
         requires none_given { self.old.given ≡ [] }
         ensures { self.new ≡ record self.old { spare = every seats 0 self.old.spare } }
     {
-        let Part {
-            mut numbers,
-            room: _,
-        } = list;
-        numbers.fill(&self.numbers, seats, 0);
-        self.numbers = numbers;
+        self.numbers.keep_every(seats);
     }
 }
 
@@ -96,10 +90,7 @@ fn share_out<J: Keeps>(mut pass: Pass<J>, engine: &Engine<J>, parts: Parts<J>) -
             unreachable!();
         };
     }
-    let Some(list) = lists.pop() else {
-        unreachable!();
-    };
-    pass.keep_share(engine.seats(), list);
+    pass.keep_share(engine.seats());
     let Ok(()) = passes.insert(0, pass) else {
         unreachable!();
     };

@@ -60,13 +60,6 @@ loop-seat-preserved g c =
       room = omega arith;
     }
 
-pub keep_share-requires-clause-list : goal.keep_share-requires-clause-list
-keep_share-requires-clause-list g c =
-    let i = c.loop-seat.invariant in
-    let engine : c.loop-seat.pass.engine ≡ c.args.engine.now = ap (λ (p : PassView). p.engine) i.pass ∙ c.requires.engine in
-    let is = i.empty c.in-Some-pop.list (subst (λ (ns : List NumbersView). Among c.in-Some-pop.list ns) (sym c.in-Some-pop.ensures.items) (Among-last c.in-Some-pop.list c.pop-2.new.self.items)) in
-    rw engine is
-
 pub unreachable-requires-in_default-insert : goal.unreachable-requires-in_default-insert
 unreachable-requires-in_default-insert g c =
     let i = c.loop-seat.invariant in

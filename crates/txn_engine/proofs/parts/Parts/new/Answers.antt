@@ -12,3 +12,12 @@ loop-seat-preserved g c =
       count = omega arith;
       empty = each_more _ c.loop-seat.lists.items c.push.new.self.items c.in_ok-empty.field-0 c.loop-seat.invariant.empty c.in_ok-empty.ensures items;
     }
+
+pub returns : goal.returns
+returns g c =
+    let i = c.loop-seat.invariant in
+    let count = i.count in
+    let some = c.requires in
+    let test = c.loop-seat-test.false in
+    let end = c.loop-seat.auto._seat-end (omega arith) in
+    record { count = omega arith; room = c.in_ok-passes.ensures.capacity; empty = i.empty }

@@ -9,6 +9,7 @@ use Rattle.record_store.specs.Calls.{CallFault}
 use Rattle.record_store.specs.Calls.CallFault.{by_read, by_write, by_fresh}
 use Rattle.record_store.specs.Meaning.{Meaning, value_at}
 use Rattle.record_store.specs.Walks.{ReadsGrow}
+use Rattle.record_store.specs.declared.walk.Walk.{Walk}
 use Rattle.record_store.specs.Writes.{WritesAtMost, WritesKnown, IsKnown, GivesFewer}
 use Rattle.replay_model.specs.declared.command.Command.{Command}
 use Rattle.replay_model.specs.declared.outcome.Outcome.{Outcome}
@@ -62,6 +63,10 @@ module _ {S F : Type 0} (read_gives : S → ℕ → Result (Option (List ℕ)) F
       let stays = refused_stays commands command cause tables (told state places tables agrees (with_none _ _ state places tables none holds)) in
       let here = with_none (meaning first).size (meaning last).writes state places tables (ap (λ (m : Meaning). m.writes) called.refused) holds in
       (places, subst (λ (after : TableMap). StandsFor (meaning first).size (overlay (meaning last).writes state) places after) (sym stays) here, at_most_more (weight places) (all_add commands tables))
+
+  -- what it has written where it came to a fault
+  pub known_written : (fault : Walk F) → Called read_gives write_gives fresh_gives meaning commands first last (Err fault) → EachTables (meaning first) (meaning last) (λ state _ _. WritesKnown (meaning first) (meaning last) state)
+  known_written fault called state places tables agrees holds = subst (λ (m : Meaning). WritesKnown (meaning first) m state) (sym called.otherwise) (called.writes state places tables agrees holds)
 
 -- ---- why it wants for no record
 

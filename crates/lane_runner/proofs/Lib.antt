@@ -23,6 +23,7 @@ pub mod Shared
 pub mod WholeRun
 pub mod Weighing
 pub mod Remaining
+pub mod Granted
 pub mod BecomingLists
 pub mod BecomingLanes
 pub mod BecomingRan

@@ -4,9 +4,11 @@ use Rattle.plain_data.specs.declared.entry.Entry.{Entry}
 use Rattle.plain_data.specs.State.{State, Agrees, Fits, overlay}
 use Rattle.stored_tables.specs.Declare.{Declares, with_index}
 use Rattle.stored_tables.specs.Kept.{KeepsTables}
-use Rattle.stored_tables.specs.Places.{Places, with_head}
+use Rattle.stored_tables.specs.Blocks.{MayAskOnce}
+use Rattle.stored_tables.specs.Places.{Places, with_head, fixed_records}
+use Rattle.stored_tables.specs.Plan.{MayAskIn, run_plan}
 use Rattle.stored_tables.specs.Tables.{StandsFor, EachTables}
-use Rattle.histories.specs.History.{Lawful}
+use Rattle.histories.specs.History.{Lawful, Leaves}
 use Rattle.histories.specs.Laws.{NextStateIsOverlay}
 use Rattle.history_replay.specs.Results.{StandsForSome}
 use Rattle.record_store.specs.Limits.{record_limit}
@@ -15,11 +17,12 @@ use Rattle.record_store.specs.Writes.{WritesKnown, IsKnown, GivesFewer}
 use Rattle.replay_model.specs.declared.command.Command.{Command}
 use Rattle.replay_model.specs.declared.outcome.Outcome.{Outcome}
 use Rattle.txn_engine.specs.Alone.{AloneView}
-use Rattle.stored_tables.specs.Weight.{weight}
-use Rattle.lane_runner.proofs.Asked.{at_most_more, known_writes, few_given}
+use Rattle.stored_tables.specs.Weight.{weight, all_add}
+use Rattle.stored_tables.specs.Weights.{AreKnown, RecordLeft}
+use Rattle.lane_runner.proofs.Asked.{at_most_more, known_writes, few_given, no_ask_refused}
 use Rattle.replay_model.specs.TableMap.{TableMap}
 use Rattle.seat_post.specs.Leaves.{AreLeft}
-use Rattle.txn_engine.specs.Leaves.{HoldsAbsent}
+use Rattle.txn_engine.specs.Leaves.{HoldsAbsent, NoneLeft}
 use Rattle.txn_engine.specs.Lists.{IsRoomy}
 use Rattle.txn_engine.specs.Pass.{EngineView, PassView, Frame, frame, IsIdle, IsAlone, begun, committed, knowing, entry_of, store_of, meaning_of_pass}
 use Rattle.seat_post.specs.Logs.{IsAbove}
@@ -31,11 +34,11 @@ use Rattle.lane_runner.specs.Adds.{Adds}
 use Rattle.lane_runner.specs.Weighs.{LeadsTo}
 use Rattle.lane_runner.specs.Lanes.{AddsSome}
 use Rattle.lane_runner.proofs.Adding.{Adds-trans}
-use Rattle.lane_runner.specs.Holding.{Holds, Awaits, Enters, LeavesWithin, KeepsShared}
+use Rattle.lane_runner.specs.Holding.{Holds, Awaits, Enters, HasRecords, LeavesWithin, KeepsShared}
 use Rattle.lane_runner.specs.Loading.{EntersIndex}
 use Rattle.lane_runner.proofs.Begun.{kept_frame, is_open, same_records, none_written, meaning_open, Adds-committed}
 use Rattle.lane_runner.proofs.Entries.{with_none}
-use Rattle.lane_runner.proofs.Held.{roomy_open, absent_open}
+use Rattle.lane_runner.proofs.Held.{agrees_open, roomy_open, absent_open}
 use Rattle.lane_runner.proofs.Within.{within_more, within_at}
 
 module _ (p b q : PassView) (clock : ℕ) (began : b ≡ begun p clock) (rest : frame q ≡ frame b) where
@@ -128,6 +131,24 @@ opened p b q clock later drawn began rest above alone accounts absent roomy = re
   absent = absent_open p b q clock began alone rest accounts absent;
   roomy = roomy_open p q clock (kept_frame p b q clock began rest) roomy;
 }
+
+-- where what the log leaves finds room with what the commands add, it does not run out of records
+pub never_out : (p b q : PassView) (o : Opened p b q) (commands : List Command) (asks : ℕ) → RecordLeft → Lawful (StandsForSome stands) p.engine.size.records p.log → AreLeft q.log q.desk.stamp q.desk.reads → HasRecords p (all_add commands)
+    → AreKnown commands → fixed_records ≤ p.engine.fixed → MayAskOnce commands (meaning_of_pass b) (meaning_of_pass q) asks → GivesFewer asks (meaning_of_pass b) (meaning_of_pass q)
+    → EachTables (meaning_of_pass b) (meaning_of_pass q) (λ state _ _. WritesKnown (meaning_of_pass b) (meaning_of_pass q) state) → NoneLeft q → ⊥
+never_out p b q o commands asks left lawful reads has known fixed may fewer written none =
+    let kept = kept_frame p b q o.clock o.began o.rest in
+    let engine = ap (λ (f : Frame). f.engine) kept in
+    let state = has.leaves.state in
+    let agrees : Agrees state q.desk.reads = agrees_open p q o.clock has.tables has.most kept lawful o.above reads has.leaves in
+    no_ask_refused (StandsForSome stands) q commands asks has.most state has.leaves.places has.tables left none (lawful_at p b q o.clock o.began o.rest lawful)
+    (subst (λ (log : List Entry). Leaves (Contains log) state) (sym (ap (λ (f : Frame). f.log) kept)) has.leaves.left)
+    (subst (λ (e : EngineView). StandsFor e.size.records state has.leaves.places has.tables) (sym engine) has.leaves.stands_for) has.leaves.light known
+    (each_at p b q o.clock o.began o.rest (λ _ places tables. MayAskIn (run_plan commands tables) places asks) may state has.leaves.places has.tables agrees has.leaves.stands_for)
+    (subst (λ (e : EngineView). fixed_records ≤ e.fixed) (sym engine) fixed)
+    (subst (λ (e : EngineView). e.fixed + (has.most + all_add commands has.tables) ≤ e.size.records) (sym engine) has.room)
+    (given_at p b q o.clock o.began o.rest asks fewer)
+    (known_at p b q o.clock o.began o.rest state (each_at p b q o.clock o.began o.rest (λ s _ _. WritesKnown (meaning_of_pass b) (meaning_of_pass q) s) written state has.leaves.places has.tables agrees has.leaves.stands_for))
 
 -- it has committed
 module _ (p b q r : PassView) (known : Known) (o : Opened p b q) (ends : r ≡ committed (knowing q known)) where

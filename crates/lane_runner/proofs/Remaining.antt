@@ -192,7 +192,7 @@ module _ (adds_after : AddsAfter) (input : Input) (tries : ℕ) (loaded : PassVi
 
   after : WeighsAfter records (loaded.log ++ added) tables (rows_add input.rows input.indexes + blocks_add ran.blocks tables)
   after = runs_weigh_after adds_after records start loaded.log added ran.blocks ran.results tables (rows_add input.rows input.indexes)
-      (subst (λ (log : List Entry). Lawful (StandsForSome stands) records log) log_is lawful) run.loads.leaves up_to behind ran.are_entries
+      (subst (λ (log : List Entry). Lawful (StandsForSome stands) records log) log_is lawful) run.loads.leaves up_to (λ entry among. (behind entry among).commit) ran.are_entries
 
   engine_is : alone.pass.engine ≡ loaded.engine
   engine_is = run.runs.together.engine_is

@@ -26,7 +26,7 @@ use Rattle.lane_runner.specs.Lanes.{AreEntries}
 use Rattle.lane_runner.specs.Lanes.AreEntries.{none, result, other}
 use Rattle.lane_runner.specs.Weighs.{WeighsAtMost, blocks_add}
 use Rattle.lane_runner.specs.Holding.{LeavesWithin}
-use Rattle.lane_runner.specs.Whole.{ComesBehind, WeighsAfter, RunsWeigh}
+use Rattle.lane_runner.specs.Whole.{WeighsAfter, RunsWeigh}
 use Rattle.lane_runner.proofs.WholeRun.{contains_of, among_of}
 
 -- ---- entries, each with its commands
@@ -205,7 +205,7 @@ module _ (kept : State → Type 0) (records : ℕ) (base : TableMap) (adds_after
 
 module _ (adds_after : AddsAfter) (records start : ℕ) (loading entries : List Entry) (blocks : List Block) (results : List (Placed × Outcome)) (tables : TableMap) (most : ℕ)
     (lawful : Lawful (StandsForSome stands) records (loading ++ entries)) (within : LeavesWithin records loading tables most)
-    (up_to : (entry : Entry) → Among entry loading → entry.snapshot ≡ false → entry.stamp ≤ start) (behind : (entry : Entry) → Among entry entries → ComesBehind start entry)
+    (up_to : (entry : Entry) → Among entry loading → entry.snapshot ≡ false → entry.stamp ≤ start) (behind : (entry : Entry) → Among entry entries → entry.snapshot ≡ false → start < entry.stamp)
     (are : AreEntries records entries blocks results) where
   abbrev kept : State → Type 0
   kept = StandsForSome stands
@@ -222,7 +222,7 @@ module _ (adds_after : AddsAfter) (records start : ℕ) (loading entries : List 
   out_of : (e : Entry) → e.snapshot ≡ false → UpTo (loading ++ entries) start e → Contains loading e
   out_of e commit low = ⊎_elim
       (λ here. contains_of loading e here)
-      (λ there. let above : start < e.stamp = (behind e there).commit commit in let below : e.stamp ≤ start = low.1 in absurd (omega arith))
+      (λ there. let above : start < e.stamp = behind e there commit in let below : e.stamp ≤ start = low.1 in absurd (omega arith))
       (Among-split e loading entries (among_of (loading ++ entries) e low.0))
 
   same_state : within.state ≡ at (2 * start + 1)
@@ -274,4 +274,5 @@ module _ (adds_after : AddsAfter) (records start : ℕ) (loading entries : List 
   }
 
 pub runs_weigh : AddsAfter → RunsWeigh
-runs_weigh adds_after = runs_weigh_after adds_after
+runs_weigh adds_after records start loading entries blocks results tables most lawful within up_to behind are =
+    runs_weigh_after adds_after records start loading entries blocks results tables most lawful within up_to (λ entry among. (behind entry among).commit) are

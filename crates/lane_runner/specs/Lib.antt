@@ -8,6 +8,7 @@ pub mod Done
 pub mod Holding
 pub mod Loading
 pub mod Finishing
+pub mod Ready
 pub mod All
 pub mod Workers
 pub mod Gathers

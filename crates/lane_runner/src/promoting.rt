@@ -4,6 +4,7 @@ ghost use Rattle.std.specs.Prelude.{◌≡◌, ◌<◌, ◌≤◌, IfSome};
 ghost use Rattle.txn_engine.specs.Pass.{IsIdle};
 ghost use Rattle.lane_runner.specs.Room.{HasRoom, clock_after};
 ghost use Rattle.lane_runner.specs.Blocks.{AddsOthers};
+ghost use Rattle.lane_runner.specs.Ready.{IsReady};
 
 use crate::done::BlockDone;
 use outside_io::Clock;
@@ -22,6 +23,7 @@ fn promote(engine: &Engine<RowsLawful>, pass: &mut Pass<RowsLawful>, rid: u32, r
     ensures others { AddsOthers pass.old pass.new }
     ensures refusals { pass.new.refusals ≡ pass.old.refusals }
     ensures queue { pass.new.queue ≡ pass.old.queue }
+    ensures ready { IsReady pass.old → IsReady pass.new }
     ensures clock { pass.new.clock ≤ clock_after pass.old.clock 1 }
 {
     // No answer changes what the lane does next.
@@ -44,6 +46,7 @@ pub(crate) fn count_commit<C: Clock>(
     ensures others { AddsOthers pass.old pass.new }
     ensures refusals { pass.new.refusals ≡ pass.old.refusals }
     ensures queue { pass.new.queue ≡ pass.old.queue }
+    ensures ready { IsReady pass.old → IsReady pass.new }
     ensures clock { pass.new.clock ≤ clock_after pass.old.clock 1 }
 {
     if done.placed.snap {

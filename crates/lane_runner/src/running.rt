@@ -1,10 +1,12 @@
 //! The run of a list of blocks.
 
-ghost use Rattle.std.specs.Prelude.{◌≡◌, ◌≢◌, ◌⊎◌, ◌+◌, ◌<◌, ◌≤◌, true, false, [], All, IfOk, IfSome, IfNone, OnOk, OnErr, if◌then◌else◌};
+ghost use Rattle.std.specs.Prelude.{◌≡◌, ◌≢◌, ◌⊎◌, ◌+◌, ◌<◌, ◌≤◌, true, false, List, [], ◌∷◌, ◌++◌, All, IfOk, IfSome, IfNone, IsSome, OnOk, OnErr, if◌then◌else◌};
+ghost use Rattle.replay_model.specs.declared.input.Block.{Block};
 ghost use Rattle.txn_engine.specs.Pass.{IsIdle, IsAlone};
 ghost use Rattle.lane_runner.specs.Room.{HasRoom, clock_after};
 ghost use Rattle.lane_runner.specs.Blocks.{IsPlaceOf, Commits, IsRefused};
 ghost use Rattle.lane_runner.specs.Lanes.{MayRun, Runs, RunsNext, AddsSome, KeepOrder, lane_draws};
+ghost use Rattle.lane_runner.specs.Ready.{IsAmple, IsReady};
 
 use crate::done::BlockDone;
 use crate::promoting::count_commit;
@@ -42,6 +44,7 @@ fn run_block<C: Clock, G: Gate>(
     ensures queue { OnOk result (is_next ≡ true → 0 < tries → IsAlone pass.old → pass.new.queue ≡ []) }
     ensures left { OnOk result (is_next ≡ false → pass.new.queue ≡ pass.old.queue) }
     ensures clock { pass.new.clock ≤ clock_after pass.old.clock (tries + 1) }
+    ensures granted { is_next ≡ true → 0 < tries → (more : List Block) → IsAmple pass.old (block.now ∷ more) → IfOk result (λ answer. IsSome answer × IsReady pass.new) }
 {
     if !is_next {
         return Ok(None);
@@ -76,6 +79,7 @@ fn run_next<C: Clock, G: Gate>(
     ensures adds { AddsSome pass.old pass.new }
     ensures queue { OnOk result (0 < tries → IsAlone pass.old → (pass.new.queue ≡ []) ⊎ ((rest.old ≢ []) × (pass.new.queue ≡ pass.old.queue))) }
     ensures clock { pass.new.clock ≤ clock_after pass.old.clock (tries + 2) }
+    ensures granted { OnOk result (rest.old ≡ [] → 0 < tries → (more : List Block) → IsAmple pass.old (block ∷ more) → (rest.new ≡ []) × IsAmple pass.new more) }
 {
     let is_next = rest.len() == 0;
     match run_block(alloc, engine, pass, &block, clock, gate, tries, is_next)? {
@@ -111,6 +115,7 @@ pub(crate) fn run_blocks<C: Clock, G: Gate>(
     ensures adds { AddsSome pass.old pass.new }
     ensures queue { OnOk result (blocks ≢ [] → 0 < tries → IsAlone pass.old → pass.new.queue ≡ []) }
     ensures clock { pass.new.clock ≤ clock_after pass.old.clock (lane_draws blocks tries) }
+    ensures granted { IfOk result (λ done. 0 < tries → (more : List Block) → IsAmple pass.old (blocks ++ more) → (done.1 ≡ []) × IsAmple pass.new more) }
 {
     let mut results = Sequence::new(alloc);
     let mut rest = Sequence::new(alloc);

@@ -8,6 +8,7 @@ ghost use Rattle.txn_engine.specs.Pass.{IsIdle, IsAlone};
 ghost use Rattle.lane_runner.specs.Room.{HasRoom, clock_after};
 ghost use Rattle.lane_runner.specs.Blocks.{IsPlaceOf, Commits};
 ghost use Rattle.lane_runner.specs.Lanes.{AddsSome};
+ghost use Rattle.lane_runner.specs.Ready.{IsReady, IsReadyOnceCollected};
 
 use crate::collecting::collect;
 use crate::done::BlockDone;
@@ -52,6 +53,7 @@ fn read_block(
     ensures first { IfOk result (λ done. done.first_read ≡ None) }
     ensures fault { OnErr result (AddsSome pass.old pass.new) }
     ensures clock { pass.new.clock ≤ clock_after pass.old.clock 1 }
+    ensures ready { OnOk result (IsReady pass.old → IsReadyOnceCollected pass.new) }
 {
     keeps_tables();
     fits_records();
@@ -103,6 +105,7 @@ pub(crate) fn run_snap<G: Gate>(
     ensures fault { OnErr result (AddsSome pass.old pass.new) }
     ensures clock { pass.new.clock ≤ clock_after pass.old.clock 1 }
     ensures queue { OnOk result (IsAlone pass.old → pass.new.queue ≡ []) }
+    ensures ready { OnOk result (IsReady pass.old → IsReady pass.new) }
 {
     let done = read_block(alloc, engine, pass, block, reading)?;
     gate.after_outcome(block.lane, block.number);

@@ -1,12 +1,14 @@
 //! The tries of a transaction block.
 
-ghost use Rattle.std.specs.Prelude.{◌≡◌, ◌<◌, ◌≤◌, [], false, All, IfOk, IfSome, IfNone, OnOk, OnErr};
+ghost use Rattle.std.specs.Prelude.{◌≡◌, ◌<◌, ◌≤◌, List, [], ◌∷◌, false, All, IfOk, IfSome, IfNone, IsSome, OnOk, OnErr};
+ghost use Rattle.replay_model.specs.declared.input.Block.{Block};
 ghost use Rattle.replay_model.specs.Input.{AreCommands};
 ghost use Rattle.stored_tables.specs.Answers.{IsShort};
 ghost use Rattle.txn_engine.specs.Pass.{IsIdle, IsAlone};
 ghost use Rattle.lane_runner.specs.Room.{HasRoom, clock_after};
 ghost use Rattle.lane_runner.specs.Adds.{Adds};
 ghost use Rattle.lane_runner.specs.Blocks.{IsPlaceOf, Commits, IsRefused};
+ghost use Rattle.lane_runner.specs.Ready.{IsAmple, IsReady};
 
 use crate::done::BlockDone;
 use crate::trying::try_once;
@@ -75,6 +77,7 @@ pub(crate) fn try_until<C: Clock, G: Gate>(
     ensures fault { OnErr result (Adds pass.old pass.new []) }
     ensures clock { pass.new.clock ≤ clock_after pass.old.clock tries }
     ensures queue { OnOk result (0 < tries → IsAlone pass.old → pass.new.queue ≡ []) }
+    ensures granted { 0 < tries → (more : List Block) → IsAmple pass.old (block.now ∷ more) → IfOk result (λ answer. IsSome answer × IsReady pass.new) }
 {
     let mut other = pass.seat();
     for attempt in 0..tries {

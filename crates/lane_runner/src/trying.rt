@@ -1,12 +1,17 @@
 //! One try of a transaction block.
 
-ghost use Rattle.std.specs.Prelude.{◌≡◌, ◌+◌, ◌<◌, ◌≤◌, [], false, All, IfOk, IfSome, IfNone, OnOk, OnErr};
+ghost use Rattle.std.specs.Prelude.{◌≡◌, ◌+◌, ◌<◌, ◌≤◌, List, [], ◌∷◌, false, All, IfOk, IfSome, IfNone, IsSome, OnOk, OnErr};
+ghost use Rattle.histories.specs.History.{Lawful};
+ghost use Rattle.history_replay.specs.Results.{StandsForSome};
+ghost use Rattle.replay_model.specs.declared.input.Block.{Block};
 ghost use Rattle.replay_model.specs.Input.{AreCommands};
 ghost use Rattle.stored_tables.specs.Answers.{IsShort};
 ghost use Rattle.txn_engine.specs.Pass.{IsIdle, IsAlone};
+ghost use Rattle.lane_runner.specs.Rows.{stands};
 ghost use Rattle.lane_runner.specs.Room.{HasRoom, clock_after};
 ghost use Rattle.lane_runner.specs.Adds.{Adds};
 ghost use Rattle.lane_runner.specs.Blocks.{IsPlaceOf, Commits, IsRefused};
+ghost use Rattle.lane_runner.specs.Ready.{IsAmple, IsReady, IsReadyOnceCollected};
 
 use crate::collecting::collect;
 use crate::done::BlockDone;
@@ -20,7 +25,8 @@ use txn_engine::{BeginFault, Engine, Pass, TxnFault};
 /// Tries a transaction block once. `None`: it is to be tried again, since another transaction was in the way, or no place or no
 /// record number was left; one refusal more is counted then.
 ///
-/// A block that a command refuses has an entry without writes. The clock's reading may be any number.
+/// A block that a command refuses has an entry without writes. The clock's reading may be any number. A seat that is alone
+/// is granted each block for which it has room.
 fn try_txn<G: Gate>(
     alloc: Global,
     engine: &Engine<RowsLawful>,
@@ -42,6 +48,8 @@ fn try_txn<G: Gate>(
     ensures refused { IfOk result (λ answer. IfNone answer (IsRefused 1 pass.old pass.new)) }
     ensures fault { OnErr result (Adds pass.old pass.new []) }
     ensures clock { pass.new.clock ≤ clock_after pass.old.clock 1 }
+    ensures granted { Lawful (StandsForSome stands) pass.old.engine.size.records pass.old.log → (more : List Block) → IsAmple pass.old (block.now ∷ more) → IfOk result IsSome }
+    ensures ready { IfOk result (λ answer. IfSome answer (λ _. IsReady pass.old → IsReadyOnceCollected pass.new)) }
 {
     keeps_tables();
     fits_records();
@@ -64,7 +72,11 @@ fn try_txn<G: Gate>(
                 Err(_) => return Ok(None),
             }
         }
-        Err(Walk::Store(TxnFault::Conflict(_) | TxnFault::RecordsOut)) => {
+        Err(Walk::Store(TxnFault::Conflict(_))) => {
+            txn.abort();
+            return Ok(None);
+        }
+        Err(Walk::Store(TxnFault::RecordsOut)) => {
             txn.abort();
             return Ok(None);
         }
@@ -75,8 +87,9 @@ fn try_txn<G: Gate>(
     };
     gate.before_commit(block.lane, block.number);
     let first_read = txn.first_read();
-    let Ok(committed) = txn.commit() else {
-        return Ok(None);
+    let committed = match txn.commit() {
+        Ok(committed) => committed,
+        Err(_) => return Ok(None),
     };
     gate.after_outcome(block.lane, block.number);
     let placed = Placed {
@@ -115,6 +128,7 @@ pub(crate) fn try_once<G: Gate>(
     ensures fault { OnErr result (Adds pass.old pass.new []) }
     ensures clock { pass.new.clock ≤ clock_after pass.old.clock 1 }
     ensures queue { OnOk result (IsAlone pass.old → pass.new.queue ≡ []) }
+    ensures granted { (more : List Block) → IsAmple pass.old (block.now ∷ more) → IfOk result (λ answer. IsSome answer × IsReady pass.new) }
 {
     let answer = try_txn(alloc, engine, pass, block, reading, gate)?;
     collect(engine, pass);

@@ -1,4 +1,4 @@
-//! Telling that the log of a post that is alone is a lawful history.
+//! Telling that the log of a post is a lawful history where it is alone.
 ghost use Rattle.std.specs.Prelude.{◌≡◌, ◌≤◌};
 ghost use Rattle.histories.specs.History.{Lawful};
 ghost use Rattle.seat_post.specs.Observing.{Grows};
@@ -14,11 +14,10 @@ impl<J: Keeps> Post<J> {
     pub fn tell(&mut self, core: &Core<J>)
         requires core { self.old.shared ≡ core.now }
         requires idle { self.old.phase ≡ Phase.Idle }
-        requires alone { IsAloneAt self.old.shared.size self.old.seat self.old.others }
         ensures value { self.new ≡ record self.old { met = self.new.met; observed = self.new.observed } }
         ensures grows { Grows self.old.observed self.new.observed }
         ensures not_back { self.old.met ≤ self.new.met }
-        ensures lawful { Lawful J.kept self.old.shared.size.records self.old.log }
+        ensures lawful { IsAloneAt self.old.shared.size self.old.seat self.old.others → Lawful J.kept self.old.shared.size.records self.old.log }
     {
         core.load_min_write(&mut self.hand);
     }

@@ -4,6 +4,8 @@ ghost use Rattle.core_rule.specs.Deciding.{read_values, written_values};
 ghost use Rattle.core_rule.specs.View.{Write};
 ghost use Rattle.core_rule.specs.Views.{Among};
 ghost use Rattle.validate_core.specs.Sets.{Once};
+ghost use Rattle.seat_post.specs.Leaves.{AreLeft};
+ghost use Rattle.seat_post.specs.Seats.{IsAloneAt};
 ghost use Rattle.seat_post.specs.Post.{PostView, written, unwritten, closed};
 
 use crate::phase::Phase;
@@ -39,7 +41,8 @@ impl<J> Post<J> {
     /// Ends a transaction that has linked nothing.
     pub fn close(&mut self)
         requires { self.old.phase ≡ Phase.Open }
-        ensures { self.new ≡ closed self.old }
+        ensures closed { self.new ≡ closed self.old }
+        ensures read_left { IsAloneAt self.old.shared.size self.old.seat self.old.others → AreLeft self.old.log self.old.stamp self.old.reads }
     {
         clear(&mut self.reads, &mut self.writes, &mut self.sets);
         self.phase = Phase::Idle;

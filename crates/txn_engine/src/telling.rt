@@ -1,4 +1,4 @@
-//! Telling that the log of the seat that is alone is a lawful history.
+//! Telling that the log of a seat is a lawful history where it is alone.
 ghost use Rattle.std.specs.Prelude.{◌≡◌, ◌≤◌};
 ghost use Rattle.histories.specs.History.{Lawful};
 ghost use Rattle.txn_engine.specs.Alone.{AloneView, with_pass};
@@ -10,13 +10,13 @@ use crate::pass::Pass;
 use core_rule::Keeps;
 
 impl<J: Keeps> Pass<J> {
-    fn tell(&mut self, engine: &Engine<J>)
+    /// One load of `min_wts`, which is met. Where no other seat is open, the log is one lawful history then.
+    pub fn tell(&mut self, engine: &Engine<J>)
         requires engine { self.old.engine ≡ engine.now }
         requires idle { IsIdle self.old }
-        requires alone { IsAlone self.old }
         ensures value { self.new ≡ record self.old { met = self.new.met } }
         ensures not_back { self.old.met ≤ self.new.met }
-        ensures lawful { Lawful J.kept self.old.engine.size.records self.old.log }
+        ensures lawful { IsAlone self.old → Lawful J.kept self.old.engine.size.records self.old.log }
     {
         self.post.tell(&engine.core);
     }

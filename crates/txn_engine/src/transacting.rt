@@ -91,7 +91,8 @@ impl<J> Pass<J> {
     /// Ends a transaction that has linked nothing.
     pub(crate) fn abort(&mut self)
         requires { self.old.desk.phase ≡ Phase.Open }
-        ensures { self.new ≡ aborted self.old }
+        ensures after { self.new ≡ aborted self.old }
+        ensures read_left { IsAlone self.old → AreLeft self.old.log self.old.desk.stamp self.old.desk.reads }
     {
         self.clear();
         self.post.close();

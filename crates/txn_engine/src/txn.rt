@@ -78,7 +78,8 @@ impl<'a, J: Keeps, E: Lent<J>> TxnOver<'a, J, E> {
     /// Ends the transaction without an entry.
     pub fn abort(self)
         requires { self.pass.now.desk.phase ≡ Phase.Open }
-        ensures { self.exit.0.now ≡ aborted self.entry.pass.now }
+        ensures after { self.exit.0.now ≡ aborted self.entry.pass.now }
+        ensures read_left { IsAlone self.entry.pass.now → AreLeft self.entry.pass.now.log self.entry.pass.now.desk.stamp self.entry.pass.now.desk.reads }
     {
         let TxnOver { pass, engine: _ } = self;
         pass.abort();
@@ -122,7 +123,8 @@ impl<J: Keeps, E: Lent<J>> RecordRead for TxnOver<'_, J, E> {
     ghost use Rattle.txn_engine.specs.Faults.{IfConflict, MeetsAt};
     ghost use Rattle.txn_engine.specs.Leaves.{ReadsLeft};
     ghost use Rattle.txn_engine.specs.Accounts.{accounted, Stays};
-    ghost use Rattle.std.specs.Prelude.{◌≡◌, IfErr, IfOk, None};
+    ghost use Rattle.txn_engine.specs.declared.faults.TxnFault.TheVariants as out;
+    ghost use Rattle.std.specs.Prelude.{◌≡◌, ◌≢◌, IfErr, IfOk, None};
 
     ghost meaning = { λ t. meaning_of_pass t.pass.now };
 
@@ -130,7 +132,7 @@ impl<J: Keeps, E: Lent<J>> RecordRead for TxnOver<'_, J, E> {
 
     ghost rest = { λ t. record { name = t.pass.ghost_name; of_pass = frame t.pass.now; accounts = accounted t.pass.now } };
 
-    ghost read_gives = { λ t rid answer t'. Refuses t.pass.now t'.pass.now answer × Stays t.pass.now t'.pass.now × IfErr answer (λ fault. t.pass.now.desk.dead ≡ None → IfConflict fault (MeetsAt rid)) × IfOk answer (ReadsLeft t.pass.now rid) };
+    ghost read_gives = { λ t rid answer t'. Refuses t.pass.now t'.pass.now answer × Stays t.pass.now t'.pass.now × IfErr answer (λ fault. t.pass.now.desk.dead ≡ None → IfConflict fault (MeetsAt rid)) × IfOk answer (ReadsLeft t.pass.now rid) × IfErr answer (λ fault. fault ≢ out.RecordsOut) };
 
     fn read(&mut self, rid: u32) -> Result<Option<Cells>, TxnFault> {
         self.pass.read(self.engine.engine(), rid)
@@ -146,9 +148,9 @@ impl<J: Keeps, E: Lent<J>> RecordStore for TxnOver<'_, J, E> {
     ghost use Rattle.txn_engine.specs.Accounts.{Stays};
     ghost use Rattle.txn_engine.specs.Leaves.{HoldsAbsent, NoneLeft};
     ghost use Rattle.txn_engine.specs.declared.faults.TxnFault.TheVariants as out;
-    ghost use Rattle.std.specs.Prelude.{◌≡◌, IfErr};
+    ghost use Rattle.std.specs.Prelude.{◌≡◌, ◌≢◌, IfErr};
 
-    ghost write_gives = { λ t _ _ answer t'. Refuses t.pass.now t'.pass.now answer × Stays t.pass.now t'.pass.now };
+    ghost write_gives = { λ t _ _ answer t'. Refuses t.pass.now t'.pass.now answer × Stays t.pass.now t'.pass.now × IfErr answer (λ fault. fault ≢ out.RecordsOut) };
 
     ghost fresh_gives = { λ t answer t'. Refuses t.pass.now t'.pass.now answer × Stays t.pass.now t'.pass.now × IfErr answer (λ fault. fault ≡ out.RecordsOut → HoldsAbsent t'.pass.now → NoneLeft t'.pass.now) };
 

@@ -19,12 +19,12 @@ use Rattle.txn_engine.specs.Pass.{EngineView, PassView, Frame, frame, next_clock
 use Rattle.record_store.specs.Writes.{WritesKnown}
 use Rattle.lane_runner.specs.Rows.{stands}
 use Rattle.lane_runner.specs.Holding.{Enters, Awaits}
-use Rattle.lane_runner.proofs.Asked.{few_writes, leads_run, by_an_ask, no_ask_refused}
+use Rattle.lane_runner.proofs.Asked.{few_writes, leads_run, by_an_ask, known_written}
 use Rattle.lane_runner.proofs.Begun.{kept_frame, is_open, none_written, same_records, run_at, fits_at, torn_at, undone_writes, commits_at}
 use Rattle.lane_runner.proofs.Clocks.{clock_left, clock_later, clock_drawn}
 use Rattle.lane_runner.proofs.Entries.{has_run, is_entry_run, fits_none, HasRun}
 use Rattle.lane_runner.proofs.Held.{Commits-then, places_left, left_undone, agrees_open, roomy_once}
-use Rattle.lane_runner.proofs.Ran.{leads_at, each_at, known_at, given_at, lawful_at, few_at, engine_at, Opened, opened, adds_entered, leaves_entered, clock_entered, enters_as, awaits_as, shared_as}
+use Rattle.lane_runner.proofs.Ran.{leads_at, few_at, engine_at, Opened, opened, never_out, adds_entered, leaves_entered, clock_entered, enters_as, awaits_as, shared_as}
 use Rattle.lane_runner.specs.Weighs.{LeadsTo}
 use Rattle.lane_runner.proofs.alone_block.commit_commands.Goals as goal
 use Rattle.lane_runner.proofs.alone_block.commit_commands.Goals.{After-exec_txn, In-Ok-exec_txn, After-number}
@@ -75,21 +75,11 @@ unreachable-requires-in-Err-Store-RecordsOut c =
     let o = way (goal.at.unreachable-requires-in-Err-Store-RecordsOut c).After-exec_txn in
     let u = c.undo-in-Err-Store-RecordsOut in
     let left = left_undone q u.new.self.alone.now.pass (is_open p b q o.clock o.began o.rest) (ap (λ (x : AloneRest). x.of_pass) u.ensures.rest) u.ensures.undone c.commit-in-Err-Store-RecordsOut.ensures.read_left in
-    let has = c.requires.records in
-    let kept = kept_frame p b q o.clock o.began o.rest in
-    let agrees : Agrees has.leaves.state q.desk.reads = agrees_open p q o.clock has.tables has.most kept c.requires.holds.lawful o.above left has.leaves in
     let asked = by_an_ask _ _ _ _ c.in-Ok.txn c.exec_txn.new.store fault.RecordsOut (λ s rid gives. let bad : fault.RecordsOut ≡ fault.NoMemory = gives.0 in absurd (cc)) (λ s rid value gives. let bad : fault.RecordsOut ≡ fault.NoMemory = gives in absurd (cc))
     (rw (c.in-Err-Store-RecordsOut.field-0-is, c.in-Err-Store-RecordsOut.field-0-0-is) at c.in-Err-Store-RecordsOut.ensures.fault) in
-    let may = each_at p b q o.clock o.began o.rest _ asked.3.0 has.leaves.state has.leaves.places has.tables agrees has.leaves.stands_for in
-    let engine = ap (λ (f : Frame). f.engine) kept in
-    let called = c.in-Err-Store-RecordsOut.ensures.called in
-    let known : WritesKnown (meaning_of_pass b) (meaning_of_pass q) has.leaves.state = subst (λ (m : Meaning). WritesKnown (meaning_of_pass b) m has.leaves.state) (sym called.otherwise)
-    (each_at p b q o.clock o.began o.rest _ called.writes has.leaves.state has.leaves.places has.tables agrees has.leaves.stands_for) in
-    no_ask_refused (StandsForSome stands) q c.args.commands.now asked.1 has.most has.leaves.state has.leaves.places has.tables c.record_left.ensures (asked.2.1 refl o.absent) (lawful_at p b q o.clock o.began o.rest c.requires.holds.lawful)
-    (subst (λ (log : List Entry). Leaves (Contains log) has.leaves.state) (sym (ap (λ (f : Frame). f.log) kept)) has.leaves.left)
-    (subst (λ (e : EngineView). StandsFor e.size.records has.leaves.state has.leaves.places has.tables) (sym engine) has.leaves.stands_for) has.leaves.light c.requires.commands.known may
-    (subst (λ (e : EngineView). 4112 ≤ e.fixed) (sym (engine_at p b q o.clock o.began o.rest c.args.engine.now c.requires.engine)) c.requires.fixed)
-    (subst (λ (e : EngineView). e.fixed + (has.most + all_add c.args.commands.now has.tables) ≤ e.size.records) (sym engine) has.room) (given_at p b q o.clock o.began o.rest asked.1 asked.3.1) (known_at p b q o.clock o.began o.rest has.leaves.state known)
+    never_out p b q o c.args.commands.now asked.1 c.record_left.ensures c.requires.holds.lawful left c.requires.records c.requires.commands.known
+    (subst (λ (e : EngineView). 4112 ≤ e.fixed) (sym c.requires.engine) c.requires.fixed) asked.3.0 asked.3.1
+    (known_written _ _ _ _ c.args.commands.now c.in-Ok.txn c.exec_txn.new.store _ c.in-Err-Store-RecordsOut.ensures.called) (asked.2.1 refl o.absent)
 
 -- ---- where it is done
 

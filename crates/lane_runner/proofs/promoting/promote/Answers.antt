@@ -1,5 +1,6 @@
 use Rattle.std.proofs.Common.{arith}
 use Rattle.txn_engine.specs.Pass.{next_clock}
+use Rattle.lane_runner.proofs.Granted.{ready_others}
 use Rattle.lane_runner.proofs.Promoted.{leaves_promoted}
 use Rattle.lane_runner.proofs.promoting.promote.Goals as goal
 
@@ -14,3 +15,8 @@ returns-clause-queue c = (leaves_promoted _ c.args.pass.now c.promote-answer.new
 
 pub returns-clause-clock : goal.returns-clause-clock
 returns-clause-clock c = omega (arith, (leaves_promoted _ c.args.pass.now c.promote-answer.new.self c.args.rid (next_clock c.args.pass.now c.args.reading) c.promote-answer.result c.requires.idle (omega arith) c.promote-answer.ensures.ok c.promote-answer.ensures.err).at_most)
+
+pub returns-clause-ready : goal.returns-clause-ready
+returns-clause-ready c =
+    let leaves = leaves_promoted _ c.args.pass.now c.promote-answer.new.self c.args.rid (next_clock c.args.pass.now c.args.reading) c.promote-answer.result c.requires.idle (omega arith) c.promote-answer.ensures.ok c.promote-answer.ensures.err in
+    ready_others c.args.pass.now c.promote-answer.new.self leaves.others c.promote-answer.ensures.absent c.promote-answer.ensures.roomy

@@ -1,8 +1,12 @@
-use Rattle.std.proofs.Common.{rules, ◌≡◌, [], ◌∷◌, Result, Ok, Err, refl, ap, arith}
+use Rattle.std.proofs.Common.{rules, ◌≡◌, ℕ, [], ◌∷◌, Result, Ok, Err, refl, sym, ap, subst, ◌∙◌, arith}
 use Rattle.std.specs.Prelude.{OnErr}
-use Rattle.txn_engine.specs.Pass.{EngineView, next_clock}
+use Rattle.seat_post.specs.Logs.{IsAbove}
+use Rattle.txn_engine.specs.Pass.{EngineView, PassView, next_clock}
 use Rattle.txn_engine.specs.Snapshot.{GlanceRest, unread}
 use Rattle.seat_post.specs.Glance.{entry_of_glance}
+use Rattle.lane_runner.proofs.Clocks.{clock_later, clock_drawn}
+use Rattle.lane_runner.proofs.Granted.{ready_seen}
+use Rattle.lane_runner.proofs.Looked.{sought}
 use Rattle.lane_runner.proofs.Seen.{has_seen, sees_all, never_torn, not_torn, Adds-finished, commits_seen}
 use Rattle.lane_runner.proofs.snapping.read_block.Goals as goal
 
@@ -44,3 +48,13 @@ returns-in_err-outcome-clause-fault c =
     let rest : unread q ≡ unread s = ap (λ (x : GlanceRest). x.of_pass) c.exec_snap-told.ensures.rest in
     let seen = has_seen p c.tick.new.self s q (next_clock p c.args.reading) c.in-Ok.ensures.ok c.snapshot-snapshot.ensures.begins rest in
     on_err c.from_residual.result _ (entry_of_glance seen.0 ∷ [], Adds-finished p c.tick.new.self s q (next_clock p c.args.reading) c.in-Ok.ensures.ok c.snapshot-snapshot.ensures.begins rest c.finish-stamp.new.self.0 _ c.finish-stamp.ensures.after (search rules) c.requires.idle (omega arith))
+
+pub returns-clause-ready : goal.returns-clause-ready
+returns-clause-ready c = λ ready.
+    let p = c.args.pass.now in
+    let s = c.exec_snap-told.new.store.pass.now in
+    let f = c.finish-stamp.new.self.0 in
+    ready_seen p s f _ c.finish-stamp.result
+    (sought p c.tick.new.self c.snapshot-snapshot.result.pass.now s f (next_clock p c.args.reading) c.finish-stamp.result c.snapshot-snapshot.ensures.begins (clock_later p c.args.reading) (clock_drawn p c.args.reading) c.requires.idle
+    c.in-Ok.ensures.ok (ap (λ (x : GlanceRest). x.of_pass) c.exec_snap-told.ensures.rest) c.finish-stamp.ensures.after c.finish-stamp.ensures.stamp ready.alone
+    (subst (λ (n : ℕ). IsAbove p.log n) (c.in-Ok.ensures.stamp ∙ sym (ap (λ (x : PassView). x.published) c.in-Ok.ensures.ok)) c.in-Ok.ensures.above)) (search rules) ready

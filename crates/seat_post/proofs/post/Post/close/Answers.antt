@@ -1,6 +1,6 @@
 use Rattle.std.proofs.Common.{ap, ◌∙◌}
 use Rattle.seat_post.specs.Post.{PostView}
-use Rattle.seat_post.proofs.ReadMore.{is_open}
+use Rattle.seat_post.proofs.ReadMore.{is_open, open_left}
 use Rattle.seat_post.proofs.Over.{none_resting}
 use Rattle.seat_post.proofs.WriteMore.{post_closed, open_ends}
 use Rattle.seat_post.proofs.post.Post.close.Goals as goal
@@ -12,3 +12,6 @@ invariant_of-self g c =
     let e = c.clear.ensures in
     let begun = is_open _ _ _ _ _ _ phase i in
     rw c.make-self-inside.ensures.number (post_closed c.self.inside.hand c.clear.new.reads.entries c.clear.new.writes.entries c.clear.new.sets i.ready i.size i.holds_none i.keeps_none (open_ends _ _ _ _ _ begun) (none_resting _ _ _ begun.at.begun.in_flight) e.no_reads e.no_writes e.none_read e.none_written)
+
+pub returns-clause-read_left : goal.returns-clause-read_left
+returns-clause-read_left g c = let i = c.self.inside in open_left i.hand i.phase i.stamp i.reads.entries i.writes.entries i.sets c.args.self.now c.self.invariant c.self.view_is c.requires

@@ -23,8 +23,8 @@ invariant_of-self g c =
     post_ended (shared_of i.hand) i.phase i.hand c.load_min_write.new.hand i.stamp i.reads.entries i.writes.entries i.sets phase c.self.invariant ready (ap (λ (v : View). v.size) view) (ap (λ (v : View). v.places.held) view) (ap (λ (v : View). v.counts.in_kept) view) (subst (λ (w : Work). Ends w) (sym (ap (λ (v : View). v.work) view)) at.ends) (λ rests. subst (λ (w : Work). AreAllWhole w.reads) (sym (ap (λ (v : View). v.work) view)) (at.whole (sym (ap (λ (v : View). v.flight) view) ∙ rests)))
 
 pub returns-clause-lawful : goal.returns-clause-lawful
-returns-clause-lawful g c =
-    let alone = subst (λ (p : PostView). IsAloneAt p.shared.size p.seat p.others) (sym c.self.view_is) c.requires.alone in
+returns-clause-lawful g c = λ on.
+    let alone = subst (λ (p : PostView). IsAloneAt p.shared.size p.seat p.others) (sym c.self.view_is) on in
     subst (λ (p : PostView). Lawful g.J.Keeps.kept p.shared.size.records p.log) c.self.view_is (c.load_min_write.ensures.learnt.5 (alone_told c.self.inside.hand.view alone))
 
 pub returns-clause-grows : goal.returns-clause-grows

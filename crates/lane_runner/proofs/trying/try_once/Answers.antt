@@ -1,0 +1,7 @@
+use Rattle.lane_runner.proofs.Granted.{granted_once}
+use Rattle.lane_runner.proofs.trying.try_once.Goals as goal
+
+pub returns-clause-granted : goal.returns-clause-granted
+returns-clause-granted g c = λ more ample.
+    let e = c.in_ok-answer.ensures in
+    granted_once c.in_ok-answer.answer c.args.pass.now c.try_txn.new.pass c.collect.new.pass ample.ready (λ lawful. e.granted lawful more ample) e.refused e.ready c.collect.ensures.lawful c.collect.ensures.ready

@@ -7,3 +7,5 @@ mod hash;
 mod store;
 #[cfg(test)]
 mod tree;
+#[cfg(test)]
+mod words;

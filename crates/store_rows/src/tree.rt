@@ -2,6 +2,7 @@
 
 ghost use Rattle.std.specs.Prelude.{◌≡◌, ◌+◌, ◌<◌, ◌≤◌, OnOk};
 
+use crate::words::has_word;
 use ordered_index::{Key, Walk, get, insert, remove, scan};
 use plain_data::Cells;
 use record_store::{MapFault, MapStore, RecordRead, RecordStore};
@@ -56,18 +57,6 @@ fn scan_keys<S: RecordRead>(
     scan(store, 511, key(lo), key(hi), limit, out)
 }
 
-/// The words of a record, zeros where it is absent.
-fn words_at(store: &mut MapStore, rid: u32) -> Result<[u64; 32], MapFault>
-    requires { rid < store.old.size }
-    ensures size { OnOk result (store.new.size ≡ store.old.size) }
-    ensures fixed { OnOk result (store.new.fixed ≡ store.old.fixed) }
-{
-    match store.read(rid)? {
-        Some(cells) => Ok(cells.words()),
-        None => Ok([0; 32]),
-    }
-}
-
 /// A call, and what is due of it.
 #[derive(Clone, Copy)]
 enum Step {
@@ -116,7 +105,7 @@ fn holds(alloc: Global, store: &mut MapStore, step: &Step) -> Result<bool, Walk<
         Inserts { high, rid, new } => inserts(store, high, rid, new),
         Removes { high, was_there } => Ok(remove_key(store, high)? == was_there),
         Gets { high, rid } => Ok(get_record(store, high)? == rid),
-        HasWord { rid, index, word } => has_word(store, rid, index, word),
+        HasWord { rid, index, word } => Ok(has_word(store, rid, index, word)?),
         Scans {
             lo,
             hi,
@@ -138,20 +127,6 @@ fn inserts(store: &mut MapStore, high: u64, rid: u32, new: bool) -> Result<bool,
         return Ok(false);
     }
     Ok(insert_key(store, high, rid)? == new)
-}
-
-/// Whether a record of the store has this word.
-fn has_word(store: &mut MapStore, rid: u32, index: usize, word: u64) -> Result<bool, Walk<MapFault>>
-    requires size { store.old.size ≡ 600 }
-    requires fixed { store.old.fixed ≡ 512 }
-    ensures size { OnOk result (store.new.size ≡ 600) }
-    ensures fixed { OnOk result (store.new.fixed ≡ 512) }
-{
-    if rid >= 600 || index >= 32 {
-        return Ok(false);
-    }
-    let words = words_at(store, rid)?;
-    Ok(words[index] == word)
 }
 
 /// Whether a scan between two keys lists so many pairs, and this one last.
@@ -504,29 +479,41 @@ fn a_leaf_may_be_empty(rt: HostRuntime) -> Result<(), Fail> {
     try_steps(rt.alloc(), 15, &steps)
 }
 
-#[test]
-fn a_leaf_that_names_itself_is_torn(rt: HostRuntime) -> Result<(), Fail> {
-    let mut store = MapStore::new(rt.alloc(), 512, 600);
-    let mut out = Vec::new(rt.alloc());
+/// What a scan answers whose first leaf names itself as the next one.
+fn scan_torn(
+    alloc: Global,
+    out: &mut Vec<(Key, u32)>,
+) -> Result<Result<(), Walk<MapFault>>, MapFault> {
+    let mut store = MapStore::new(alloc, 512, 600);
     let mut words = [0; 32];
     words[0] = 1;
     words[31] = 512;
     store.write(511, Some(Cells::new(words)))?;
+    Ok(scan(&mut store, 511, key(0), key(9), 5, out))
+}
+
+#[test]
+fn a_leaf_that_names_itself_is_torn(rt: HostRuntime) -> Result<(), Fail> {
+    let mut out = Vec::new(rt.alloc());
     out.push((key(7), 7))?;
-    assert_eq!(rt;
-        scan(&mut store, 511, key(0), key(9), 5, &mut out),
-        Err(Walk::Torn(511))
-    );
+    assert_eq!(rt; scan_torn(rt.alloc(), &mut out)?, Err(Walk::Torn(511)));
     assert_eq!(rt; out.as_slice(), [(key(7), 7)].as_slice());
     Ok(())
 }
 
+/// What the insertion of a tenth key answers, for which there is no record.
+fn insert_tenth(alloc: Global) -> Result<Result<bool, Walk<MapFault>>, Fail> {
+    let mut store = MapStore::new(alloc, 512, 513);
+    if filled(&mut store)? != 9 {
+        return Err("a key was there".into());
+    }
+    Ok(insert(&mut store, 511, key(10), 1))
+}
+
 #[test]
 fn no_new_record_is_left(rt: HostRuntime) -> Result<(), Fail> {
-    let mut store = MapStore::new(rt.alloc(), 512, 513);
-    assert_eq!(rt; filled(&mut store)?, 9);
     assert_eq!(rt;
-        insert(&mut store, 511, key(10), 1),
+        insert_tenth(rt.alloc())?,
         Err(Walk::Store(MapFault::RecordsOut))
     );
     Ok(())

@@ -1,0 +1,9 @@
+use Rattle.std.proofs.Common.{◌≡◌, ◌≤◌}
+use Rattle.store_rows.proofs.hash.count_held.Given as goal
+
+-- the store keeps its size, and so many calls were made
+abbrev pub invariant-loop-i : goal.invariant-loop-i
+invariant-loop-i l = record {
+  size : l.store.size ≡ 600;
+  fixed : l.store.fixed ≡ 512;
+}

@@ -1,9 +1,8 @@
 -- A block of commands at the seat that is alone: what it writes, and why it is never refused.
-use Rattle.std.proofs.Common.{◌≡◌, ◌⊎◌, ℕ, ◌+◌, ◌*◌, ◌<◌, ◌≤◌, eqb, true, false, List, [], ◌∷◌, ◌++◌, length, Option, None, Some, IsSome, Result, Ok, Err, refl, sym, ap, subst, ◌∙◌, arith, inl, inr, ⊎_elim, All, Contains}
+use Rattle.std.proofs.Common.{◌≡◌, ◌⊎◌, ℕ, ◌+◌, ◌*◌, ◌<◌, ◌≤◌, true, false, List, [], ◌++◌, length, Option, None, Some, IsSome, Result, Ok, Err, sym, ap, subst, ◌∙◌, arith, ⊎_elim, Contains}
 use Rattle.std.proofs.lemmas.Bool.{eqb-true}
 use Rattle.std.proofs.lemmas.Map.Views.{Contains-from_any}
-use Rattle.plain_data.specs.declared.entry.Entry.{Entry}
-use Rattle.plain_data.specs.State.{State, Agrees, overlay}
+use Rattle.plain_data.specs.State.{State, overlay}
 use Rattle.histories.specs.History.{Lawful, Leaves}
 use Rattle.record_store.specs.Calls.{CallFault}
 use Rattle.record_store.specs.Calls.CallFault.{by_read, by_write, by_fresh}
@@ -17,7 +16,7 @@ use Rattle.replay_model.specs.declared.outcome.Outcome.TheVariants.{Done, Refuse
 use Rattle.replay_model.specs.Running.{outcome_of, tables_after}
 use Rattle.replay_model.specs.TableMap.{TableMap}
 use Rattle.stored_tables.specs.Blocks.{Called}
-use Rattle.stored_tables.specs.Places.{Places, fixed_records, table_limit}
+use Rattle.stored_tables.specs.Places.{Places, fixed_records}
 use Rattle.stored_tables.specs.Plan.{MayAskIn, run_plan}
 use Rattle.stored_tables.specs.Tables.{StandsFor, EachTables}
 use Rattle.stored_tables.specs.Weight.{weight, all_add}

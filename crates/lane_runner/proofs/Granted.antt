@@ -1,5 +1,5 @@
 -- A block is granted where the seat is alone and has room for it.
-use Rattle.std.proofs.Common.{◌≡◌, ℕ, ◌+◌, ◌<◌, ◌≤◌, max, Bool, true, false, cond, List, [], ◌∷◌, ◌++◌, Option, None, Some, IsSome, append-nil, append_assoc, refl, sym, ap, subst, ◌∙◌, inl, inr, arith, All, if◌then◌else◌}
+use Rattle.std.proofs.Common.{◌≡◌, ℕ, ◌+◌, ◌<◌, ◌≤◌, max, Bool, true, false, List, [], ◌∷◌, ◌++◌, Option, None, Some, IsSome, append-nil, append_assoc, refl, sym, ap, subst, ◌∙◌, inl, inr, arith, All, if◌then◌else◌}
 use Rattle.std.specs.Prelude.{IfSome, IfNone}
 use Rattle.std.proofs.lemmas.List.Elements.{All-tail}
 use Rattle.std.proofs.lemmas.List.Sums.{sum_by-cons, sum_by-append}
@@ -10,7 +10,6 @@ use Rattle.history_replay.specs.Results.{StandsForSome}
 use Rattle.replay_model.specs.declared.input.Block.{Block}
 use Rattle.replay_model.specs.declared.outcome.Outcome.{Outcome}
 use Rattle.replay_model.specs.declared.outcome.Placed.{Placed}
-use Rattle.replay_model.specs.TableMap.{TableMap}
 use Rattle.stamp_base.specs.Stamp.{bound_of_clock}
 use Rattle.stored_tables.specs.Weight.{all_add}
 use Rattle.stored_tables.specs.Weights.{AddsAfter}

@@ -1,5 +1,5 @@
 -- A transaction of the seat that is alone, from its begin to the collection behind its commit.
-use Rattle.std.proofs.Common.{◌≡◌, ◌⊎◌, ℕ, ◌+◌, ◌<◌, ◌≤◌, Bool, true, List, [], ◌∷◌, ◌++◌, append-nil, Option, IsSome, Contains, length, refl, sym, ap, subst, ◌∙◌, arith}
+use Rattle.std.proofs.Common.{◌≡◌, ◌⊎◌, ℕ, ◌+◌, ◌<◌, ◌≤◌, Bool, true, List, [], ◌∷◌, ◌++◌, append-nil, IsSome, Contains, length, refl, sym, ap, subst, ◌∙◌}
 use Rattle.plain_data.specs.declared.entry.Entry.{Entry}
 use Rattle.plain_data.specs.State.{State, Agrees, Fits, overlay}
 use Rattle.stored_tables.specs.Declare.{Declares, with_index}

@@ -1,5 +1,5 @@
 -- The blocks that remain where lanes were run can be run, where there is room for all.
-use Rattle.std.proofs.Common.{◌≡◌, ⊎_elim, ℕ, suc, ◌+◌, ◌-◌, ◌<◌, ◌≤◌, true, false, List, [], ◌∷◌, ◌++◌, length, map, length-append, append_assoc, refl, sym, ap, subst, ◌∙◌, arith, All, IsPermutation}
+use Rattle.std.proofs.Common.{◌≡◌, ⊎_elim, ℕ, suc, ◌+◌, ◌-◌, ◌<◌, ◌≤◌, false, List, [], ◌∷◌, ◌++◌, length, map, length-append, append_assoc, refl, sym, ap, subst, ◌∙◌, arith, All}
 use Rattle.std.specs.List.{range_with_len, sum_by, AllByRecursion}
 use Rattle.std.proofs.lemmas.List.Elements.{All-nil, All-cons, All-head, All-tail}
 use Rattle.std.proofs.lemmas.List.Sorted.{All-permutation, sum_by-IsPermutation}
@@ -26,12 +26,12 @@ use Rattle.lane_runner.specs.declared.done.LaneDone.{LaneDone}
 use Rattle.lane_runner.specs.Rows.{stands}
 use Rattle.lane_runner.specs.Lanes.{AreEntries}
 use Rattle.lane_runner.specs.Lanes.AreEntries.{none as none_entered}
-use Rattle.lane_runner.specs.All.{AreOfLane, AreOfLanes, Grown, IsGrown, grown_logs, all_added}
+use Rattle.lane_runner.specs.All.{AreOfLanes, Grown, IsGrown, grown_logs, all_added}
 use Rattle.lane_runner.specs.All.AreOfLanes.{none, next}
 use Rattle.lane_runner.specs.Weighs.{blocks_add}
-use Rattle.lane_runner.specs.Holding.{LeavesWithin, HasRecords}
+use Rattle.lane_runner.specs.Holding.{LeavesWithin}
 use Rattle.lane_runner.specs.Loading.{rows_add}
-use Rattle.lane_runner.specs.Finishing.{MayFinish, MayFinishAll, rests_add, how_many_remain}
+use Rattle.lane_runner.specs.Finishing.{MayFinish, rests_add, how_many_remain}
 use Rattle.lane_runner.specs.Whole.{blocks_of, loaded_rows, ComesBehind, HasRun, CanFinish, WeighsAfter, RunsCanFinish}
 use Rattle.lane_runner.proofs.Run.{AreEntries-append}
 use Rattle.lane_runner.proofs.LaneLists.{each_numbered}

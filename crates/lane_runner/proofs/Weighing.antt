@@ -1,5 +1,5 @@
 -- What blocks that ran behind a loading add to the weight of the tables, whatever the order of their stamps.
-use Rattle.std.proofs.Common.{◌≡◌, ◌⊎◌, inl, inr, ⊎_elim, ℕ, ◌+◌, ◌-◌, ◌*◌, ◌<◌, ◌≤◌, true, false, List, [], ◌∷◌, ◌++◌, refl, sym, ap, subst, ◌∙◌, arith, All, AllPairs, Contains}
+use Rattle.std.proofs.Common.{◌≡◌, inl, inr, ⊎_elim, ℕ, ◌+◌, ◌*◌, ◌<◌, ◌≤◌, false, List, [], ◌∷◌, ◌++◌, refl, sym, ap, subst, ◌∙◌, arith, All, Contains}
 use Rattle.std.proofs.lemmas.Bool.{cases_lt, cases_Bool}
 use Rattle.std.proofs.lemmas.List.Elements.{All-cons, All-head, All-tail, All-weaker, All-contains}
 use Rattle.std.proofs.lemmas.List.Sums.{sum_by-cons}
@@ -7,8 +7,8 @@ use Rattle.plain_data.specs.declared.entry.Entry.{Entry}
 use Rattle.plain_data.specs.State.{State, Agrees, overlay, empty_state}
 use Rattle.core_rule.specs.Views.{Among}
 use Rattle.core_rule.proofs.Among.{Among-left, Among-split}
-use Rattle.histories.specs.History.{time_of, StampsDiffer, Folds, Lawful, Leaves, UpTo}
-use Rattle.histories.proofs.Lists.{pairs_head, Contains-nil, Contains-head, Contains-tail, Contains-cases}
+use Rattle.histories.specs.History.{time_of, StampsDiffer, Folds, Lawful, UpTo}
+use Rattle.histories.proofs.Lists.{pairs_head, Contains-head, Contains-tail}
 use Rattle.histories.proofs.States.{IsLine, line_head, line_tail, line_later, time-commit, overlay-snapshot, before, before_in, before_out, one_value, IsValue-same, end_of, all_before_end, lawful_line, from_sorted, leaves_up_to, leaves_all}
 use Rattle.history_replay.specs.Results.{StandsForSome}
 use Rattle.replay_model.specs.declared.command.Command.{Command}

@@ -1,29 +1,19 @@
-use Rattle.std.proofs.Common.{rules, ◌≡◌, ℕ, ◌+◌, ◌≤◌, true, false, List, [], ◌∷◌, Option, Err, length, refl, sym, ap, subst, ◌∙◌, arith, inl, inr, ⊎_elim, Contains, IsSome, Some}
-use Rattle.plain_data.specs.State.{State, Agrees}
-use Rattle.plain_data.specs.declared.entry.Entry.{Entry}
-use Rattle.histories.specs.History.{Leaves}
-use Rattle.history_replay.specs.Results.{StandsForSome}
+use Rattle.std.proofs.Common.{rules, ◌≡◌, ℕ, ◌≤◌, false, refl, sym, ap, subst, ◌∙◌}
+use Rattle.plain_data.specs.State.{Agrees}
 use Rattle.record_store.specs.Limits.{record_limit}
-use Rattle.record_store.specs.Meaning.{Meaning, value_at}
 use Rattle.replay_model.specs.Running.{tables_after}
 use Rattle.replay_model.specs.TableMap.{TableMap}
 use Rattle.stored_tables.specs.Weight.{all_add}
-use Rattle.stored_tables.specs.Places.{Places}
 use Rattle.stored_tables.specs.Tables.{StandsFor}
 use Rattle.txn_engine.specs.declared.faults.AloneFault.TheVariants as fault
 use Rattle.txn_engine.specs.Alone.{AloneView, AloneRest}
-use Rattle.seat_post.specs.Leaves.{AreLeft}
-use Rattle.txn_engine.specs.Leaves.{HoldsAbsent, NoneLeft}
-use Rattle.txn_engine.specs.Lists.{IsRoomyOnceCollected}
-use Rattle.txn_engine.specs.Pass.{EngineView, PassView, Frame, frame, next_clock, entry_of, meaning_of_pass}
-use Rattle.record_store.specs.Writes.{WritesKnown}
-use Rattle.lane_runner.specs.Rows.{stands}
-use Rattle.lane_runner.specs.Holding.{Enters, Awaits}
+use Rattle.txn_engine.specs.Pass.{EngineView, next_clock, entry_of}
+use Rattle.lane_runner.specs.Holding.{Enters}
 use Rattle.lane_runner.proofs.Asked.{few_writes, leads_run, by_an_ask, known_written}
-use Rattle.lane_runner.proofs.Begun.{kept_frame, is_open, none_written, same_records, run_at, fits_at, torn_at, undone_writes, commits_at}
+use Rattle.lane_runner.proofs.Begun.{kept_frame, is_open, none_written, same_records, run_at, fits_at, torn_at, undone_writes}
 use Rattle.lane_runner.proofs.Clocks.{clock_left, clock_later, clock_drawn}
 use Rattle.lane_runner.proofs.Entries.{has_run, is_entry_run, fits_none, HasRun}
-use Rattle.lane_runner.proofs.Held.{Commits-then, places_left, left_undone, agrees_open, roomy_once}
+use Rattle.lane_runner.proofs.Held.{places_left, left_undone, agrees_open, roomy_once}
 use Rattle.lane_runner.proofs.Ran.{leads_at, few_at, engine_at, Opened, opened, never_out, adds_entered, leaves_entered, clock_entered, enters_as, awaits_as, shared_as}
 use Rattle.lane_runner.specs.Weighs.{LeadsTo}
 use Rattle.lane_runner.proofs.alone_block.commit_commands.Goals as goal

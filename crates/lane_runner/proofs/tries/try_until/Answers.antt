@@ -1,5 +1,4 @@
-use Rattle.std.proofs.Common.{rules, ◌≡◌, ◌<◌, ◌≤◌, List, ◌∷◌, refl, sym, subst, ◌∙◌, arith}
-use Rattle.replay_model.specs.declared.input.Block.{Block}
+use Rattle.std.proofs.Common.{rules, ◌≡◌, ◌<◌, ◌≤◌, ◌∷◌, refl, sym, subst, ◌∙◌, arith}
 use Rattle.txn_engine.specs.Pass.{PassView}
 use Rattle.lane_runner.specs.Ready.{IsAmple}
 use Rattle.lane_runner.specs.Blocks.{Commits, IsRefused}

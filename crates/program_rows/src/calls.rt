@@ -1,8 +1,12 @@
-//! Calls of the top call, and the texts for them, in which `/` stands for a line feed.
+//! Runs of the top call, and the texts for them, in which `/` stands for a line feed.
 
-use cicada_top::{Finish, run};
-use outside_io::{CleanSink, CleanSource, CountClock, OpenGate, Sink, Source};
+ghost use Rattle.std.specs.Prelude.{◌≡◌, length};
+
+use cicada_top::{Finish, Status, run};
+use outside_io::{CleanSink, CleanSource, Clock, CountClock, Gate, OpenGate, Sink, Source};
+use replay_model::Placed;
 use std::alloc::{AllocError, Global};
+use std::process::Abort;
 use std::sync::Wait;
 use std::thread::Threads;
 
@@ -22,7 +26,7 @@ pub fn append(bytes: &mut Vec<u8>, text: &str) -> Result<(), AllocError> {
 }
 
 /// Words of a command, of which `|` separates one from the next.
-pub fn words_of(alloc: Global, words: &str) -> Result<Vec<String>, AllocError> {
+fn words_of(alloc: Global, words: &str) -> Result<Vec<String>, AllocError> {
     let mut list = Vec::new(alloc);
     for word in words.split('|') {
         if !word.is_empty() {
@@ -32,28 +36,127 @@ pub fn words_of(alloc: Global, words: &str) -> Result<Vec<String>, AllocError> {
     Ok(list)
 }
 
-/// A run with these words, by clocks that count and through an open gate.
+/// What a run came to, in plain values, and what it wrote.
+#[derive(Drop)]
+pub struct Answer {
+    pub status: Status,
+    /// The lane of each block, in the order of the blocks.
+    pub lanes: Vec<u32>,
+    /// The line and the kind of a fault.
+    pub fault: Option<(u64, u32)>,
+    /// Whether there is a text for the user.
+    pub has_usage: bool,
+    pub written: Vec<u8>,
+}
+
+fn lanes_of(alloc: Global, order: &[Placed]) -> Result<Vec<u32>, AllocError> {
+    let mut lanes = Vec::new(alloc);
+    for placed in order {
+        lanes.push(placed.lane)?;
+    }
+    Ok(lanes)
+}
+
+impl Answer {
+    /// What a run came to that has written nothing.
+    fn of(alloc: Global, finish: &Finish) -> Result<Answer, AllocError> {
+        Ok(Answer {
+            status: finish.status,
+            lanes: lanes_of(alloc, &finish.order)?,
+            fault: finish.fault.map(|fault| (fault.line, fault.kind)),
+            has_usage: finish.usage.is_some(),
+            written: Vec::new(alloc),
+        })
+    }
+
+    /// The same with what was written.
+    pub fn with_written(self, alloc: Global, written: &[u8]) -> Result<Answer, AllocError> {
+        let written = Vec::from_slice(alloc, written)?;
+        Ok(Answer { written, ..self })
+    }
+
+    /// The status, and how many blocks the order has and how many bytes were written.
+    pub fn sizes(&self) -> (Status, usize, usize) {
+        (self.status, self.lanes.len(), self.written.len())
+    }
+
+    /// This was written.
+    pub fn has_written<R: Abort>(
+        &self,
+        rt: &R,
+        alloc: Global,
+        output: &str,
+    ) -> Result<(), AllocError> {
+        let due = bytes_of(alloc, output)?;
+        assert_eq!(rt; self.written.as_slice(), due.as_slice());
+        Ok(())
+    }
+}
+
+/// What a run with these words comes to.
+fn run_by<R: Threads + Wait + Sync, S: Source, K: Sink, C: Clock, G: Gate>(
+    rt: &R,
+    alloc: Global,
+    words: &[String],
+    source: &mut S,
+    sink: &mut K,
+    clocks: Vec<C>,
+    gate: &G,
+) -> Result<Answer, AllocError>
+    requires { length clocks.items ≡ 64 }
+{
+    Answer::of(alloc, &run(rt, alloc, words, source, sink, clocks, gate))
+}
+
+/// The same, by clocks that count and through an open gate.
 pub fn run_with<R: Threads + Wait + Sync, S: Source, K: Sink>(
     rt: &R,
     alloc: Global,
     words: &str,
     source: &mut S,
     sink: &mut K,
-) -> Result<Finish, AllocError> {
+) -> Result<Answer, AllocError> {
     let clocks = vec![in alloc; CountClock; 64]?;
     let list = words_of(alloc, words)?;
-    Ok(run(rt, alloc, &list, source, sink, clocks, &OpenGate))
+    run_by(rt, alloc, &list, source, sink, clocks, &OpenGate)
 }
 
-/// How a run with these words ends on these bytes, and what it writes.
+/// What a run with these words, by these clocks and through this gate comes to on these bytes, and what it writes.
+pub fn answered_by<R: Threads + Wait + Sync, C: Clock, G: Gate>(
+    rt: &R,
+    alloc: Global,
+    words: &str,
+    bytes: Vec<u8>,
+    clocks: Vec<C>,
+    gate: &G,
+) -> Result<Answer, AllocError>
+    requires { length clocks.items ≡ 64 }
+{
+    let list = words_of(alloc, words)?;
+    let mut source = CleanSource::new(bytes);
+    let mut sink = CleanSink::new(alloc);
+    let answer = run_by(rt, alloc, &list, &mut source, &mut sink, clocks, gate)?;
+    answer.with_written(alloc, sink.taken())
+}
+
+/// The same, by clocks that count.
+pub fn answered_through<R: Threads + Wait + Sync, G: Gate>(
+    rt: &R,
+    alloc: Global,
+    words: &str,
+    bytes: Vec<u8>,
+    gate: &G,
+) -> Result<Answer, AllocError> {
+    let clocks = vec![in alloc; CountClock; 64]?;
+    answered_by(rt, alloc, words, bytes, clocks, gate)
+}
+
+/// The same, through an open gate too.
 pub fn answered<R: Threads + Wait + Sync>(
     rt: &R,
     alloc: Global,
     words: &str,
     bytes: Vec<u8>,
-) -> Result<(Finish, CleanSink), AllocError> {
-    let mut source = CleanSource::new(bytes);
-    let mut sink = CleanSink::new(alloc);
-    let finish = run_with(rt, alloc, words, &mut source, &mut sink)?;
-    Ok((finish, sink))
+) -> Result<Answer, AllocError> {
+    answered_through(rt, alloc, words, bytes, &OpenGate)
 }

@@ -1,9 +1,15 @@
 //! Whole runs through the top call: what no clause of it says, and what its ends do.
 
-use crate::calls::{answered, run_with};
+ghost use Rattle.std.specs.Prelude.{◌<◌};
+
+use crate::calls::{Answer, answered, bytes_of, run_with};
 use cicada_top::Status;
-use outside_io::{CleanSink, CleanSource, MemSink, MemSource};
+use outside_io::{MemSink, MemSource};
+use std::alloc::{AllocError, Global};
+use std::process::Abort;
+use std::sync::Wait;
 use std::test::Fail;
+use std::thread::Threads;
 
 /// A block over one row: 74 bytes.
 const TEXT: &str =
@@ -18,24 +24,10 @@ const ONE: &str = "--workers|1";
 /// Words, what the source holds, the status, what is written, and how many blocks the order has.
 type Row = (&'static str, &'static str, Status, &'static str, usize);
 
-const ROWS: [Row; 9] = [
+const ROWS: &[Row] = &[
     (ONE, TEXT, Status::Done, REPORT, 1),
     ("", "cicada 1\ndone\n", Status::Done, "done\n", 0),
     ("", "cicada 1\ntable a\n", Status::Input, "refused 3 6\n", 0),
-    (
-        "--gen|1",
-        TEXT,
-        Status::Done,
-        "transactions 4000\nsum 64000000\ndone\n",
-        4000,
-    ),
-    (
-        "--gen|1|--workers|8",
-        TEXT,
-        Status::Done,
-        "transactions 4000\nsum 64000000\ndone\n",
-        4000,
-    ),
     (
         "--check",
         "cicada 1\nlane\nsnap\nend\ndone\n256 1.1 snap\ndone\n",
@@ -54,79 +46,130 @@ const ROWS: [Row; 9] = [
     ("--help", TEXT, Status::Usage, "", 0),
 ];
 
+const GENERATED: &[Row] = &[
+    (
+        "--gen|1|--workers|1",
+        TEXT,
+        Status::Done,
+        "transactions 4000\nsum 64000000\ndone\n",
+        4000,
+    ),
+    (
+        "--gen|1",
+        TEXT,
+        Status::Done,
+        "transactions 4000\nsum 64000000\ndone\n",
+        4000,
+    ),
+    (
+        "--gen|1|--workers|8",
+        TEXT,
+        Status::Done,
+        "transactions 4000\nsum 64000000\ndone\n",
+        4000,
+    ),
+];
+
+/// The rows, of which no proof knows more than that they are rows.
+fn rows() -> &'static [Row] {
+    ROWS
+}
+
+fn generated() -> &'static [Row] {
+    GENERATED
+}
+
+/// Runs a row, which has to end as it says.
+fn play<R: Threads + Wait + Sync + Abort>(
+    rt: &R,
+    alloc: Global,
+    row: &Row,
+) -> Result<(), AllocError> {
+    let (words, text, status, output, blocks) = *row;
+    let bytes = Vec::from_slice(alloc, text.as_bytes())?;
+    let answer = answered(rt, alloc, words, bytes)?;
+    assert_eq!(rt; (answer.status, answer.lanes.len()), (status, blocks));
+    assert_eq!(rt; answer.has_usage, status == Status::Usage);
+    assert_eq!(rt; answer.fault.is_some(), status == Status::Input);
+    assert_eq!(rt; answer.written.as_slice(), output.as_bytes());
+    Ok(())
+}
+
 #[test]
 fn texts_are_answered(rt: HostRuntime) -> Result<(), Fail> {
-    let alloc = rt.alloc();
-    for (words, text, status, output, blocks) in &ROWS {
-        let bytes = Vec::from_slice(alloc, text.as_bytes())?;
-        let (finish, sink) = answered(&rt, alloc, words, bytes)?;
-        assert_eq!(rt; finish.status, *status);
-        assert_eq!(rt; finish.order.len(), *blocks);
-        assert_eq!(rt; finish.usage.is_some(), *status == Status::Usage);
-        assert_eq!(rt; finish.fault.is_some(), *status == Status::Input);
-        let due = Vec::from_slice(alloc, output.as_bytes())?;
-        assert_eq!(rt; sink.taken(), due.as_slice());
+    for row in rows() {
+        play(&rt, rt.alloc(), row)?;
     }
     Ok(())
 }
 
 #[test]
+fn generated_inputs_are_summed_up(rt: HostRuntime) -> Result<(), Fail> {
+    for row in generated() {
+        play(&rt, rt.alloc(), row)?;
+    }
+    Ok(())
+}
+
+/// A run over a source and a sink that move so many bytes a call, and fail at these calls.
+fn with_faults<R: Threads + Wait + Sync>(
+    rt: &R,
+    alloc: Global,
+    words: &str,
+    text: &str,
+    per_call: usize,
+    reads: &[u64],
+    writes: &[u64],
+) -> Result<Answer, AllocError>
+    requires { 0 < per_call }
+{
+    let bytes = Vec::from_slice(alloc, text.as_bytes())?;
+    let mut source = MemSource::new(bytes, per_call, Vec::from_slice(alloc, reads)?);
+    let mut sink = MemSink::new(alloc, per_call, Vec::from_slice(alloc, writes)?);
+    let answer = run_with(rt, alloc, words, &mut source, &mut sink)?;
+    answer.with_written(alloc, sink.taken())
+}
+
+#[test]
 fn each_read_that_fails_ends_the_run(rt: HostRuntime) -> Result<(), Fail> {
-    let alloc = rt.alloc();
     for call in 1..=75 {
-        let fails = [call].to_vec(alloc)?;
-        let mut source = MemSource::new(Vec::from_slice(alloc, TEXT.as_bytes())?, 1, fails);
-        let mut sink = CleanSink::new(alloc);
-        let finish = run_with(&rt, alloc, "", &mut source, &mut sink)?;
-        assert_eq!(rt; finish.status, Status::ReadFault);
-        assert!(rt; sink.taken().is_empty() && finish.order.is_empty());
+        let answer = with_faults(&rt, rt.alloc(), ONE, TEXT, 1, &[call], &[])?;
+        assert_eq!(rt; answer.sizes(), (Status::ReadFault, 0, 0));
     }
     Ok(())
 }
 
 #[test]
 fn each_write_that_fails_ends_the_run(rt: HostRuntime) -> Result<(), Fail> {
-    let alloc = rt.alloc();
-    let due = Vec::from_slice(alloc, REPORT.as_bytes())?;
     for call in 1..=40 {
-        let fails = [call].to_vec(alloc)?;
-        let mut source = CleanSource::new(Vec::from_slice(alloc, TEXT.as_bytes())?);
-        let mut sink = MemSink::new(alloc, 1, fails);
-        let finish = run_with(&rt, alloc, ONE, &mut source, &mut sink)?;
-        assert_eq!(rt; finish.status, Status::WriteFault);
-        assert_eq!(rt; finish.order.len(), 1);
-        assert!(rt; sink.taken().len() as u64 + 1 == call);
-        assert!(rt; due.as_slice().starts_with(sink.taken()));
+        let answer = with_faults(&rt, rt.alloc(), ONE, TEXT, 1, &[], &[call])?;
+        assert_eq!(rt;
+            answer.sizes(),
+            (Status::WriteFault, 1, (call - 1) as usize)
+        );
+        assert!(rt; REPORT.as_bytes().starts_with(&answer.written));
     }
     Ok(())
 }
 
 #[test]
 fn a_byte_at_a_time_is_enough(rt: HostRuntime) -> Result<(), Fail> {
-    let alloc = rt.alloc();
-    let mut source = MemSource::new(Vec::from_slice(alloc, TEXT.as_bytes())?, 1, Vec::new(alloc));
-    let mut sink = MemSink::new(alloc, 1, Vec::new(alloc));
-    let finish = run_with(&rt, alloc, ONE, &mut source, &mut sink)?;
-    assert_eq!(rt; finish.status, Status::Done);
-    let due = Vec::from_slice(alloc, REPORT.as_bytes())?;
-    assert_eq!(rt; sink.taken(), due.as_slice());
+    let answer = with_faults(&rt, rt.alloc(), ONE, TEXT, 1, &[], &[])?;
+    assert_eq!(rt; answer.status, Status::Done);
+    assert_eq!(rt; answer.written.as_slice(), REPORT.as_bytes());
     Ok(())
 }
 
 #[test]
 fn a_part_is_written_before_a_fault(rt: HostRuntime) -> Result<(), Fail> {
-    let alloc = rt.alloc();
-    let mut source = CleanSource::new(Vec::from_slice(alloc, TEXT.as_bytes())?);
-    let mut sink = MemSink::new(alloc, 8, [2].to_vec(alloc)?);
-    let finish = run_with(&rt, alloc, ONE, &mut source, &mut sink)?;
-    assert_eq!(rt; finish.status, Status::WriteFault);
-    assert_eq!(rt; sink.taken(), b"512 1.1 ".as_slice());
+    let answer = with_faults(&rt, rt.alloc(), ONE, TEXT, 8, &[], &[2])?;
+    assert_eq!(rt; answer.status, Status::WriteFault);
+    assert_eq!(rt; answer.written.as_slice(), b"512 1.1 ".as_slice());
     Ok(())
 }
 
 #[test]
 fn no_order_is_answered_with_other_texts(rt: HostRuntime) -> Result<(), Fail> {
-    let alloc = rt.alloc();
     let rows = [
         ("", "cicada 1\ndone"),
         (
@@ -136,25 +179,17 @@ fn no_order_is_answered_with_other_texts(rt: HostRuntime) -> Result<(), Fail> {
         ("--check", "cicada 1\nlane\nsnap\nend\ndone\ndone\n"),
     ];
     for (words, text) in rows {
-        let mut source = CleanSource::new(Vec::from_slice(alloc, text.as_bytes())?);
-        let mut sink = MemSink::new(alloc, 1, [1].to_vec(alloc)?);
-        let finish = run_with(&rt, alloc, words, &mut source, &mut sink)?;
-        assert_eq!(rt; finish.status, Status::WriteFault);
-        assert!(rt; sink.taken().is_empty() && finish.order.is_empty());
-        assert!(rt; finish.fault.is_none());
+        let answer = with_faults(&rt, rt.alloc(), words, text, 1, &[], &[1])?;
+        assert_eq!(rt; answer.sizes(), (Status::WriteFault, 0, 0));
+        assert!(rt; answer.fault.is_none());
     }
     Ok(())
 }
 
 #[test]
 fn the_first_faulty_line_is_answered(rt: HostRuntime) -> Result<(), Fail> {
-    let alloc = rt.alloc();
-    let mut source = CleanSource::new(Vec::from_slice(
-        alloc,
-        "cicada 1\ntable a\nrow b 1 1\ndone\n".as_bytes(),
-    )?);
-    let finish = run_with(&rt, alloc, "", &mut source, &mut CleanSink::new(alloc))?;
-    let fault = finish.fault.ok_or("no fault")?;
-    assert_eq!(rt; (fault.line, fault.kind), (3, 3));
+    let bytes = bytes_of(rt.alloc(), "cicada 1/table a/row b 1 1/done/")?;
+    let answer = answered(&rt, rt.alloc(), "", bytes)?;
+    assert_eq!(rt; answer.fault, Some((3, 3)));
     Ok(())
 }

@@ -1,17 +1,38 @@
 //! The adapters in memory and over streams, and the plain clock and gate.
 
+ghost use Rattle.std.specs.Prelude.{◌≤◌, IfOk, length};
+
 use outside_io::{
     CleanSink, CleanSource, Clock, CountClock, Failed, Gate, MemSink, MemSource, OpenGate,
     ReaderSource, Sink, SinkFault, Source, StdSink, StdSource, WriterSink,
 };
 use std::alloc::{AllocError, Global};
 use std::io::{self, ErrorKind, Read, Write};
+use std::process::Abort;
 use std::test::Fail;
 
 const TEXT: &[u8; 5] = b"abcde";
 
 /// What a call moved: how many bytes, or that it failed.
 type Moved = Option<usize>;
+
+// Reads once; `seen` gets what the call moved. Says whether there may be more to read.
+fn read_some<S: Source>(
+    source: &mut S,
+    text: &mut Vec<u8>,
+    seen: &mut Vec<Moved>,
+) -> Result<bool, AllocError> {
+    let mut buf = [0u8; 4];
+    match source.read(&mut buf) {
+        Ok(0) => return Ok(false),
+        Ok(count) => {
+            seen.push(Some(count))?;
+            text.extend_from_slice(&buf[..count])?;
+        }
+        Err(Failed) => seen.push(None)?,
+    }
+    Ok(true)
+}
 
 // Reads to the end of input, and past failures; `seen` gets what each call moved.
 fn read_whole<S: Source>(
@@ -20,18 +41,33 @@ fn read_whole<S: Source>(
     seen: &mut Vec<Moved>,
 ) -> Result<Vec<u8>, AllocError> {
     let mut text = Vec::new(alloc);
-    let mut buf = [0u8; 4];
     for _ in 0..100 {
-        match source.read(&mut buf) {
-            Ok(0) => return Ok(text),
-            Ok(count) => {
-                seen.push(Some(count))?;
-                text.extend_from_slice(&buf[..count])?;
-            }
-            Err(Failed) => seen.push(None)?,
+        if !read_some(source, &mut text, seen)? {
+            break;
         }
     }
     Ok(text)
+}
+
+// Writes once; `seen` gets what the call moved. Says how much it was.
+fn write_some<K: Sink>(
+    sink: &mut K,
+    text: &[u8],
+    seen: &mut Vec<Moved>,
+) -> Result<usize, AllocError>
+    ensures { IfOk result (λ count. count ≤ length text.now) }
+{
+    match sink.write(text) {
+        Ok(count) => {
+            seen.push(Some(count))?;
+            Ok(count)
+        }
+        Err(SinkFault::Failed) => {
+            seen.push(None)?;
+            Ok(0)
+        }
+        Err(SinkFault::NoMemory) => Err(AllocError),
+    }
 }
 
 // Writes all of a text, past failures; `seen` gets what each call moved.
@@ -43,16 +79,10 @@ fn write_whole<K: Sink>(
     let mut rest = text;
     for _ in 0..100 {
         if rest.is_empty() {
-            return Ok(());
+            break;
         }
-        match sink.write(rest) {
-            Ok(count) => {
-                seen.push(Some(count))?;
-                rest = &rest[count..];
-            }
-            Err(SinkFault::Failed) => seen.push(None)?,
-            Err(SinkFault::NoMemory) => return Err(AllocError),
-        }
+        let count = write_some(sink, rest, seen)?;
+        rest = &rest[count..];
     }
     Ok(())
 }
@@ -80,48 +110,69 @@ fn a_clean_sink_takes_all(rt: HostRuntime) -> Result<(), Fail> {
 }
 
 // Bytes a call, the calls that fail, and what each call moves of five bytes (a read's room is four).
-type Row<'a> = (usize, &'a [u64], &'a [Moved]);
+type Row = (usize, &'static [u64], &'static [Moved]);
+
+const READS: &[Row] = &[
+    (2, &[], &[Some(2), Some(2), Some(1)]),
+    (2, &[1], &[None, Some(2), Some(2), Some(1)]),
+    (9, &[3, 2], &[Some(4), None, None, Some(1)]),
+    (
+        1,
+        &[6],
+        &[Some(1), Some(1), Some(1), Some(1), Some(1), None],
+    ),
+];
+
+const WRITES: &[Row] = &[
+    (2, &[], &[Some(2), Some(2), Some(1)]),
+    (2, &[1], &[None, Some(2), Some(2), Some(1)]),
+    (4, &[3, 2], &[Some(4), None, None, Some(1)]),
+    (9, &[2], &[Some(5)]),
+];
+
+// The rows, of which no proof knows more than that they are rows.
+fn reads() -> &'static [Row] {
+    READS
+}
+
+fn writes() -> &'static [Row] {
+    WRITES
+}
+
+fn read_row<R: Abort>(rt: &R, alloc: Global, row: &Row) -> Result<(), AllocError> {
+    let (per_call, fails, want) = *row;
+    assert!(rt; per_call > 0);
+    let mut source = MemSource::new(TEXT.to_vec(alloc)?, per_call, fails.to_vec(alloc)?);
+    let mut seen = Vec::new(alloc);
+    let text = read_whole(alloc, &mut source, &mut seen)?;
+    assert_eq!(rt; text.as_slice(), TEXT.as_slice());
+    assert_eq!(rt; seen.as_slice(), want);
+    Ok(())
+}
+
+fn write_row<R: Abort>(rt: &R, alloc: Global, row: &Row) -> Result<(), AllocError> {
+    let (per_call, fails, want) = *row;
+    assert!(rt; per_call > 0);
+    let mut sink = MemSink::new(alloc, per_call, fails.to_vec(alloc)?);
+    let mut seen = Vec::new(alloc);
+    write_whole(&mut sink, TEXT, &mut seen)?;
+    assert_eq!(rt; sink.taken(), TEXT.as_slice());
+    assert_eq!(rt; seen.as_slice(), want);
+    Ok(())
+}
 
 #[test]
 fn chosen_reads_fail(rt: HostRuntime) -> Result<(), Fail> {
-    let alloc = rt.alloc();
-    let rows: [Row; 4] = [
-        (2, &[], &[Some(2), Some(2), Some(1)]),
-        (2, &[1], &[None, Some(2), Some(2), Some(1)]),
-        (9, &[3, 2], &[Some(4), None, None, Some(1)]),
-        (
-            1,
-            &[6],
-            &[Some(1), Some(1), Some(1), Some(1), Some(1), None],
-        ),
-    ];
-    for (per_call, fails, want) in rows {
-        assert!(rt; per_call > 0);
-        let mut source = MemSource::new(TEXT.to_vec(alloc)?, per_call, fails.to_vec(alloc)?);
-        let mut seen = Vec::new(alloc);
-        let text = read_whole(alloc, &mut source, &mut seen)?;
-        assert_eq!(rt; text.as_slice(), TEXT.as_slice());
-        assert_eq!(rt; seen.as_slice(), want);
+    for row in reads() {
+        read_row(&rt, rt.alloc(), row)?;
     }
     Ok(())
 }
 
 #[test]
 fn chosen_writes_fail(rt: HostRuntime) -> Result<(), Fail> {
-    let alloc = rt.alloc();
-    let rows: [Row; 4] = [
-        (2, &[], &[Some(2), Some(2), Some(1)]),
-        (2, &[1], &[None, Some(2), Some(2), Some(1)]),
-        (4, &[3, 2], &[Some(4), None, None, Some(1)]),
-        (9, &[2], &[Some(5)]),
-    ];
-    for (per_call, fails, want) in rows {
-        assert!(rt; per_call > 0);
-        let mut sink = MemSink::new(alloc, per_call, fails.to_vec(alloc)?);
-        let mut seen = Vec::new(alloc);
-        write_whole(&mut sink, TEXT, &mut seen)?;
-        assert_eq!(rt; sink.taken(), TEXT.as_slice());
-        assert_eq!(rt; seen.as_slice(), want);
+    for row in writes() {
+        write_row(&rt, rt.alloc(), row)?;
     }
     Ok(())
 }

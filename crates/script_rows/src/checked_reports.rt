@@ -2,17 +2,18 @@
 
 ghost use Rattle.replay_model.specs.Input.{IsWellFormed};
 
-use crate::texts::{bytes_of, input_of, plain_order};
-use replay_model::{Input, NoMemory, Placed, are_named, report};
-use report_check::{Verdict, check, printed};
-use std::alloc::Global;
+use crate::texts::{
+    append, append_number, append_times, bytes_of, input_from, input_of, order_from, plain_order,
+};
+use replay_model::{Input, Placed, are_named, report};
+use report_check::{Verdict, check};
+use std::alloc::{AllocError, Global};
 use std::test::Fail;
 
 /// The verdict on a report of an input.
 fn verdict(alloc: Global, text: &str, report: &str) -> Result<Verdict, Fail> {
-    let input = input_of(alloc, &bytes_of(alloc, text)?)?;
-    let verdict = check(alloc, &input, &bytes_of(alloc, report)?)?;
-    Ok(verdict)
+    let input = input_from(alloc, text)?;
+    Ok(check(alloc, &input, &bytes_of(alloc, report)?)?)
 }
 
 const ONE_BLOCK: &str =
@@ -28,142 +29,140 @@ const ONE_LANE: &str = "cicada 1/table a/lane/txn/end/txn/end/done/";
 const FINDS: &str =
     "cicada 2/table a 2/row a 1 5 6/index a 2/lane/snap/find a 2 0 9 4/end/txn/sub a 1 1 9/end/done/";
 
+/// An input, a report, and the verdict on it.
+type Case = (&'static str, &'static str, Verdict);
+
+const REPORTS: [Case; 26] = [
+    (
+        ONE_BLOCK,
+        "512 1.1 ok/= 100/= 70/table a/1 70/done/",
+        Verdict::Yes,
+    ),
+    (
+        ONE_BLOCK,
+        "512 1.1 ok/= 100/= 71/table a/1 70/done/",
+        Verdict::NoLine(3),
+    ),
+    (
+        ONE_BLOCK,
+        "= 100/= 70/table a/1 70/done/",
+        Verdict::NoOrder(3),
+    ),
+    (ONE_BLOCK, "", Verdict::NoOrder(3)),
+    (ONE_BLOCK, "512 1.1 ok", Verdict::NoOrder(3)),
+    (
+        ONE_BLOCK,
+        "512 1.1 ok/= 100/= 70/table a/1 70/done",
+        Verdict::NoLine(6),
+    ),
+    (
+        ONE_BLOCK,
+        "512 1.1 ok/= 100/= 70/table a/1 70/done/x",
+        Verdict::NoLine(7),
+    ),
+    (ONE_BLOCK, "512 1.1 ok/512 1.1 ok/", Verdict::NoOrder(2)),
+    (
+        ONE_BLOCK,
+        "512 1.1 snap/= 100/= 70/table a/1 70/done/",
+        Verdict::NoOrder(1),
+    ),
+    (
+        ONE_BLOCK,
+        "512 1.2 ok/= 100/= 70/table a/1 70/done/",
+        Verdict::NoOrder(1),
+    ),
+    (
+        ONE_BLOCK,
+        "512 1.1 no 2 short/table a/1 100/done/",
+        Verdict::NoLine(1),
+    ),
+    (
+        ONE_BLOCK,
+        "0512 1.1 ok/= 100/= 70/table a/1 70/done/",
+        Verdict::NoOrder(3),
+    ),
+    (
+        ONE_BLOCK,
+        "512 4294967297.1 ok/= 100/= 70/table a/1 70/done/",
+        Verdict::NoOrder(3),
+    ),
+    (
+        ONE_BLOCK,
+        "18446744073709551616 1.1 ok/",
+        Verdict::NoOrder(3),
+    ),
+    (
+        ONE_BLOCK,
+        "18446744073709551615 1.1 ok/= 100/= 70/table a/1 70/done/",
+        Verdict::Yes,
+    ),
+    (
+        TWO_LANES,
+        "512 1.1 ok/768 2.1 ok/= 101/table a/1 101/done/",
+        Verdict::Yes,
+    ),
+    (
+        TWO_LANES,
+        "768 2.1 ok/= 101/512 1.1 ok/table a/1 101/done/",
+        Verdict::NoOrder(4),
+    ),
+    (
+        TWO_LANES,
+        "512 1.1 ok/512 2.1 ok/= 101/table a/1 101/done/",
+        Verdict::NoOrder(4),
+    ),
+    (
+        SNAPS,
+        "256 1.1 ok/256 1.2 snap/300 1.3 snap/table a/done/",
+        Verdict::Yes,
+    ),
+    (
+        SNAPS,
+        "255 1.2 snap/256 1.1 ok/300 1.3 snap/table a/done/",
+        Verdict::Yes,
+    ),
+    (
+        SNAPS,
+        "256 1.1 ok/255 1.2 snap/300 1.3 snap/table a/done/",
+        Verdict::NoOrder(5),
+    ),
+    (
+        SNAPS,
+        "256 1.1 ok/300 1.2 snap/299 1.3 snap/table a/done/",
+        Verdict::NoOrder(5),
+    ),
+    (
+        SNAPS,
+        "256 1.1 ok/300 1.3 snap/301 1.2 snap/table a/done/",
+        Verdict::NoOrder(6),
+    ),
+    (
+        ONE_LANE,
+        "256 1.2 ok/512 1.1 ok/table a/done/",
+        Verdict::NoOrder(6),
+    ),
+    (
+        FINDS,
+        "0 1.1 snap/: 1 5 6/256 1.2 no 1 short/table a/1 5 6/done/",
+        Verdict::Yes,
+    ),
+    (
+        FINDS,
+        "0 1.1 no 1 unindexed/256 1.2 no 1 short/table a/1 5 6/done/",
+        Verdict::NoLine(1),
+    ),
+];
+
 #[test]
 fn reports_are_judged(rt: HostRuntime) -> Result<(), Fail> {
-    let cases = [
-        (
-            ONE_BLOCK,
-            "512 1.1 ok/= 100/= 70/table a/1 70/done/",
-            Verdict::Yes,
-        ),
-        (
-            ONE_BLOCK,
-            "512 1.1 ok/= 100/= 71/table a/1 70/done/",
-            Verdict::NoLine(3),
-        ),
-        (
-            ONE_BLOCK,
-            "= 100/= 70/table a/1 70/done/",
-            Verdict::NoOrder(3),
-        ),
-        (ONE_BLOCK, "", Verdict::NoOrder(3)),
-        (ONE_BLOCK, "512 1.1 ok", Verdict::NoOrder(3)),
-        (
-            ONE_BLOCK,
-            "512 1.1 ok/= 100/= 70/table a/1 70/done",
-            Verdict::NoLine(6),
-        ),
-        (
-            ONE_BLOCK,
-            "512 1.1 ok/= 100/= 70/table a/1 70/done/x",
-            Verdict::NoLine(7),
-        ),
-        (ONE_BLOCK, "512 1.1 ok/512 1.1 ok/", Verdict::NoOrder(2)),
-        (
-            ONE_BLOCK,
-            "512 1.1 snap/= 100/= 70/table a/1 70/done/",
-            Verdict::NoOrder(1),
-        ),
-        (
-            ONE_BLOCK,
-            "512 1.2 ok/= 100/= 70/table a/1 70/done/",
-            Verdict::NoOrder(1),
-        ),
-        (
-            ONE_BLOCK,
-            "512 1.1 no 2 short/table a/1 100/done/",
-            Verdict::NoLine(1),
-        ),
-        (
-            ONE_BLOCK,
-            "0512 1.1 ok/= 100/= 70/table a/1 70/done/",
-            Verdict::NoOrder(3),
-        ),
-        (
-            ONE_BLOCK,
-            "512 4294967297.1 ok/= 100/= 70/table a/1 70/done/",
-            Verdict::NoOrder(3),
-        ),
-        (
-            ONE_BLOCK,
-            "18446744073709551616 1.1 ok/",
-            Verdict::NoOrder(3),
-        ),
-        (
-            ONE_BLOCK,
-            "18446744073709551615 1.1 ok/= 100/= 70/table a/1 70/done/",
-            Verdict::Yes,
-        ),
-        (
-            TWO_LANES,
-            "512 1.1 ok/768 2.1 ok/= 101/table a/1 101/done/",
-            Verdict::Yes,
-        ),
-        (
-            TWO_LANES,
-            "768 2.1 ok/= 101/512 1.1 ok/table a/1 101/done/",
-            Verdict::NoOrder(4),
-        ),
-        (
-            TWO_LANES,
-            "512 1.1 ok/512 2.1 ok/= 101/table a/1 101/done/",
-            Verdict::NoOrder(4),
-        ),
-        (
-            SNAPS,
-            "256 1.1 ok/256 1.2 snap/300 1.3 snap/table a/done/",
-            Verdict::Yes,
-        ),
-        (
-            SNAPS,
-            "255 1.2 snap/256 1.1 ok/300 1.3 snap/table a/done/",
-            Verdict::Yes,
-        ),
-        (
-            SNAPS,
-            "256 1.1 ok/255 1.2 snap/300 1.3 snap/table a/done/",
-            Verdict::NoOrder(5),
-        ),
-        (
-            SNAPS,
-            "256 1.1 ok/300 1.2 snap/299 1.3 snap/table a/done/",
-            Verdict::NoOrder(5),
-        ),
-        (
-            SNAPS,
-            "256 1.1 ok/300 1.3 snap/301 1.2 snap/table a/done/",
-            Verdict::NoOrder(6),
-        ),
-        (
-            ONE_LANE,
-            "256 1.2 ok/512 1.1 ok/table a/done/",
-            Verdict::NoOrder(6),
-        ),
-        (
-            FINDS,
-            "0 1.1 snap/: 1 5 6/256 1.2 no 1 short/table a/1 5 6/done/",
-            Verdict::Yes,
-        ),
-        (
-            FINDS,
-            "0 1.1 no 1 unindexed/256 1.2 no 1 short/table a/1 5 6/done/",
-            Verdict::NoLine(1),
-        ),
-    ];
-    for (text, report, due) in cases {
-        assert_eq!(rt; verdict(rt.alloc(), text, report)?, due, "{text} {report}");
+    for (text, report, due) in &REPORTS {
+        assert_eq!(rt; verdict(rt.alloc(), text, report)?, *due, "{text} {report}");
     }
     Ok(())
 }
 
 #[test]
 fn printed_order_is_read(rt: HostRuntime) -> Result<(), Fail> {
-    let alloc = rt.alloc();
-    let text = bytes_of(alloc, FINDS)?;
-    let report = bytes_of(
-        alloc,
-        "0 1.1 no 1 over/7 1.1 ok /8 1.2 ok/9 3.4 no 2 over/5 1.1 snap",
-    )?;
     let due = [
         Placed {
             stamp: 0,
@@ -184,27 +183,36 @@ fn printed_order_is_read(rt: HostRuntime) -> Result<(), Fail> {
             number: 4,
         },
     ];
-    let input = input_of(alloc, &text)?;
-    let order = printed(alloc, &input, &report)?;
+    let input = input_from(rt.alloc(), FINDS)?;
+    let lines = "0 1.1 no 1 over/7 1.1 ok /8 1.2 ok/9 3.4 no 2 over/5 1.1 snap";
+    let order = order_from(rt.alloc(), &input, lines)?;
     assert_eq!(rt; order.as_slice(), due.as_slice());
     Ok(())
 }
 
+/// Appends a row with a number of 20 digits.
+fn append_row(text: &mut Vec<u8>, key: u64) -> Result<(), AllocError> {
+    append(text, "row a ")?;
+    append_number(text, key)?;
+    append(text, " 18446744073709551615/")
+}
+
+/// Appends a lane of blocks with a scan.
+fn append_lane(text: &mut Vec<u8>) -> Result<(), AllocError> {
+    append(text, "lane/")?;
+    append_times(text, "txn/scan a 0 999 256/end/", 256)
+}
+
 /// An input at the limits of its lanes, blocks and scans: each of 16,384 blocks in 64 lanes scans 160 rows of a number of 20 digits.
-fn largest(alloc: Global) -> Result<Vec<u8>, NoMemory> {
+fn largest(alloc: Global) -> Result<Vec<u8>, AllocError> {
     let mut text = bytes_of(alloc, "cicada 1/table a/")?;
     for key in 100..260_u64 {
-        text.extend_from_slice(b"row a ")?;
-        text.extend_from_slice(itoa::Buffer::new().format(key).as_bytes())?;
-        text.extend_from_slice(b" 18446744073709551615\n")?;
+        append_row(&mut text, key)?;
     }
     for _ in 0..64 {
-        text.extend_from_slice(b"lane\n")?;
-        for _ in 0..256 {
-            text.extend_from_slice(b"txn\nscan a 0 999 256\nend\n")?;
-        }
+        append_lane(&mut text)?;
     }
-    text.extend_from_slice(b"done\n")?;
+    append(&mut text, "done/")?;
     Ok(text)
 }
 
@@ -227,12 +235,16 @@ fn verdicts(
     Ok((length, whole, longer))
 }
 
-#[test]
-fn largest_report_is_judged(rt: HostRuntime) -> Result<(), Fail> {
-    let alloc = rt.alloc();
+/// The same of the largest input, run lane behind lane.
+fn largest_verdicts(alloc: Global) -> Result<(usize, Verdict, Verdict), Fail> {
     let input = input_of(alloc, &largest(alloc)?)?;
     let order = plain_order(alloc, &input)?;
-    let (length, whole, longer) = verdicts(alloc, &input, &order)?;
+    verdicts(alloc, &input, &order)
+}
+
+#[test]
+fn largest_report_is_judged(rt: HostRuntime) -> Result<(), Fail> {
+    let (length, whole, longer) = largest_verdicts(rt.alloc())?;
     assert!(rt; length > 70_000_000);
     assert_eq!(rt; whole, Verdict::Yes);
     assert_eq!(rt; longer, Verdict::NoLine(2_637_987));

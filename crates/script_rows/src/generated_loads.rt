@@ -2,11 +2,11 @@
 
 ghost use Rattle.replay_model.specs.Input.{IsWellFormed};
 
-use crate::texts::{bytes_of, input_of, plain_order};
+use crate::texts::{bytes_of, input_from, plain_order};
 use generated_input::generated;
 use load_gen::{generate, summary};
 use replay_model::{Input, Tables, are_named, replay};
-use std::alloc::Global;
+use std::alloc::{AllocError, Global};
 use std::test::Fail;
 
 /// What stands behind so many lines of a text.
@@ -21,12 +21,20 @@ fn behind(text: &[u8], lines: usize) -> &[u8] {
     rest
 }
 
+fn count_lines(text: &[u8]) -> usize {
+    text.iter().filter(|byte| **byte == b'\n').count()
+}
+
+/// Whether a text begins so behind so many lines.
+fn begins(alloc: Global, text: &[u8], start: &str, skipped: usize) -> Result<bool, AllocError> {
+    let start = bytes_of(alloc, start)?;
+    Ok(behind(text, skipped).starts_with(&start))
+}
+
 #[test]
 fn generated_text_begins_so(rt: HostRuntime) -> Result<(), Fail> {
-    let alloc = rt.alloc();
-    let text = generate(alloc, 1)?;
-    let lines = text.iter().filter(|byte| **byte == b'\n').count();
-    assert_eq!(rt; lines, 16_075);
+    let text = generate(rt.alloc(), 1)?;
+    assert_eq!(rt; count_lines(&text), 16_075);
     let cases = [
         (
             "cicada 1/table accounts/row accounts 1 1000000/row accounts 2 1000000/",
@@ -36,8 +44,7 @@ fn generated_text_begins_so(rt: HostRuntime) -> Result<(), Fail> {
         ("done/", 16_074),
     ];
     for (start, skipped) in cases {
-        let start = bytes_of(alloc, start)?;
-        assert!(rt; behind(&text, skipped).starts_with(&start), "{skipped}");
+        assert!(rt; begins(rt.alloc(), &text, start, skipped)?, "{skipped}");
     }
     Ok(())
 }
@@ -55,22 +62,32 @@ fn summary_of(alloc: Global, input: &Input) -> Result<Vec<u8>, Fail>
     Ok(text)
 }
 
+/// The summary of a generated load.
+fn generated_summary(alloc: Global, seed: u64) -> Result<Vec<u8>, Fail> {
+    let input = generated(alloc, seed)?;
+    summary_of(alloc, &input)
+}
+
 #[test]
 fn generated_load_keeps_its_sum(rt: HostRuntime) -> Result<(), Fail> {
-    let alloc = rt.alloc();
-    let due = bytes_of(alloc, "transactions 4000/sum 64000000/done/")?;
+    let due = bytes_of(rt.alloc(), "transactions 4000/sum 64000000/done/")?;
     for seed in [0, 1, 2, u64::MAX] {
-        let input = generated(alloc, seed)?;
-        assert!(rt; summary_of(alloc, &input)? == due, "{seed}");
+        assert!(rt; generated_summary(rt.alloc(), seed)? == due, "{seed}");
     }
     Ok(())
 }
 
-#[test]
-fn sums_have_128_bits(rt: HostRuntime) -> Result<(), Fail> {
-    let alloc = rt.alloc();
+/// The summary of an input that is loaded and not run. In its text MOST stands for six times the greatest number.
+fn loaded_summary(alloc: Global, text: &str) -> Result<Vec<u8>, Fail> {
     let most =
         "18446744073709551615 18446744073709551615 18446744073709551615 18446744073709551615 18446744073709551615 18446744073709551615";
+    let input = input_from(alloc, &text.replace(alloc, "MOST", most)?)?;
+    let last = Tables::loaded(alloc, &input)?;
+    Ok(summary(alloc, &input, &last)?)
+}
+
+#[test]
+fn sums_have_128_bits(rt: HostRuntime) -> Result<(), Fail> {
     let cases = [
         ("cicada 1/done/", "transactions 0/sum 0/done/"),
         (
@@ -83,12 +100,8 @@ fn sums_have_128_bits(rt: HostRuntime) -> Result<(), Fail> {
         ),
     ];
     for (text, due) in cases {
-        let text = text.replace(alloc, "MOST", most)?;
-        let text = bytes_of(alloc, &text)?;
-        let due = bytes_of(alloc, due)?;
-        let input = input_of(alloc, &text)?;
-        let last = Tables::loaded(alloc, &input)?;
-        assert!(rt; summary(alloc, &input, &last)? == due);
+        let due = bytes_of(rt.alloc(), due)?;
+        assert!(rt; loaded_summary(rt.alloc(), text)? == due);
     }
     Ok(())
 }

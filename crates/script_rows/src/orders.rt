@@ -1,11 +1,10 @@
 //! Orders of a worked input, and which of the six tests a wrong one fails first.
 
-use crate::texts::{bytes_of, input_of};
+use crate::texts::{input_from, order_from};
 use replay_model::{
     Input, NoMemory, Placed, are_complete, are_named, is_order, lanes_are_kept, snaps_are_placed,
     stand_once, writers_rise,
 };
-use report_check::printed;
 use std::alloc::Global;
 use std::process::Abort;
 use std::test::Fail;
@@ -13,12 +12,16 @@ use std::test::Fail;
 // Two lanes, with two transactions and a snapshot, and with a transaction and two snapshots.
 const MIXED: &str = "cicada 1/lane/txn/end/txn/end/snap/end/lane/txn/end/snap/end/snap/end/done/";
 
-const RIGHT: &str = "256 1.1 ok/512 2.1 ok/512 1.3 snap/512 2.2 snap/600 2.3 snap/768 1.2 ok/";
+/// What is wrong, the first test that fails, and the head lines of the order. Each but the first differs from the right order in one
+/// way.
+type Case = (&'static str, u32, &'static str);
 
-/// What is wrong, the first test that fails, and the head lines of the order. Each differs from the right order in one way.
-type Wrong = (&'static str, u32, &'static str);
-
-const WRONG: [Wrong; 14] = [
+const ORDERS: [Case; 15] = [
+    (
+        "the right order",
+        0,
+        "256 1.1 ok/512 2.1 ok/512 1.3 snap/512 2.2 snap/600 2.3 snap/768 1.2 ok/",
+    ),
     ("the empty order", 3, ""),
     (
         "a block is left out",
@@ -123,10 +126,9 @@ pub fn try_order<R: Abort + AllocGlobal>(
 
 #[test]
 fn wrong_orders_fail_at_their_tests(rt: HostRuntime) -> Result<(), Fail> {
-    let input = input_of(rt.alloc(), &bytes_of(rt.alloc(), MIXED)?)?;
-    for (name, first, heads) in [("the right order", 0, RIGHT)].iter().chain(&WRONG) {
-        let lines = bytes_of(rt.alloc(), heads)?;
-        let order = printed(rt.alloc(), &input, &lines)?;
+    let input = input_from(rt.alloc(), MIXED)?;
+    for (name, first, heads) in &ORDERS {
+        let order = order_from(rt.alloc(), &input, heads)?;
         try_order(&rt, &input, &order, *first, name)?;
     }
     Ok(())

@@ -4,13 +4,20 @@ ghost use Rattle.std.specs.Prelude.{IsTrue};
 ghost use Rattle.replay_model.specs.Answered.{HasAnswers};
 ghost use Rattle.replay_model.specs.Input.{IsWellFormed};
 
-use crate::texts::{bytes_of, input_of};
+use crate::texts::{bytes_of, input_from};
 use replay_model::{
-    Answer, Answers, Block, Cause, Columns, Input, Outcome, Placed, block_at, is_named,
+    Answer, Answers, Block, Cause, Columns, Input, NoMemory, Outcome, Placed, block_at, is_named,
 };
 use std::alloc::Global;
 use std::test::Fail;
 use txn_script::{print_block, print_table};
+
+/// The lines of a table of two columns, behind a first line.
+fn table_lines(alloc: Global, pairs: &[(u64, Columns)]) -> Result<Vec<u8>, Fail> {
+    let mut text = bytes_of(alloc, "done/")?;
+    print_table(alloc, b"a", 2, pairs, &mut text)?;
+    Ok(text)
+}
 
 #[test]
 fn a_table_is_appended_with_its_columns(rt: HostRuntime) -> Result<(), Fail> {
@@ -18,10 +25,8 @@ fn a_table_is_appended_with_its_columns(rt: HostRuntime) -> Result<(), Fail> {
         (1, Columns::new([100, 7, 9, 0, 0, 0])),
         (18_446_744_073_709_551_615, Columns::new([0, 5, 9, 0, 0, 0])),
     ];
-    let mut text = bytes_of(rt.alloc(), "done/")?;
-    print_table(rt.alloc(), b"a".as_slice(), 2, pairs.as_slice(), &mut text)?;
     let due = bytes_of(rt.alloc(), "done/table a/1 100 7/18446744073709551615 0 5/")?;
-    assert_eq!(rt; text, due);
+    assert_eq!(rt; table_lines(rt.alloc(), &pairs)?, due);
     Ok(())
 }
 
@@ -56,21 +61,25 @@ fn lines_of(alloc: Global, input: &Input, outcome: &Outcome) -> Result<Vec<u8>, 
     Ok(text)
 }
 
-#[test]
-fn a_block_is_appended_with_its_answers(rt: HostRuntime) -> Result<(), Fail> {
-    let alloc = rt.alloc();
-    let text = bytes_of(
-        alloc,
-        "cicada 1/table a/lane/txn/get a 1/put a 1 2/get a 3/end/done/",
-    )?;
-    let input = input_of(alloc, &text)?;
+/// A value, nothing at a write, and the answer for a row that is not there.
+fn answered(alloc: Global) -> Result<Outcome, NoMemory> {
     let mut answers = Answers::new(alloc);
     answers.push(Answer::Value(7))?;
     answers.push(Answer::Nothing)?;
     answers.push(Answer::Absent)?;
+    Ok(Outcome::Done(answers))
+}
+
+#[test]
+fn a_block_is_appended_with_its_answers(rt: HostRuntime) -> Result<(), Fail> {
+    let alloc = rt.alloc();
+    let input = input_from(
+        alloc,
+        "cicada 1/table a/lane/txn/get a 1/put a 1 2/get a 3/end/done/",
+    )?;
     let cause = Cause::Short;
     let cases = [
-        (Outcome::Done(answers), "done/512 1.1 ok/= 7/= none/"),
+        (answered(alloc)?, "done/512 1.1 ok/= 7/= none/"),
         (
             Outcome::Refused { command: 2, cause },
             "done/512 1.1 no 2 short/",

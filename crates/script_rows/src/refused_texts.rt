@@ -44,22 +44,38 @@ fn answer(alloc: Global, bytes: &[u8]) -> Result<Option<(u64, u32)>, Fail> {
     }
 }
 
+/// What reading a text answers.
+fn answer_to(alloc: Global, text: &str) -> Result<Option<(u64, u32)>, Fail> {
+    answer(alloc, &bytes_of(alloc, text)?)
+}
+
 /// Reads each text, and compares what is answered.
 fn try_cases<R: Abort + AllocGlobal>(rt: &R, cases: &[Case]) -> Result<(), Fail> {
     for (text, due) in cases {
-        let bytes = bytes_of(rt.alloc(), text)?;
-        assert_eq!(rt; answer(rt.alloc(), &bytes)?, *due, "{text}");
+        assert_eq!(rt; answer_to(rt.alloc(), text)?, *due, "{text}");
     }
     Ok(())
+}
+
+/// A piece that comes many times, and what stands around it.
+fn repeated(
+    alloc: Global,
+    front: &str,
+    piece: &str,
+    times: usize,
+    behind: &str,
+) -> Result<Vec<u8>, AllocError> {
+    let mut bytes = Vec::new(alloc);
+    append(&mut bytes, front)?;
+    append_times(&mut bytes, piece, times)?;
+    append(&mut bytes, behind)?;
+    Ok(bytes)
 }
 
 /// The same of texts with a piece that comes many times.
 fn try_repeated<R: Abort + AllocGlobal>(rt: &R, cases: &[Repeated]) -> Result<(), Fail> {
     for (front, piece, times, behind, due) in cases {
-        let mut bytes = Vec::new(rt.alloc());
-        append(&mut bytes, front)?;
-        append_times(&mut bytes, piece, *times)?;
-        append(&mut bytes, behind)?;
+        let bytes = repeated(rt.alloc(), front, piece, *times, behind)?;
         assert_eq!(rt;
             answer(rt.alloc(), &bytes)?,
             *due,
@@ -328,7 +344,18 @@ fn append_blocks(bytes: &mut Vec<u8>, blocks: usize, command: &str) -> Result<()
     Ok(())
 }
 
-/// 16,384 commands that count with the rows, or do not, and one more of them.
+/// 16,384 commands, all alike, and one more of them.
+fn commands(alloc: Global, front: &str, command: &str) -> Result<Vec<u8>, AllocError> {
+    let mut bytes = Vec::new(alloc);
+    append(&mut bytes, front)?;
+    append_blocks(&mut bytes, 256, command)?;
+    append(&mut bytes, "txn/")?;
+    append(&mut bytes, command)?;
+    append(&mut bytes, "end/done/")?;
+    Ok(bytes)
+}
+
+/// Commands that count with the rows, or do not.
 #[test]
 fn rows_and_changes_are_counted(rt: HostRuntime) -> Result<(), Fail> {
     let cases: [(&str, &str, Option<(u64, u32)>); 6] = [
@@ -355,24 +382,24 @@ fn rows_and_changes_are_counted(rt: HostRuntime) -> Result<(), Fail> {
             Some((16_903, LIMIT)),
         ),
     ];
-    for (front, command, due) in cases {
-        let mut bytes = Vec::new(rt.alloc());
-        append(&mut bytes, front)?;
-        append_blocks(&mut bytes, 256, command)?;
-        append(&mut bytes, "txn/")?;
-        append(&mut bytes, command)?;
-        append(&mut bytes, "end/done/")?;
-        assert_eq!(rt; answer(rt.alloc(), &bytes)?, due, "{front} and {command}");
+    for (front, command, due) in &cases {
+        let bytes = commands(rt.alloc(), front, command)?;
+        assert_eq!(rt; answer(rt.alloc(), &bytes)?, *due, "{front} and {command}");
     }
     Ok(())
 }
 
 /// 8,064 blocks of 64 commands, in 4,193,307 bytes with the lines around them, are an input.
-#[test]
-fn a_text_of_the_greatest_size_is_read(rt: HostRuntime) -> Result<(), Fail> {
-    let mut bytes = Vec::new(rt.alloc());
+fn greatest(alloc: Global) -> Result<Vec<u8>, AllocError> {
+    let mut bytes = Vec::new(alloc);
     append(&mut bytes, "cicada 1/table a/lane/")?;
     append_blocks(&mut bytes, 8_064, "get a 1/")?;
+    Ok(bytes)
+}
+
+#[test]
+fn a_text_of_the_greatest_size_is_read(rt: HostRuntime) -> Result<(), Fail> {
+    let mut bytes = greatest(rt.alloc())?;
     assert_eq!(rt; answer(rt.alloc(), &bytes)?, Some((532_228, END)));
     append(&mut bytes, "done/")?;
     assert_eq!(rt; bytes.len(), 4_193_307);

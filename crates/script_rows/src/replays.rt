@@ -1,10 +1,11 @@
 //! Replays and runs of one block.
 
+ghost use Rattle.std.specs.Prelude.{IfOk};
 ghost use Rattle.replay_model.specs.Input.{IsWellFormed};
 
 use crate::orders::try_order;
-use crate::reports::report_of;
-use crate::texts::{bytes_of, input_of};
+use crate::reports::try_text;
+use crate::texts::{bytes_of, input_from};
 use replay_model::{
     Answer, Block, Blocks, Cause, Columns, Command, Commands, Input, Lanes, NoMemory, Outcome,
     Placed, Tables, are_named, block_at, is_well_formed, replay, run_one,
@@ -45,14 +46,51 @@ fn run_at(alloc: Global, input: &Input, number: u32, tables: &mut Tables) -> Res
     Ok(outcome)
 }
 
+/// Whether the replay in an order has one outcome, with these answers, and leaves these rows of the first table.
+fn replays(
+    alloc: Global,
+    input: &Input,
+    order: &[Placed],
+    wanted: &[Option<u64>],
+    rows: &[(u64, Columns)],
+) -> Result<bool, Fail>
+    requires { IsWellFormed input.now }
+{
+    if !are_named(input, order) {
+        return Err("the order names what is not there".into());
+    }
+    let replayed = replay(alloc, input, order)?;
+    if replayed.outcomes.len() != 1 {
+        return Ok(false);
+    }
+    let last = replayed.last.pairs(alloc, 0)?;
+    Ok(answers(replayed.outcomes.get(0), wanted) && last.as_slice() == rows)
+}
+
+/// Whether the first block has these answers on the tables as they are loaded, and takes the row at key 1 from one value to another.
+fn runs(
+    alloc: Global,
+    input: &Input,
+    wanted: &[Option<u64>],
+    before: u64,
+    behind: u64,
+) -> Result<bool, Fail>
+    requires { IsWellFormed input.now }
+{
+    let mut tables = Tables::loaded(alloc, input)?;
+    let starts = tables.get(0, 1) == Some(row_of(before));
+    let outcome = run_at(alloc, input, 1, &mut tables)?;
+    let ends = tables.get(0, 1) == Some(row_of(behind));
+    Ok(starts && ends && answers(&outcome, wanted))
+}
+
 #[test]
 fn replay_and_run_of_one_block_agree(rt: HostRuntime) -> Result<(), Fail> {
     let alloc = rt.alloc();
-    let bytes = bytes_of(
+    let input = input_from(
         alloc,
         "cicada 1/table a/row a 1 100/lane/txn/get a 1/sub a 1 30/get a 1/end/done/",
     )?;
-    let input = input_of(alloc, &bytes)?;
     let order = [Placed {
         stamp: 512,
         snap: false,
@@ -60,21 +98,9 @@ fn replay_and_run_of_one_block_agree(rt: HostRuntime) -> Result<(), Fail> {
         number: 1,
     }];
     let wanted = [Some(100), None, Some(70)];
-    assert!(rt; are_named(&input, &order));
-    let fine = is_well_formed(alloc, &input)?;
-    assert!(rt; fine);
-
-    let replayed = replay(alloc, &input, &order)?;
-    assert_eq!(rt; replayed.outcomes.len(), 1);
-    assert!(rt; answers(replayed.outcomes.get(0), &wanted));
-    let rest = replayed.last.pairs(alloc, 0)?;
-    assert_eq!(rt; rest.as_slice(), [(1, row_of(70))].as_slice());
-
-    let mut tables = Tables::loaded(alloc, &input)?;
-    assert_eq!(rt; tables.get(0, 1), Some(row_of(100)));
-    let outcome = run_at(alloc, &input, 1, &mut tables)?;
-    assert!(rt; answers(&outcome, &wanted));
-    assert_eq!(rt; tables.get(0, 1), Some(row_of(70)));
+    assert!(rt; is_well_formed(alloc, &input)?);
+    assert!(rt; replays(alloc, &input, &order, &wanted, &[(1, row_of(70))])?);
+    assert!(rt; runs(alloc, &input, &wanted, 100, 70)?);
     try_order(&rt, &input, &[], 3, "the empty order")
 }
 
@@ -128,27 +154,24 @@ fn changing_nothing(alloc: Global) -> Result<Lanes, NoMemory> {
     Ok(lanes)
 }
 
-#[test]
-fn snapshots_and_refused_blocks_change_nothing(rt: HostRuntime) -> Result<(), Fail> {
-    let alloc = rt.alloc();
-    let bytes = bytes_of(alloc, "cicada 2/table a 2/index a 2/row a 1 100 7/done/")?;
-    let mut input = input_of(alloc, &bytes)?;
-    input.lanes = changing_nothing(alloc)?;
-    let due = bytes_of(
-        alloc,
-        "256 1.1 snap/= 5/512 1.2 no 3 missing/768 1.3 no 1 unindexed/table a/1 100 7/done/",
-    )?;
-    let order = printed(alloc, &input, &due)?;
-    try_order(&rt, &input, &order, 0, "by number")?;
-    match report_of(alloc, &input, &order)? {
-        Some(text) => assert_eq!(rt; text.as_slice(), due.as_slice()),
-        None => return Err("the order names what is not there".into()),
+/// An input of one row, with these lanes.
+fn input_with(alloc: Global, lanes: Lanes) -> Result<Input, Fail>
+    ensures { IfOk result IsWellFormed }
+{
+    let mut input = input_from(alloc, "cicada 2/table a 2/index a 2/row a 1 100 7/done/")?;
+    input.lanes = lanes;
+    if !is_well_formed(alloc, &input)? {
+        return Err("the input is well formed".into());
     }
+    Ok(input)
+}
 
-    let fine = is_well_formed(alloc, &input)?;
-    assert!(rt; fine);
-    let mut tables = Tables::loaded(alloc, &input)?;
-    let outcome = run_at(alloc, &input, 2, &mut tables)?;
+/// Whether the second block is refused at its last command, and leaves the row as it was.
+fn is_refused(alloc: Global, input: &Input) -> Result<bool, Fail>
+    requires { IsWellFormed input.now }
+{
+    let mut tables = Tables::loaded(alloc, input)?;
+    let outcome = run_at(alloc, input, 2, &mut tables)?;
     let refused = matches!(
         &outcome,
         Outcome::Refused {
@@ -156,7 +179,20 @@ fn snapshots_and_refused_blocks_change_nothing(rt: HostRuntime) -> Result<(), Fa
             cause: Cause::Missing
         }
     );
-    assert!(rt; refused);
-    assert_eq!(rt; tables.get(0, 1), Some(Columns::new([100, 7, 0, 0, 0, 0])));
+    Ok(refused && tables.get(0, 1) == Some(Columns::new([100, 7, 0, 0, 0, 0])))
+}
+
+#[test]
+fn snapshots_and_refused_blocks_change_nothing(rt: HostRuntime) -> Result<(), Fail> {
+    let alloc = rt.alloc();
+    let input = input_with(alloc, changing_nothing(alloc)?)?;
+    let due = bytes_of(
+        alloc,
+        "256 1.1 snap/= 5/512 1.2 no 3 missing/768 1.3 no 1 unindexed/table a/1 100 7/done/",
+    )?;
+    let order = printed(alloc, &input, &due)?;
+    try_order(&rt, &input, &order, 0, "by number")?;
+    try_text(&rt, &input, &order, &due)?;
+    assert!(rt; is_refused(alloc, &input)?);
     Ok(())
 }

@@ -1,9 +1,9 @@
 //! Reports of worked inputs, each in the order that the report prints.
 
-use crate::texts::{append, append_times, bytes_of, input_of};
+use crate::texts::{append, append_number, append_times, bytes_of, input_of};
 use replay_model::{Input, NoMemory, Placed, are_named, is_order, is_well_formed, report};
 use report_check::printed;
-use std::alloc::Global;
+use std::alloc::{AllocError, Global};
 use std::process::Abort;
 use std::test::Fail;
 
@@ -11,11 +11,7 @@ use std::test::Fail;
 type Case = (&'static str, &'static str);
 
 /// The report of an input in an order; none where the order names what is not there.
-pub fn report_of(
-    alloc: Global,
-    input: &Input,
-    order: &[Placed],
-) -> Result<Option<Vec<u8>>, NoMemory> {
+fn report_of(alloc: Global, input: &Input, order: &[Placed]) -> Result<Option<Vec<u8>>, NoMemory> {
     if !is_well_formed(alloc, input)? {
         return Ok(None);
     }
@@ -26,18 +22,27 @@ pub fn report_of(
     Ok(Some(text))
 }
 
+/// Compares the report of an input in an order with the one due.
+pub fn try_text<R: Abort + AllocGlobal>(
+    rt: &R,
+    input: &Input,
+    order: &[Placed],
+    due: &[u8],
+) -> Result<(), Fail> {
+    match report_of(rt.alloc(), input, order)? {
+        Some(text) => assert_eq!(rt; text.as_slice(), due),
+        None => return Err("the order names what is not there".into()),
+    }
+    Ok(())
+}
+
 /// Compares the report of these bytes, in the order that the one due prints, with it.
 pub fn try_report<R: Abort + AllocGlobal>(rt: &R, bytes: &[u8], due: &[u8]) -> Result<(), Fail> {
     let alloc = rt.alloc();
     let input = input_of(alloc, bytes)?;
     let order = printed(alloc, &input, due)?;
-    let fits = is_order(alloc, &input, &order)?;
-    assert!(rt; fits);
-    match report_of(alloc, &input, &order)? {
-        Some(text) => assert_eq!(rt; text.as_slice(), due),
-        None => return Err("the order names what is not there".into()),
-    }
-    Ok(())
+    assert!(rt; is_order(alloc, &input, &order)?);
+    try_text(rt, &input, &order, due)
 }
 
 fn try_cases<R: Abort + AllocGlobal>(rt: &R, cases: &[Case]) -> Result<(), Fail> {
@@ -106,46 +111,68 @@ fn rows_of_columns_are_reported_and_found(rt: HostRuntime) -> Result<(), Fail> {
     try_cases(&rt, &COLUMNS)
 }
 
-/// Rows with the keys from 1 on, each with ten times its key, and a scan that lists those from `lo` to `last`.
+/// Appends lines of the keys from `from` to `last`, each with ten times its key.
+fn append_pairs(bytes: &mut Vec<u8>, front: &str, from: u64, last: u64) -> Result<(), AllocError> {
+    for key in from..=last {
+        append(bytes, front)?;
+        append_number(bytes, key)?;
+        append(bytes, " ")?;
+        append_number(bytes, key)?;
+        append(bytes, "0/")?;
+    }
+    Ok(())
+}
+
+/// Rows with the keys from 1 on, each with ten times its key, and a scan.
+fn scan_input(alloc: Global, rows: u64, scan: &str) -> Result<Vec<u8>, AllocError> {
+    let mut bytes = Vec::new(alloc);
+    append(&mut bytes, "cicada 1/table a/")?;
+    append_pairs(&mut bytes, "row a ", 1, rows)?;
+    append(&mut bytes, "lane/txn/")?;
+    append(&mut bytes, scan)?;
+    append(&mut bytes, "/end/done/")?;
+    Ok(bytes)
+}
+
+/// The report of that input, where the scan lists the rows from `lo` to `last`.
+fn scan_due(alloc: Global, rows: u64, lo: u64, last: u64) -> Result<Vec<u8>, AllocError> {
+    let mut due = Vec::new(alloc);
+    append(&mut due, "51456 1.1 ok/")?;
+    append_pairs(&mut due, ": ", lo, last)?;
+    append(&mut due, "table a/")?;
+    append_pairs(&mut due, "", 1, rows)?;
+    append(&mut due, "done/")?;
+    Ok(due)
+}
+
+/// Rows from 1 on, and a scan that lists those from `lo` to `last`.
 fn try_scan<R: Abort + AllocGlobal>(
     rt: &R,
     rows: u64,
+    scan: &str,
     lo: u64,
-    hi: u64,
-    limit: u64,
     last: u64,
 ) -> Result<(), Fail> {
-    let alloc = rt.alloc();
-    let mut bytes = Vec::new(alloc);
-    append(&mut bytes, "cicada 1/table a/")?;
-    let mut due = Vec::new(alloc);
-    append(&mut due, "51456 1.1 ok/")?;
-    for key in lo..=last {
-        append(&mut due, &format!(in alloc; ": {key} {key}0/")?)?;
-    }
-    append(&mut due, "table a/")?;
-    for key in 1..=rows {
-        append(&mut bytes, &format!(in alloc; "row a {key} {key}0/")?)?;
-        append(&mut due, &format!(in alloc; "{key} {key}0/")?)?;
-    }
-    append(
-        &mut bytes,
-        &format!(in alloc; "lane/txn/scan a {lo} {hi} {limit}/end/done/")?,
-    )?;
-    append(&mut due, "done/")?;
+    let bytes = scan_input(rt.alloc(), rows, scan)?;
+    let due = scan_due(rt.alloc(), rows, lo, last)?;
     try_report(rt, &bytes, &due)
 }
 
 #[test]
 fn a_scan_lists_what_it_asks_for(rt: HostRuntime) -> Result<(), Fail> {
-    try_scan(&rt, 200, 5, 7, 2, 6)?;
-    try_scan(&rt, 200, 198, 18446744073709551615, 256, 200)?;
-    try_scan(&rt, 16384, 1, 16384, 256, 256)
+    let cases = [
+        (200, "scan a 5 7 2", 5, 6),
+        (200, "scan a 198 18446744073709551615 256", 198, 200),
+        (16384, "scan a 1 16384 256", 1, 256),
+    ];
+    for (rows, scan, lo, last) in cases {
+        try_scan(&rt, rows, scan, lo, last)?;
+    }
+    Ok(())
 }
 
-#[test]
-fn a_block_may_have_64_commands(rt: HostRuntime) -> Result<(), Fail> {
-    let alloc = rt.alloc();
+/// A block of 64 reads of a row that is not there, and its report.
+fn reads(alloc: Global) -> Result<(Vec<u8>, Vec<u8>), AllocError> {
     let mut bytes = Vec::new(alloc);
     append(&mut bytes, "cicada 1/table a/lane/txn/")?;
     append_times(&mut bytes, "get a 1/", 64)?;
@@ -154,35 +181,76 @@ fn a_block_may_have_64_commands(rt: HostRuntime) -> Result<(), Fail> {
     append(&mut due, "256 1.1 ok/")?;
     append_times(&mut due, "= none/", 64)?;
     append(&mut due, "table a/done/")?;
+    Ok((bytes, due))
+}
+
+#[test]
+fn a_block_may_have_64_commands(rt: HostRuntime) -> Result<(), Fail> {
+    let (bytes, due) = reads(rt.alloc())?;
     try_report(&rt, &bytes, &due)
 }
 
-/// Rows, blocks and lanes at the limits of an input: each block adds 1 to the row of its own number.
-#[test]
-fn an_input_at_its_limits_is_reported(rt: HostRuntime) -> Result<(), Fail> {
-    let alloc = rt.alloc();
-    let mut bytes = Vec::new(alloc);
-    append(&mut bytes, "cicada 1/table a/")?;
+/// Appends lines of each key at the limit of rows.
+fn append_rows(bytes: &mut Vec<u8>, front: &str, behind: &str) -> Result<(), AllocError> {
     for key in 1..=16384u64 {
-        append(&mut bytes, &format!(in alloc; "row a {key} 6/")?)?;
+        append(bytes, front)?;
+        append_number(bytes, key)?;
+        append(bytes, behind)?;
     }
-    let mut due = Vec::new(alloc);
-    for lane in 1..=64u32 {
-        append(&mut bytes, "lane/")?;
-        for number in 1..=256u32 {
-            let block = 256 * (lane as u64 - 1) + number as u64;
-            append(&mut bytes, &format!(in alloc; "txn/add a {block} 1/end/")?)?;
-            append(
-                &mut due,
-                &format!(in alloc; "{} {lane}.{number} ok/", 256 * block)?,
-            )?;
+    Ok(())
+}
+
+/// Appends lanes and blocks at the limits of an input, each block with the number of its row.
+fn append_lanes(bytes: &mut Vec<u8>) -> Result<(), AllocError> {
+    for lane in 0..64u64 {
+        append(bytes, "lane/")?;
+        for number in 1..=256u64 {
+            append(bytes, "txn/add a ")?;
+            append_number(bytes, 256 * lane + number)?;
+            append(bytes, " 1/end/")?;
         }
     }
-    append(&mut bytes, "done/")?;
-    append(&mut due, "table a/")?;
-    for key in 1..=16384u64 {
-        append(&mut due, &format!(in alloc; "{key} 7/")?)?;
+    Ok(())
+}
+
+/// Appends the head lines of these blocks.
+fn append_heads(bytes: &mut Vec<u8>) -> Result<(), AllocError> {
+    for lane in 0..64u64 {
+        for number in 1..=256u64 {
+            append_number(bytes, 256 * (256 * lane + number))?;
+            append(bytes, " ")?;
+            append_number(bytes, lane + 1)?;
+            append(bytes, ".")?;
+            append_number(bytes, number)?;
+            append(bytes, " ok/")?;
+        }
     }
+    Ok(())
+}
+
+/// Rows, blocks and lanes at the limits of an input: each block adds 1 to the row of its own number.
+fn greatest(alloc: Global) -> Result<Vec<u8>, AllocError> {
+    let mut bytes = Vec::new(alloc);
+    append(&mut bytes, "cicada 1/table a/")?;
+    append_rows(&mut bytes, "row a ", " 6/")?;
+    append_lanes(&mut bytes)?;
+    append(&mut bytes, "done/")?;
+    Ok(bytes)
+}
+
+/// The report of that input.
+fn greatest_due(alloc: Global) -> Result<Vec<u8>, AllocError> {
+    let mut due = Vec::new(alloc);
+    append_heads(&mut due)?;
+    append(&mut due, "table a/")?;
+    append_rows(&mut due, "", " 7/")?;
     append(&mut due, "done/")?;
+    Ok(due)
+}
+
+#[test]
+fn an_input_at_its_limits_is_reported(rt: HostRuntime) -> Result<(), Fail> {
+    let bytes = greatest(rt.alloc())?;
+    let due = greatest_due(rt.alloc())?;
     try_report(&rt, &bytes, &due)
 }

@@ -1,41 +1,53 @@
 //! What an input declares, the calls of tables, and the values of rows and cells.
 
-use crate::texts::{bytes_of, input_of};
-use replay_model::{Cells, Columns, Tables, is_well_formed};
+use crate::texts::input_from;
+use replay_model::{Cells, Columns, Input, Tables, is_well_formed};
 use std::alloc::Global;
 use std::test::Fail;
 
+/// The numbers of tables, rows, indexes and lanes.
+fn counts(input: &Input) -> [usize; 4] {
+    [
+        input.tables.len(),
+        input.rows.len(),
+        input.indexes.len(),
+        input.lanes.len(),
+    ]
+}
+
+/// Whether the second table has this name, and so many columns.
+fn has_second_table(input: &Input, name: &[u8], columns: u32) -> bool {
+    input.tables.len() > 1 && input.tables.get(1) == name && input.tables.columns(1) == columns
+}
+
+/// Whether the first row and the first index are these.
+fn has_first(input: &Input, row: (u32, u64, Columns), index: (u32, u32)) -> bool {
+    input.rows.len() > 0
+        && input.indexes.len() > 0
+        && *input.rows.get(0) == row
+        && *input.indexes.get(0) == index
+}
+
 #[test]
 fn an_input_keeps_what_it_declares(rt: HostRuntime) -> Result<(), Fail> {
-    let alloc = rt.alloc();
-    let bytes = bytes_of(
-        alloc,
+    let input = input_from(
+        rt.alloc(),
         "cicada 2/table one 1/table two 3/index two 3/row two 4 1 2 3/done/",
     )?;
-    let input = input_of(alloc, &bytes)?;
-    assert_eq!(rt; input.tables.len(), 2);
-    assert_eq!(rt; input.tables.get(1), b"two".as_slice());
-    assert_eq!(rt; input.tables.columns(1), 3);
-    assert_eq!(rt; input.rows.len(), 1);
-    assert_eq!(rt;
-        *input.rows.get(0),
-        (1, 4, Columns::new([1, 2, 3, 0, 0, 0]))
-    );
-    assert_eq!(rt; input.indexes.len(), 1);
-    assert_eq!(rt; *input.indexes.get(0), (1, 3));
-    assert_eq!(rt; input.lanes.len(), 0);
+    assert_eq!(rt; counts(&input), [2, 1, 1, 0]);
+    assert!(rt; has_second_table(&input, b"two", 3));
+    let row = Columns::new([1, 2, 3, 0, 0, 0]);
+    assert!(rt; has_first(&input, (1, 4, row), (1, 3)));
     Ok(())
 }
 
 /// Three tables, of which the second has an index on its second column.
 fn loaded(alloc: Global) -> Result<Tables, Fail> {
-    let bytes = bytes_of(
+    let input = input_from(
         alloc,
         "cicada 2/table a 1/table b 2/index b 2/table c 1/row a 5 1/row b 3 1 9/row b 4 2 8/row b 6 3 9/row b 8 4 7/row c 5 1/done/",
     )?;
-    let input = input_of(alloc, &bytes)?;
-    let fine = is_well_formed(alloc, &input)?;
-    if !fine {
+    if !is_well_formed(alloc, &input)? {
         return Err("the input is well formed".into());
     }
     Ok(Tables::loaded(alloc, &input)?)
@@ -69,20 +81,31 @@ fn tables_have_their_indexes(rt: HostRuntime) -> Result<(), Fail> {
     Ok(())
 }
 
+/// The tables, once changed.
+fn changed(alloc: Global) -> Result<Tables, Fail> {
+    let mut tables = loaded(alloc)?;
+    if !change(&mut tables)? {
+        return Err("a row is not where it should be".into());
+    }
+    Ok(tables)
+}
+
+/// How many rows the second table has.
+fn count(alloc: Global, tables: &Tables) -> Result<usize, Fail> {
+    Ok(tables.pairs(alloc, 1)?.len())
+}
+
 #[test]
 fn tables_are_changed(rt: HostRuntime) -> Result<(), Fail> {
-    let mut tables = loaded(rt.alloc())?;
-    assert!(rt; change(&mut tables)?);
+    let tables = changed(rt.alloc())?;
     assert_eq!(rt; tables.get(1, 5), Some(Columns::new([5, 9, 0, 0, 0, 0])));
-    let all = tables.pairs(rt.alloc(), 1)?;
-    assert_eq!(rt; all.len(), 4);
+    assert_eq!(rt; count(rt.alloc(), &tables)?, 4);
     Ok(())
 }
 
 #[test]
 fn tables_are_scanned_and_searched(rt: HostRuntime) -> Result<(), Fail> {
-    let mut tables = loaded(rt.alloc())?;
-    assert!(rt; change(&mut tables)?);
+    let tables = changed(rt.alloc())?;
     assert_eq!(rt; scanned(rt.alloc(), &tables)?.as_slice(), [4, 5].as_slice());
     assert_eq!(rt;
         found(rt.alloc(), &tables)?.as_slice(),

@@ -4,6 +4,7 @@ ghost use Rattle.std.specs.Prelude.{IfOk};
 ghost use Rattle.replay_model.specs.Input.{IsWellFormed};
 
 use replay_model::{Input, NoMemory, Placed};
+use report_check::printed;
 use std::alloc::{AllocError, Global};
 use std::test::Fail;
 use txn_script::parse;
@@ -16,6 +17,10 @@ pub fn append(bytes: &mut Vec<u8>, text: &str) -> Result<(), AllocError> {
         bytes.push(if byte == b'/' { b'\n' } else { byte })?;
     }
     Ok(())
+}
+
+pub fn append_number(bytes: &mut Vec<u8>, number: u64) -> Result<(), AllocError> {
+    bytes.extend_from_slice(itoa::Buffer::new().format(number).as_bytes())
 }
 
 pub fn append_times(bytes: &mut Vec<u8>, text: &str, times: usize) -> Result<(), AllocError> {
@@ -43,6 +48,18 @@ pub fn input_of(alloc: Global, bytes: &[u8]) -> Result<Input, Fail>
         Ok(input) => Ok(input),
         Err(_) => Err("the text is no input".into()),
     }
+}
+
+/// The input that a text spells.
+pub fn input_from(alloc: Global, text: &str) -> Result<Input, Fail>
+    ensures { IfOk result IsWellFormed }
+{
+    input_of(alloc, &bytes_of(alloc, text)?)
+}
+
+/// The order that these lines of a report print.
+pub fn order_from(alloc: Global, input: &Input, lines: &str) -> Result<Vec<Placed>, Fail> {
+    Ok(printed(alloc, input, &bytes_of(alloc, lines)?)?)
 }
 
 /// The order of an input, lane behind lane.

@@ -236,6 +236,22 @@ fn glance(engine: &Engine<AnyState>, pass: &mut Pass<AnyState>, rid: u32) -> Tol
     Told::Glanced(snapshot.finish(), word_of(value))
 }
 
+fn of_promotion(promotion: Promotion) -> Told {
+    match promotion {
+        Promotion::Promoted(stamp) => Told::Promoted(stamp.number()),
+        Promotion::Inline => Told::Inline,
+        Promotion::Absent => Told::Absent,
+        Promotion::Occupied => Told::Occupied,
+    }
+}
+
+fn of_refusal(fault: PromoteFault) -> Told {
+    match fault {
+        PromoteFault::ClockOut => Told::ClockOut,
+        PromoteFault::Conflict(conflict) => Told::Stopped(conflict),
+    }
+}
+
 // A promotion of a record.
 fn promote(engine: &Engine<AnyState>, pass: &mut Pass<AnyState>, rid: u32) -> Told
     requires { IsSeat engine.now pass.old }
@@ -245,12 +261,8 @@ fn promote(engine: &Engine<AnyState>, pass: &mut Pass<AnyState>, rid: u32) -> To
         return Told::Nothing;
     }
     match pass.promote(engine, rid, 0) {
-        Ok(Promotion::Promoted(stamp)) => Told::Promoted(stamp.number()),
-        Ok(Promotion::Inline) => Told::Inline,
-        Ok(Promotion::Absent) => Told::Absent,
-        Ok(Promotion::Occupied) => Told::Occupied,
-        Err(PromoteFault::ClockOut) => Told::ClockOut,
-        Err(PromoteFault::Conflict(conflict)) => Told::Stopped(conflict),
+        Ok(promotion) => of_promotion(promotion),
+        Err(fault) => of_refusal(fault),
     }
 }
 

@@ -2,19 +2,21 @@
 ghost use Rattle.std.specs.Prelude.{◌≡◌, false};
 ghost use Rattle.pass_rows.specs.Seats.{IsSeat};
 
-use crate::coming::{Size, begin};
-use crate::{limits, stress, threads};
+use crate::calls::{Step, Told, make_all};
+use crate::coming::{Size, begin, shared};
+use crate::flights::{Flight, cross_on, fly_and_settle, fly_on};
+use crate::{limits, refused, stress, threads};
 use histories::AnyState;
 use std::alloc::Global;
 use std::process::Abort;
 use std::sync::Wait;
 use std::test::Fail;
 use std::thread::Threads;
-use txn_engine::{Alone, Engine};
+use txn_engine::{Alone, Engine, Settled};
 
 /// What is played.
 #[derive(Clone, Copy, Drop)]
-pub enum Piece {
+pub enum Piece<'a> {
     /// All seats touch all records.
     Largest,
     /// One pass commits so many times.
@@ -25,6 +27,18 @@ pub enum Piece {
     Stress,
     /// Two passes, of which the first reads one record and the second another; whether both commit is due.
     Both(u32, u32, bool),
+    /// Calls of the passes.
+    Calls(&'a [Step]),
+    /// A transaction of the first pass, and calls of the others.
+    Flies(&'a Flight<'a>),
+    /// That, and what then is settled.
+    Settles(&'a Flight<'a>, Settled),
+    /// Two transactions that cross, and what each one's end has to tell.
+    Crosses((Told, Told)),
+    /// A transaction that meets a pending version, where calls may be refused memory.
+    MeetsPending,
+    /// Transactions that ask for new numbers, where calls may be refused memory.
+    AsksTwice,
 }
 
 /// Plays on a new engine of so many seats.
@@ -33,7 +47,7 @@ pub fn play<R: Threads + Wait + Abort + Sync>(
     alloc: Global,
     seats: u32,
     size: Size,
-    piece: Piece,
+    piece: Piece<'_>,
 ) -> Result<(), Fail> {
     let (engine, alone) = begin(alloc, seats, size)?;
     play_on(rt, alloc, &engine, alone, piece)
@@ -45,7 +59,7 @@ fn play_on<R: Threads + Wait + Abort + Sync>(
     alloc: Global,
     engine: &Engine<AnyState>,
     alone: Alone<AnyState>,
-    piece: Piece,
+    piece: Piece<'_>,
 ) -> Result<(), Fail>
     requires seat { IsSeat engine.now alone.pass }
     requires not_shared { alone.shared ≡ false }
@@ -58,5 +72,14 @@ fn play_on<R: Threads + Wait + Abort + Sync>(
         Piece::Both(first, second, due) => {
             threads::both_commit(rt, engine, alone, (first, second), due)
         }
+        Piece::Calls(steps) => {
+            make_all(rt, engine, &mut shared(alone, engine), steps);
+            Ok(())
+        }
+        Piece::Flies(flight) => fly_on(rt, engine, alone, flight),
+        Piece::Settles(flight, due) => fly_and_settle(rt, alloc, engine, alone, flight, due),
+        Piece::Crosses(due) => cross_on(rt, engine, alone, due),
+        Piece::MeetsPending => refused::meet_pending_on(rt, engine, alone),
+        Piece::AsksTwice => refused::ask_twice_on(rt, engine, alone),
     }
 }

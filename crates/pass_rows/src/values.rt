@@ -31,3 +31,21 @@ pub fn number_of(value: &Option<Cells>) -> Option<u64> {
         Some(u64::MAX)
     }
 }
+
+/// The value of which each word is this one.
+pub fn filled(word: u64) -> Cells {
+    Cells::new([word; 32])
+}
+
+/// The word that each one of a value is, and the greatest one where they differ. `None` is no value.
+pub fn word_of(value: Option<Cells>) -> Option<u64> {
+    let Some(value) = value else {
+        return None;
+    };
+    let word = value.word(0);
+    if value == filled(word) {
+        Some(word)
+    } else {
+        Some(u64::MAX)
+    }
+}

@@ -1,0 +1,218 @@
+//! A transaction of the first pass in flight, while another pass makes calls.
+ghost use Rattle.std.specs.Prelude.{◌≡◌, false, All};
+ghost use Rattle.pass_rows.specs.Seats.{IsSeat};
+
+use crate::calls::{Act, Done, Step, Told, act_on, ended, make_all};
+use crate::coming::{meet, shared, take_first};
+use crate::due::{hold, same};
+use histories::AnyState;
+use std::alloc::Global;
+use std::process::Abort;
+use std::test::Fail;
+use txn_engine::{Alone, Engine, Pass, Settled};
+
+/// A transaction of the first pass that begins at reading 10, and the calls of the others in the meantime.
+#[derive(Clone, Copy)]
+pub struct Flight<'a> {
+    /// What the transaction does.
+    pub act: Act,
+    /// Whether the calls come between its install and its decide; else between its begin and what it does.
+    pub is_linked: bool,
+    pub calls: &'a [Step],
+    /// What its end has to tell.
+    pub due: Told,
+    /// The calls of the others behind it.
+    pub later: &'a [Step],
+}
+
+// The calls come first, and then what the transaction does; whether it began.
+fn fly_open<R: Abort>(
+    rt: &R,
+    engine: &Engine<AnyState>,
+    first: &mut Pass<AnyState>,
+    others: &mut Vec<Pass<AnyState>>,
+    flight: &Flight<'_>,
+) -> bool
+    requires first { IsSeat engine.now first.old }
+    requires others { All (IsSeat engine.now) others.old.items }
+    ensures first { IsSeat engine.now first.new }
+    ensures others { All (IsSeat engine.now) others.new.items }
+{
+    let Ok(mut txn) = first.begin(engine, 10) else {
+        return false;
+    };
+    same(rt, txn.stamp().number(), 2_560, 9);
+    make_all(rt, engine, others, flight.calls);
+    let done = act_on(&mut txn, flight.act, true);
+    same(rt, ended(done, txn.commit()), flight.due, 0);
+    true
+}
+
+// The calls come while its versions are linked; whether it began.
+fn fly_linked<R: Abort>(
+    rt: &R,
+    engine: &Engine<AnyState>,
+    first: &mut Pass<AnyState>,
+    others: &mut Vec<Pass<AnyState>>,
+    flight: &Flight<'_>,
+) -> bool
+    requires first { IsSeat engine.now first.old }
+    requires others { All (IsSeat engine.now) others.old.items }
+    ensures first { IsSeat engine.now first.new }
+    ensures others { All (IsSeat engine.now) others.new.items }
+{
+    let Ok(mut txn) = first.begin(engine, 10) else {
+        return false;
+    };
+    same(rt, txn.stamp().number(), 2_560, 9);
+    let done = act_on(&mut txn, flight.act, true);
+    let Ok(linked) = txn.install() else {
+        hold(rt, false, 1);
+        return true;
+    };
+    make_all(rt, engine, others, flight.calls);
+    let Ok(decided) = linked.decide() else {
+        hold(rt, false, 2);
+        return true;
+    };
+    same(rt, ended(done, Ok(decided.publish())), flight.due, 3);
+    true
+}
+
+// Flies, and again where the begin is refused memory: all is as before then.
+fn fly<R: Abort>(
+    rt: &R,
+    engine: &Engine<AnyState>,
+    first: &mut Pass<AnyState>,
+    others: &mut Vec<Pass<AnyState>>,
+    flight: &Flight<'_>,
+)
+    requires first { IsSeat engine.now first.old }
+    requires others { All (IsSeat engine.now) others.old.items }
+    ensures first { IsSeat engine.now first.new }
+    ensures others { All (IsSeat engine.now) others.new.items }
+{
+    let flown = if flight.is_linked {
+        fly_linked(rt, engine, first, others, flight)
+            || fly_linked(rt, engine, first, others, flight)
+    } else {
+        fly_open(rt, engine, first, others, flight) || fly_open(rt, engine, first, others, flight)
+    };
+    hold(rt, flown, 4);
+    make_all(rt, engine, others, flight.later);
+}
+
+// The transactions of two passes, where the earlier one overwrites what the later one has read and commits first.
+fn cross<R: Abort>(
+    rt: &R,
+    engine: &Engine<AnyState>,
+    first: &mut Pass<AnyState>,
+    second: &mut Pass<AnyState>,
+    due: (Told, Told),
+)
+    requires first { IsSeat engine.now first.old }
+    requires second { IsSeat engine.now second.old }
+    ensures first { IsSeat engine.now first.new }
+    ensures second { IsSeat engine.now second.new }
+{
+    let Ok(mut early) = first.begin(engine, 10) else {
+        hold(rt, false, 0);
+        return;
+    };
+    let Ok(mut late) = second.begin(engine, 20) else {
+        hold(rt, false, 1);
+        early.abort();
+        return;
+    };
+    same(
+        rt,
+        (early.stamp().number(), late.stamp().number()),
+        (2_560, 5_121),
+        6,
+    );
+    same(
+        rt,
+        act_on(&mut late, Act::Read(5), true),
+        Done::Read(None),
+        2,
+    );
+    same(
+        rt,
+        act_on(&mut early, Act::Write(5), true),
+        Done::Nothing,
+        3,
+    );
+    same(rt, ended(Done::Nothing, early.commit()), due.0, 4);
+    same(rt, ended(Done::Nothing, late.commit()), due.1, 5);
+}
+
+// The first pass, alone again, settles what is left.
+fn settle<R: Abort>(rt: &R, engine: &Engine<AnyState>, alone: &mut Alone<AnyState>, due: Settled)
+    requires { IsSeat engine.now alone.old.pass }
+{
+    same(rt, alone.last().number(), 5_120, 5);
+    same(rt, alone.settle(engine), Ok(due), 6);
+    same(rt, alone.last().number(), 5_376, 7);
+    same(rt, alone.rescan(engine), 0, 8);
+}
+
+/// Plays a flight.
+pub fn fly_on<R: Abort>(
+    rt: &R,
+    engine: &Engine<AnyState>,
+    alone: Alone<AnyState>,
+    flight: &Flight<'_>,
+) -> Result<(), Fail>
+    requires seat { IsSeat engine.now alone.pass }
+    requires not_shared { alone.shared ≡ false }
+{
+    let mut passes = shared(alone, engine);
+    let Some(mut first) = take_first(&mut passes, engine) else {
+        return Err("there are two seats".into());
+    };
+    fly(rt, engine, &mut first, &mut passes, flight);
+    Ok(())
+}
+
+/// Plays a flight, and then brings the seats together and settles what is left.
+pub fn fly_and_settle<R: Abort>(
+    rt: &R,
+    alloc: Global,
+    engine: &Engine<AnyState>,
+    alone: Alone<AnyState>,
+    flight: &Flight<'_>,
+    due: Settled,
+) -> Result<(), Fail>
+    requires seat { IsSeat engine.now alone.pass }
+    requires not_shared { alone.shared ≡ false }
+{
+    let mut passes = shared(alone, engine);
+    let Some(mut first) = take_first(&mut passes, engine) else {
+        return Err("there are two seats".into());
+    };
+    fly(rt, engine, &mut first, &mut passes, flight);
+    let mut alone = meet(rt, alloc, engine, first, passes)?;
+    settle(rt, engine, &mut alone, due);
+    Ok(())
+}
+
+/// Plays two transactions that cross.
+pub fn cross_on<R: Abort>(
+    rt: &R,
+    engine: &Engine<AnyState>,
+    alone: Alone<AnyState>,
+    due: (Told, Told),
+) -> Result<(), Fail>
+    requires seat { IsSeat engine.now alone.pass }
+    requires not_shared { alone.shared ≡ false }
+{
+    let mut passes = shared(alone, engine);
+    let Some(mut first) = take_first(&mut passes, engine) else {
+        return Err("there are two seats".into());
+    };
+    let Some(mut second) = take_first(&mut passes, engine) else {
+        return Err("there are two seats".into());
+    };
+    cross(rt, engine, &mut first, &mut second, due);
+    Ok(())
+}

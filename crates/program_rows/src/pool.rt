@@ -1,6 +1,6 @@
 //! A lane that is run where there is no place for what it writes.
 
-ghost use Rattle.std.specs.Prelude.{◌≡◌, All, IfOk, length};
+ghost use Rattle.std.specs.Prelude.{◌≡◌, false, All, IfOk, length};
 ghost use Rattle.lane_runner.specs.Lanes.{MayRun};
 ghost use Rattle.program_rows.specs.Seats.{IsSeat};
 

@@ -13,6 +13,8 @@ mod gates;
 #[cfg(test)]
 mod lanes;
 #[cfg(test)]
+mod pool;
+#[cfg(test)]
 mod runs;
 #[cfg(test)]
 mod streams;

@@ -25,5 +25,6 @@ pub mod Rescanning
 pub mod Settlement
 pub mod Shares
 pub mod Steady
+pub mod Stopped
 pub mod Stuck
 pub mod WriteMore

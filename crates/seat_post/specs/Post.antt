@@ -16,7 +16,7 @@ use Rattle.validate_core.specs.Validating as validating
 use Rattle.validate_core.specs.declared.conflict.Conflict.{Conflict}
 use Rattle.core_rule.specs.Snapshots.{AreAllWhole}
 use Rattle.seat_post.specs.Glance.{GlanceView, glance_of, first_glance, with_read}
-use Rattle.seat_post.specs.Seats.{Others, Known, Observed, IsAloneAt}
+use Rattle.seat_post.specs.Seats.{Others, Known, Observed, IsAloneAt, observed_of}
 use Rattle.seat_post.specs.Conflicts.{Shows}
 use Rattle.seat_post.specs.Logs.{IsAbove}
 use Rattle.seat_post.specs.Leaves.{AreLeft}
@@ -57,7 +57,7 @@ known_in hand = record { counts = hand.view.counts; tops = hand.view.tops }
 
 -- what its steps came upon
 abbrev pub observed_in : Seated → Observed
-observed_in hand = record { loads = hand.view.seen.loads; lost = hand.view.seen.lost }
+observed_in hand = observed_of hand.view
 
 abbrev pub post_view : Seated → Phase → ℕ → (reads writes : List (ℕ × Option (List ℕ))) → PostView
 post_view hand phase stamp reads writes = record {

@@ -15,7 +15,7 @@ use Rattle.version_search.specs.Growing.{Grows}
 use Rattle.rapid_gc.specs.Queues.{Waiting}
 use Rattle.seat_post.specs.Leaves.{LeavesValue}
 use Rattle.seat_post.specs.Logs.{IsAbove}
-use Rattle.seat_post.specs.Seats.{Others, Known, Observed}
+use Rattle.seat_post.specs.Seats.{Others, Known, observed_of}
 use Rattle.seat_post.specs.Conflicts.{ShowsOf, IsLoaded}
 use Rattle.seat_post.specs.Ends.{Stood}
 
@@ -83,10 +83,7 @@ pub record Rewrites (kept : State → Type 0) (records rid place stamp : ℕ) (v
 abbrev pub others_in : View → Others
 others_in v = record { splitting = v.splitting; taken_in = v.clock.taken_in }
 
--- what a view's steps came upon, and what a conflict names was loaded between two views
-abbrev pub observed_of : View → Observed
-observed_of v = record { loads = v.seen.loads; lost = v.seen.lost }
-
+-- what a conflict names was loaded between two views
 abbrev pub IsLoadedIn : (stamp : ℕ) → Conflict → View → View → Type 0
 IsLoadedIn stamp conflict v w = IsLoaded stamp conflict (observed_of v) (observed_of w)
 

@@ -2,7 +2,7 @@
 -- its steps came upon.
 use Rattle.std.specs.Prelude.{◌≡◌, ℕ, zero, suc, Bool, true, ◌==◌, ◌&&◌, ◌||◌, List, []}
 use Rattle.std.specs.List.{list_any}
-use Rattle.core_rule.specs.View.{Splitting, Counted, Top, Load}
+use Rattle.core_rule.specs.View.{View, Splitting, Counted, Top, Load}
 use Rattle.core_rule.specs.Offers.{made_within}
 use Rattle.word_layout.specs.Size.{Size}
 
@@ -36,3 +36,6 @@ pub record Observed : Type 0 where
 
 abbrev pub nothing_observed : Observed
 nothing_observed = record { loads = []; lost = [] }
+
+abbrev pub observed_of : View → Observed
+observed_of v = record { loads = v.seen.loads; lost = v.seen.lost }

@@ -4,12 +4,12 @@ use Rattle.record_store.specs.Meaning.{value_at}
 use Rattle.seat_post.specs.Conflicts.{IsOfAnother}
 use Rattle.seat_post.specs.Post.{PostView, post_view, noted, observing, observed_in}
 use Rattle.seat_post.proofs.ReadMore.{met_at, is_open, open_at, post_room, post_read, post_stopped, post_passed, not_read, found_left, present_met}
-use Rattle.seat_post.proofs.Over.{view_found, none_of, view_stopped}
+use Rattle.seat_post.proofs.Over.{view_found, none_of}
+use Rattle.seat_post.proofs.Stopped.{stopped_post, loaded_post}
 use Rattle.seat_post.specs.Leaves.{LeavesValue}
 use Rattle.seat_post.proofs.Leaving.{some_words}
 use Rattle.version_search.proofs.Grown.{grows_none}
 use Rattle.seat_post.proofs.Observed.{post_grows}
-use Rattle.validate_core.specs.Validating.{Met, no_more}
 use Rattle.seat_post.proofs.post.Post.read_absent.Goals as goal
 
 pub invariant_of-self : goal.invariant_of-self
@@ -98,18 +98,15 @@ returns-in-Err-clause-grows g c = let i = c.self.inside in post_grows i.hand c.s
 
 pub returns-in-Err-clause-loaded : goal.returns-in-Err-clause-loaded
 returns-in-Err-clause-loaded g c =
-    let loads = c.search.new.hand.view.seen.loads in
-    subst (λ (p : PostView). Met p.stamp c.args.rid c.in-Err.met.wts 2 no_more p.observed.loads loads) c.self.view_is
-    (subst (λ (n : ℕ). Met n c.args.rid c.in-Err.met.wts 2 no_more c.self.inside.hand.view.seen.loads loads) c.number.ensures.value c.in-Err.ensures.err.met)
+    let i = c.self.inside in
+    loaded_post i.hand c.search.new.hand i.phase i.stamp _ c.args.rid c.in-Err.met.wts i.reads.entries i.writes.entries c.args.self.now c.self.view_is c.in-Err.ensures.err c.number.ensures.value
 
 pub returns-in-Err-clause-err : goal.returns-in-Err-clause-err
 returns-in-Err-clause-err g c =
     let i = c.self.inside in
     let phase = ap (λ (p : PostView). p.phase) c.self.view_is ∙ c.requires.open in
     let flight = (is_open _ _ _ _ _ _ phase c.self.invariant).at.begun.in_flight in
-    view_stopped i.hand c.search.new.hand i.phase i.stamp _ _ c.args.rid c.in-Err.met.wts c.make_room.new.reads.entries i.writes.entries c.search.ensures.stays.seat.same_table c.in-Err.ensures.err flight
-    ∙ ap (λ es. observing (post_view i.hand i.phase i.stamp es i.writes.entries) (observed_in c.search.new.hand)) c.make_room.ensures.entries
-    ∙ ap (λ (p : PostView). observing p (observed_in c.search.new.hand)) c.self.view_is
+    stopped_post i.hand c.search.new.hand i.phase i.stamp _ c.args.rid c.in-Err.met.wts i.reads.entries i.writes.entries c.args.self.now c.self.view_is c.in-Err.ensures.err _ c.make_room.new.reads.entries c.make_room.ensures.entries c.search.ensures.stays.seat.same_table flight
 
 pub returns-then-is_some-clause-grows : goal.returns-then-is_some-clause-grows
 returns-then-is_some-clause-grows g c = let i = c.self.inside in post_grows i.hand c.search.new.hand i.phase i.stamp i.reads.entries i.writes.entries c.args.self.now c.self.view_is c.in-Ok.ensures.ok.grows

@@ -1,0 +1,24 @@
+-- What a read leaves of a post where it met a pending version.
+use Rattle.std.proofs.Common.{◌≡◌, ℕ, List, Option, subst, ap, ◌∙◌}
+use Rattle.core_rule.specs.View.{writing}
+use Rattle.core_rule.specs.Hands.{Seated}
+use Rattle.validate_core.specs.Validating.{Met, no_more}
+use Rattle.seat_post.specs.Searched.{Stops}
+use Rattle.seat_post.specs.Post.{PostView, post_view, observing, observed_in}
+use Rattle.seat_post.specs.declared.phase.Phase.{Phase}
+use Rattle.seat_post.proofs.Over.{view_stopped}
+
+module _ (hand hand' : Seated) (phase : Phase) (stamp bound rid wts : ℕ) (reads writes : List (ℕ × Option (List ℕ))) (p : PostView) (is : post_view hand phase stamp reads writes ≡ p) (stops : Stops bound rid wts hand.view hand'.view) where
+  -- the same transaction, where there may be more room for its reads
+  pub stopped_post : (t : ℕ) (reads' : List (ℕ × Option (List ℕ))) → reads' ≡ reads → hand'.table ≡ hand.table → hand.view.flight ≡ writing t → post_view hand' phase stamp reads' writes ≡ observing p (observed_in hand')
+  stopped_post t reads' same table flight =
+      view_stopped hand hand' phase stamp t bound rid wts reads' writes table stops flight
+      ∙ ap (λ es. observing (post_view hand phase stamp es writes) (observed_in hand')) same
+      ∙ ap (λ (q : PostView). observing q (observed_in hand')) is
+
+  -- the status of that version was loaded
+  pub loaded_post : bound ≡ stamp → Met p.stamp rid wts 2 no_more p.observed.loads hand'.view.seen.loads
+  loaded_post at =
+      let loads = hand'.view.seen.loads in
+      subst (λ (q : PostView). Met q.stamp rid wts 2 no_more q.observed.loads loads) is
+      (subst (λ (n : ℕ). Met n rid wts 2 no_more hand.view.seen.loads loads) at stops.met)

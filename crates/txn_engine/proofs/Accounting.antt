@@ -131,7 +131,7 @@ or_swap false true c = refl
 or_swap false false c = refl
 
 -- the list with one number less
-on_removed : (xs : List ℕ) (i rid r : ℕ) → slice_get xs i ≡ Some rid → is_on xs r ≡ (eqb r rid || is_on (remove xs i) r)
+pub on_removed : (xs : List ℕ) (i rid r : ℕ) → slice_get xs i ≡ Some rid → is_on xs r ≡ (eqb r rid || is_on (remove xs i) r)
 on_removed [] i rid r at = cc
 on_removed (x ∷ xs) zero rid r at = let same : x ≡ rid = cc in ap (λ n. eqb r n || is_on xs r) same
 on_removed (x ∷ xs) (suc i) rid r at = ap (λ b. eqb r x || b) (on_removed xs i rid r at) ∙ or_swap (eqb r x) (eqb r rid) (is_on (remove xs i) r)

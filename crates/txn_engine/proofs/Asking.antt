@@ -1,40 +1,42 @@
 -- Asking for new record numbers.
-use Rattle.std.proofs.Common.{◌≡◌, ℕ, ◌<◌, ◌+◌, ◌-◌, zero, suc, true, false, Bool, cond, List, [], ◌∷◌, Option, None, Some, refl, sym, ap, subst, ◌∙◌, arith, length, remove, inl, inr}
+use Rattle.std.proofs.Common.{◌≡◌, ℕ, ◌<◌, ◌+◌, ◌-◌, zero, suc, true, false, Bool, ◌||◌, cond, List, [], ◌∷◌, Option, None, Some, refl, sym, ap, subst, ◌∙◌, arith, length, remove, eqb, eq-eqb, inl, inr}
 use Rattle.std.proofs.lemmas.Bool.Decides.{eqb_tells}
-use Rattle.std.specs.Prelude.{IsSome, slice_get}
+use Rattle.std.specs.Prelude.{IsSome, slice_get, Result, Ok, Err, IfErr, IsErrAnd}
 use Rattle.std.proofs.lemmas.Option.{slice_get_within}
 use Rattle.std.proofs.lemmas.List.Edits.{length-remove}
 use Rattle.rapid_gc.specs.Queues.{Waiting}
 use Rattle.record_store.specs.Meaning.{value_at}
 use Rattle.validate_core.specs.declared.conflict.Conflict.{Conflict}
+use Rattle.validate_core.specs.declared.conflict.Conflict.TheVariants.{Pending, ReadLater, Overtaken}
 use Rattle.seat_post.specs.declared.phase.Phase.TheVariants.{Open}
 use Rattle.txn_engine.specs.Pass.{PassView}
 use Rattle.seat_post.specs.Post.{PostView, noted}
-use Rattle.seat_post.specs.Spare.{NumbersView}
+use Rattle.seat_post.specs.Spare.{NumbersView, is_on}
+use Rattle.txn_engine.specs.declared.faults.TxnFault.{TxnFault}
+use Rattle.txn_engine.specs.declared.faults.TxnFault.TheVariants as txn
+use Rattle.txn_engine.specs.Faults.{IfConflict, MeetsAt, MeetsAmong}
 use Rattle.txn_engine.specs.Fresh.{AreWritten, Asks}
+use Rattle.txn_engine.specs.declared.fresh.Asked.{Asked}
 use Rattle.txn_engine.specs.declared.fresh.Asked.TheVariants.{Next}
 use Rattle.txn_engine.specs.Inside.{IsPass}
 use Rattle.txn_engine.proofs.Passes.{pass_read}
+use Rattle.txn_engine.proofs.Accounting.{on_removed}
 
 -- a record was read, and noted where it is absent
 pub pass_asked : (p : PostView) (rid : ℕ) (absent : Bool) (q : Waiting) (n : NumbersView) (refusals : ℕ) (dead : Option Conflict) (counted : Bool) → IsPass p q n refusals dead counted → p.phase ≡ Open → IsPass (cond absent (noted p rid None) p) q n refusals dead counted
 pass_asked p rid true q n refusals dead counted is phase = pass_read p rid None q n refusals dead counted is phase
 pass_asked p rid false q n refusals dead counted is phase = is
 
--- the number at this place is written: the next one is behind it
-pub passed_written : (p : PassView) (i rid : ℕ) → slice_get p.spare i ≡ Some rid → IsSome (value_at p.desk.writes rid) → (length p.spare - (i + 1) < length p.spare - i) × (AreWritten p i → AreWritten p (i + 1))
-passed_written p i rid at some =
-    let within = slice_get_within p.spare i rid at in (
-      omega arith,
-      λ before k r below here. elim (eqb_tells k i) as (λ _. IsSome (value_at p.desk.writes r)) [
-        | inr t ↦ before k r (let apart = t.1 in omega arith) here
-        | inl t ↦ (
-            let same : k ≡ i = t.1 in
-            let found : Some r ≡ Some rid = sym here ∙ ap (λ n. slice_get p.spare n) same ∙ at in
-            let is : r ≡ rid = cc in
-            subst (λ (n : ℕ). IsSome (value_at p.desk.writes n)) (sym is) some)
-      ],
-    )
+-- the number at this place is written, and so is each before the one behind it
+written_behind : (p : PassView) (i rid : ℕ) → slice_get p.spare i ≡ Some rid → IsSome (value_at p.desk.writes rid) → AreWritten p i → AreWritten p (i + 1)
+written_behind p i rid at some before k r below here = elim (eqb_tells k i) as (λ _. IsSome (value_at p.desk.writes r)) [
+  | inr t ↦ before k r (let apart = t.1 in omega arith) here
+  | inl t ↦ (
+      let same : k ≡ i = t.1 in
+      let found : Some r ≡ Some rid = sym here ∙ ap (λ n. slice_get p.spare n) same ∙ at in
+      let is : r ≡ rid = cc in
+      subst (λ (n : ℕ). IsSome (value_at p.desk.writes n)) (sym is) some)
+]
 
 kept_below : (xs : List ℕ) (i k r : ℕ) → k < i → slice_get (remove xs i) k ≡ Some r → slice_get xs k ≡ Some r
 kept_below [] zero k r below at = absurd (omega arith)
@@ -43,23 +45,55 @@ kept_below (x ∷ xs) zero k r below at = absurd (omega arith)
 kept_below (x ∷ xs) (suc i) zero r below at = at
 kept_below (x ∷ xs) (suc i) (suc k) r below at = kept_below xs i k r (omega arith) at
 
--- it is struck off: the next one is at its place
-pub passed_struck : (p : PassView) (i rid : ℕ) → slice_get p.spare i ≡ Some rid → (length (remove p.spare i) - i < length p.spare - i) × (AreWritten p i → AreWritten (record p { spare = remove p.spare i }) i)
-passed_struck p i rid at =
-    let within = slice_get_within p.spare i rid at in
-    let less = length-remove p.spare i within in
-    (omega arith, λ before k r below here. before k r below (kept_below p.spare i k r below here))
+on_more : (b any : Bool) → any ≡ true → (b || any) ≡ true
+on_more true any on = refl
+on_more false any on = on
+
+-- what is on the list without one number was on the list, and so was that number
+kept_on : (xs : List ℕ) (i rid r : ℕ) → slice_get xs i ≡ Some rid → is_on (remove xs i) r ≡ true → is_on xs r ≡ true
+kept_on xs i rid r at on = on_removed xs i rid r at ∙ on_more (eqb r rid) (is_on (remove xs i) r) on
+
+pub on_at : (xs : List ℕ) (i rid : ℕ) → slice_get xs i ≡ Some rid → is_on xs rid ≡ true
+on_at xs i rid at = on_removed xs i rid rid at ∙ ap (λ (b : Bool). b || is_on (remove xs i) rid) (eq-eqb rid rid refl)
+
+-- What is left to ask where the number at a place was not given out: a shorter rest of the list, behind numbers that are written;
+-- all of the pass but its list is the same, and each number of the list was on it.
+pub record LeftToAsk (before after' : PassView) (i next : ℕ) : Type 0 where
+  pub only : after' ≡ record before { spare = after'.spare }
+  pub shorter : length after'.spare - next < length before.spare - i
+  pub written : AreWritten before i → AreWritten after' next
+  pub were_on : (r : ℕ) → is_on after'.spare r ≡ true → is_on before.spare r ≡ true
+
+left_passed : (p : PassView) (i rid : ℕ) → slice_get p.spare i ≡ Some rid → IsSome (value_at p.desk.writes rid) → LeftToAsk p p i (i + 1)
+left_passed p i rid at some = record {
+  only = refl;
+  shorter = let within = slice_get_within p.spare i rid at in omega arith;
+  written = written_behind p i rid at some;
+  were_on = λ r on. on;
+}
+
+left_struck : (p : PassView) (i rid : ℕ) → slice_get p.spare i ≡ Some rid → LeftToAsk p (record p { spare = remove p.spare i }) i i
+left_struck p i rid at = record {
+  only = refl;
+  shorter =
+      let within = slice_get_within p.spare i rid at in
+      let less = length-remove p.spare i within in
+      omega arith;
+  written = λ before k r below here. before k r below (kept_below p.spare i k r below here);
+  were_on = λ r on. kept_on p.spare i rid r at on;
+}
+
+pub asks_left : (before after' : PassView) (i rid next : ℕ) (told : Asked) → slice_get before.spare i ≡ Some rid → told ≡ Next next → Asks i rid before after' told → LeftToAsk before after' i next
+asks_left before after' i rid next told at is asks = elim (subst (λ (a : Asked). Asks i rid before after' a) is asks) as (λ _. LeftToAsk before after' i next) [
+  | inl p ↦ subst (λ (x : PassView). LeftToAsk before x i next) (sym p.0) (subst (λ (n : ℕ). LeftToAsk before before i n) (sym p.2) (left_passed before i rid at p.1))
+  | inr s ↦ subst (λ (x : PassView). LeftToAsk before x i next) (sym s.0) (subst (λ (n : ℕ). LeftToAsk before (record before { spare = remove before.spare i }) i n) (sym s.1) (left_struck before i rid at))
+]
 
 past : (xs : List ℕ) (i k : ℕ) → slice_get xs i ≡ None → k < length xs → k < i
 past [] i k none below = absurd (omega arith)
 past (x ∷ xs) zero k none below = cc
 past (x ∷ xs) (suc i) zero none below = omega arith
 past (x ∷ xs) (suc i) (suc k) none below = let h = past xs i k none (omega arith) in omega arith
-
-pub asks_struck : (before after' : PassView) (i rid : ℕ) → slice_get before.spare i ≡ Some rid → after' ≡ record before { spare = remove before.spare i } → Asks i rid before after' (Next i)
-asks_struck before after' i rid at is =
-    let passed = passed_struck before i rid at in
-    subst (λ (x : PassView). Asks i rid before x (Next i)) (sym is) (refl, passed.0, passed.1)
 
 -- the end of the list was reached
 pub all_written : (p : PassView) (i : ℕ) → AreWritten p i → slice_get p.spare i ≡ None → AreWritten p (length p.spare)
@@ -68,3 +102,16 @@ all_written p i before none k rid below here = before k rid (past p.spare i k no
 pub none_there : (found : Option ℕ) → ((x : ℕ) → found ≡ Some x → ⊥) → found ≡ None
 none_there None none = refl
 none_there (Some x) none = absurd (none x refl)
+
+-- a conflict at a number of the list
+pub meets_among : (rids : List ℕ) (rid : ℕ) (fault : TxnFault) → is_on rids rid ≡ true → IfConflict fault (MeetsAt rid) → IfConflict fault (MeetsAmong rids)
+meets_among rids rid (txn.Conflict (Pending at wts)) on meets = subst (λ (r : ℕ). is_on rids r ≡ true) (sym meets) on
+meets_among rids rid (txn.Conflict (ReadLater at wts rts)) on meets = meets
+meets_among rids rid (txn.Conflict (Overtaken at seen now)) on meets = meets
+meets_among rids rid txn.RecordsOut on meets = tt
+meets_among rids rid txn.NoMemory on meets = tt
+
+-- a call that is refused by the fault of another one
+pub refused_by : {T F : Type 0} (P : F → Type 0) (fault : F) (answer : Result T F) → IsErrAnd answer (λ f. f ≡ fault) → P fault → IfErr answer P
+refused_by P fault (Ok value) is holds = tt
+refused_by P fault (Err f) is holds = subst P (sym is) holds

@@ -1,12 +1,13 @@
 -- Which answers refuse a transaction, and what a conflict says.
-use Rattle.std.specs.Prelude.{◌≡◌, ℕ, ⊤}
+use Rattle.std.specs.Prelude.{◌≡◌, ℕ, List, true, ⊤}
 use Rattle.validate_core.specs.declared.conflict.Conflict.{Conflict}
 use Rattle.validate_core.specs.declared.conflict.Conflict.TheVariants.{Pending, ReadLater, Overtaken}
 use Rattle.txn_engine.specs.declared.faults.TxnFault.{TxnFault}
 use Rattle.txn_engine.specs.declared.faults.TxnFault.TheVariants as txn
 use Rattle.txn_engine.specs.declared.faults.CommitFault.{CommitFault}
 use Rattle.txn_engine.specs.declared.faults.CommitFault.TheVariants as commit
-use Rattle.seat_post.specs.Conflicts.{Shows, ShowsPending}
+use Rattle.seat_post.specs.Conflicts.{Shows, ShowsPending, Touches}
+use Rattle.seat_post.specs.Spare.{is_on}
 use Rattle.txn_engine.specs.Pass.{PassView}
 
 -- want of memory is no refusal
@@ -32,8 +33,18 @@ IsShown p conflict = Shows p.engine.size p.seat p.others p.desk.stamp p.desk.rea
 abbrev pub IsPending : PassView → Conflict → Type 0
 IsPending p conflict = ShowsPending p.engine.size p.seat p.others p.desk.stamp conflict
 
+-- it is of a record that the transaction has read or written
+abbrev pub IsTouched : PassView → Conflict → Type 0
+IsTouched p conflict = Touches p.desk.reads p.desk.writes conflict
+
 -- the conflict that a read of this record meets
 abbrev pub MeetsAt : ℕ → Conflict → Type 0
 MeetsAt rid (Pending at wts) = at ≡ rid
 MeetsAt rid (ReadLater at wts rts) = ⊥
 MeetsAt rid (Overtaken at seen now) = ⊥
+
+-- the conflict that a read of one of these records meets
+abbrev pub MeetsAmong : List ℕ → Conflict → Type 0
+MeetsAmong rids (Pending at wts) = is_on rids at ≡ true
+MeetsAmong rids (ReadLater at wts rts) = ⊥
+MeetsAmong rids (Overtaken at seen now) = ⊥

@@ -1,5 +1,5 @@
 -- How a transaction asks for a new record number.
-use Rattle.std.specs.Prelude.{◌≡◌, ℕ, ◌<◌, ◌-◌, ◌∷◌, ◌++◌, [], None, Some, IsSome, length, slice_get, remove}
+use Rattle.std.specs.Prelude.{◌≡◌, ◌⊎◌, ℕ, ◌<◌, ◌+◌, ◌∷◌, ◌++◌, [], None, Some, IsSome, slice_get, remove}
 use Rattle.record_store.specs.Meaning.{value_at, after_read}
 use Rattle.record_store.specs.Store.{IsFresh}
 use Rattle.txn_engine.specs.declared.fresh.Asked.{Asked}
@@ -18,7 +18,15 @@ given_out p i rid = record (read_absent p rid) { spare = remove p.spare i; given
 abbrev pub AreWritten : PassView → ℕ → Type 0
 AreWritten p i = (k rid : ℕ) → k < i → slice_get p.spare k ≡ Some rid → IsSome (value_at p.desk.writes rid)
 
--- the number at this place was given out; or it stays, since it is written, or is struck off, and the next one is at that place
+-- the number at this place stays, since it is written, and the next one is behind it
+abbrev pub Passes : (i rid : ℕ) (before after' : PassView) (next : ℕ) → Type 0
+Passes i rid before after' next = (after' ≡ before) × IsSome (value_at before.desk.writes rid) × (next ≡ i + 1)
+
+-- it is struck off, and the next one is at its place
+abbrev pub Strikes : (i : ℕ) (before after' : PassView) (next : ℕ) → Type 0
+Strikes i before after' next = (after' ≡ record before { spare = remove before.spare i }) × (next ≡ i)
+
+-- what asking for the number at this place makes of the pass: it is given out, or the next one is to be asked for
 abbrev pub Asks : (i rid : ℕ) (before after' : PassView) → Asked → Type 0
 Asks i rid before after' Given = IsFresh (store_of before) rid × (after' ≡ given_out before i rid)
-Asks i rid before after' (Next j) = (after' ≡ record before { spare = after'.spare }) × (length after'.spare - j < length before.spare - i) × (AreWritten before i → AreWritten after' j)
+Asks i rid before after' (Next next) = Passes i rid before after' next ⊎ Strikes i before after' next

@@ -25,9 +25,10 @@ pub record EngineView : Type 0 where
   pub fixed : ℕ
 
 -- A seat of an engine, with its clock; its published write word, a number that no entry to come is stamped under; the boost of its
--- clock; the seats that it takes as open; what it knows of the records' lists; its log; the greatest `min_wts` that it has met; the
--- versions below which it has not yet collected; what a snapshot has read at its read stamp, while no stamp of a transaction is in flight; its spare record numbers, without those that are given out to the transaction in
--- flight, and these; how often it was refused; and that transaction.
+-- clock; the seats that it takes as open; what it knows of the records' lists; its log; the greatest `min_wts` that it has met; what
+-- a snapshot has read at its read stamp, while no stamp of a transaction is in flight; the versions below which it has not yet
+-- collected; its spare record numbers, without those that are given out to the transaction in flight, and these; how often it was
+-- refused; and that transaction.
 pub record PassView : Type 0 where
   pub engine : EngineView
   pub seat : ℕ

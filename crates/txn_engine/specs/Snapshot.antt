@@ -17,8 +17,8 @@ looking p stamp = record p { met = stamp + 1; glance = first_glance stamp }
 abbrev pub finished : PassView → GlanceView → PassView
 finished p g = record p { log = p.log ++ entry_of_glance g ∷ []; glance = first_glance g.stamp }
 
--- A snapshot begins: its stamp is at least one less than the minimum met before, and no snapshot of the log is above it. It is below what is
--- published and below the next stamp. Of a seat that is alone it is at least one less than what is published.
+-- A snapshot begins: its stamp is at least one less than the minimum met before, and no snapshot of the log is above it. It is below
+-- what is published and below the next stamp. Of a seat that is alone it is at least one less than what is published.
 pub record Begins (before after' : PassView) : Type 0 where
   pub stamp : ℕ
   pub pass : after' ≡ looking before stamp

@@ -7,6 +7,7 @@ ghost use Rattle.seat_post.specs.Leaves.{IsPresent};
 ghost use Rattle.txn_engine.specs.Leaves.{HoldsAbsent, NoneLeft};
 ghost use Rattle.txn_engine.specs.Accounts.{accounted};
 ghost use Rattle.seat_post.specs.Spare.{is_on};
+ghost use Rattle.txn_engine.specs.Faults.{IfConflict, MeetsAt, MeetsAmong};
 ghost use Rattle.txn_engine.specs.Txn.{Fails};
 ghost use Rattle.txn_engine.specs.Fresh.{read_absent, given_out, AreWritten, Asks};
 
@@ -40,6 +41,7 @@ impl<J: Keeps> Pass<J> {
         ensures err { OnErr result (store_of self.new ≡ store_of self.old) }
         ensures stays { OnErr result (frame self.new ≡ frame self.old) }
         ensures fails { IfErr result (Fails self.new) }
+        ensures meets { IfErr result (λ fault. IfConflict fault (MeetsAt rid)) }
         ensures never { IfErr result (λ fault. fault ≢ TxnFault.RecordsOut) }
     {
         if let Some(value) = self.post.known(rid) {
@@ -66,6 +68,7 @@ impl<J: Keeps> Pass<J> {
         ensures err { OnErr result (store_of self.new ≡ store_of self.old) }
         ensures stays { frame self.new ≡ frame self.old }
         ensures fails { IfErr result (Fails self.new) }
+        ensures meets { IfErr result (λ fault. IfConflict fault (MeetsAt rid)) }
         ensures never { IfErr result (λ fault. fault ≢ TxnFault.RecordsOut) }
     {
         if self.post.is_written(rid) {
@@ -80,7 +83,8 @@ impl<J: Keeps> Pass<J> {
         }
     }
 
-    /// Gives out the first spare number that is absent and not written. Numbers that are present are struck off the list.
+    /// Gives out the first spare number that is absent and not written. Numbers that are present are struck off the list. A
+    /// conflict that is first met here is of one of the spare numbers.
     pub(crate) fn fresh(&mut self, engine: &Engine<J>) -> Result<u32, TxnFault>
         requires engine { self.old.engine ≡ engine.now }
         requires open { self.old.desk.phase ≡ Phase.Open }
@@ -93,6 +97,7 @@ impl<J: Keeps> Pass<J> {
         ensures records_out { IfErr result (λ fault. fault ≡ TxnFault.RecordsOut → AreWritten self.new (length self.new.spare)) }
         ensures accounts { accounted self.new ≡ accounted self.old }
         ensures none_left { IfErr result (λ fault. fault ≡ TxnFault.RecordsOut → HoldsAbsent self.new → NoneLeft self.new) }
+        ensures meets { IfErr result (λ fault. self.old.desk.dead ≡ None → IfConflict fault (MeetsAmong self.old.spare)) }
     {
         self.stopped()?;
         let mut i = 0;

@@ -1,9 +1,10 @@
 //! What a store over a pass answers: that of an open transaction, and else that of a store of no records.
-ghost use Rattle.std.specs.Prelude.{◌≡◌, ◌≤◌, IfOk, IfErr, OnErr};
+ghost use Rattle.std.specs.Prelude.{◌≡◌, ◌≤◌, None, IfOk, IfErr, OnErr};
 ghost use Rattle.record_store.specs.Limits.{record_limit};
 ghost use Rattle.record_store.specs.Meaning.{after_fresh, after_undo};
 ghost use Rattle.record_store.specs.Store.{IsFresh};
 ghost use Rattle.txn_engine.specs.Pass.{PassView, meaning_of_pass, frame};
+ghost use Rattle.txn_engine.specs.Faults.{IfConflict, MeetsAmong};
 ghost use Rattle.txn_engine.specs.Txn.{Refuses};
 ghost use Rattle.txn_engine.specs.Leaves.{HoldsAbsent, NoneLeft};
 ghost use Rattle.txn_engine.specs.Accounts.{accounted};
@@ -35,6 +36,7 @@ impl<J: Keeps> Pass<J> {
         ensures refuses { Refuses self.old self.new result }
         ensures accounts { accounted self.new ≡ accounted self.old }
         ensures none_left { IfErr result (λ fault. fault ≡ TxnFault.RecordsOut → HoldsAbsent self.new → NoneLeft self.new) }
+        ensures meets { IfErr result (λ fault. self.old.desk.dead ≡ None → IfConflict fault (MeetsAmong self.old.spare)) }
     {
         match self.post.phase() {
             Phase::Open => self.fresh(engine),

@@ -1,5 +1,5 @@
 //! A transaction whose versions are linked, and one that is decided.
-ghost use Rattle.std.specs.Prelude.{◌≡◌, ◌≢◌, ◌+◌, ◌++◌, ◌∷◌, List, [], OnOk, IfOk, IfErr, IfSome, length};
+ghost use Rattle.std.specs.Prelude.{◌≡◌, ◌≢◌, ◌+◌, ◌++◌, ◌∷◌, List, [], None, OnOk, IfOk, IfErr, IfSome, length};
 ghost use Rattle.std.specs.Borrow.{sem, RestsIfErr};
 ghost use Rattle.plain_data.specs.declared.entry.Entry.{Entry};
 ghost use Rattle.std.proofs.Props.{props};
@@ -13,7 +13,7 @@ ghost use Rattle.txn_engine.specs.Lists.{IsFull, IsTidyOnceCollected, IsRoomyOnc
 ghost use Rattle.txn_engine.specs.Pass.{IsAlone, knowing, entry_of, installed, decided, published, refused, aborted};
 ghost use Rattle.seat_post.specs.Logs.{IsAbove};
 ghost use Rattle.seat_post.specs.Ends.{Stood};
-ghost use Rattle.txn_engine.specs.Faults.{IsShown, MatchStopped};
+ghost use Rattle.txn_engine.specs.Faults.{IsShown, IsTouched, MatchStopped};
 
 use crate::engine::{Engine, Lent};
 use crate::faults::CommitFault;
@@ -56,6 +56,7 @@ impl<'a, J: Keeps, E: Lent<J>> TxnOver<'a, J, E> {
         ensures engine { IfOk result (λ t. t.engine ≡ self.entry.engine) }
         ensures linked { IfOk result (λ t. t.linked.stamp ≡ self.entry.pass.now.desk.stamp) }
         ensures dead { IfErr result (λ fault. IfSome self.entry.pass.now.desk.dead (λ conflict. fault ≡ CommitFault.Conflict conflict)) }
+        ensures alive_err { self.entry.pass.now.desk.dead ≡ None → IfErr result (λ fault. fault ≡ CommitFault.PlacesOut) }
         ensures cause { IfErr result (λ fault. MatchStopped fault (IsShown self.entry.pass.now) (self.entry.pass.now.desk.writes ≢ [])) }
         ensures read_left { IsAlone self.entry.pass.now → AreLeft self.entry.pass.now.log self.entry.pass.now.desk.stamp self.entry.pass.now.desk.reads }
         ensures before { IfOk result (λ t. known_before (length self.entry.pass.now.desk.writes) t.pass.now.known ≡ self.entry.pass.now.known) }
@@ -85,6 +86,7 @@ impl<'a, J: Keeps, E: Lent<J>> InstalledOver<'a, J, E> {
         ensures stood { OnOk result (Stood J.kept self.entry.pass.now.engine.size.records self.entry.pass.now.log (entry_of self.entry.pass.now.desk)) }
         ensures entered { IfOk result (λ t. t.entered.stamp ≡ self.entry.pass.now.desk.stamp) }
         ensures shown { IfErr result (IsShown self.entry.pass.now) }
+        ensures touched { IfErr result (IsTouched self.entry.pass.now) }
     {
         let InstalledOver {
             pass,

@@ -1,5 +1,5 @@
 //! What a transaction does at its pass.
-ghost use Rattle.std.specs.Prelude.{◌≡◌, ◌≢◌, ◌+◌, ◌<◌, ◌≤◌, ◌++◌, [], None, Some, Ok, Err, IfOk, IfErr, OnOk, OnErr, IfSome, length};
+ghost use Rattle.std.specs.Prelude.{◌≡◌, ◌≢◌, ◌+◌, ◌<◌, ◌≤◌, ◌++◌, [], None, Some, Ok, Err, IfOk, IfErr, OnOk, OnErr, IfSome, IsSome, length, ⊤};
 ghost use Rattle.plain_data.specs.State.{Fits};
 ghost use Rattle.record_store.specs.Limits.{record_limit};
 ghost use Rattle.record_store.specs.Meaning.{known, after_read, after_write, after_fresh, after_undo};
@@ -12,7 +12,7 @@ ghost use Rattle.txn_engine.specs.Lists.{IsFull, IsTidyOnceCollected, IsRoomyOnc
 ghost use Rattle.txn_engine.specs.Pass.{PassView, IsAlone, knowing, store_of, entry_of, counted, doomed, cleared, aborted, refused, installed, decided, queued, published, committed, frame};
 ghost use Rattle.seat_post.specs.Logs.{IsAbove};
 ghost use Rattle.seat_post.specs.Ends.{Stood};
-ghost use Rattle.txn_engine.specs.Faults.{IsShown, MatchStopped, IfConflict, MeetsAt};
+ghost use Rattle.txn_engine.specs.Faults.{IsShown, IsTouched, MatchStopped, IfConflict, MeetsAt};
 ghost use Rattle.txn_engine.specs.Txn.{Fails};
 ghost use Rattle.seat_post.specs.Conflicts.{ShowsPending};
 ghost use Rattle.seat_post.specs.FirstRead.{first_record};
@@ -120,6 +120,7 @@ impl<J> Pass<J> {
     pub(crate) fn stopped(&mut self) -> Result<(), TxnFault>
         ensures ok { OnOk result ((self.new ≡ self.old) × (self.old.desk.dead ≡ None)) }
         ensures err { OnErr result (self.new ≡ counted self.old) }
+        ensures met { OnErr result (IsSome self.old.desk.dead) }
         ensures answer { IfErr result (λ fault. IfSome self.old.desk.dead (λ conflict. fault ≡ TxnFault.Conflict conflict)) }
         ensures fails { IfErr result (Fails self.new) }
         ensures never { IfErr result (λ fault. fault ≢ TxnFault.RecordsOut) }
@@ -142,6 +143,7 @@ impl<J: Keeps> Pass<J> {
         ensures stamp { IfOk result (λ installed. installed.stamp ≡ self.old.desk.stamp) }
         ensures err { OnErr result (self.new ≡ refused (knowing self.old self.new.known)) }
         ensures dead { IfErr result (λ fault. IfSome self.old.desk.dead (λ conflict. fault ≡ CommitFault.Conflict conflict)) }
+        ensures alive_err { self.old.desk.dead ≡ None → IfErr result (λ fault. fault ≡ CommitFault.PlacesOut) }
         ensures cause { IfErr result (λ fault. MatchStopped fault (IsShown self.old) (self.old.desk.writes ≢ [])) }
         ensures above { OnOk result (IsAbove self.old.log self.old.desk.stamp) }
         ensures read_left { IsAlone self.old → AreLeft self.old.log self.old.desk.stamp self.old.desk.reads }
@@ -189,6 +191,7 @@ impl<J: Keeps> Pass<J> {
         ensures stamp { IfOk result (λ decided. decided.stamp ≡ self.old.desk.stamp) }
         ensures err { OnErr result (self.new ≡ refused self.old) }
         ensures shown { IfErr result (IsShown self.old) }
+        ensures touched { IfErr result (IsTouched self.old) }
     {
         match self.post.decide(&engine.core, linked) {
             Ok(decided) => Ok(decided),
@@ -237,6 +240,7 @@ impl<J: Keeps> Pass<J> {
         ensures err { OnErr result (self.new ≡ refused (knowing self.old self.new.known)) }
         ensures dead { IfErr result (λ fault. IfSome self.old.desk.dead (λ conflict. fault ≡ CommitFault.Conflict conflict)) }
         ensures cause { IfErr result (λ fault. MatchStopped fault (IsShown self.old) (self.old.desk.writes ≢ [])) }
+        ensures touched { self.old.desk.dead ≡ None → IfErr result (λ fault. MatchStopped fault (IsTouched self.old) ⊤) }
         ensures read_left { IsAlone self.old → AreLeft self.old.log self.old.desk.stamp self.old.desk.reads }
         ensures linked { OnOk result (AreLinked self.old.desk.writes self.old.desk.stamp self.old.known self.new.known) }
         ensures some_linked { OnErr result (AreSomeLinked self.old.desk.writes self.old.desk.stamp self.old.known self.new.known) }
@@ -299,6 +303,7 @@ impl<J: Keeps> Pass<J> {
         ensures stays { frame self.new ≡ frame self.old }
         ensures fails { IfErr result (Fails self.new) }
         ensures dead { IfErr result (λ fault. IfSome self.old.desk.dead (λ conflict. fault ≡ TxnFault.Conflict conflict)) }
+        ensures alive { IfErr result (λ fault. self.old.desk.dead ≡ None → fault ≡ TxnFault.NoMemory) }
         ensures never { IfErr result (λ fault. fault ≢ TxnFault.RecordsOut) }
     {
         self.stopped()?;

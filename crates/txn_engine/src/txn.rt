@@ -1,5 +1,5 @@
 //! A transaction: it holds its pass until it ends.
-ghost use Rattle.std.specs.Prelude.{◌≡◌, ◌≢◌, ◌+◌, ◌≤◌, [], None, OnOk, OnErr, IfOk, IfErr, IfSome, length};
+ghost use Rattle.std.specs.Prelude.{◌≡◌, ◌≢◌, ◌+◌, ◌≤◌, [], None, OnOk, OnErr, IfOk, IfErr, IfSome, length, ⊤};
 ghost use Rattle.std.specs.Borrow.{sem, RestsIfErr};
 ghost use Rattle.std.proofs.Props.{props};
 ghost use Rattle.plain_data.specs.State.{Fits};
@@ -12,7 +12,7 @@ ghost use Rattle.txn_engine.specs.Lists.{IsFull, IsTidyOnceCollected, IsRoomyOnc
 ghost use Rattle.txn_engine.specs.Pass.{IsIdle, IsAlone, knowing, next_clock, begun, entry_of, installed, decided, published, committed, refused, aborted};
 ghost use Rattle.seat_post.specs.Logs.{IsAbove};
 ghost use Rattle.seat_post.specs.Ends.{Stood};
-ghost use Rattle.txn_engine.specs.Faults.{IsShown, MatchStopped};
+ghost use Rattle.txn_engine.specs.Faults.{IsShown, IsTouched, MatchStopped};
 ghost use Rattle.seat_post.specs.FirstRead.{first_record};
 
 use crate::engine::{Engine, Lent};
@@ -88,7 +88,7 @@ impl<'a, J: Keeps, E: Lent<J>> TxnOver<'a, J, E> {
     /// Commits. At `Ok` its entry stands at the end of the log, and a kept state of the history agrees with its reads.
     ///
     /// The condition: from every kept state that agrees with its reads, its writes leave a kept state. A conflict is one that
-    /// a read met or that validation meets; `PlacesOut` comes only where something is written. Where the seat is alone and knows of
+    /// a read met or that validation meets, at a record that was read or is written; `PlacesOut` comes only where something is written. Where the seat is alone and knows of
     /// one version at most outside the inline place of each record, it comes only where the spare places are no more than the
     /// records and the writes together.
     pub fn commit(self) -> Result<Committed, CommitFault>
@@ -102,6 +102,7 @@ impl<'a, J: Keeps, E: Lent<J>> TxnOver<'a, J, E> {
         ensures err { OnErr result (self.exit.0.now ≡ refused (knowing self.entry.pass.now self.exit.0.now.known)) }
         ensures dead { IfErr result (λ fault. IfSome self.entry.pass.now.desk.dead (λ conflict. fault ≡ CommitFault.Conflict conflict)) }
         ensures cause { IfErr result (λ fault. MatchStopped fault (IsShown self.entry.pass.now) (self.entry.pass.now.desk.writes ≢ [])) }
+        ensures touched { self.entry.pass.now.desk.dead ≡ None → IfErr result (λ fault. MatchStopped fault (IsTouched self.entry.pass.now) ⊤) }
         ensures read_left { IsAlone self.entry.pass.now → AreLeft self.entry.pass.now.log self.entry.pass.now.desk.stamp self.entry.pass.now.desk.reads }
         ensures linked { OnOk result (AreLinked self.entry.pass.now.desk.writes self.entry.pass.now.desk.stamp self.entry.pass.now.known self.exit.0.now.known) }
         ensures some_linked { OnErr result (AreSomeLinked self.entry.pass.now.desk.writes self.entry.pass.now.desk.stamp self.entry.pass.now.known self.exit.0.now.known) }
@@ -146,13 +147,14 @@ impl<J: Keeps, E: Lent<J>> RecordRead for TxnOver<'_, J, E> {
 impl<J: Keeps, E: Lent<J>> RecordStore for TxnOver<'_, J, E> {
     ghost use Rattle.txn_engine.specs.Txn.{Refuses};
     ghost use Rattle.txn_engine.specs.Accounts.{Stays};
+    ghost use Rattle.txn_engine.specs.Faults.{IfConflict, MeetsAmong};
     ghost use Rattle.txn_engine.specs.Leaves.{HoldsAbsent, NoneLeft};
     ghost use Rattle.txn_engine.specs.declared.faults.TxnFault.TheVariants as out;
-    ghost use Rattle.std.specs.Prelude.{◌≡◌, ◌≢◌, IfErr};
+    ghost use Rattle.std.specs.Prelude.{◌≡◌, ◌≢◌, IfErr, None};
 
-    ghost write_gives = { λ t _ _ answer t'. Refuses t.pass.now t'.pass.now answer × Stays t.pass.now t'.pass.now × IfErr answer (λ fault. fault ≢ out.RecordsOut) };
+    ghost write_gives = { λ t _ _ answer t'. Refuses t.pass.now t'.pass.now answer × Stays t.pass.now t'.pass.now × IfErr answer (λ fault. fault ≢ out.RecordsOut) × IfErr answer (λ fault. t.pass.now.desk.dead ≡ None → fault ≡ out.NoMemory) };
 
-    ghost fresh_gives = { λ t answer t'. Refuses t.pass.now t'.pass.now answer × Stays t.pass.now t'.pass.now × IfErr answer (λ fault. fault ≡ out.RecordsOut → HoldsAbsent t'.pass.now → NoneLeft t'.pass.now) };
+    ghost fresh_gives = { λ t answer t'. Refuses t.pass.now t'.pass.now answer × Stays t.pass.now t'.pass.now × IfErr answer (λ fault. fault ≡ out.RecordsOut → HoldsAbsent t'.pass.now → NoneLeft t'.pass.now) × IfErr answer (λ fault. t.pass.now.desk.dead ≡ None → IfConflict fault (MeetsAmong t.pass.now.spare)) };
 
     fn write(&mut self, rid: u32, value: Option<Cells>) -> Result<(), TxnFault> {
         self.pass.write(rid, &value)

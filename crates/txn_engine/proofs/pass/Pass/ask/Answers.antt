@@ -1,4 +1,4 @@
-use Rattle.std.proofs.Common.{◌≡◌, ◌<◌, ◌++◌, ◌∷◌, [], ap, ◌∙◌, sym, subst, refl, length, remove}
+use Rattle.std.proofs.Common.{◌≡◌, ◌<◌, ◌++◌, ◌∷◌, [], ap, ◌∙◌, sym, subst, refl, length, remove, inl, inr}
 use Rattle.std.specs.Prelude.{IsSome, is_some}
 use Rattle.std.proofs.lemmas.Option.{slice_get_within}
 use Rattle.record_store.specs.Meaning.{value_at}
@@ -7,14 +7,12 @@ use Rattle.txn_engine.specs.Inside.{pass_view}
 use Rattle.seat_post.specs.Spare.{NumbersView}
 use Rattle.txn_engine.specs.Accounts.{accounted}
 use Rattle.txn_engine.proofs.Accounting.{accounted_given, accounted_struck}
-use Rattle.txn_engine.proofs.Asking.{passed_written, asks_struck}
 use Rattle.txn_engine.proofs.pass.Pass.ask.Goals as goal
 
 pub returns-then-is_written-clause-ok : goal.returns-then-is_written-clause-ok
 returns-then-is_written-clause-ok g c =
     let some : IsSome (value_at c.args.self.now.desk.writes c.args.rid) = ap (λ (x : PassView). is_some (value_at x.desk.writes c.args.rid)) (sym c.self.view_is) ∙ sym c.is_written.ensures ∙ c.if-is_written.true in
-    let passed = passed_written c.args.self.now c.args.i c.args.rid c.requires.at some in
-    (refl, passed.0, passed.1)
+    inl (refl, some, refl)
 
 pub give-requires : goal.give-requires
 give-requires g c =
@@ -34,7 +32,7 @@ returns-else-branch-clause-ok g c =
     let kept : c.is_absent.new.self ≡ c.args.self.now = rw c.if-branch.false at c.in_ok-is_absent.ensures.ok in
     let is : pass_view i.post i.boost i.queue c.strike.new.self i.refusals i.dead i.counted ≡ record c.args.self.now { spare = remove c.args.self.now.spare c.args.i } =
     ap (λ (n : NumbersView). pass_view i.post i.boost i.queue n i.refusals i.dead i.counted) c.strike.ensures ∙ ap (λ (x : PassView). record x { spare = remove x.spare c.args.i }) (c.self-2.view_is ∙ kept) in
-    asks_struck c.args.self.now _ c.args.i c.args.rid c.requires.at is
+    inr (is, refl)
 
 pub returns-then-branch-clause-accounts : goal.returns-then-branch-clause-accounts
 returns-then-branch-clause-accounts g c =

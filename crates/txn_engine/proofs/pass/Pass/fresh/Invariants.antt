@@ -1,4 +1,5 @@
-use Rattle.std.proofs.Common.{◌≡◌, ◌-◌, length}
+use Rattle.std.proofs.Common.{◌≡◌, ◌-◌, ℕ, true, length}
+use Rattle.seat_post.specs.Spare.{is_on}
 use Rattle.txn_engine.specs.Fresh.{AreWritten}
 use Rattle.txn_engine.specs.Accounts.{accounted}
 use Rattle.txn_engine.proofs.pass.Pass.fresh.Given as goal
@@ -8,6 +9,7 @@ invariant-loop-rid g l = record {
   same : l.self ≡ record l.fn.self { spare = l.self.spare };
   written : AreWritten l.self l.i;
   accounts : accounted l.self ≡ accounted l.fn.self;
+  were_on : (r : ℕ) → is_on l.self.spare r ≡ true → is_on l.fn.self.spare r ≡ true;
 }
 
 abbrev pub decreases-loop-rid : goal.decreases-loop-rid

@@ -1,5 +1,5 @@
 -- What is added to a pass, call behind call.
-use Rattle.std.proofs.Common.{◌≡◌, ◌+◌, ◌<◌, ◌≤◌, List, [], ◌∷◌, ◌++◌, append-nil, append_assoc, refl, sym, ap, subst, ◌∙◌, arith, ⊎_elim, inl, inr}
+use Rattle.std.proofs.Common.{◌≡◌, ◌+◌, ◌≤◌, List, [], ◌∷◌, ◌++◌, append-nil, append_assoc, refl, sym, ap, subst, ◌∙◌, arith, ⊎_elim, inl, inr}
 use Rattle.plain_data.specs.declared.entry.Entry.{Entry}
 use Rattle.stamp_base.specs.Stamp.{bound_of_clock}
 use Rattle.core_rule.specs.Views.{Among}
@@ -7,20 +7,24 @@ use Rattle.core_rule.proofs.Among.{Among-left, Among-right, Among-split}
 use Rattle.txn_engine.specs.Pass.{PassView, IsIdle, IsAlone}
 use Rattle.lane_runner.specs.Adds.{IsNext, IsLater, AreInOrder, Adds}
 
--- nothing is added
-pub Adds-none : (p : PassView) → IsIdle p → Adds p p []
-Adds-none p idle = record {
-  engine = refl;
-  seat = refl;
-  others = refl;
+-- no entry is added
+pub Adds-no_entry : (p q : PassView) → q.engine ≡ p.engine → q.seat ≡ p.seat → q.others ≡ p.others → IsIdle q → q.log ≡ p.log → p.clock ≤ q.clock → p.met ≤ q.met → p.refusals ≤ q.refusals → Adds p q []
+Adds-no_entry p q engine seat others idle log clock met refusals = record {
+  engine = engine;
+  seat = seat;
+  others = others;
   idle = idle;
-  log = sym (append-nil p.log);
+  log = log ∙ sym (append-nil p.log);
   each = λ entry among. absurd among;
   in_order = tt;
-  clock = omega arith;
-  met = omega arith;
-  refusals = omega arith;
+  clock = clock;
+  met = met;
+  refusals = refusals;
 }
+
+-- nothing is added
+pub Adds-none : (p : PassView) → IsIdle p → Adds p p []
+Adds-none p idle = Adds-no_entry p p refl refl refl idle refl (omega arith) (omega arith) (omega arith)
 
 -- one entry is added
 pub Adds-one : (p q : PassView) (entry : Entry) → IsNext p entry → q.engine ≡ p.engine → q.seat ≡ p.seat → q.others ≡ p.others → IsIdle q → q.log ≡ p.log ++ entry ∷ [] → p.clock ≤ q.clock → p.met ≤ q.met → p.refusals ≤ q.refusals → Adds p q (entry ∷ [])

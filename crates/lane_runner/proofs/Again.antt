@@ -1,12 +1,11 @@
 -- What is left where the seat that is alone has settled: values written again leave the tables.
-use Rattle.std.proofs.Common.{◌≡◌, ◌⊎◌, ℕ, ◌+◌, ◌*◌, ◌<◌, ◌≤◌, true, false, List, [], ◌∷◌, ◌++◌, append-nil, append_assoc, Option, Result, Ok, Err, refl, sym, ap, subst, ◌∙◌, inl, inr, ⊎_elim, arith, All, AllPairs, Contains}
+use Rattle.std.proofs.Common.{◌≡◌, ℕ, ◌+◌, ◌*◌, ◌<◌, ◌≤◌, true, false, List, [], ◌∷◌, ◌++◌, append-nil, append_assoc, Option, Result, Ok, Err, refl, sym, ap, subst, ◌∙◌, ⊎_elim, arith, All, AllPairs}
 use Rattle.std.specs.Prelude.{IfOk, OnOk}
 use Rattle.std.proofs.lemmas.List.Elements.{All-nil, All-cons, All-head, All-tail, All-weaker, Contains-append_left}
 use Rattle.std.proofs.lemmas.List.Kept.{AllPairs-cons}
 use Rattle.plain_data.specs.declared.entry.Entry.{Entry}
 use Rattle.plain_data.specs.State.{State, IsEntry, overlay}
 use Rattle.stamp_base.specs.Limits.{greatest_clock}
-use Rattle.stamp_base.specs.Stamp.{bound_of_clock}
 use Rattle.core_rule.specs.Views.{Among}
 use Rattle.core_rule.proofs.Among.{Among-left, Among-right, Among-split}
 use Rattle.histories.specs.History.{Lawful, StampsDiffer}

@@ -1,5 +1,5 @@
 -- How far a clock comes with the draws of blocks.
-use Rattle.std.proofs.Common.{◌≡◌, ℕ, ◌+◌, ◌<◌, ◌≤◌, max, arith}
+use Rattle.std.proofs.Common.{◌≡◌, ℕ, ◌+◌, ◌<◌, ◌≤◌, arith}
 use Rattle.stamp_base.specs.Limits.{greatest_clock}
 use Rattle.txn_engine.specs.Pass.{PassView, next_clock}
 use Rattle.lane_runner.specs.Room.{HasRoom, clock_after}

@@ -34,7 +34,7 @@ use Rattle.lane_runner.specs.Holding.{HasPlaces, HasRecords}
 use Rattle.lane_runner.specs.Finishing.{MayFinish}
 use Rattle.lane_runner.specs.Whole.{WeighsAfter}
 use Rattle.lane_runner.specs.Ready.{IsReady, IsReadyOnceCollected, HasRecordsFor, IsAmple}
-use Rattle.lane_runner.proofs.Adding.{alone_stays}
+use Rattle.lane_runner.proofs.Adding.{Adds-no_entry, alone_stays}
 use Rattle.lane_runner.proofs.Held.{absent_same, roomy_once}
 use Rattle.lane_runner.proofs.Looked.{Sought}
 use Rattle.lane_runner.proofs.Ran.{Opened, adds_entered}
@@ -173,20 +173,12 @@ ready_committed p b q r r' known o alone ends absent roomy same = subst (λ (x :
 pub none_collected : (p q r : PassView) (met met' : ℕ) (known : Known) → q ≡ record p { met = met } → r ≡ collected q met' known r.queue → IsIdle p → p.met ≤ met → met ≤ met' → IsRefused 0 p r
 none_collected p q r met met' known told after idle more most =
     let is : r ≡ collected (record p { met = met }) met' known r.queue = after ∙ ap (λ (x : PassView). collected x met' known r.queue) told in
+    let same_clock : r.clock ≡ p.clock = ap (λ (x : PassView). x.clock) is in
+    let last_met : r.met ≡ met' = ap (λ (x : PassView). x.met) is in
+    let same_refusals : r.refusals ≡ p.refusals = ap (λ (x : PassView). x.refusals) is in
     record {
-      adds = record {
-        engine = ap (λ (x : PassView). x.engine) is;
-        seat = ap (λ (x : PassView). x.seat) is;
-        others = ap (λ (x : PassView). x.others) is;
-        idle = ap (λ (x : PassView). x.desk) is ∙ idle;
-        log = ap (λ (x : PassView). x.log) is ∙ sym (append-nil p.log);
-        each = λ entry among. absurd among;
-        in_order = tt;
-        clock = let e : r.clock ≡ p.clock = ap (λ (x : PassView). x.clock) is in omega arith;
-        met = let e : r.met ≡ met' = ap (λ (x : PassView). x.met) is in omega arith;
-        refusals = let e : r.refusals ≡ p.refusals = ap (λ (x : PassView). x.refusals) is in omega arith;
-      };
-      refusals = let e : r.refusals ≡ p.refusals = ap (λ (x : PassView). x.refusals) is in omega arith;
+      adds = Adds-no_entry p r (ap (λ (x : PassView). x.engine) is) (ap (λ (x : PassView). x.seat) is) (ap (λ (x : PassView). x.others) is) (ap (λ (x : PassView). x.desk) is ∙ idle) (ap (λ (x : PassView). x.log) is) (omega arith) (omega arith) (omega arith);
+      refusals = omega arith;
     }
 
 pub ready_collected : (p q : PassView) → q.engine ≡ p.engine → q.seat ≡ p.seat → q.others ≡ p.others → q.given ≡ p.given → q.spare ≡ p.spare → q.log ≡ p.log → IsReadyOnceCollected p → IsRoomy q → IsReady q

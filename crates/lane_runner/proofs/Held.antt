@@ -1,5 +1,5 @@
 -- What the seat that is alone holds once it has collected.
-use Rattle.std.proofs.Common.{◌≡◌, ◌⊎◌, ℕ, ◌+◌, ◌*◌, ◌<◌, ◌≤◌, Bool, true, false, List, [], ◌∷◌, ◌++◌, append-nil, Option, length, refl, sym, ap, subst, ◌∙◌, arith, inl}
+use Rattle.std.proofs.Common.{◌≡◌, ◌⊎◌, ℕ, ◌+◌, ◌<◌, ◌≤◌, true, List, [], ◌∷◌, ◌++◌, Option, length, sym, ap, subst, ◌∙◌, arith, inl}
 use Rattle.plain_data.specs.declared.entry.Entry.{Entry}
 use Rattle.plain_data.specs.State.{Agrees}
 use Rattle.record_store.specs.Meaning.{after_undo}
@@ -10,7 +10,7 @@ use Rattle.history_replay.specs.Results.{StandsForSome}
 use Rattle.replay_model.specs.declared.command.Command.{Command}
 use Rattle.replay_model.specs.declared.outcome.Outcome.{Outcome}
 use Rattle.replay_model.specs.declared.outcome.Placed.{Placed}
-use Rattle.txn_engine.specs.Accounts.{Stays, accounted}
+use Rattle.txn_engine.specs.Accounts.{accounted}
 use Rattle.txn_engine.specs.Collecting.{collected}
 use Rattle.seat_post.specs.Leaves.{AreLeft, IsPresent}
 use Rattle.txn_engine.specs.Leaves.{HoldsAbsent}
@@ -25,7 +25,7 @@ use Rattle.lane_runner.specs.Rows.{stands}
 use Rattle.lane_runner.specs.Adds.{Adds}
 use Rattle.lane_runner.specs.Blocks.{Commits}
 use Rattle.lane_runner.specs.Holding.{Holds, LeavesWithin, HasPlaces}
-use Rattle.lane_runner.proofs.Adding.{Adds-trans}
+use Rattle.lane_runner.proofs.Adding.{Adds-no_entry, Adds-trans}
 use Rattle.lane_runner.proofs.Begun.{undone_reads}
 use Rattle.lane_runner.proofs.Within.{left_agrees}
 
@@ -42,18 +42,11 @@ module _ (r w : PassView) (met met' : ℕ) (known : Known) (is : w ≡ collected
   }
 
   pub Adds-collected : r.met ≤ met → met ≤ met' → Adds r w []
-  Adds-collected met_more met_most = record {
-    engine = ap (λ (x : PassView). x.engine) is;
-    seat = ap (λ (x : PassView). x.seat) is;
-    others = ap (λ (x : PassView). x.others) is;
-    idle = ap (λ (x : PassView). x.desk) is ∙ idle;
-    log = ap (λ (x : PassView). x.log) is ∙ sym (append-nil r.log);
-    each = λ entry among. absurd among;
-    in_order = tt;
-    clock = let e : w.clock ≡ r.clock = ap (λ (x : PassView). x.clock) is in omega arith;
-    met = let e : w.met ≡ met' = ap (λ (x : PassView). x.met) is in omega arith;
-    refusals = let e : w.refusals ≡ r.refusals = ap (λ (x : PassView). x.refusals) is in omega arith;
-  }
+  Adds-collected met_more met_most =
+      let same_clock : w.clock ≡ r.clock = ap (λ (x : PassView). x.clock) is in
+      let last_met : w.met ≡ met' = ap (λ (x : PassView). x.met) is in
+      let same_refusals : w.refusals ≡ r.refusals = ap (λ (x : PassView). x.refusals) is in
+      Adds-no_entry r w (ap (λ (x : PassView). x.engine) is) (ap (λ (x : PassView). x.seat) is) (ap (λ (x : PassView). x.others) is) (ap (λ (x : PassView). x.desk) is ∙ idle) (ap (λ (x : PassView). x.log) is) (omega arith) (omega arith) (omega arith)
 
 -- a commit, and what adds nothing behind it
 pub Commits-then : (commands : List Command) (placed : Placed) (outcome : Outcome) (p r w : PassView) → Commits commands p r placed outcome → Adds r w [] → Commits commands p w placed outcome

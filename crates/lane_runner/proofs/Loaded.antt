@@ -1,35 +1,35 @@
 -- Rows and indexes loaded, one behind the other.
-use Rattle.std.proofs.Common.{◌≡◌, ◌≢◌, ◌⊎◌, ℕ, ◌+◌, ◌<◌, ◌≤◌, ◌^◌, Bool, true, false, cond, ◌==◌, ◌&&◌, List, [], ◌∷◌, ◌++◌, map, take, length, get_or, Option, None, Some, refl, sym, ap, subst, ◌∙◌, arith, inl, inr, All, AllPairs, Contains}
+use Rattle.std.proofs.Common.{◌≡◌, ◌≢◌, ◌⊎◌, ℕ, ◌+◌, ◌<◌, ◌≤◌, Bool, false, cond, ◌==◌, ◌&&◌, List, [], ◌∷◌, ◌++◌, map, take, length, get_or, None, Some, refl, sym, ap, subst, ◌∙◌, arith, inl, inr, All, AllPairs}
 use Rattle.std.specs.Prelude.{sum_by}
 use Rattle.std.specs.declared.cmp.Ordering.{Ordering}
 use Rattle.std.specs.Ordering.{nat_cmp, eq_by_cmp}
 use Rattle.std.specs.Cmp.{nat_cmp_total}
-use Rattle.std.specs.FinMap.{FinMap, find, get, insert, from_entries, from_entries_push, get-empty, get-from_entries, nat_cmp-IsAntisymmetric}
+use Rattle.std.specs.FinMap.{find, insert, from_entries, from_entries_push, get-empty, get-from_entries, nat_cmp-IsAntisymmetric}
 use Rattle.std.proofs.lemmas.Bool.Decides.{nat_tests, eqb_tells}
 use Rattle.std.proofs.lemmas.List.{map_push, take_more, length-take, get_or-take, get_or_default}
 use Rattle.std.proofs.lemmas.List.Elements.{All-nil, All-head, All-tail, All-map, All-push}
 use Rattle.std.proofs.lemmas.List.Sums.{sum_by_push, sum_by-take-le}
 use Rattle.plain_data.specs.declared.entry.Entry.{Entry}
-use Rattle.plain_data.specs.State.{State, IsEntry, Fits, empty_state}
+use Rattle.plain_data.specs.State.{IsEntry, Fits, empty_state}
 use Rattle.core_rule.specs.Views.{Among}
-use Rattle.histories.specs.History.{Lawful, StampsDiffer, ReadsObey}
+use Rattle.histories.specs.History.{Lawful, ReadsObey}
 use Rattle.histories.specs.Laws.{WriteBeforeIsLawful}
 use Rattle.histories.proofs.Lists.{Contains-nil}
-use Rattle.history_replay.specs.Results.{StandsForSome, LeaveTables}
+use Rattle.history_replay.specs.Results.{StandsForSome}
 use Rattle.record_store.specs.Limits.{record_limit}
 use Rattle.replay_model.specs.declared.command.Command.{Command}
 use Rattle.replay_model.specs.declared.command.Command.TheVariants.{Put}
 use Rattle.replay_model.specs.declared.input.Input.{Input}
 use Rattle.replay_model.specs.Input.{AreCommands, NamesColumn, RowsDiffer}
 use Rattle.replay_model.specs.Report.{table_named}
-use Rattle.replay_model.specs.TableMap.{TableMap, RowMap, NumberMap, Row, pair_cmp, entry_of, loaded, with_value, value_at, index_of}
+use Rattle.replay_model.specs.TableMap.{TableMap, RowMap, NumberMap, Row, pair_cmp, entry_of, loaded, with_value, index_of}
 use Rattle.stored_tables.specs.Answers.{IsShort}
 use Rattle.stored_tables.specs.Declare.{IsEmpty, HasRows, with_index}
 use Rattle.stored_tables.specs.Laws.{no_places, EmptyStands, FitsMore}
 use Rattle.stored_tables.specs.Weight.{weight, row_adds, adds, all_add}
 use Rattle.stored_tables.specs.Weights.{EmptyWeighsNothing}
 use Rattle.stored_tables.proofs.Maps.{pair_cmp_total, pair_cmp-IsAntisymmetric, pair_ties}
-use Rattle.txn_engine.specs.Pass.{EngineView, PassView}
+use Rattle.txn_engine.specs.Pass.{PassView}
 use Rattle.lane_runner.specs.Rows.{stands}
 use Rattle.lane_runner.specs.Adds.{Adds}
 use Rattle.lane_runner.specs.Lanes.{AddsSome}

@@ -35,7 +35,6 @@ use Rattle.txn_engine.proofs.Accounting.{absent_snapshot}
 use Rattle.lane_runner.specs.Rows.{stands}
 use Rattle.lane_runner.specs.Room.{clock_after}
 use Rattle.lane_runner.specs.Adds.{IsNext, Adds}
-use Rattle.lane_runner.specs.Blocks.{Commits}
 use Rattle.lane_runner.specs.Holding.{LeavesWithin, LeavesAfter, IsBehind}
 use Rattle.lane_runner.proofs.Held.{absent_same, roomy_same}
 use Rattle.lane_runner.proofs.Within.{within_snapshot, within_weaker, within_at}

@@ -1,5 +1,5 @@
 -- What a promotion leaves of a pass.
-use Rattle.std.proofs.Common.{◌≡◌, ℕ, ◌+◌, ◌<◌, ◌≤◌, List, [], ◌∷◌, append-nil, Option, None, Some, Result, Ok, Err, inl, inr, refl, sym, ap, subst, ◌∙◌, arith}
+use Rattle.std.proofs.Common.{◌≡◌, ℕ, ◌+◌, ◌<◌, ◌≤◌, List, [], ◌∷◌, Option, None, Some, Result, Ok, Err, inl, inr, refl, sym, ap, subst, ◌∙◌, arith}
 use Rattle.std.specs.Prelude.{IfOk, IfErr}
 use Rattle.std.proofs.lemmas.Bool.Decides.{eqb_tells}
 use Rattle.std.proofs.lemmas.List.Elements.{All-head}
@@ -22,7 +22,7 @@ use Rattle.lane_runner.specs.Rows.{stands}
 use Rattle.lane_runner.specs.Adds.{IsNext}
 use Rattle.lane_runner.specs.Blocks.{AddsOthers}
 use Rattle.lane_runner.specs.Weighs.{WeighsAtMost, LeavesTables}
-use Rattle.lane_runner.proofs.Adding.{Adds-one}
+use Rattle.lane_runner.proofs.Adding.{Adds-no_entry, Adds-one}
 
 -- ---- the entry that writes what it read
 
@@ -66,18 +66,7 @@ leaves_none : (p q : PassView) (clock now published boost : ℕ) (known : Known)
 leaves_none p q clock now published boost known glance idle later low is = rw is (record {
   others = record {
     entries = [];
-    adds = record {
-      engine = refl;
-      seat = refl;
-      others = refl;
-      idle = idle;
-      log = sym (append-nil p.log);
-      each = λ entry among. absurd among;
-      in_order = tt;
-      clock = later;
-      met = omega arith;
-      refusals = omega arith;
-    };
+    adds = Adds-no_entry p (record p { clock = now; published = published; boost = boost; known = known; glance = glance }) refl refl refl idle refl later (omega arith) (omega arith);
     keep = λ entry among. absurd among;
   };
   refusals = refl;

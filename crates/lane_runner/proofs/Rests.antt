@@ -1,7 +1,7 @@
 -- The blocks that remain, one behind the other.
-use Rattle.std.proofs.Common.{◌≡◌, ℕ, suc, ◌+◌, ◌<◌, ◌≤◌, true, false, List, [], ◌∷◌, ◌++◌, append-nil, append_assoc, length, length-append, refl, sym, ap, subst, ◌∙◌, arith, All}
+use Rattle.std.proofs.Common.{◌≡◌, ℕ, suc, ◌+◌, true, List, [], ◌∷◌, ◌++◌, append-nil, append_assoc, length, length-append, refl, sym, ap, subst, ◌∙◌, arith, All}
 use Rattle.std.specs.Prelude.{sum_by}
-use Rattle.std.proofs.lemmas.List.Elements.{All-nil, All-cons, All-head, All-tail, All-push, All-append}
+use Rattle.std.proofs.lemmas.List.Elements.{All-nil, All-head, All-tail, All-push, All-append}
 use Rattle.std.proofs.lemmas.List.Sums.{sum_by-cons, sum_by-append}
 use Rattle.plain_data.specs.declared.entry.Entry.{Entry}
 use Rattle.core_rule.specs.Views.{Among}
@@ -14,13 +14,11 @@ use Rattle.replay_model.specs.Running.{tables_after}
 use Rattle.replay_model.specs.TableMap.{TableMap}
 use Rattle.stored_tables.specs.Weight.{all_add}
 use Rattle.stored_tables.specs.Weights.{AddsAfter}
-use Rattle.txn_engine.specs.Pass.{EngineView, PassView, IsIdle}
+use Rattle.txn_engine.specs.Pass.{EngineView, PassView}
 use Rattle.lane_runner.specs.declared.done.LaneDone.{LaneDone}
-use Rattle.lane_runner.specs.Adds.{Adds}
 use Rattle.lane_runner.specs.Blocks.{IsPlaceOf, Commits}
-use Rattle.lane_runner.specs.Lanes.{Runs}
 use Rattle.lane_runner.specs.Holding.{Holds, HasRecords, LeavesAfter, IsBehind}
-use Rattle.lane_runner.specs.Finishing.{MayFinish, AreBehind, RunsRests, results_of, rests_of}
+use Rattle.lane_runner.specs.Finishing.{MayFinish, RunsRests, results_of, rests_of}
 use Rattle.lane_runner.specs.Weighs.{blocks_add}
 use Rattle.lane_runner.proofs.Run.{Runs-result, Runs-new}
 

@@ -1,16 +1,12 @@
 -- What the seat that is alone holds once it has collected, has looked for the absent records and has told that its log is lawful.
-use Rattle.std.proofs.Common.{◌≡◌, ◌⊎◌, ℕ, ◌+◌, ◌-◌, ◌<◌, ◌≤◌, Bool, true, false, max, List, [], ◌++◌, append-nil, refl, sym, ap, subst, ◌∙◌, arith, inl, inr, All, length}
-use Rattle.std.specs.Prelude.{sum_by}
+use Rattle.std.proofs.Common.{◌≡◌, ◌⊎◌, ℕ, ◌<◌, ◌≤◌, Bool, true, false, List, [], ◌++◌, append-nil, refl, sym, ap, subst, ◌∙◌, arith, inl, inr, All, length}
 use Rattle.std.specs.List.Sorted.{IsPermutation}
 use Rattle.std.proofs.lemmas.List.Sorted.{All-permutation, sum_by-IsPermutation}
 use Rattle.plain_data.specs.declared.entry.Entry.{Entry}
-use Rattle.core_rule.specs.Views.{Among}
 use Rattle.histories.specs.History.{Lawful}
 use Rattle.history_replay.specs.Results.{StandsForSome}
 use Rattle.replay_model.specs.declared.input.Block.{Block}
-use Rattle.replay_model.specs.TableMap.{TableMap}
 use Rattle.txn_engine.specs.Collecting.{collected}
-use Rattle.txn_engine.specs.Leaves.{HoldsAbsent}
 use Rattle.seat_post.specs.Leaves.{IsPresent, LeavesAs, AreAbsent}
 use Rattle.txn_engine.specs.Lists.{IsRoomy}
 use Rattle.txn_engine.specs.Pass.{EngineView, PassView, IsIdle}
@@ -23,7 +19,7 @@ use Rattle.lane_runner.specs.declared.done.LaneDone.{LaneDone}
 use Rattle.lane_runner.specs.Rows.{stands}
 use Rattle.lane_runner.specs.Adds.{Adds}
 use Rattle.lane_runner.specs.Lanes.{AreEntries, Runs}
-use Rattle.lane_runner.proofs.Adding.{Adds-trans}
+use Rattle.lane_runner.proofs.Adding.{Adds-no_entry, Adds-trans}
 use Rattle.replay_model.specs.declared.outcome.Outcome.{Outcome}
 use Rattle.replay_model.specs.declared.outcome.Placed.{Placed}
 use Rattle.std.specs.List.Sorted.{IsSorted}
@@ -66,21 +62,12 @@ module _ (p c d t : PassView) (met met' : ℕ) (known : Known) (spare : List ℕ
   clock_settled = ap (λ (x : PassView). x.clock) whole
 
   pub Adds-settled : p.met ≤ c.met → c.met ≡ c.published → d.met ≤ met' → Adds p t []
-  Adds-settled met_more met_is met_most = record {
-    engine = ap (λ (x : PassView). x.engine) whole;
-    seat = ap (λ (x : PassView). x.seat) whole;
-    others = ap (λ (x : PassView). x.others) whole;
-    idle = ap (λ (x : PassView). x.desk) whole ∙ idle;
-    log = ap (λ (x : PassView). x.log) whole ∙ sym (append-nil p.log);
-    each = λ entry among. absurd among;
-    in_order = tt;
-    clock = let e : t.clock ≡ p.clock = ap (λ (x : PassView). x.clock) whole in omega arith;
-    met =
-        let e : t.met ≡ met' = ap (λ (x : PassView). x.met) whole in
-        let later : c.published ≤ d.met = let is = ap (λ (x : PassView). x.met) second in omega (arith, is) in
-        omega arith;
-    refusals = let e : t.refusals ≡ p.refusals = ap (λ (x : PassView). x.refusals) whole in omega arith;
-  }
+  Adds-settled met_more met_is met_most =
+      let last_met : t.met ≡ met' = ap (λ (x : PassView). x.met) whole in
+      let later : c.published ≤ d.met = let is = ap (λ (x : PassView). x.met) second in omega (arith, is) in
+      let same_refusals : t.refusals ≡ p.refusals = ap (λ (x : PassView). x.refusals) whole in
+      Adds-no_entry p t (ap (λ (x : PassView). x.engine) whole) (ap (λ (x : PassView). x.seat) whole) (ap (λ (x : PassView). x.others) whole) (ap (λ (x : PassView). x.desk) whole ∙ idle) (ap (λ (x : PassView). x.log) whole)
+      (let same = clock_settled in omega (arith, same)) (omega arith) (omega arith)
 
 -- ---- the lanes in their order
 

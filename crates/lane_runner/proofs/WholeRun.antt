@@ -1,5 +1,5 @@
 -- The results of a whole run are those of its input.
-use Rattle.std.proofs.Common.{◌≡◌, ◌≢◌, ◌⊎◌, inl, inr, ⊎_elim, ℕ, zero, suc, ◌+◌, ◌-◌, ◌==◌, ◌<◌, ◌≤◌, ◌||◌, Bool, true, false, List, [], ◌∷◌, ◌++◌, All, AllPairs, Contains, IsPermutation, Option, Some, slice_get, refl, sym, ap, subst, ◌∙◌, arith}
+use Rattle.std.proofs.Common.{◌≡◌, ◌≢◌, ◌⊎◌, inl, inr, ⊎_elim, ℕ, suc, ◌+◌, ◌-◌, ◌==◌, ◌<◌, ◌≤◌, ◌||◌, Bool, true, false, List, [], ◌∷◌, ◌++◌, All, AllPairs, Contains, IsPermutation, Option, Some, slice_get, refl, sym, ap, subst, ◌∙◌, arith}
 use Rattle.std.specs.Prelude.{IsTrue, IsSomeAnd, MatchBool}
 use Rattle.std.proofs.Math.Bool.{or-true}
 use Rattle.std.specs.List.{list_any}
@@ -14,7 +14,7 @@ use Rattle.replay_model.specs.declared.input.Block.{Block}
 use Rattle.replay_model.specs.declared.input.Input.{Input}
 use Rattle.replay_model.specs.declared.outcome.Outcome.{Outcome}
 use Rattle.replay_model.specs.declared.outcome.Placed.{Placed}
-use Rattle.replay_model.specs.Input.{IsWellFormed, AreLanes, StandsAt}
+use Rattle.replay_model.specs.Input.{IsWellFormed, StandsAt}
 use Rattle.replay_model.specs.Order.{NamesOther, names}
 use Rattle.replay_model.specs.Replay.{block_at, block_or_none, block_named, NamesBlock}
 use Rattle.replay_model.specs.TableMap.{TableMap}
@@ -24,10 +24,10 @@ use Rattle.histories.proofs.States.{IsValue-same}
 use Rattle.history_replay.specs.Results.{StandsForSome, LeaveTables, IsEntryOf, KeepsTables, PlacedApart, IsBehind, AreResults}
 use Rattle.lane_runner.specs.Rows.{stands}
 use Rattle.lane_runner.specs.Blocks.{IsPlaceOf}
-use Rattle.lane_runner.specs.Lanes.{IsResult, AreEntries}
+use Rattle.lane_runner.specs.Lanes.{AreEntries}
 use Rattle.lane_runner.specs.Lanes.AreEntries.{none, result, other}
 use Rattle.lane_runner.specs.Weighs.{LeavesTables}
-use Rattle.lane_runner.specs.Whole.{blocks_of, ComesBehind, RunsWhole, WholeRunsAreResults}
+use Rattle.lane_runner.specs.Whole.{blocks_of, RunsWhole}
 use Rattle.lane_runner.proofs.Results.{HasEntry, HasResult, entry_of_result, result_of_entry}
 
 -- ---- lists

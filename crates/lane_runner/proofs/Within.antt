@@ -1,15 +1,14 @@
 -- The tables that a log leaves, entry behind entry.
-use Rattle.std.proofs.Common.{◌≡◌, ℕ, ◌+◌, ◌<◌, ◌≤◌, true, false, List, [], ◌∷◌, ◌++◌, Option, None, refl, sym, ap, subst, ◌∙◌, arith, inl, inr, ⊎_elim, All, Contains}
+use Rattle.std.proofs.Common.{◌≡◌, ℕ, ◌+◌, ◌<◌, ◌≤◌, true, false, List, [], ◌∷◌, ◌++◌, Option, refl, sym, ap, subst, arith, inl, inr, ⊎_elim, All, Contains}
 use Rattle.std.proofs.lemmas.List.Elements.{All-weaker, All-nil, All-cons, Contains-append_left, Contains-append_cases}
 use Rattle.plain_data.specs.declared.entry.Entry.{Entry}
 use Rattle.plain_data.specs.State.{State, Agrees, IsEntry, overlay}
 use Rattle.core_rule.specs.Views.{Among}
-use Rattle.histories.specs.History.{IsValue, Lawful, Leaves}
+use Rattle.histories.specs.History.{Lawful, Leaves}
 use Rattle.histories.specs.Laws.{NextStateIsOverlay}
 use Rattle.histories.proofs.Lists.{Contains-nil, Contains-cases}
 use Rattle.histories.proofs.States.{IsValue-same}
 use Rattle.replay_model.specs.TableMap.{TableMap}
-use Rattle.stored_tables.specs.Places.{Places}
 use Rattle.stored_tables.specs.Weight.{weight}
 use Rattle.seat_post.specs.Leaves.{LeavesValue, AreLeft}
 use Rattle.txn_engine.specs.Pass.{EngineView, PassView}

@@ -1,10 +1,8 @@
 -- What the entries of blocks add to the weight of the tables.
-use Rattle.std.specs.Prelude.{◌≡◌, ℕ, ◌+◌, ◌≤◌, false, List, [], ◌++◌, Option, sum_by}
+use Rattle.std.specs.Prelude.{◌≡◌, ℕ, ◌+◌, ◌≤◌, false, List, [], Option, sum_by}
 use Rattle.plain_data.specs.declared.entry.Entry.{Entry}
 use Rattle.plain_data.specs.State.{State, Agrees, overlay}
-use Rattle.core_rule.specs.Views.{Among}
-use Rattle.histories.specs.History.{Lawful}
-use Rattle.history_replay.specs.Results.{StandsForSome, KeepsTables}
+use Rattle.history_replay.specs.Results.{KeepsTables}
 use Rattle.replay_model.specs.declared.command.Command.{Command}
 use Rattle.replay_model.specs.declared.input.Block.{Block}
 use Rattle.replay_model.specs.Running.{tables_after}

@@ -1,4 +1,4 @@
-use Rattle.std.proofs.Common.{◌≡◌, [], refl, sym, ap, subst, ◌∙◌}
+use Rattle.std.proofs.Common.{◌≡◌, [], sym, ap, subst, ◌∙◌}
 use Rattle.txn_engine.specs.Alone.{AloneView}
 use Rattle.txn_engine.specs.Collecting.{collected}
 use Rattle.txn_engine.specs.Lists.{IsRoomyOnceCollected}

@@ -1,7 +1,4 @@
-use Rattle.std.proofs.Common.{◌≡◌, ℕ, ◌≤◌, true, false, refl, sym, ap, subst, ◌∙◌}
-use Rattle.replay_model.specs.declared.outcome.Placed.{Placed}
-use Rattle.replay_model.specs.Running.{tables_after}
-use Rattle.stored_tables.specs.Weight.{all_add}
+use Rattle.std.proofs.Common.{ℕ, ◌≤◌, true, refl, sym, subst, ◌∙◌}
 use Rattle.lane_runner.specs.Room.{clock_after}
 use Rattle.lane_runner.proofs.Held.{Commits-then}
 use Rattle.lane_runner.proofs.Ran.{leaves_closed}

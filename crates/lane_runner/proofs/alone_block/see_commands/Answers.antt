@@ -1,4 +1,4 @@
-use Rattle.std.proofs.Common.{rules, ◌≡◌, ℕ, ◌≤◌, true, List, [], ◌∷◌, Option, Some, IfSome, refl, sym, ap, subst, ◌∙◌}
+use Rattle.std.proofs.Common.{rules, ◌≡◌, ℕ, ◌≤◌, true, Option, IfSome, sym, ap, subst, ◌∙◌}
 use Rattle.history_replay.specs.Results.{StandsForSome}
 use Rattle.txn_engine.specs.Alone.{AloneView, AloneGlanceRest}
 use Rattle.seat_post.specs.Ends.{Stood}
@@ -6,9 +6,9 @@ use Rattle.seat_post.specs.Glance.{GlanceView}
 use Rattle.txn_engine.specs.Pass.{PassView, next_clock}
 use Rattle.seat_post.specs.Logs.{IsAbove}
 use Rattle.seat_post.specs.Glance.{entry_of_glance}
-use Rattle.txn_engine.specs.Snapshot.{finished, meaning_of_glance}
+use Rattle.txn_engine.specs.Snapshot.{meaning_of_glance}
 use Rattle.lane_runner.specs.Rows.{stands}
-use Rattle.lane_runner.specs.Holding.{Enters, Awaits}
+use Rattle.lane_runner.specs.Holding.{Enters}
 use Rattle.lane_runner.proofs.Clocks.{clock_later, clock_drawn}
 use Rattle.lane_runner.proofs.Entries.{never_stood}
 use Rattle.lane_runner.proofs.Held.{roomy_once}

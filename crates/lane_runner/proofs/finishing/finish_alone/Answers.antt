@@ -1,7 +1,6 @@
-use Rattle.std.proofs.Common.{◌≡◌, ℕ, ◌+◌, ◌*◌, ◌<◌, ◌≤◌, sym, ap, subst, ◌∙◌, arith}
+use Rattle.std.proofs.Common.{◌+◌, ◌*◌, ◌<◌, ◌≤◌, subst, ◌∙◌}
 use Rattle.txn_engine.specs.Pass.{EngineView}
 use Rattle.lane_runner.specs.Finishing.{rests_add, how_many_remain}
-use Rattle.lane_runner.specs.Room.{clock_after}
 use Rattle.lane_runner.proofs.Again.{engine_settled, idle_settled, records_again, Finishes-again, room_settled, clock_settled, never_out, drawn_most, if_ok, on_ok}
 use Rattle.lane_runner.proofs.finishing.finish_alone.Goals as goal
 use Rattle.lane_runner.proofs.finishing.finish_alone.Goals.{In-Ok}

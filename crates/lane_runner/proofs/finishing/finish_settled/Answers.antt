@@ -1,8 +1,8 @@
-use Rattle.std.proofs.Common.{◌≡◌, ℕ, ◌≤◌, List, [], length, refl, sym, ap, subst, ◌∙◌, rules, arith, All}
+use Rattle.std.proofs.Common.{◌≡◌, ℕ, ◌≤◌, List, [], length, sym, ap, subst, ◌∙◌, rules, All}
 use Rattle.std.proofs.lemmas.List.Sorted.{answers_always}
 use Rattle.replay_model.specs.declared.input.Block.{Block}
 use Rattle.txn_engine.specs.Alone.{AloneView}
-use Rattle.txn_engine.specs.Pass.{EngineView, PassView}
+use Rattle.txn_engine.specs.Pass.{EngineView}
 use Rattle.plain_data.specs.declared.entry.Entry.{Entry}
 use Rattle.histories.specs.History.{Lawful}
 use Rattle.history_replay.specs.Results.{StandsForSome}

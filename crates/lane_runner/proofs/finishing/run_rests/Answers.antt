@@ -1,8 +1,7 @@
-use Rattle.std.proofs.Common.{◌≡◌, ℕ, ◌+◌, ◌≤◌, List, [], ◌∷◌, ◌++◌, append-nil, length, refl, sym, ap, subst, ◌∙◌, rules, arith, All}
+use Rattle.std.proofs.Common.{◌≡◌, ℕ, ◌≤◌, List, [], ◌++◌, append-nil, length, refl, sym, ap, subst, ◌∙◌, rules, All}
 use Rattle.std.proofs.lemmas.List.Elements.{All-head, All-tail}
 use Rattle.std.specs.Vec.Iter.{into_iter_items, into_iter_len}
 use Rattle.replay_model.specs.declared.input.Block.{Block}
-use Rattle.txn_engine.specs.Pass.{EngineView}
 use Rattle.lane_runner.specs.Finishing.{MayFinish, RunsRests}
 use Rattle.lane_runner.specs.Weighs.{blocks_add}
 use Rattle.lane_runner.specs.Holding.{HasRecords}

@@ -1,4 +1,4 @@
-use Rattle.std.proofs.Common.{◌≡◌, List, ◌++◌, sym, ap, ◌∙◌, rules}
+use Rattle.std.proofs.Common.{List, ◌++◌, sym, ap, ◌∙◌}
 use Rattle.replay_model.specs.declared.input.Block.{Block}
 use Rattle.replay_model.specs.declared.outcome.Outcome.{Outcome}
 use Rattle.replay_model.specs.declared.outcome.Placed.{Placed}

@@ -1,16 +1,13 @@
-use Rattle.std.proofs.Common.{rules, ◌≡◌, ℕ, ◌≤◌, true, List, [], ◌∷◌, Option, None, Some, refl, sym, ap, subst, ◌∙◌}
-use Rattle.plain_data.specs.State.{State, Agrees, Fits}
+use Rattle.std.proofs.Common.{rules, ◌≡◌, ℕ, ◌≤◌, [], ◌∷◌, sym, ap, subst, ◌∙◌}
+use Rattle.plain_data.specs.State.{Agrees, Fits}
 use Rattle.record_store.specs.Limits.{record_limit}
 use Rattle.stored_tables.specs.Declare.{with_index}
 use Rattle.stored_tables.specs.Tables.{StandsFor}
 use Rattle.txn_engine.specs.declared.faults.AloneFault.TheVariants as fault
 use Rattle.txn_engine.specs.Alone.{AloneView, AloneRest}
-use Rattle.txn_engine.specs.Leaves.{HoldsAbsent}
-use Rattle.txn_engine.specs.Lists.{IsRoomyOnceCollected}
-use Rattle.txn_engine.specs.Pass.{EngineView, PassView, next_clock, entry_of}
+use Rattle.txn_engine.specs.Pass.{EngineView, next_clock, entry_of}
 use Rattle.replay_model.specs.TableMap.{TableMap}
 use Rattle.lane_runner.specs.Loading.{EntersIndex}
-use Rattle.lane_runner.specs.Holding.{Awaits}
 use Rattle.lane_runner.proofs.Asked.{by_an_ask, one_write}
 use Rattle.lane_runner.proofs.Begun.{kept_frame, is_open, none_written, same_records, torn_at, undone_writes}
 use Rattle.lane_runner.proofs.Clocks.{clock_left, clock_later, clock_drawn}

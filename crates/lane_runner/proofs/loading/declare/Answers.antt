@@ -1,7 +1,6 @@
-use Rattle.std.proofs.Common.{◌≡◌, ℕ, ◌≤◌, refl, sym, subst, ◌∙◌}
+use Rattle.std.proofs.Common.{ℕ, ◌≤◌, sym, subst, ◌∙◌}
 use Rattle.stored_tables.specs.Declare.{with_index}
 use Rattle.lane_runner.specs.Room.{clock_after}
-use Rattle.lane_runner.proofs.Adding.{Adds-trans}
 use Rattle.lane_runner.proofs.Loaded.{HasLoaded-more}
 use Rattle.lane_runner.proofs.Ran.{leaves_closed, some_closed}
 use Rattle.lane_runner.proofs.loading.declare.Goals as goal

@@ -1,4 +1,4 @@
-use Rattle.std.proofs.Common.{rules, ◌≡◌, ℕ, ◌+◌, ◌≤◌, List, [], length, refl, sym, ap, subst, ◌∙◌}
+use Rattle.std.proofs.Common.{◌≡◌, ℕ, ◌≤◌, List, [], length, sym, subst, ◌∙◌}
 use Rattle.record_store.specs.Limits.{record_limit}
 use Rattle.replay_model.specs.Input.{RowsDiffer}
 use Rattle.replay_model.specs.TableMap.{Row, loaded}

@@ -1,16 +1,10 @@
-use Rattle.std.proofs.Common.{rules, ◌≡◌, ℕ, ◌+◌, ◌≤◌, false, List, [], ◌∷◌, ◌++◌, length, refl, sym, ap, subst, ◌∙◌, All}
+use Rattle.std.proofs.Common.{◌≡◌, false, List, [], ◌∷◌, ◌++◌, refl, sym, ap, subst, ◌∙◌, All}
 use Rattle.replay_model.specs.declared.command.Command.{Command}
 use Rattle.replay_model.specs.declared.command.Command.TheVariants.{Put}
-use Rattle.replay_model.specs.declared.outcome.Placed.{Placed}
 use Rattle.replay_model.specs.Input.{AreCommands}
-use Rattle.replay_model.specs.Running.{tables_after}
-use Rattle.replay_model.specs.TableMap.{with_value}
 use Rattle.stored_tables.specs.Answers.{IsShort}
 use Rattle.stored_tables.specs.Weight.{all_add}
-use Rattle.txn_engine.specs.Pass.{PassView}
-use Rattle.lane_runner.specs.Lanes.{AddsSome}
-use Rattle.lane_runner.specs.Holding.{HasRecords, LeavesWithin, LeavesAfter}
-use Rattle.lane_runner.specs.Loading.{row_more}
+use Rattle.lane_runner.specs.Holding.{HasRecords, LeavesAfter}
 use Rattle.lane_runner.proofs.Loaded.{are_put, is_short_put, room_put, HasLoaded-put}
 use Rattle.lane_runner.proofs.loading.put_row.Goals as goal
 use Rattle.lane_runner.proofs.loading.put_row.Goals.{In_ok-push}

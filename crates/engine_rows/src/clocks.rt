@@ -1,82 +1,161 @@
 //! Clocks, stamps and minima.
-ghost use Rattle.std.specs.Prelude.{◌≡◌, ◌≤◌, IfOk};
-ghost use Rattle.core_rule.specs.Hands.{IsReady};
+ghost use Rattle.std.specs.Prelude.{◌≡◌, ◌<◌, [], IfOk};
+ghost use Rattle.core_rule.specs.Hands.{IsHandOf, IsReady, IsRetired};
 ghost use Rattle.core_rule.specs.Searching.{Ends};
 
+use crate::tables::{first_seat, two_seats};
 use clock_stamps::{
     ClockOut, draw, hear, idle, publish_read, raise_min_read, raise_min_write, retire, sync,
 };
 use core_rule::{AnyState, Core, Hand};
-use plain_data::NoMemory;
 use stamp_base::{GREATEST_CLOCK, Stamp};
-use std::alloc::Global;
 use std::test::*;
 use std::thread::join;
-use word_layout::Layout;
 
-/// A table with two seats, and their hands.
-pub fn two_seats(
-    alloc: Global,
-    layout: &Layout,
-) -> Result<(Core<AnyState>, Hand<AnyState>, Hand<AnyState>), NoMemory>
-    requires { 2 ≤ layout.now.seats }
-    ensures first { IfOk result (λ made. IsReady made.0 made.1) }
-    ensures second { IfOk result (λ made. IsReady made.0 made.2) }
-    ensures size { IfOk result (λ made. made.0.size ≡ layout.now) }
-    ensures first_ends { IfOk result (λ made. Ends made.1.view.work) }
-    ensures second_ends { IfOk result (λ made. Ends made.2.view.work) }
+// A call at a seat, and what is due of it.
+#[derive(Clone, Copy)]
+enum Step {
+    // A reading, and the number of the stamp that is drawn; none where the clock is out.
+    Draws(u64, Option<u64>),
+    Hears(Stamp),
+    // The clock of the first seat is looked at.
+    Syncs,
+    Idles,
+    // What the minima are then, and the read stamp that is published.
+    RaisesWrite(u64),
+    RaisesRead(u64),
+    PublishesRead(u64),
+    // What the seat has.
+    HasClock(u64),
+    HasPublished(u64),
+}
+
+use Step::{
+    Draws, HasClock, HasPublished, Hears, Idles, PublishesRead, RaisesRead, RaisesWrite, Syncs,
+};
+
+// Draws a stamp, and gives its number; none where the clock is out.
+fn draw_number(core: &Core<AnyState>, hand: &mut Hand<AnyState>, reading: u64) -> Option<u64>
+    requires ready { IsReady core.now hand.old }
+    requires ends { Ends hand.old.view.work }
+    ensures ready { IsReady core.now hand.new }
+    ensures ends { Ends hand.new.view.work }
 {
-    let (core, mut first) = Core::new(alloc, layout)?;
-    let second = core.split(&mut first);
-    Ok((core, first, second))
+    match draw(core, hand, reading) {
+        Ok(stamp) => Some(stamp.number()),
+        Err(ClockOut) => None,
+    }
+}
+
+// Publishes a bound where that rises. What `idle` says of the hand goes by cases, so what the next call asks for is said here.
+fn idles(core: &Core<AnyState>, hand: &mut Hand<AnyState>)
+    requires ready { IsReady core.now hand.old }
+    requires ends { Ends hand.old.view.work }
+    ensures ready { IsReady core.now hand.new }
+    ensures ends { Ends hand.new.view.work }
+{
+    idle(core, hand);
+}
+
+// Whether a call answers what is due.
+fn holds(core: &Core<AnyState>, hand: &mut Hand<AnyState>, step: &Step) -> bool
+    requires ready { IsReady core.now hand.old }
+    requires ends { Ends hand.old.view.work }
+    requires seats { 0 < core.now.size.seats }
+    ensures ready { IsReady core.now hand.new }
+    ensures ends { Ends hand.new.view.work }
+{
+    match *step {
+        Draws(reading, due) => draw_number(core, hand, reading) == due,
+        Hears(stamp) => {
+            hear(core, hand, stamp);
+            true
+        }
+        Syncs => {
+            sync(core, hand, 0);
+            true
+        }
+        Idles => {
+            idles(core, hand);
+            true
+        }
+        RaisesWrite(due) => raise_min_write(core, hand) == due,
+        RaisesRead(due) => raise_min_read(core, hand) == due,
+        PublishesRead(due) => publish_read(core, hand) == due,
+        HasClock(due) => hand.clock() == due,
+        HasPublished(due) => hand.published_write() == due,
+    }
+}
+
+// Whether calls at a seat answer what is due, each in its turn.
+fn all_hold(core: &Core<AnyState>, hand: &mut Hand<AnyState>, steps: &[Step]) -> bool
+    requires ready { IsReady core.now hand.old }
+    requires ends { Ends hand.old.view.work }
+    requires seats { 0 < core.now.size.seats }
+    ensures ready { IsReady core.now hand.new }
+    ensures ends { Ends hand.new.view.work }
+{
+    let mut all = true;
+    for step in steps {
+        all = holds(core, hand, step) && all;
+    }
+    all
 }
 
 #[test]
 fn two_seats_raise_the_minima(rt: HostRuntime) -> Result<(), Fail> {
-    let layout = Layout::new(2, 6, 4)?;
-    let (core, mut first, mut second) = two_seats(rt.alloc(), &layout)?;
-    assert_eq!(rt; draw(&core, &mut first, 10)?.number(), 2_560);
-    assert_eq!(rt; draw(&core, &mut second, 20)?.number(), 5_121);
-    assert_eq!(rt; raise_min_write(&core, &mut second), 2_560);
-    assert_eq!(rt; publish_read(&core, &mut second), 2_559);
-    assert_eq!(rt; raise_min_read(&core, &mut second), 0);
-    assert_eq!(rt; raise_min_write(&core, &mut first), 2_560);
-    assert_eq!(rt; publish_read(&core, &mut first), 2_559);
-    assert_eq!(rt; raise_min_read(&core, &mut first), 2_559);
+    let (core, mut first, mut second) = two_seats(rt.alloc(), 6, 4)?;
+    let steps = [Draws(10, Some(2_560))];
+    assert!(rt; all_hold(&core, &mut first, &steps));
+    let steps = [
+        Draws(20, Some(5_121)),
+        RaisesWrite(2_560),
+        PublishesRead(2_559),
+        RaisesRead(0),
+    ];
+    assert!(rt; all_hold(&core, &mut second, &steps));
+    let steps = [RaisesWrite(2_560), PublishesRead(2_559), RaisesRead(2_559)];
+    assert!(rt; all_hold(&core, &mut first, &steps));
     Ok(())
 }
 
 #[test]
 fn a_clock_at_its_end_draws_no_stamp(rt: HostRuntime) -> Result<(), Fail> {
-    let layout = Layout::new(1, 1, 1)?;
-    let (core, mut hand) = Core::<AnyState>::new(rt.alloc(), &layout)?;
-    hear(&core, &mut hand, Stamp::make(GREATEST_CLOCK, 0));
-    assert_eq!(rt; draw(&core, &mut hand, 0), Err(ClockOut));
-    assert_eq!(rt; draw(&core, &mut hand, 0), Err(ClockOut));
-    assert_eq!(rt; hand.clock(), GREATEST_CLOCK);
-    assert_eq!(rt; hand.published_write(), 1);
+    let (core, mut hand) = first_seat(rt.alloc(), 1, 1, 1)?;
+    let steps = [
+        Hears(Stamp::make(GREATEST_CLOCK, 0)),
+        Draws(0, None),
+        Draws(0, None),
+        HasClock(GREATEST_CLOCK),
+        HasPublished(1),
+    ];
+    assert!(rt; all_hold(&core, &mut hand, &steps));
     assert_eq!(rt; format!(in rt.alloc(); "{ClockOut}")?.as_str(), "clock out");
     Ok(())
 }
 
 #[test]
 fn clocks_follow_readings_and_each_other(rt: HostRuntime) -> Result<(), Fail> {
-    let layout = Layout::new(2, 6, 4)?;
-    let (core, mut first, mut second) = two_seats(rt.alloc(), &layout)?;
-    assert_eq!(rt; draw(&core, &mut first, 10)?.number(), 2_560);
-    assert_eq!(rt; draw(&core, &mut first, 10)?.number(), 2_816);
-    idle(&core, &mut first);
-    assert_eq!(rt; first.published_write(), 11 * 256 + 64);
-    idle(&core, &mut first);
-    assert_eq!(rt; first.published_write(), 11 * 256 + 64);
-    sync(&core, &mut second, 0);
-    assert_eq!(rt; second.clock(), 11);
-    assert_eq!(rt; draw(&core, &mut second, 0)?.number(), 12 * 256 + 1);
-    assert_eq!(rt; draw(&core, &mut first, u64::MAX)?.number(), 1 << 63);
-    hear(&core, &mut first, Stamp::make((1 << 55) + 9, 1));
-    assert_eq!(rt; draw(&core, &mut first, u64::MAX)?.clock(), (1 << 55) + 10);
-    sync(&core, &mut second, 0);
-    assert_eq!(rt; second.clock(), 1 << 55);
+    let (core, mut first, mut second) = two_seats(rt.alloc(), 6, 4)?;
+    let steps = [
+        Draws(10, Some(2_560)),
+        Draws(10, Some(2_816)),
+        Idles,
+        HasPublished(11 * 256 + 64),
+        Idles,
+        HasPublished(11 * 256 + 64),
+    ];
+    assert!(rt; all_hold(&core, &mut first, &steps));
+    let steps = [Syncs, HasClock(11), Draws(0, Some(12 * 256 + 1))];
+    assert!(rt; all_hold(&core, &mut second, &steps));
+    let steps = [
+        Draws(u64::MAX, Some(1 << 63)),
+        Hears(Stamp::make((1 << 55) + 9, 1)),
+        Draws(u64::MAX, Some(((1 << 55) + 10) * 256)),
+    ];
+    assert!(rt; all_hold(&core, &mut first, &steps));
+    let steps = [Syncs, HasClock(1 << 55)];
+    assert!(rt; all_hold(&core, &mut second, &steps));
     Ok(())
 }
 
@@ -85,6 +164,19 @@ fn clocks_follow_readings_and_each_other(rt: HostRuntime) -> Result<(), Fail> {
 struct Trace {
     stamps: [u64; 8],
     minima: [u64; 8],
+}
+
+// Raises the write minimum, publishes the bound below it, and raises the read minimum; gives the first.
+fn raise_both(core: &Core<AnyState>, hand: &mut Hand<AnyState>) -> u64
+    requires ready { IsReady core.now hand.old }
+    requires ends { Ends hand.old.view.work }
+    ensures ready { IsReady core.now hand.new }
+    ensures ends { Ends hand.new.view.work }
+{
+    let least = raise_min_write(core, hand);
+    publish_read(core, hand);
+    raise_min_read(core, hand);
+    least
 }
 
 // Draws a stamp and raises both minima, eight times.
@@ -102,18 +194,15 @@ fn draw_and_raise(
         minima: [0; 8],
     };
     for turn in 0..8 {
-        trace.stamps[turn] = draw(core, &mut hand, 0)?.number();
-        trace.minima[turn] = raise_min_write(core, &mut hand);
-        publish_read(core, &mut hand);
-        raise_min_read(core, &mut hand);
+        trace.stamps[turn] = draw_number(core, &mut hand, 0).ok_or(ClockOut)?;
+        trace.minima[turn] = raise_both(core, &mut hand);
     }
     Ok((hand, trace))
 }
 
 #[test]
 fn threads_draw_different_stamps_above_the_minima(rt: HostRuntime) -> Result<(), Fail> {
-    let layout = Layout::new(2, 6, 4)?;
-    let (core, first, second) = two_seats(rt.alloc(), &layout)?;
+    let (core, first, second) = two_seats(rt.alloc(), 6, 4)?;
     let (left, right) = join(
         &rt,
         || draw_and_raise(&core, first),
@@ -124,24 +213,34 @@ fn threads_draw_different_stamps_above_the_minima(rt: HostRuntime) -> Result<(),
     for stamp in left.stamps {
         assert!(rt; !right.stamps.contains(&stamp));
     }
-    let later = draw(&core, &mut first, 0)?
-        .min(draw(&core, &mut second, 0)?)
-        .number();
+    let by_first = draw_number(&core, &mut first, 0).ok_or(ClockOut)?;
+    let by_second = draw_number(&core, &mut second, 0).ok_or(ClockOut)?;
+    let later = by_first.min(by_second);
     for minimum in left.minima.iter().chain(right.minima.iter()) {
         assert!(rt; *minimum <= later);
     }
     Ok(())
 }
 
+// A seat that hears a stamp of clock 7 and retires.
+fn hear_and_retire(core: &Core<AnyState>, mut hand: Hand<AnyState>) -> Hand<AnyState>
+    requires ready { IsReady core.now hand }
+    requires ends { Ends hand.view.work }
+    requires holds_none { hand.view.places.held ≡ [] }
+    ensures hand_of { IsHandOf core.now result }
+    ensures retired { IsRetired result.view }
+    ensures ends { Ends result.view.work }
+{
+    hear(core, &mut hand, Stamp::make(7, 0));
+    retire(core, &mut hand);
+    hand
+}
+
 #[test]
 fn the_word_of_a_retired_seat_is_not_adopted(rt: HostRuntime) -> Result<(), Fail> {
-    let layout = Layout::new(2, 6, 4)?;
-    let (core, mut first) = Core::<AnyState>::new(rt.alloc(), &layout)?;
-    let mut second = core.split(&mut first);
-    hear(&core, &mut first, Stamp::make(7, 0));
-    retire(&core, &mut first);
-    sync(&core, &mut second, 0);
-    assert_eq!(rt; second.clock(), 0);
+    let (core, first, mut second) = two_seats(rt.alloc(), 6, 4)?;
+    let first = hear_and_retire(&core, first);
+    assert!(rt; all_hold(&core, &mut second, &[Syncs, HasClock(0)]));
     core.join(&mut second, first);
     assert_eq!(rt; second.clock(), 7);
     Ok(())

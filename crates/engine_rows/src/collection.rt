@@ -4,13 +4,13 @@ ghost use Rattle.core_rule.specs.Hands.{IsReady};
 ghost use Rattle.core_rule.specs.Searching.{Ends};
 ghost use Rattle.rapid_gc.specs.Queues.{AreCommitted};
 
+use crate::tables::first_seat;
 use crate::validation::{begin, write_one};
 use core_rule::{AnyState, Core, Hand};
 use rapid_gc::{Collected, Queue, collect};
 use std::alloc::Global;
 use std::test::*;
 use version_pool::{Kind, take};
-use word_layout::Layout;
 
 // Runs a transaction at stamp 256 that writes record 0, and gives the queue with that write alone.
 fn write_and_queue(
@@ -52,8 +52,7 @@ fn collect_once(core: &Core<AnyState>, hand: &mut Hand<AnyState>, queue: &mut Qu
 
 #[test]
 fn what_is_older_than_a_commit_is_taken_back(rt: HostRuntime) -> Result<(), Fail> {
-    let layout = Layout::new(1, 2, 2)?;
-    let (core, mut hand) = Core::<AnyState>::new(rt.alloc(), &layout)?;
+    let (core, mut hand) = first_seat(rt.alloc(), 1, 2, 2)?;
     let mut queue = write_and_queue(rt.alloc(), &core, &mut hand)?;
     let nothing = Collected {
         cut: 0,

@@ -18,6 +18,8 @@ mod rule;
 #[cfg(test)]
 mod stamps;
 #[cfg(test)]
+mod tables;
+#[cfg(test)]
 mod validation;
 #[cfg(test)]
 mod words;

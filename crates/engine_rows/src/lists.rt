@@ -1,19 +1,71 @@
 //! Lists of versions: linking into them, and searching them, by two hands in two threads.
-ghost use Rattle.std.specs.Prelude.{◌≡◌, ◌<◌, IfOk};
+ghost use Rattle.std.specs.Prelude.{◌≡◌, ◌<◌, IfOk, OnOk};
+ghost use Rattle.word_layout.specs.Size.{places};
 ghost use Rattle.core_rule.specs.View.{writing, no_work};
+ghost use Rattle.core_rule.specs.Views.{Has};
 ghost use Rattle.core_rule.specs.Hands.{IsReady};
-ghost use Rattle.core_rule.specs.Searching.{Rests};
+ghost use Rattle.core_rule.specs.Searching.{Ends, FitsPlace, Rests};
 
-use crate::clocks::two_seats;
-use clock_stamps::draw;
+use crate::tables::two_seats;
+use clock_stamps::{ClockOut, draw};
 use core_rule::{AnyState, Core, Hand};
 use plain_data::Cells;
 use stamp_base::Stamp;
 use std::test::*;
-use std::thread::join;
+use std::thread::{Threads, join};
 use version_pool::{Kind, PlacesOut, fill, take};
 use version_search::{Found, find, link};
-use word_layout::Layout;
+
+// Draws a stamp, at which nothing has been done yet.
+fn draw_one(
+    core: &Core<AnyState>,
+    hand: &mut Hand<AnyState>,
+    reading: u64,
+) -> Result<Stamp, ClockOut>
+    requires ready { IsReady core.now hand.old }
+    requires ends { Ends hand.old.view.work }
+    ensures ready { IsReady core.now hand.new }
+    ensures in_flight { IfOk result (λ stamp. hand.new.view.flight ≡ writing stamp) }
+    ensures begins { OnOk result (hand.new.view.work ≡ no_work) }
+{
+    draw(core, hand, reading)
+}
+
+// Takes a place for record 5.
+fn take_one(
+    core: &Core<AnyState>,
+    hand: &mut Hand<AnyState>,
+    stamp: Stamp,
+) -> Result<(u32, Kind), PlacesOut>
+    requires ready { IsReady core.now hand.old }
+    requires record { 5 < core.now.size.records }
+    requires in_flight { hand.old.view.flight ≡ writing stamp }
+    requires begins { hand.old.view.work ≡ no_work }
+    ensures ready { IsReady core.now hand.new }
+    ensures in_flight { OnOk result (hand.new.view.flight ≡ writing stamp) }
+    ensures begins { OnOk result (hand.new.view.work ≡ no_work) }
+    ensures held { IfOk result (λ taken. Has taken.0 hand.new.view.places.held) }
+    ensures inside { IfOk result (λ taken. taken.0 < places core.now.size) }
+    ensures fits { IfOk result (λ taken. FitsPlace core.now.size 5 taken.0) }
+{
+    take(core, hand, 5)
+}
+
+// Fills a place of record 5 at the stamp in flight, and links it.
+fn fill_and_link(core: &Core<AnyState>, hand: &mut Hand<AnyState>, place: u32, stamp: Stamp)
+    requires ready { IsReady core.now hand.old }
+    requires in_flight { hand.old.view.flight ≡ writing stamp }
+    requires begins { hand.old.view.work ≡ no_work }
+    requires held { Has place hand.old.view.places.held }
+    requires inside { place < places core.now.size }
+    requires fits { FitsPlace core.now.size 5 place }
+    ensures ready { IsReady core.now hand.new }
+    ensures in_flight { hand.new.view.flight ≡ writing stamp }
+    ensures rests { Rests hand.new.view.work.search }
+{
+    fill(core, hand, place, stamp, &Some(Cells::new([7; 32])));
+    link(core, hand, 5, place, stamp.number());
+}
 
 // Takes a place for record 5, fills it at the stamp in flight, and links it.
 fn link_one(
@@ -29,9 +81,8 @@ fn link_one(
     ensures in_flight { IfOk result (λ linked. linked.0.view.flight ≡ writing stamp) }
     ensures rests { IfOk result (λ linked. Rests linked.0.view.work.search) }
 {
-    let (place, kind) = take(core, &mut hand, 5)?;
-    fill(core, &mut hand, place, stamp, &Some(Cells::new([7; 32])));
-    link(core, &mut hand, 5, place, stamp.number());
+    let (place, kind) = take_one(core, &mut hand, stamp)?;
+    fill_and_link(core, &mut hand, place, stamp);
     Ok((hand, place, kind))
 }
 
@@ -45,63 +96,68 @@ fn find_one(core: &Core<AnyState>, mut hand: Hand<AnyState>, stamp: Stamp) -> Fo
     find(core, &mut hand, 5, stamp.number(), false)
 }
 
-// What both find, each in its own thread: the earlier one the absent version from the start, the later one that of the earlier.
-fn show_both(early: Found, late: Found) -> bool {
+// Whether of two searches, each in its own thread, the earlier one finds the absent version from the start, and the later one that
+// of the earlier.
+fn find_both<R: Threads>(
+    rt: &R,
+    core: &Core<AnyState>,
+    first: Hand<AnyState>,
+    second: Hand<AnyState>,
+    stamps: (Stamp, Stamp),
+) -> bool
+    requires first_ready { IsReady core.now first }
+    requires second_ready { IsReady core.now second }
+    requires record { 5 < core.now.size.records }
+    requires early { first.view.flight ≡ writing stamps.0 }
+    requires late { second.view.flight ≡ writing stamps.1 }
+    requires first_rests { Rests first.view.work.search }
+    requires second_rests { Rests second.view.work.search }
+{
+    let (early, late) = stamps;
+    let (by_first, by_second) = join(
+        rt,
+        move || find_one(core, first, early),
+        move || find_one(core, second, late),
+    );
     matches!(
-        early,
+        by_first,
         Found::Version {
             place: 5,
             wts: 0,
             absent: true
         }
-    ) && matches!(late, Found::Pending { wts: 2_560 })
+    ) && matches!(by_second, Found::Pending { wts: 2_560 })
 }
 
 #[test]
 fn a_pending_version_ends_a_later_search(rt: HostRuntime) -> Result<(), Fail> {
-    let layout = Layout::new(2, 6, 4)?;
-    let (core, mut first, mut second) = two_seats(rt.alloc(), &layout)?;
-    let early = draw(&core, &mut first, 10)?;
-    let late = draw(&core, &mut second, 20)?;
+    let (core, mut first, mut second) = two_seats(rt.alloc(), 6, 4)?;
+    let early = draw_one(&core, &mut first, 10)?;
+    let late = draw_one(&core, &mut second, 20)?;
     assert_eq!(rt; (early.number(), late.number()), (2_560, 5_121));
     let (first, place, kind) = link_one(&core, first, early)?;
     assert_eq!(rt; (place, kind), (6, Kind::Pool));
-    let shared = &core;
-    let (by_first, by_second) = join(
-        &rt,
-        move || find_one(shared, first, early),
-        move || find_one(shared, second, late),
-    );
-    assert!(rt; show_both(by_first, by_second));
+    assert!(rt; find_both(&rt, &core, first, second, (early, late)));
     Ok(())
 }
 
 #[test]
 fn an_earlier_version_is_linked_below_a_later_one(rt: HostRuntime) -> Result<(), Fail> {
-    let layout = Layout::new(2, 6, 4)?;
-    let (core, mut first, mut second) = two_seats(rt.alloc(), &layout)?;
-    let early = draw(&core, &mut first, 10)?;
-    let late = draw(&core, &mut second, 20)?;
-    let (second, place, _) = link_one(&core, second, late)?;
-    assert_eq!(rt; place, 6);
-    let (first, place, _) = link_one(&core, first, early)?;
-    assert_eq!(rt; place, 7);
-    let shared = &core;
-    let (by_first, by_second) = join(
-        &rt,
-        move || find_one(shared, first, early),
-        move || find_one(shared, second, late),
-    );
-    assert!(rt; show_both(by_first, by_second));
+    let (core, mut first, mut second) = two_seats(rt.alloc(), 6, 4)?;
+    let early = draw_one(&core, &mut first, 10)?;
+    let late = draw_one(&core, &mut second, 20)?;
+    let (second, upper, _) = link_one(&core, second, late)?;
+    let (first, lower, _) = link_one(&core, first, early)?;
+    assert_eq!(rt; (upper, lower), (6, 7));
+    assert!(rt; find_both(&rt, &core, first, second, (early, late)));
     Ok(())
 }
 
 #[test]
 fn two_threads_link_in_either_order(rt: HostRuntime) -> Result<(), Fail> {
-    let layout = Layout::new(2, 6, 4)?;
-    let (core, mut first, mut second) = two_seats(rt.alloc(), &layout)?;
-    let early = draw(&core, &mut first, 10)?;
-    let late = draw(&core, &mut second, 20)?;
+    let (core, mut first, mut second) = two_seats(rt.alloc(), 6, 4)?;
+    let early = draw_one(&core, &mut first, 10)?;
+    let late = draw_one(&core, &mut second, 20)?;
     let shared = &core;
     let (by_first, by_second) = join(
         &rt,
@@ -111,11 +167,6 @@ fn two_threads_link_in_either_order(rt: HostRuntime) -> Result<(), Fail> {
     let (first, lower, _) = by_first?;
     let (second, upper, _) = by_second?;
     assert_ne!(rt; lower, upper);
-    let (by_first, by_second) = join(
-        &rt,
-        move || find_one(shared, first, early),
-        move || find_one(shared, second, late),
-    );
-    assert!(rt; show_both(by_first, by_second));
+    assert!(rt; find_both(&rt, &core, first, second, (early, late)));
     Ok(())
 }

@@ -1,7 +1,10 @@
 //! Places for versions.
-ghost use Rattle.std.specs.Prelude.{◌<◌};
+ghost use Rattle.std.specs.Prelude.{◌≡◌, ◌<◌, IfOk};
+ghost use Rattle.core_rule.specs.Views.{Has};
 ghost use Rattle.core_rule.specs.Hands.{IsReady};
+ghost use Rattle.core_rule.specs.Searching.{Ends};
 
+use crate::tables::{first_seat, two_seats};
 use core_rule::{AnyState, Core, Hand};
 use plain_data::Cells;
 use stamp_base::Stamp;
@@ -9,57 +12,156 @@ use std::alloc::{AllocError, Global};
 use std::test::*;
 use std::thread::join;
 use version_pool::{Kind, PlacesOut, fill, give, take, take_inline, take_kept};
-use word_layout::Layout;
+
+// Takes a place for a record.
+fn take_one(
+    core: &Core<AnyState>,
+    hand: &mut Hand<AnyState>,
+    rid: u32,
+) -> Result<(u32, Kind), PlacesOut>
+    requires ready { IsReady core.now hand.old }
+    requires record { rid < core.now.size.records }
+    ensures ready { IsReady core.now hand.new }
+    ensures held { IfOk result (λ taken. Has taken.0 hand.new.view.places.held) }
+{
+    take(core, hand, rid)
+}
+
+// Takes a place for record 0 beside one that is held already.
+fn take_beside(
+    core: &Core<AnyState>,
+    hand: &mut Hand<AnyState>,
+    held: u32,
+) -> Result<(u32, Kind), PlacesOut>
+    requires ready { IsReady core.now hand.old }
+    requires record { 0 < core.now.size.records }
+    requires held { Has held hand.old.view.places.held }
+    ensures ready { IsReady core.now hand.new }
+    ensures held { Has held hand.new.view.places.held }
+{
+    take(core, hand, 0)
+}
+
+// Takes the kept place beside one that is held already.
+fn take_kept_beside(core: &Core<AnyState>, hand: &mut Hand<AnyState>, held: u32) -> Option<u32>
+    requires ready { IsReady core.now hand.old }
+    requires held { Has held hand.old.view.places.held }
+    ensures ready { IsReady core.now hand.new }
+    ensures held { Has held hand.new.view.places.held }
+{
+    take_kept(core, hand)
+}
+
+// Whether the inline place of record 0 is free, which is then taken.
+fn inline_is_free(core: &Core<AnyState>, hand: &mut Hand<AnyState>) -> bool
+    requires ready { IsReady core.now hand.old }
+    requires record { 0 < core.now.size.records }
+    ensures ready { IsReady core.now hand.new }
+{
+    take_inline(core, hand, 0)
+}
+
+// Gives a place back.
+fn give_back(core: &Core<AnyState>, hand: &mut Hand<AnyState>, place: u32)
+    requires ready { IsReady core.now hand.old }
+    requires held { Has place hand.old.view.places.held }
+    ensures ready { IsReady core.now hand.new }
+{
+    give(core, hand, place);
+}
+
+// Fills a place, which stays held.
+fn fill_one(
+    core: &Core<AnyState>,
+    hand: &mut Hand<AnyState>,
+    place: u32,
+    stamp: Stamp,
+    value: Option<Cells>,
+)
+    requires ready { IsReady core.now hand.old }
+    requires held { Has place hand.old.view.places.held }
+    ensures ready { IsReady core.now hand.new }
+    ensures held { Has place hand.new.view.places.held }
+{
+    fill(core, hand, place, stamp, &value);
+}
 
 #[test]
 fn each_usable_place_is_tried_and_the_turn_goes_round(rt: HostRuntime) -> Result<(), Fail> {
-    let layout = Layout::new(1, 2, 3)?;
-    let (core, mut hand) = Core::<AnyState>::new(rt.alloc(), &layout)?;
-    assert_eq!(rt; take(&core, &mut hand, 0), Ok((2, Kind::Pool)));
-    assert_eq!(rt; take(&core, &mut hand, 1), Ok((3, Kind::Pool)));
-    assert_eq!(rt; take(&core, &mut hand, 0), Err(PlacesOut));
-    assert_eq!(rt; take_kept(&core, &mut hand), Some(4));
-    assert_eq!(rt; take_kept(&core, &mut hand), None);
-    give(&core, &mut hand, 3);
-    assert_eq!(rt; take(&core, &mut hand, 0), Ok((3, Kind::Pool)));
+    let (core, mut hand) = first_seat(rt.alloc(), 1, 2, 3)?;
+    let first = take_one(&core, &mut hand, 0);
+    let (place, kind) = take_one(&core, &mut hand, 1)?;
+    let third = take_beside(&core, &mut hand, place);
+    let kept = [
+        take_kept_beside(&core, &mut hand, place),
+        take_kept_beside(&core, &mut hand, place),
+    ];
+    give_back(&core, &mut hand, place);
+    let again = take_one(&core, &mut hand, 0);
+    assert_eq!(rt; (place, kind), (3, Kind::Pool));
+    assert_eq!(rt;
+        [first, third, again],
+        [Ok((2, Kind::Pool)), Err(PlacesOut), Ok((3, Kind::Pool))]
+    );
+    assert_eq!(rt; kept, [Some(4), None]);
     Ok(())
 }
 
 #[test]
 fn the_turn_begins_after_the_last_place_taken(rt: HostRuntime) -> Result<(), Fail> {
-    let layout = Layout::new(1, 1, 4)?;
-    let (core, mut hand) = Core::<AnyState>::new(rt.alloc(), &layout)?;
-    assert_eq!(rt; take(&core, &mut hand, 0), Ok((1, Kind::Pool)));
-    give(&core, &mut hand, 1);
-    assert_eq!(rt; take(&core, &mut hand, 0), Ok((2, Kind::Pool)));
-    assert_eq!(rt; take(&core, &mut hand, 0), Ok((3, Kind::Pool)));
-    assert_eq!(rt; take(&core, &mut hand, 0), Ok((1, Kind::Pool)));
+    let (core, mut hand) = first_seat(rt.alloc(), 1, 1, 4)?;
+    let (place, kind) = take_one(&core, &mut hand, 0)?;
+    give_back(&core, &mut hand, place);
+    let later = [
+        take_one(&core, &mut hand, 0),
+        take_one(&core, &mut hand, 0),
+        take_one(&core, &mut hand, 0),
+    ];
+    assert_eq!(rt; (place, kind), (1, Kind::Pool));
+    assert_eq!(rt;
+        later,
+        [
+            Ok((2, Kind::Pool)),
+            Ok((3, Kind::Pool)),
+            Ok((1, Kind::Pool))
+        ]
+    );
     Ok(())
 }
 
 #[test]
 fn without_usable_places_the_kept_one_is_left(rt: HostRuntime) -> Result<(), Fail> {
-    let layout = Layout::new(1, 1, 1)?;
-    let (core, mut hand) = Core::<AnyState>::new(rt.alloc(), &layout)?;
+    let (core, mut hand) = first_seat(rt.alloc(), 1, 1, 1)?;
     assert!(rt;
-        !take_inline(&core, &mut hand, 0),
+        !inline_is_free(&core, &mut hand),
         "it is linked from the start"
     );
-    assert_eq!(rt; take(&core, &mut hand, 0), Err(PlacesOut));
+    assert_eq!(rt; take_one(&core, &mut hand, 0), Err(PlacesOut));
     assert_eq!(rt; take_kept(&core, &mut hand), Some(1));
     Ok(())
 }
 
+// Publishes a stamp, fills a place at it with a value and then with a deletion, and gives it back.
+fn fill_twice(core: &Core<AnyState>, hand: &mut Hand<AnyState>) -> Result<u32, Fail>
+    requires ready { IsReady core.now hand.old }
+    requires record { 0 < core.now.size.records }
+    requires first { hand.old.view.clock.clock ≡ 0 }
+    requires ends { Ends hand.old.view.work }
+    ensures ready { IsReady core.now hand.new }
+{
+    let stamp = core.publish_stamp(hand, 1);
+    let (place, _) = take_one(core, hand, 0)?;
+    fill_one(core, hand, place, stamp, Some(Cells::new([7; 32])));
+    fill_one(core, hand, place, stamp, None);
+    give_back(core, hand, place);
+    Ok(place)
+}
+
 #[test]
 fn a_held_place_is_filled_with_a_value_and_a_deletion(rt: HostRuntime) -> Result<(), Fail> {
-    let layout = Layout::new(1, 1, 2)?;
-    let (core, mut hand) = Core::<AnyState>::new(rt.alloc(), &layout)?;
-    let stamp = core.publish_stamp(&mut hand, 1);
-    let (place, _) = take(&core, &mut hand, 0)?;
-    fill(&core, &mut hand, place, stamp, &Some(Cells::new([7; 32])));
-    fill(&core, &mut hand, place, stamp, &None);
-    give(&core, &mut hand, place);
-    assert_eq!(rt; take(&core, &mut hand, 0), Ok((place, Kind::Pool)));
+    let (core, mut hand) = first_seat(rt.alloc(), 1, 1, 2)?;
+    let place = fill_twice(&core, &mut hand)?;
+    assert_eq!(rt; take_one(&core, &mut hand, 0), Ok((place, Kind::Pool)));
     Ok(())
 }
 
@@ -74,7 +176,7 @@ fn take_four(
 {
     let mut places = Vec::new(alloc);
     for turn in 0..4 {
-        if let Ok((place, _)) = take(core, &mut hand, 0) {
+        if let Ok((place, _)) = take_one(core, &mut hand, 0) {
             places.push(place)?;
         }
     }
@@ -83,9 +185,7 @@ fn take_four(
 
 #[test]
 fn two_threads_take_different_places(rt: HostRuntime) -> Result<(), Fail> {
-    let layout = Layout::new(2, 1, 9)?;
-    let (core, mut hand) = Core::<AnyState>::new(rt.alloc(), &layout)?;
-    let other = core.split(&mut hand);
+    let (core, hand, other) = two_seats(rt.alloc(), 1, 9)?;
     let alloc = rt.alloc();
     let shared = &core;
     let (first, second) = join(

@@ -1,13 +1,33 @@
 //! Steps of hands under the rule.
-ghost use Rattle.std.specs.Prelude.{◌≡◌, ◌<◌, ◌≤◌, []};
+ghost use Rattle.std.specs.Prelude.{◌≡◌, ◌<◌, ◌≤◌, [], ◌∷◌, None, IfSome};
+ghost use Rattle.std.specs.Bool.{OnTrue};
 ghost use Rattle.stamp_base.specs.Limits.{greatest_clock};
+ghost use Rattle.stamp_base.specs.Stamp.{bound_of_clock};
+ghost use Rattle.word_layout.specs.Size.{places};
+ghost use Rattle.core_rule.specs.View.{writing, no_work};
+ghost use Rattle.core_rule.specs.Views.{Has};
 ghost use Rattle.core_rule.specs.Hands.{IsHandOf, IsReady, IsRetired};
 ghost use Rattle.core_rule.specs.Searching.{Ends};
+ghost use Rattle.core_rule.specs.Versions.{read_version};
 
+use crate::tables::{first_seat, two_seats};
 use core_rule::{AnyState, Core, Hand, ReadVersion};
+use stamp_base::Stamp;
 use std::test::Fail;
 use std::thread::join;
-use word_layout::Layout;
+
+/// Publishes the stamp of clock 20, at which nothing has been done yet.
+pub fn publish(core: &Core<AnyState>, hand: &mut Hand<AnyState>) -> Stamp
+    requires ready { IsReady core.now hand.old }
+    requires ends { Ends hand.old.view.work }
+    requires clock { hand.old.view.clock.clock ≡ 0 }
+    ensures ready { IsReady core.now hand.new }
+    ensures in_flight { hand.new.view.flight ≡ writing result }
+    ensures begins { hand.new.view.work ≡ no_work }
+    ensures rises { hand.new.view.published.write < bound_of_clock hand.new.view.clock.clock }
+{
+    core.publish_stamp(hand, 20)
+}
 
 // A seat that draws one stamp, ends and retires.
 fn draw_and_retire(core: &Core<AnyState>, mut hand: Hand<AnyState>, clock: u64) -> Hand<AnyState>
@@ -27,105 +47,209 @@ fn draw_and_retire(core: &Core<AnyState>, mut hand: Hand<AnyState>, clock: u64) 
     hand
 }
 
+// Adopts a clock, hears a stamp and publishes a bound, and gives what each of these answers.
+fn look_and_rest(core: &Core<AnyState>, hand: &mut Hand<AnyState>, stamp: Stamp) -> [u64; 3]
+    requires ready { IsReady core.now hand.old }
+    requires seat { 0 < core.now.size.seats }
+    requires begins { hand.old.view.work ≡ no_work }
+    requires rises { hand.old.view.published.write < bound_of_clock hand.old.view.clock.clock }
+    ensures ready { IsReady core.now hand.new }
+    ensures ends { Ends hand.new.view.work }
+{
+    let adopted = core.adopt_clock(hand, 0);
+    let heard = core.hear(hand, stamp);
+    [adopted, heard, core.publish_idle(hand)]
+}
+
+// Raises the write minimum of a table with one seat, and publishes the bound below it: what the words were, and the bound.
+fn raise_writes(core: &Core<AnyState>, hand: &mut Hand<AnyState>) -> [u64; 3]
+    requires ready { IsReady core.now hand.old }
+    requires ends { Ends hand.old.view.work }
+    requires alone { core.now.size.seats ≡ 1 }
+    ensures ready { IsReady core.now hand.new }
+{
+    let least = core.scan_writes(hand, 0);
+    let raised = core.raise_min_write(hand, least);
+    let loaded = core.load_min_write(hand);
+    [least, raised, core.publish_bound(hand, loaded)]
+}
+
+// Raises the read minimum of a table with one seat: what it was before and is then.
+fn raise_reads(core: &Core<AnyState>, hand: &mut Hand<AnyState>) -> [u64; 2]
+    requires ready { IsReady core.now hand.old }
+    requires alone { core.now.size.seats ≡ 1 }
+{
+    let least = core.scan_reads(hand, 0);
+    let raised = core.raise_min_read(hand, least);
+    [raised, core.load_min_read(hand)]
+}
+
 #[test]
 fn one_seat_makes_each_step(rt: HostRuntime) -> Result<(), Fail> {
-    let layout = Layout::new(1, 1, 1)?;
-    let (core, mut hand) = Core::<AnyState>::new(rt.alloc(), &layout)?;
+    let (core, mut hand) = first_seat(rt.alloc(), 1, 1, 1)?;
     assert_eq!(rt; (hand.number(), hand.clock()), (0, 0));
     assert_eq!(rt; (hand.published_write(), hand.published_read()), (1, 0));
     assert_eq!(rt; core.layout().words(), 79);
-
-    let stamp = core.publish_stamp(&mut hand, 20);
+    let stamp = publish(&core, &mut hand);
+    let looks = look_and_rest(&core, &mut hand, stamp);
+    let writes = raise_writes(&core, &mut hand);
+    let reads = raise_reads(&core, &mut hand);
     assert_eq!(rt; stamp.number(), 5120);
-    assert_eq!(rt; core.adopt_clock(&mut hand, 0), 5120);
-    assert_eq!(rt; core.hear(&mut hand, stamp), 5120);
-    assert_eq!(rt; core.publish_idle(&mut hand), 5184);
-
-    let least = core.scan_writes(&mut hand, 0);
-    assert_eq!(rt; least, 5184);
-    assert_eq!(rt; core.raise_min_write(&mut hand, least), 1);
-    let loaded = core.load_min_write(&mut hand);
-    assert_eq!(rt; core.publish_bound(&mut hand, loaded), 5183);
-    let least = core.scan_reads(&mut hand, 0);
-    assert_eq!(rt; core.raise_min_read(&mut hand, least), 0);
-    assert_eq!(rt; core.load_min_read(&mut hand), 5183);
+    assert_eq!(rt; looks, [5120, 5120, 5184]);
+    assert_eq!(rt; (writes, reads), ([5184, 1, 5183], [0, 5183]));
     assert_eq!(rt; hand.clock(), 20);
     Ok(())
 }
 
+// Publishes the stamp of clock 20, and enters a commit at it that has neither read nor written.
+fn decide_without_reads(core: &Core<AnyState>, hand: &mut Hand<AnyState>) -> u64
+    requires ready { IsReady core.now hand.old }
+    requires ends { Ends hand.old.view.work }
+    requires clock { hand.old.view.clock.clock ≡ 0 }
+    ensures ready { IsReady core.now hand.new }
+    ensures ends { Ends hand.new.view.work }
+    ensures rises { hand.new.view.published.write < bound_of_clock hand.new.view.clock.clock }
+{
+    core.publish_stamp(hand, 20);
+    core.decide_bare(hand)
+}
+
+// Publishes the bound of the clock, and enters a snapshot that has read nothing.
+fn finish_without_reads(core: &Core<AnyState>, hand: &mut Hand<AnyState>) -> [u64; 2]
+    requires ready { IsReady core.now hand.old }
+    requires ends { Ends hand.old.view.work }
+    requires rises { hand.old.view.published.write < bound_of_clock hand.old.view.clock.clock }
+{
+    [core.publish_idle(hand), core.finish(hand)]
+}
+
 #[test]
 fn entries_without_reads_and_writes(rt: HostRuntime) -> Result<(), Fail> {
-    let layout = Layout::new(1, 1, 1)?;
-    let (core, mut hand) = Core::<AnyState>::new(rt.alloc(), &layout)?;
-    core.publish_stamp(&mut hand, 20);
-    assert_eq!(rt; core.decide_bare(&mut hand), 5120);
-    assert_eq!(rt; core.publish_idle(&mut hand), 5184);
-    assert_eq!(rt; core.finish(&mut hand), 0);
+    let (core, mut hand) = first_seat(rt.alloc(), 1, 1, 1)?;
+    assert_eq!(rt; decide_without_reads(&core, &mut hand), 5120);
+    assert_eq!(rt; finish_without_reads(&core, &mut hand), [5184, 0]);
     Ok(())
+}
+
+// Searches record 0, and gives the stamp of the version from the start, which is absent.
+fn find_absent(core: &Core<AnyState>, hand: &mut Hand<AnyState>, stamp: Stamp) -> Option<u64>
+    requires ready { IsReady core.now hand.old }
+    requires record { 0 < core.now.size.records }
+    requires in_flight { hand.old.view.flight ≡ writing stamp }
+    requires begins { hand.old.view.work ≡ no_work }
+    requires rises { hand.old.view.published.write < bound_of_clock hand.old.view.clock.clock }
+    ensures ready { IsReady core.now hand.new }
+    ensures in_flight { hand.new.view.flight ≡ writing stamp }
+    ensures rises { hand.new.view.published.write < bound_of_clock hand.new.view.clock.clock }
+    ensures found { IfSome result (λ version. hand.new.view.work ≡ record no_work { reads = read_version 0 0 version None ∷ [] }) }
+    ensures early { IfSome result (λ version. version < stamp) }
+{
+    if core.load_head(hand, 0) != 1 {
+        return None;
+    }
+    let version = core.load_stamp(hand, 0);
+    if version >= stamp.number() {
+        return None;
+    }
+    if core.load_status(hand, 0, version) != 4 {
+        return None;
+    }
+    Some(version)
+}
+
+// Raises the read stamp of what was found, searches for it again, decides by it and publishes a bound. It gives the bound where each
+// step finds what it found before.
+fn read_again(
+    core: &Core<AnyState>,
+    hand: &mut Hand<AnyState>,
+    version: u64,
+    stamp: Stamp,
+) -> Option<u64>
+    requires ready { IsReady core.now hand.old }
+    requires record { 0 < core.now.size.records }
+    requires in_flight { hand.old.view.flight ≡ writing stamp }
+    requires rises { hand.old.view.published.write < bound_of_clock hand.old.view.clock.clock }
+    requires found { hand.old.view.work ≡ record no_work { reads = read_version 0 0 version None ∷ [] } }
+    requires early { version < stamp }
+{
+    let read = ReadVersion::new(0, 0, version, None);
+    core.raise_read_stamp(hand, &read, stamp.number());
+    if core.load_head_again(hand, &read) != 1 {
+        return None;
+    }
+    if core.load_stamp(hand, 0) != version {
+        return None;
+    }
+    if core.decide_by_read(hand, 0) != 4 {
+        return None;
+    }
+    Some(core.publish_idle(hand))
 }
 
 #[test]
 fn a_read_is_searched_again_and_decides(rt: HostRuntime) -> Result<(), Fail> {
-    let layout = Layout::new(1, 1, 1)?;
-    let (core, mut hand) = Core::<AnyState>::new(rt.alloc(), &layout)?;
-    core.publish_stamp(&mut hand, 20);
-    assert_eq!(rt; core.load_head(&mut hand, 0), 1);
-    let version = core.load_stamp(&mut hand, 0);
-    if version >= 5120 {
-        return Err("the version from the start has stamp 0".into());
-    }
-    if core.load_status(&mut hand, 0, version) != 4 {
-        return Err("it is deleted".into());
-    }
-    let read = ReadVersion::new(0, 0, version, None);
-    core.raise_read_stamp(&mut hand, &read, 5120);
-    assert_eq!(rt; core.load_head_again(&mut hand, &read), 1);
-    if core.load_stamp(&mut hand, 0) != version {
-        return Err("its stamp stays".into());
-    }
-    assert_eq!(rt; core.decide_by_read(&mut hand, 0), 4);
-    assert_eq!(rt; core.publish_idle(&mut hand), 5184);
+    let (core, mut hand) = first_seat(rt.alloc(), 1, 1, 1)?;
+    let stamp = publish(&core, &mut hand);
+    assert_eq!(rt; stamp.number(), 5120);
+    let Some(version) = find_absent(&core, &mut hand, stamp) else {
+        return Err("the version from the start is deleted, and has stamp 0".into());
+    };
+    assert_eq!(rt; read_again(&core, &mut hand, version, stamp), Some(5184));
     Ok(())
+}
+
+// Takes a place where it is free.
+fn take_at(core: &Core<AnyState>, hand: &mut Hand<AnyState>, place: u32) -> bool
+    requires ready { IsReady core.now hand.old }
+    requires place { place < places core.now.size }
+    ensures ready { IsReady core.now hand.new }
+    ensures held { OnTrue result (Has place hand.new.view.places.held) }
+{
+    core.take(hand, place)
 }
 
 #[test]
 fn free_places_are_taken_once(rt: HostRuntime) -> Result<(), Fail> {
-    let layout = Layout::new(1, 2, 3)?;
-    let (core, mut hand) = Core::<AnyState>::new(rt.alloc(), &layout)?;
-    let inline = core.take(&mut hand, 0);
-    let first = core.take(&mut hand, 2);
-    let second = core.take(&mut hand, 3);
-    let kept = core.take(&mut hand, 4);
-    let again = core.take(&mut hand, 3);
-    assert_eq!(rt;
-        [inline, first, second, kept, again],
-        [false, true, true, true, false]
-    );
+    let (core, mut hand) = first_seat(rt.alloc(), 1, 2, 3)?;
+    let taken = [
+        take_at(&core, &mut hand, 0),
+        take_at(&core, &mut hand, 2),
+        take_at(&core, &mut hand, 3),
+        take_at(&core, &mut hand, 4),
+        take_at(&core, &mut hand, 3),
+    ];
+    assert_eq!(rt; taken, [false, true, true, true, false]);
     assert_eq!(rt; hand.last_pool(), Some(3));
     Ok(())
 }
 
+// Fills a place step by step, at a stamp, and gives it back.
+fn fill_and_give(core: &Core<AnyState>, hand: &mut Hand<AnyState>, place: u32, stamp: Stamp)
+    requires ready { IsReady core.now hand.old }
+    requires held { Has place hand.old.view.places.held }
+    ensures ready { IsReady core.now hand.new }
+{
+    core.fill_stamp(hand, place, stamp);
+    core.fill_reset(hand, place);
+    core.fill_next(hand, place, Some(0));
+    core.fill_cell(hand, place, 0, 7);
+    core.give(hand, place);
+}
+
 #[test]
 fn a_place_is_filled_and_taken_again(rt: HostRuntime) -> Result<(), Fail> {
-    let layout = Layout::new(1, 1, 2)?;
-    let (core, mut hand) = Core::<AnyState>::new(rt.alloc(), &layout)?;
-    let stamp = core.publish_stamp(&mut hand, 20);
-    if core.take(&mut hand, 1) {
-        core.fill_stamp(&mut hand, 1, stamp);
-        core.fill_reset(&mut hand, 1);
-        core.fill_next(&mut hand, 1, Some(0));
-        core.fill_cell(&mut hand, 1, 0, 7);
-        core.give(&mut hand, 1);
+    let (core, mut hand) = first_seat(rt.alloc(), 1, 1, 2)?;
+    let stamp = publish(&core, &mut hand);
+    if take_at(&core, &mut hand, 1) {
+        fill_and_give(&core, &mut hand, 1, stamp);
     }
-    assert!(rt; core.take(&mut hand, 1), "it was given back");
+    assert!(rt; take_at(&core, &mut hand, 1), "it was given back");
     Ok(())
 }
 
 #[test]
 fn two_hands_step_in_two_threads(rt: HostRuntime) -> Result<(), Fail> {
-    let layout = Layout::new(2, 1, 1)?;
-    let (core, mut hand) = Core::<AnyState>::new(rt.alloc(), &layout)?;
-    let other = core.split(&mut hand);
+    let (core, hand, other) = two_seats(rt.alloc(), 1, 1)?;
     assert_eq!(rt;
         (other.number(), other.clock(), other.published_write()),
         (1, 0, 1)
@@ -143,12 +267,14 @@ fn two_hands_step_in_two_threads(rt: HostRuntime) -> Result<(), Fail> {
 
 #[test]
 fn the_greatest_run_starts(rt: HostRuntime) -> Result<(), Fail> {
-    let layout = Layout::new(64, 135_168, 143_361)?;
-    let (core, mut hand) = Core::<AnyState>::new(rt.alloc(), &layout)?;
+    let (core, mut hand) = first_seat(rt.alloc(), 64, 135_168, 143_361)?;
     assert!(rt;
-        !core.take(&mut hand, 135_167),
+        !take_at(&core, &mut hand, 135_167),
         "the last inline place is linked"
     );
-    assert!(rt; core.take(&mut hand, 278_528), "the kept place is free");
+    assert!(rt;
+        take_at(&core, &mut hand, 278_528),
+        "the kept place is free"
+    );
     Ok(())
 }

@@ -5,6 +5,16 @@ use stamp_base::{
 };
 use std::test::*;
 
+// Whether a clock and a seat have a stamp of this number, which tells them again.
+fn is_stamp_of(clock: u64, seat: u32, number: u64) -> bool {
+    if !is_clock(clock) || !is_seat(seat) {
+        return false;
+    }
+    let stamp = Stamp::make(clock, seat);
+    let again = Stamp::from_number(stamp.number());
+    stamp.number() == number && stamp.clock() == clock && stamp.seat() == seat && again == stamp
+}
+
 #[test]
 fn stamps_give_their_numbers(rt: HostRuntime) {
     let table = [
@@ -15,12 +25,7 @@ fn stamps_give_their_numbers(rt: HostRuntime) {
         (72_057_594_037_927_934, 63, 18_446_744_073_709_551_167),
     ];
     for (clock, seat, number) in table {
-        assert!(rt; is_clock(clock) && is_seat(seat));
-        let stamp = Stamp::make(clock, seat);
-        assert_eq!(rt; stamp.number(), number);
-        assert_eq!(rt; stamp.clock(), clock);
-        assert_eq!(rt; stamp.seat(), seat);
-        assert_eq!(rt; Stamp::from_number(stamp.number()), stamp);
+        assert!(rt; is_stamp_of(clock, seat, number), "at {clock} {seat}");
     }
 }
 
@@ -33,16 +38,24 @@ fn stamps_are_ordered_by_clock_then_seat(rt: HostRuntime) {
 
 #[test]
 fn limits_of_stamps_have_their_values(rt: HostRuntime) {
-    assert_eq!(rt; GREATEST_CLOCK, 72_057_594_037_927_934);
-    assert_eq!(rt; GREATEST_ADOPTED_CLOCK, 36_028_797_018_963_968);
-    assert_eq!(rt; END, 18_446_744_073_709_551_615);
-    assert_eq!(rt; SEATS, 64);
-    assert!(rt; is_seat(63) && !is_seat(64));
-    assert!(rt; is_clock(72_057_594_037_927_934) && !is_clock(72_057_594_037_927_935));
-    assert!(rt; is_end(END) && !is_end(18_446_744_073_709_551_614));
     assert_eq!(rt;
-        adopted_clock(36_028_797_018_963_969),
-        36_028_797_018_963_968
+        [GREATEST_CLOCK, GREATEST_ADOPTED_CLOCK, END],
+        [
+            72_057_594_037_927_934,
+            36_028_797_018_963_968,
+            18_446_744_073_709_551_615
+        ]
     );
-    assert_eq!(rt; adopted_clock(7), 7);
+    assert_eq!(rt; SEATS, 64);
+    let inside = [
+        is_seat(63),
+        is_clock(72_057_594_037_927_934),
+        !is_end(18_446_744_073_709_551_614),
+    ];
+    let outside = [is_seat(64), is_clock(72_057_594_037_927_935), !is_end(END)];
+    assert_eq!(rt; (inside, outside), ([true; 3], [false; 3]));
+    assert_eq!(rt;
+        [adopted_clock(36_028_797_018_963_969), adopted_clock(7)],
+        [36_028_797_018_963_968, 7]
+    );
 }

@@ -1,5 +1,5 @@
 //! Validation of whole transactions, by hands that step in turns and in two threads.
-ghost use Rattle.std.specs.Prelude.{◌≡◌, ◌<◌, [], ◌∷◌, ◌++◌, IfOk, OnOk, true, IfSome};
+ghost use Rattle.std.specs.Prelude.{◌≡◌, ◌<◌, ◌≤◌, [], ◌∷◌, ◌++◌, IfOk, OnOk, true, IfSome};
 ghost use Rattle.core_rule.specs.View.{writing};
 ghost use Rattle.core_rule.specs.Collecting.{HasEntry};
 ghost use Rattle.core_rule.specs.Deciding.{commit_of};
@@ -7,7 +7,7 @@ ghost use Rattle.core_rule.specs.Hands.{IsReady};
 ghost use Rattle.core_rule.specs.Searching.{Ends};
 ghost use Rattle.validate_core.specs.Installing.{IsBegun, SameSets};
 
-use crate::clocks::two_seats;
+use crate::tables::{first_seat, two_seats};
 use clock_stamps::draw;
 use core_rule::{AnyState, Core, Hand};
 use plain_data::Cells;
@@ -15,11 +15,10 @@ use stamp_base::Stamp;
 use std::alloc::Global;
 use std::sync::{Condvar, Mutex, Wait};
 use std::test::*;
-use std::thread::join;
+use std::thread::{Threads, join};
 use validate_core::{Conflict, Sets, install};
 use version_pool::{PlacesOut, take, take_kept};
 use version_search::{Found, find};
-use word_layout::Layout;
 
 /// Draws the stamp of a transaction, whose sets are empty.
 pub fn begin(
@@ -38,6 +37,30 @@ pub fn begin(
 {
     let stamp = draw(core, hand, reading)?;
     Ok((Sets::new(alloc), stamp))
+}
+
+// The same, and the sets have room for so many reads and writes.
+fn begin_with_room(
+    alloc: Global,
+    core: &Core<AnyState>,
+    hand: &mut Hand<AnyState>,
+    reading: u64,
+    reads: u32,
+    writes: u32,
+) -> Result<(Sets, Stamp), Fail>
+    requires ready { IsReady core.now hand.old }
+    requires ends { Ends hand.old.view.work }
+    ensures ready { IsReady core.now hand.new }
+    ensures begun { IfOk result (λ begun. IsBegun core.now.size begun.0 hand.new.view) }
+    ensures stamp { IfOk result (λ begun. hand.new.view.published.write ≡ begun.1) }
+    ensures reads { IfOk result (λ begun. begun.0.reads ≡ []) }
+    ensures writes { IfOk result (λ begun. begun.0.writes ≡ []) }
+    ensures read_room { IfOk result (λ begun. reads ≤ begun.0.read_room) }
+    ensures write_room { IfOk result (λ begun. writes ≤ begun.0.write_room) }
+{
+    let (mut sets, stamp) = begin(alloc, core, hand, reading)?;
+    sets.reserve(reads, writes)?;
+    Ok((sets, stamp))
 }
 
 // Reads record 5, for which there is room, and tells whether it is absent from the start.
@@ -235,24 +258,65 @@ fn write_then<R: Wait>(
     run(core, &mut hand, &mut sets).ok()
 }
 
+// Runs both in two threads: the reader at a later stamp first, and then the writer at an earlier one.
+fn read_and_write<R: Threads + Wait + Sync>(
+    rt: &R,
+    core: &Core<AnyState>,
+    writer: (Hand<AnyState>, Sets),
+    reader: (Hand<AnyState>, Sets),
+    late: Stamp,
+) -> (
+    Option<(Hand<AnyState>, Result<(), Conflict>)>,
+    Option<Result<(), Conflict>>,
+)
+    requires record { 5 < core.now.size.records }
+    requires writer_ready { IsReady core.now writer.0 }
+    requires writer_begun { IsBegun core.now.size writer.1 writer.0.view }
+    requires first_write { writer.1.writes ≡ [] }
+    requires write_room { 0 < writer.1.write_room }
+    requires reader_ready { IsReady core.now reader.0 }
+    requires reader_begun { IsBegun core.now.size reader.1 reader.0.view }
+    requires stamp { reader.0.view.published.write ≡ late }
+    requires first_read { reader.1.reads ≡ [] }
+    requires read_room { 0 < reader.1.read_room }
+    ensures ready { IfSome result.0 (λ ran. IsReady core.now ran.0) }
+    ensures ends { IfSome result.0 (λ ran. Ends ran.0.view.work) }
+{
+    let decided = Signal::new();
+    let signal = &decided;
+    let (first, writes) = writer;
+    let (second, reads) = reader;
+    join(
+        rt,
+        move || read_first(rt, core, second, reads, late, signal),
+        move || write_then(rt, core, first, writes, signal),
+    )
+}
+
+// Draws a stamp, gives its number, and reads record 5 at it, which has to be absent from the start.
+fn begin_and_read(
+    alloc: Global,
+    core: &Core<AnyState>,
+    hand: &mut Hand<AnyState>,
+) -> Result<u64, Fail>
+    requires ready { IsReady core.now hand.old }
+    requires ends { Ends hand.old.view.work }
+    requires record { 5 < core.now.size.records }
+{
+    let (mut sets, stamp) = begin(alloc, core, hand, 20)?;
+    read_absent(core, hand, &mut sets, stamp)?;
+    Ok(stamp.number())
+}
+
 #[test]
 fn a_read_at_a_later_stamp_stops_an_earlier_writer_in_another_thread(
     rt: HostRuntime,
 ) -> Result<(), Fail> {
-    let layout = Layout::new(2, 6, 4)?;
-    let (core, mut first, mut second) = two_seats(rt.alloc(), &layout)?;
-    let (mut writes, early) = begin(rt.alloc(), &core, &mut first, 10)?;
-    let (mut reads, late) = begin(rt.alloc(), &core, &mut second, 20)?;
+    let (core, mut first, mut second) = two_seats(rt.alloc(), 6, 4)?;
+    let (writes, early) = begin_with_room(rt.alloc(), &core, &mut first, 10, 0, 1)?;
+    let (reads, late) = begin_with_room(rt.alloc(), &core, &mut second, 20, 1, 0)?;
     assert_eq!(rt; (early.number(), late.number()), (2_560, 5_121));
-    reads.reserve(1, 0)?;
-    writes.reserve(0, 1)?;
-    let decided = Signal::new();
-    let (shared, signal, host) = (&core, &decided, &rt);
-    let (read, written) = join(
-        &rt,
-        move || read_first(host, shared, second, reads, late, signal),
-        move || write_then(host, shared, first, writes, signal),
-    );
+    let (read, written) = read_and_write(&rt, &core, (first, writes), (second, reads), late);
     let Some((mut second, answer)) = read else {
         return Err("it is absent from the start".into());
     };
@@ -263,16 +327,13 @@ fn a_read_at_a_later_stamp_stops_an_earlier_writer_in_another_thread(
         rts: 5_121,
     };
     assert_eq!(rt; written, Some(Err(stopped)));
-    let (mut reads, later) = begin(rt.alloc(), &core, &mut second, 20)?;
-    assert_eq!(rt; later.number(), 5_377);
-    read_absent(&core, &mut second, &mut reads, later)?;
+    assert_eq!(rt; begin_and_read(rt.alloc(), &core, &mut second)?, 5_377);
     Ok(())
 }
 
 #[test]
 fn a_seat_that_is_alone_reads_and_writes_a_record(rt: HostRuntime) -> Result<(), Fail> {
-    let layout = Layout::new(1, 6, 4)?;
-    let (core, mut hand) = Core::<AnyState>::new(rt.alloc(), &layout)?;
+    let (core, mut hand) = first_seat(rt.alloc(), 1, 6, 4)?;
     let (mut sets, stamp) = begin(rt.alloc(), &core, &mut hand, 10)?;
     read_absent(&core, &mut hand, &mut sets, stamp)?;
     assert_eq!(rt; write_one(&core, &mut hand, sets, 5)?, Ok(()));
@@ -281,8 +342,7 @@ fn a_seat_that_is_alone_reads_and_writes_a_record(rt: HostRuntime) -> Result<(),
 
 #[test]
 fn without_a_place_for_a_write_nothing_stays_installed(rt: HostRuntime) -> Result<(), Fail> {
-    let layout = Layout::new(1, 2, 2)?;
-    let (core, mut hand) = Core::<AnyState>::new(rt.alloc(), &layout)?;
+    let (core, mut hand) = first_seat(rt.alloc(), 1, 2, 2)?;
     let (sets, stamp) = begin(rt.alloc(), &core, &mut hand, 1)?;
     assert_eq!(rt; stamp.number(), 256);
     assert_eq!(rt; write_two(&core, &mut hand, sets)?, PlacesOut);

@@ -1,9 +1,25 @@
 //! The words of a table, and their numbers.
+ghost use Rattle.std.specs.Prelude.{◌<◌};
+ghost use Rattle.word_layout.specs.Size.{places};
+
+use std::alloc::{AllocError, Global};
 use std::test::*;
 use word_layout::{CELLS, Layout, Limit};
 
+// Whether a table of so many seats, records and pool places has so many words, and tells its numbers again.
+fn has_words(seats: u32, records: u32, spare: u32, words: u32) -> bool {
+    let Ok(layout) = Layout::new(seats, records, spare) else {
+        return false;
+    };
+    layout.words() == words
+        && layout.seats() == seats
+        && layout.records() == records
+        && layout.spare() == spare
+        && layout.places() == records + spare
+}
+
 #[test]
-fn sizes_give_their_words(rt: HostRuntime) -> Result<(), Fail> {
+fn sizes_give_their_words(rt: HostRuntime) {
     let table = [
         (2, 6, 4, 384),
         (1, 1, 1, 79),
@@ -11,14 +27,11 @@ fn sizes_give_their_words(rt: HostRuntime) -> Result<(), Fail> {
         (64, 200_000, 262_144, 17_237_314),
     ];
     for (seats, records, spare, words) in table {
-        let layout = Layout::new(seats, records, spare)?;
-        assert_eq!(rt; layout.words(), words, "at {seats} {records} {spare}");
-        assert_eq!(rt; layout.seats(), seats);
-        assert_eq!(rt; layout.records(), records);
-        assert_eq!(rt; layout.spare(), spare);
-        assert_eq!(rt; layout.places(), records + spare);
+        assert!(rt;
+            has_words(seats, records, spare, words),
+            "at {seats} {records} {spare}"
+        );
     }
-    Ok(())
 }
 
 #[test]
@@ -32,37 +45,62 @@ fn numbers_out_of_range_are_refused(rt: HostRuntime) {
         (1, 1, 262_145),
     ];
     for (seats, records, spare) in table {
-        assert_eq!(rt;
-            Layout::new(seats, records, spare),
-            Err(Limit),
-            "at {seats} {records} {spare}"
-        );
+        let refused = matches!(Layout::new(seats, records, spare), Err(Limit));
+        assert!(rt; refused, "at {seats} {records} {spare}");
     }
+}
+
+// Appends the words of a seat.
+fn push_seat(layout: &Layout, s: u32, words: &mut Vec<u32>) -> Result<(), AllocError>
+    requires { s < layout.now.seats }
+{
+    words.extend_from_slice(&[layout.published_write(s), layout.published_read(s)])
+}
+
+// Appends the words of a record.
+fn push_record(layout: &Layout, r: u32, words: &mut Vec<u32>) -> Result<(), AllocError>
+    requires { r < layout.now.records }
+{
+    words.extend_from_slice(&[layout.head(r), layout.lock(r), layout.floor(r)])
+}
+
+// Appends the words of a place.
+fn push_place(layout: &Layout, p: u32, words: &mut Vec<u32>) -> Result<(), AllocError>
+    requires { p < places layout.now }
+{
+    let heads = [
+        layout.status(p),
+        layout.wts(p),
+        layout.rts(p),
+        layout.next(p),
+    ];
+    words.extend_from_slice(&heads)?;
+    for i in 0..CELLS {
+        words.push(layout.cell(p, i))?;
+    }
+    Ok(())
+}
+
+// The words of a table, sorted.
+fn words_of(alloc: Global, layout: &Layout) -> Result<Vec<u32>, AllocError> {
+    let mut words = [layout.min_write(), layout.min_read()].to_vec(alloc)?;
+    for s in 0..layout.seats() {
+        push_seat(layout, s, &mut words)?;
+    }
+    for r in 0..layout.records() {
+        push_record(layout, r, &mut words)?;
+    }
+    for p in 0..layout.places() {
+        push_place(layout, p, &mut words)?;
+    }
+    words.sort()?;
+    Ok(words)
 }
 
 #[test]
 fn each_number_names_one_word(rt: HostRuntime) -> Result<(), Fail> {
     let layout = Layout::new(2, 6, 4)?;
-    let mut words = [layout.min_write(), layout.min_read()].to_vec(rt.alloc())?;
-    for s in 0..layout.seats() {
-        words.push(layout.published_write(s))?;
-        words.push(layout.published_read(s))?;
-    }
-    for r in 0..layout.records() {
-        words.push(layout.head(r))?;
-        words.push(layout.lock(r))?;
-        words.push(layout.floor(r))?;
-    }
-    for p in 0..layout.places() {
-        words.push(layout.status(p))?;
-        words.push(layout.wts(p))?;
-        words.push(layout.rts(p))?;
-        words.push(layout.next(p))?;
-        for i in 0..CELLS {
-            words.push(layout.cell(p, i))?;
-        }
-    }
-    words.sort()?;
+    let words = words_of(rt.alloc(), &layout)?;
     assert_eq!(rt; words.len(), 384);
     for (number, word) in words.iter().enumerate() {
         assert_eq!(rt; *word as usize, number);

@@ -5,6 +5,7 @@ ghost use Rattle.std.specs.Prelude.{◌≡◌, All};
 ghost use Rattle.pass_rows.specs.Seats.{IsSeat};
 
 use crate::due::{hold, same};
+use crate::opening::{end, open, stop};
 use crate::values::{filled, word_of};
 use histories::AnyState;
 use record_store::{RecordRead, RecordStore};
@@ -153,6 +154,14 @@ pub fn is_refused(done: Done) -> bool {
     }
 }
 
+// What is told of a transaction that is aborted for what it did.
+fn stopped(done: Done) -> Option<Told> {
+    match done {
+        Done::Fault(TxnFault::Conflict(conflict)) => Some(Told::Stopped(conflict)),
+        _ => is_refused(done).then_some(Told::NoMemory),
+    }
+}
+
 /// What a commit tells.
 pub fn ended(done: Done, told: Result<Committed, CommitFault>) -> Told {
     match told {
@@ -183,11 +192,11 @@ fn abort(engine: &Engine<AnyState>, pass: &mut Pass<AnyState>, reading: u64) -> 
     requires { IsSeat engine.now pass.old }
     ensures { IsSeat engine.now pass.new }
 {
-    match pass.begin(engine, reading) {
+    match open(pass, engine, reading) {
         Err(fault) => not_begun(fault),
         Ok(txn) => {
             let stamp = txn.stamp().number();
-            txn.abort();
+            stop(txn);
             Told::Stamp(stamp)
         }
     }
@@ -205,19 +214,15 @@ pub fn commit(
     requires { IsSeat engine.now pass.old }
     ensures { IsSeat engine.now pass.new }
 {
-    match pass.begin(engine, reading) {
+    match open(pass, engine, reading) {
         Err(fault) => not_begun(fault),
         Ok(mut txn) => {
             let done = act_on(&mut txn, act, again);
-            if let Done::Fault(TxnFault::Conflict(conflict)) = done {
-                txn.abort();
-                Told::Stopped(conflict)
-            } else if is_refused(done) {
-                txn.abort();
-                Told::NoMemory
-            } else {
-                ended(done, txn.commit())
-            }
+            let Some(told) = stopped(done) else {
+                return ended(done, end(txn));
+            };
+            stop(txn);
+            told
         }
     }
 }

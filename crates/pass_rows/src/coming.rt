@@ -34,11 +34,8 @@ pub fn shared(alone: Alone<AnyState>, engine: &Engine<AnyState>) -> Vec<Pass<Any
     alone.share(engine)
 }
 
-/// The pass that stands first on a list.
-pub fn take_first(
-    passes: &mut Vec<Pass<AnyState>>,
-    engine: &Engine<AnyState>,
-) -> Option<Pass<AnyState>>
+// The pass that stands first on a list, if there is one.
+fn take_first(passes: &mut Vec<Pass<AnyState>>, engine: &Engine<AnyState>) -> Option<Pass<AnyState>>
     requires { All (IsSeat engine.now) passes.old.items }
     ensures first { IfSome result (IsSeat engine.now) }
     ensures fewer { IfSome result (λ _. vec_len passes.new < vec_len passes.old) }
@@ -48,6 +45,34 @@ pub fn take_first(
         return None;
     }
     Some(passes.remove(0))
+}
+
+/// The pass that stands first on a list, which has to have one. So who takes it has one way to go on, and no other to prove.
+pub fn take_one<R: Abort>(
+    rt: &R,
+    passes: &mut Vec<Pass<AnyState>>,
+    engine: &Engine<AnyState>,
+) -> Pass<AnyState>
+    requires { All (IsSeat engine.now) passes.old.items }
+    ensures first { IsSeat engine.now result }
+    ensures others { All (IsSeat engine.now) passes.new.items }
+{
+    hold(rt, !passes.is_empty(), 0);
+    passes.remove(0)
+}
+
+/// The two passes that stand first on a list, which has to have them.
+pub fn take_two<R: Abort>(
+    rt: &R,
+    passes: &mut Vec<Pass<AnyState>>,
+    engine: &Engine<AnyState>,
+) -> (Pass<AnyState>, Pass<AnyState>)
+    requires { All (IsSeat engine.now) passes.old.items }
+    ensures first { IsSeat engine.now result.0 }
+    ensures second { IsSeat engine.now result.1 }
+{
+    let first = take_one(rt, passes, engine);
+    (first, take_one(rt, passes, engine))
 }
 
 /// The seat that is alone once the others, by rising number, have retired.
@@ -63,8 +88,13 @@ pub fn meet<R: Abort>(
     ensures { IfOk result (λ alone. IsSeat engine.now alone.pass) }
 {
     hold(rt, first.seat() == 0, 0);
-    let retired = retire_all(rt, alloc, engine, others)?;
-    Ok(engine.alone(first, retired))
+    match retire_all(rt, alloc, engine, others) {
+        Ok(retired) => Ok(engine.alone(first, retired)),
+        Err(fault) => {
+            drop(first);
+            Err(fault)
+        }
+    }
 }
 
 // Retires a seat, which has to have this number.

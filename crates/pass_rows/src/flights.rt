@@ -3,13 +3,13 @@ ghost use Rattle.std.specs.Prelude.{◌≡◌, false, All};
 ghost use Rattle.pass_rows.specs.Seats.{IsSeat};
 
 use crate::calls::{Act, Done, Step, Told, act_on, ended, make_all};
-use crate::coming::{meet, shared, take_first};
+use crate::coming::{meet, shared, take_one, take_two};
 use crate::due::{hold, same};
+use crate::opening::{end, open, stop};
 use histories::AnyState;
-use std::alloc::Global;
+use std::alloc::{AllocError, Global};
 use std::process::Abort;
-use std::test::Fail;
-use txn_engine::{Alone, Engine, Pass, Settled};
+use txn_engine::{Alone, ClockOut, Engine, Pass, Settled};
 
 /// A transaction of the first pass that begins at reading 10, and the calls of the others in the meantime.
 #[derive(Clone, Copy)]
@@ -38,13 +38,13 @@ fn fly_open<R: Abort>(
     ensures first { IsSeat engine.now first.new }
     ensures others { All (IsSeat engine.now) others.new.items }
 {
-    let Ok(mut txn) = first.begin(engine, 10) else {
+    let Ok(mut txn) = open(first, engine, 10) else {
         return false;
     };
     same(rt, txn.stamp().number(), 2_560, 9);
     make_all(rt, engine, others, flight.calls);
     let done = act_on(&mut txn, flight.act, true);
-    same(rt, ended(done, txn.commit()), flight.due, 0);
+    same(rt, ended(done, end(txn)), flight.due, 0);
     true
 }
 
@@ -61,7 +61,7 @@ fn fly_linked<R: Abort>(
     ensures first { IsSeat engine.now first.new }
     ensures others { All (IsSeat engine.now) others.new.items }
 {
-    let Ok(mut txn) = first.begin(engine, 10) else {
+    let Ok(mut txn) = open(first, engine, 10) else {
         return false;
     };
     same(rt, txn.stamp().number(), 2_560, 9);
@@ -115,13 +115,13 @@ fn cross<R: Abort>(
     ensures first { IsSeat engine.now first.new }
     ensures second { IsSeat engine.now second.new }
 {
-    let Ok(mut early) = first.begin(engine, 10) else {
+    let Ok(mut early) = open(first, engine, 10) else {
         hold(rt, false, 0);
         return;
     };
-    let Ok(mut late) = second.begin(engine, 20) else {
+    let Ok(mut late) = open(second, engine, 20) else {
         hold(rt, false, 1);
-        early.abort();
+        stop(early);
         return;
     };
     same(
@@ -142,8 +142,16 @@ fn cross<R: Abort>(
         Done::Nothing,
         3,
     );
-    same(rt, ended(Done::Nothing, early.commit()), due.0, 4);
-    same(rt, ended(Done::Nothing, late.commit()), due.1, 5);
+    same(rt, ended(Done::Nothing, end(early)), due.0, 4);
+    same(rt, ended(Done::Nothing, end(late)), due.1, 5);
+}
+
+// Settles what is left, where a seat is alone again.
+fn settled(engine: &Engine<AnyState>, alone: &mut Alone<AnyState>) -> Result<Settled, ClockOut>
+    requires { IsSeat engine.now alone.old.pass }
+    ensures { IsSeat engine.now alone.new.pass }
+{
+    alone.settle(engine)
 }
 
 // The first pass, alone again, settles what is left.
@@ -151,27 +159,27 @@ fn settle<R: Abort>(rt: &R, engine: &Engine<AnyState>, alone: &mut Alone<AnyStat
     requires { IsSeat engine.now alone.old.pass }
 {
     same(rt, alone.last().number(), 5_120, 5);
-    same(rt, alone.settle(engine), Ok(due), 6);
+    same(rt, settled(engine, alone), Ok(due), 6);
     same(rt, alone.last().number(), 5_376, 7);
     same(rt, alone.rescan(engine), 0, 8);
 }
 
-/// Plays a flight.
+/// Plays a flight, and gives its pass and the others.
 pub fn fly_on<R: Abort>(
     rt: &R,
     engine: &Engine<AnyState>,
     alone: Alone<AnyState>,
     flight: &Flight<'_>,
-) -> Result<(), Fail>
+) -> (Pass<AnyState>, Vec<Pass<AnyState>>)
     requires seat { IsSeat engine.now alone.pass }
     requires not_shared { alone.shared ≡ false }
+    ensures first { IsSeat engine.now result.0 }
+    ensures others { All (IsSeat engine.now) result.1.items }
 {
     let mut passes = shared(alone, engine);
-    let Some(mut first) = take_first(&mut passes, engine) else {
-        return Err("there are two seats".into());
-    };
+    let mut first = take_one(rt, &mut passes, engine);
     fly(rt, engine, &mut first, &mut passes, flight);
-    Ok(())
+    (first, passes)
 }
 
 /// Plays a flight, and then brings the seats together and settles what is left.
@@ -182,17 +190,14 @@ pub fn fly_and_settle<R: Abort>(
     alone: Alone<AnyState>,
     flight: &Flight<'_>,
     due: Settled,
-) -> Result<(), Fail>
+) -> Result<(), AllocError>
     requires seat { IsSeat engine.now alone.pass }
     requires not_shared { alone.shared ≡ false }
 {
-    let mut passes = shared(alone, engine);
-    let Some(mut first) = take_first(&mut passes, engine) else {
-        return Err("there are two seats".into());
-    };
-    fly(rt, engine, &mut first, &mut passes, flight);
-    let mut alone = meet(rt, alloc, engine, first, passes)?;
+    let (first, others) = fly_on(rt, engine, alone, flight);
+    let mut alone = meet(rt, alloc, engine, first, others)?;
     settle(rt, engine, &mut alone, due);
+    drop(alone);
     Ok(())
 }
 
@@ -202,17 +207,13 @@ pub fn cross_on<R: Abort>(
     engine: &Engine<AnyState>,
     alone: Alone<AnyState>,
     due: (Told, Told),
-) -> Result<(), Fail>
+)
     requires seat { IsSeat engine.now alone.pass }
     requires not_shared { alone.shared ≡ false }
 {
     let mut passes = shared(alone, engine);
-    let Some(mut first) = take_first(&mut passes, engine) else {
-        return Err("there are two seats".into());
-    };
-    let Some(mut second) = take_first(&mut passes, engine) else {
-        return Err("there are two seats".into());
-    };
+    let (mut first, mut second) = take_two(rt, &mut passes, engine);
     cross(rt, engine, &mut first, &mut second, due);
-    Ok(())
+    drop(first);
+    drop(second);
 }

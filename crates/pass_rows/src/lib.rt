@@ -21,6 +21,8 @@ mod meeting;
 #[cfg(test)]
 mod noting;
 #[cfg(test)]
+mod opening;
+#[cfg(test)]
 mod play;
 #[cfg(test)]
 mod refused;

@@ -1,20 +1,21 @@
 //! Engines of the greatest sizes, and transactions that touch every record.
 ghost use Rattle.std.specs.Prelude.{◌≡◌, false, All, IfOk};
-ghost use Rattle.pass_rows.specs.Seats.{IsSeat, IsOpen};
+ghost use Rattle.pass_rows.specs.Seats.{IsSeat};
 
-use crate::coming::{meet, shared, take_first};
+use crate::coming::{meet, shared, take_one};
 use crate::due::{hold, same};
+use crate::opening::{end, end_alone, open, open_alone, stop_alone};
 use crate::play::{Piece, play};
 use crate::values::value;
 use histories::AnyState;
 use plain_data::Cells;
 use record_store::{MOST_RECORDS, RecordRead, RecordStore};
 use stamp_base::SEATS;
-use std::alloc::Global;
+use std::alloc::{AllocError, Global};
 use std::process;
 use std::test::Fail;
 use std::thread::{Threads, for_each_mut};
-use txn_engine::{Alone, AloneFault, AloneOver, Engine, Lent, Pass};
+use txn_engine::{Alone, AloneFault, Engine, Pass};
 
 /// The greatest number of places beside those of the records.
 const MOST_SPARE: u32 = 262_144;
@@ -99,7 +100,7 @@ fn fill<R: process::Abort>(rt: &R, engine: &Engine<AnyState>, alone: &mut Alone<
     ensures seat { IsSeat engine.now alone.new.pass }
     ensures shared { alone.new.shared ≡ alone.old.shared }
 {
-    let Ok(mut txn) = alone.begin(engine, 0) else {
+    let Ok(mut txn) = open_alone(alone, engine, 0) else {
         hold(rt, false, 0);
         return;
     };
@@ -109,10 +110,7 @@ fn fill<R: process::Abort>(rt: &R, engine: &Engine<AnyState>, alone: &mut Alone<
         MOST_RECORDS,
         0,
     );
-    match txn.commit() {
-        Ok(told) => same(rt, told.pooled, MOST_RECORDS, 1),
-        Err(_) => hold(rt, false, 1),
-    }
+    same(rt, end_alone(txn), Some(MOST_RECORDS), 1);
 }
 
 // Changes the records from this one up to that one, in one transaction of a pass, which has to commit.
@@ -127,7 +125,7 @@ fn refill<R: process::Abort>(
     requires { IsSeat engine.now pass.old }
     ensures { IsSeat engine.now pass.new }
 {
-    let Ok(mut txn) = pass.begin(engine, 0) else {
+    let Ok(mut txn) = open(pass, engine, 0) else {
         hold(rt, false, 2);
         return;
     };
@@ -137,10 +135,7 @@ fn refill<R: process::Abort>(
         last,
         2,
     );
-    match txn.commit() {
-        Ok(_) => {}
-        Err(_) => hold(rt, false, 3),
-    }
+    hold(rt, end(txn).is_ok(), 3);
 }
 
 // Reads every record by a snapshot.
@@ -198,12 +193,12 @@ fn look_back<R: process::Abort>(rt: &R, engine: &Engine<AnyState>, alone: &mut A
     requires { IsSeat engine.now alone.old.pass }
     ensures { IsSeat engine.now alone.new.pass }
 {
-    let Ok(mut txn) = alone.begin(engine, 0) else {
+    let Ok(mut txn) = open_alone(alone, engine, 0) else {
         hold(rt, false, 9);
         return;
     };
     hold(rt, is_left(&mut txn), 10);
-    txn.abort();
+    stop_alone(txn);
     same(rt, alone.last().number(), 768, 7);
     same(rt, alone.rescan(engine), 0, 8);
 }
@@ -229,17 +224,15 @@ fn change_and_meet<R: Threads + process::Abort + Sync>(
     alloc: Global,
     engine: &Engine<AnyState>,
     mut passes: Vec<Pass<AnyState>>,
-) -> Result<Alone<AnyState>, Fail>
+) -> Result<Alone<AnyState>, AllocError>
     requires { All (IsSeat engine.now) passes.items }
     ensures { IfOk result (λ alone. IsSeat engine.now alone.pass) }
 {
-    let Some(mut first) = take_first(&mut passes, engine) else {
-        return Err("there are 64 seats".into());
-    };
+    let mut first = take_one(rt, &mut passes, engine);
     glance(rt, engine, &mut first);
     refill(rt, engine, &mut first, 0, MOST_RECORDS, 1);
     change_own(rt, engine, &mut passes);
-    Ok(meet(rt, alloc, engine, first, passes)?)
+    meet(rt, alloc, engine, first, passes)
 }
 
 /// All seats touch all records.
@@ -248,13 +241,14 @@ pub fn touch_all<R: Threads + process::Abort + Sync>(
     alloc: Global,
     engine: &Engine<AnyState>,
     alone: Alone<AnyState>,
-) -> Result<(), Fail>
+) -> Result<(), AllocError>
     requires seat { IsSeat engine.now alone.pass }
     requires not_shared { alone.shared ≡ false }
 {
     let passes = fill_and_share(rt, engine, alone);
     let mut alone = change_and_meet(rt, alloc, engine, passes)?;
     look_back(rt, engine, &mut alone);
+    drop(alone);
     Ok(())
 }
 
@@ -288,17 +282,15 @@ pub fn commit_often<R: process::Abort>(
     engine: &Engine<AnyState>,
     alone: Alone<AnyState>,
     commits: u32,
-) -> Result<(), Fail>
+)
     requires seat { IsSeat engine.now alone.pass }
     requires not_shared { alone.shared ≡ false }
 {
     let mut passes = shared(alone, engine);
-    let Some(mut pass) = take_first(&mut passes, engine) else {
-        return Err("there is a seat".into());
-    };
+    let mut pass = take_one(rt, &mut passes, engine);
     count_up(rt, engine, &mut pass, commits);
     same(rt, pass.last().number(), u64::from(commits) * 256, 0);
-    Ok(())
+    drop(pass);
 }
 
 #[test]
@@ -319,7 +311,7 @@ fn take_new<R: process::Abort>(
     requires { IsSeat engine.now alone.old.pass }
     ensures { IsSeat engine.now alone.new.pass }
 {
-    let Ok(mut txn) = alone.begin(engine, 0) else {
+    let Ok(mut txn) = open_alone(alone, engine, 0) else {
         hold(rt, false, 0);
         return;
     };
@@ -332,9 +324,9 @@ fn take_new<R: process::Abort>(
             MOST_RECORDS,
             2,
         );
-        finish(rt, engine, txn);
+        hold(rt, end_alone(txn).is_some(), 6);
     } else {
-        txn.abort();
+        stop_alone(txn);
     }
 }
 
@@ -343,7 +335,7 @@ fn delete_new<R: process::Abort>(rt: &R, engine: &Engine<AnyState>, alone: &mut 
     requires { IsSeat engine.now alone.old.pass }
     ensures { IsSeat engine.now alone.new.pass }
 {
-    let Ok(mut txn) = alone.begin(engine, 0) else {
+    let Ok(mut txn) = open_alone(alone, engine, 0) else {
         hold(rt, false, 3);
         return;
     };
@@ -355,24 +347,7 @@ fn delete_new<R: process::Abort>(rt: &R, engine: &Engine<AnyState>, alone: &mut 
         4,
     );
     same(rt, txn.fresh(), Err(AloneFault::RecordsOut), 5);
-    finish(rt, engine, txn);
-}
-
-// Commits a transaction of the seat that is alone.
-fn finish<R: process::Abort, E: Lent<AnyState>>(
-    rt: &R,
-    engine: &Engine<AnyState>,
-    txn: AloneOver<'_, AnyState, E>,
-)
-    requires open { IsOpen txn.alone.now.pass }
-    requires engine { txn.alone.now.pass.engine ≡ engine.now }
-    ensures { IsSeat engine.now txn.exit.0.now.pass }
-{
-    engine.seats();
-    match txn.commit() {
-        Ok(_) => {}
-        Err(_) => hold(rt, false, 6),
-    }
+    hold(rt, end_alone(txn).is_some(), 6);
 }
 
 /// Every spare number is given out, and again after deletions.
@@ -380,7 +355,7 @@ pub fn give_out_all<R: process::Abort>(
     rt: &R,
     engine: &Engine<AnyState>,
     mut alone: Alone<AnyState>,
-) -> Result<(), Fail>
+)
     requires { IsSeat engine.now alone.pass }
 {
     take_new(rt, engine, &mut alone, false);
@@ -388,7 +363,7 @@ pub fn give_out_all<R: process::Abort>(
     delete_new(rt, engine, &mut alone);
     take_new(rt, engine, &mut alone, false);
     same(rt, alone.last().number(), 4 * 256, 7);
-    Ok(())
+    drop(alone);
 }
 
 #[test]

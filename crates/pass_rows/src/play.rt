@@ -7,7 +7,7 @@ use crate::coming::{Size, begin, shared};
 use crate::flights::{Flight, cross_on, fly_and_settle, fly_on};
 use crate::{limits, refused, stress, threads};
 use histories::AnyState;
-use std::alloc::Global;
+use std::alloc::{AllocError, Global};
 use std::process::Abort;
 use std::sync::Wait;
 use std::test::Fail;
@@ -50,7 +50,7 @@ pub fn play<R: Threads + Wait + Abort + Sync>(
     piece: Piece<'_>,
 ) -> Result<(), Fail> {
     let (engine, alone) = begin(alloc, seats, size)?;
-    play_on(rt, alloc, &engine, alone, piece)
+    Ok(play_on(rt, alloc, &engine, alone, piece)?)
 }
 
 // Plays on an engine.
@@ -60,26 +60,30 @@ fn play_on<R: Threads + Wait + Abort + Sync>(
     engine: &Engine<AnyState>,
     alone: Alone<AnyState>,
     piece: Piece<'_>,
-) -> Result<(), Fail>
+) -> Result<(), AllocError>
     requires seat { IsSeat engine.now alone.pass }
     requires not_shared { alone.shared ≡ false }
 {
     match piece {
-        Piece::Largest => limits::touch_all(rt, alloc, engine, alone),
+        Piece::Largest => return limits::touch_all(rt, alloc, engine, alone),
         Piece::Commits(commits) => limits::commit_often(rt, engine, alone, commits),
         Piece::Spare => limits::give_out_all(rt, engine, alone),
-        Piece::Stress => stress::run_and_check(rt, alloc, engine, alone),
+        Piece::Stress => return stress::run_and_check(rt, alloc, engine, alone),
         Piece::Both(first, second, due) => {
-            threads::both_commit(rt, engine, alone, (first, second), due)
+            threads::both_commit(rt, engine, alone, (first, second), due);
         }
-        Piece::Calls(steps) => {
-            make_all(rt, engine, &mut shared(alone, engine), steps);
-            Ok(())
+        Piece::Calls(steps) => make_all(rt, engine, &mut shared(alone, engine), steps),
+        Piece::Flies(flight) => {
+            let (first, others) = fly_on(rt, engine, alone, flight);
+            drop(first);
+            drop(others);
         }
-        Piece::Flies(flight) => fly_on(rt, engine, alone, flight),
-        Piece::Settles(flight, due) => fly_and_settle(rt, alloc, engine, alone, flight, due),
+        Piece::Settles(flight, due) => {
+            return fly_and_settle(rt, alloc, engine, alone, flight, due);
+        }
         Piece::Crosses(due) => cross_on(rt, engine, alone, due),
         Piece::MeetsPending => refused::meet_pending_on(rt, engine, alone),
         Piece::AsksTwice => refused::ask_twice_on(rt, engine, alone),
     }
+    Ok(())
 }

@@ -3,8 +3,9 @@ ghost use Rattle.std.specs.Prelude.{◌≡◌, false};
 ghost use Rattle.pass_rows.specs.Seats.{IsSeat};
 
 use crate::calls::{Act, Done, Told, act_on, commit, is_refused};
-use crate::coming::{shared, take_first};
+use crate::coming::{shared, take_one, take_two};
 use crate::due::{hold, same};
+use crate::opening::{open, stop};
 use crate::play::{Piece, play};
 use histories::AnyState;
 use std::process::Abort;
@@ -42,92 +43,73 @@ fn make<R: Abort>(
     true
 }
 
-// Links a version of record 5 in a transaction of the first pass, which the second one meets, and then reads once it is published.
-// Whether the first was not refused memory.
+// Links a version of record 5 in a transaction of the first pass, which the second one meets, and publishes it. Whether the second one
+// was not refused memory; none where the first one was.
 fn meet_pending<R: Abort>(
     rt: &R,
     engine: &Engine<AnyState>,
     first: &mut Pass<AnyState>,
     second: &mut Pass<AnyState>,
-) -> bool
+) -> Option<bool>
     requires first { IsSeat engine.now first.old }
     requires second { IsSeat engine.now second.old }
     ensures first { IsSeat engine.now first.new }
     ensures second { IsSeat engine.now second.new }
 {
-    let Ok(mut txn) = first.begin(engine, 10) else {
-        return false;
+    let Ok(mut txn) = open(first, engine, 10) else {
+        return None;
     };
     if is_refused(act_on(&mut txn, Act::Write(5), false)) {
-        txn.abort();
-        return false;
+        stop(txn);
+        return None;
     }
     let Ok(linked) = txn.install() else {
         hold(rt, false, 2);
-        return true;
+        return None;
     };
     let pending = Told::Stopped(Conflict::Pending { rid: 5, wts: 2_560 });
     let has_met = make(rt, engine, second, 20, Act::Read(5), pending);
     let Ok(decided) = linked.decide() else {
         hold(rt, false, 3);
-        return true;
+        return None;
     };
     same(rt, decided.publish().stamp.number(), 2_560, 4);
-    let read = Told::Committed(269_825, Done::Read(Some(9)), 0, 0);
-    if has_met {
-        make(rt, engine, second, 30, Act::Read(5), read);
-    }
-    true
+    Some(has_met)
 }
 
-/// Two passes, of which the second one meets a pending version of the first.
-pub fn meet_pending_on<R: Abort>(
-    rt: &R,
-    engine: &Engine<AnyState>,
-    alone: Alone<AnyState>,
-) -> Result<(), Fail>
+/// Two passes, of which the second one meets a pending version of the first, and reads it once it is published.
+pub fn meet_pending_on<R: Abort>(rt: &R, engine: &Engine<AnyState>, alone: Alone<AnyState>)
     requires seat { IsSeat engine.now alone.pass }
     requires not_shared { alone.shared ≡ false }
 {
     let mut passes = shared(alone, engine);
-    let Some(mut first) = take_first(&mut passes, engine) else {
-        return Err("there are two seats".into());
-    };
-    let Some(mut second) = take_first(&mut passes, engine) else {
-        return Err("there are two seats".into());
-    };
-    if !meet_pending(rt, engine, &mut first, &mut second) {
-        go_on(rt, engine, &mut first);
+    let (mut first, mut second) = take_two(rt, &mut passes, engine);
+    let read = Told::Committed(269_825, Done::Read(Some(9)), 0, 0);
+    match meet_pending(rt, engine, &mut first, &mut second) {
+        None => go_on(rt, engine, &mut first),
+        Some(false) => {}
+        Some(true) => {
+            make(rt, engine, &mut second, 30, Act::Read(5), read);
+        }
     }
-    Ok(())
+    drop(first);
+    drop(second);
 }
 
 /// A pass asks for new numbers in two transactions.
-pub fn ask_twice_on<R: Abort>(
-    rt: &R,
-    engine: &Engine<AnyState>,
-    alone: Alone<AnyState>,
-) -> Result<(), Fail>
+pub fn ask_twice_on<R: Abort>(rt: &R, engine: &Engine<AnyState>, alone: Alone<AnyState>)
     requires seat { IsSeat engine.now alone.pass }
     requires not_shared { alone.shared ≡ false }
 {
     let mut passes = shared(alone, engine);
-    let Some(mut pass) = take_first(&mut passes, engine) else {
-        return Err("there is a seat".into());
-    };
+    let mut pass = take_one(rt, &mut passes, engine);
     let given = Done::Given(Ok(2), Err(TxnFault::RecordsOut));
-    let due = Told::Committed(256, given, 0, 0);
-    if make(rt, engine, &mut pass, 0, Act::Fresh, due) {
-        make(
-            rt,
-            engine,
-            &mut pass,
-            0,
-            Act::Fresh,
-            Told::Committed(512, given, 0, 0),
-        );
+    let first = Told::Committed(256, given, 0, 0);
+    let second = Told::Committed(512, given, 0, 0);
+    if make(rt, engine, &mut pass, 0, Act::Fresh, first) {
+        make(rt, engine, &mut pass, 0, Act::Fresh, second);
     }
-    Ok(())
+    drop(pass);
 }
 
 #[test]

@@ -3,12 +3,13 @@ ghost use Rattle.std.specs.Prelude.{◌≡◌, false, All};
 ghost use Rattle.pass_rows.specs.Seats.{IsSeat};
 
 use crate::checker::{GLANCE, READ, Touch, lawful};
-use crate::coming::{meet, shared, take_first};
+use crate::coming::{meet, shared, take_one};
 use crate::due::hold;
 use crate::noting::{Draws, note_all, touch};
+use crate::opening::{end, open, open_alone, stop, stop_alone};
 use crate::play::{Piece, play};
 use histories::AnyState;
-use std::alloc::Global;
+use std::alloc::{AllocError, Global};
 use std::process::Abort;
 use std::sync::{Mutex, Wait};
 use std::test::Fail;
@@ -38,17 +39,14 @@ fn transact(
         .wrapping_add(u64::from(pass.seat()))
         .wrapping_mul(4)
         .wrapping_add(1);
-    let Ok(mut txn) = pass.begin(engine, round) else {
+    let Ok(mut txn) = open(pass, engine, round) else {
         return false;
     };
     let stamp = txn.stamp().number();
     if touch(&mut txn, draws, RECORDS, stamp, number, touches) {
-        match txn.commit() {
-            Ok(_) => true,
-            Err(_) => false,
-        }
+        end(txn).is_ok()
     } else {
-        txn.abort();
+        stop(txn);
         false
     }
 }
@@ -163,12 +161,12 @@ fn note_left(engine: &Engine<AnyState>, alone: &mut Alone<AnyState>, touches: &m
     requires { IsSeat engine.now alone.old.pass }
     ensures { IsSeat engine.now alone.new.pass }
 {
-    let Ok(mut txn) = alone.begin(engine, 0) else {
+    let Ok(mut txn) = open_alone(alone, engine, 0) else {
         return;
     };
     let stamp = txn.stamp().number();
     note_all(&mut txn, stamp, READ, RECORDS, touches);
-    txn.abort();
+    stop_alone(txn);
 }
 
 // Runs all passes and brings them together; the seat that is alone then reads what is left.
@@ -177,16 +175,15 @@ fn run_and_meet<R: Threads + Wait + Abort + Sync>(
     alloc: Global,
     engine: &Engine<AnyState>,
     mut passes: Vec<Pass<AnyState>>,
-) -> Result<Vec<Touch>, Fail>
+) -> Result<Vec<Touch>, AllocError>
     requires { All (IsSeat engine.now) passes.items }
 {
     let mut touches = run_all(rt, alloc, engine, &mut passes);
-    let Some(first) = take_first(&mut passes, engine) else {
-        return Err("there are four seats".into());
-    };
+    let first = take_one(rt, &mut passes, engine);
     let mut alone = meet(rt, alloc, engine, first, passes)?;
     alone.tell(engine);
     note_left(engine, &mut alone, &mut touches);
+    drop(alone);
     Ok(touches)
 }
 
@@ -196,7 +193,7 @@ pub fn run_and_check<R: Threads + Wait + Abort + Sync>(
     alloc: Global,
     engine: &Engine<AnyState>,
     alone: Alone<AnyState>,
-) -> Result<(), Fail>
+) -> Result<(), AllocError>
     requires seat { IsSeat engine.now alone.pass }
     requires not_shared { alone.shared ≡ false }
 {

@@ -2,9 +2,10 @@
 ghost use Rattle.std.specs.Prelude.{◌≡◌, false, All};
 ghost use Rattle.pass_rows.specs.Seats.{IsSeat};
 
-use crate::coming::{shared, take_first};
+use crate::coming::{shared, take_one};
 use crate::due::{hold, same};
 use crate::meeting::Meeting;
+use crate::opening::{end, open, stop};
 use crate::play::{Piece, play};
 use crate::values::value;
 use histories::AnyState;
@@ -69,15 +70,12 @@ fn transact(
     requires { IsSeat engine.now pass.old }
     ensures { IsSeat engine.now pass.new }
 {
-    let Ok(mut txn) = pass.begin(engine, reading(is_first)) else {
+    let Ok(mut txn) = open(pass, engine, reading(is_first)) else {
         return (false, false);
     };
     let touched = touch(&mut txn, read, own(is_first));
     let met = place.come(is_first) && touched;
-    match txn.commit() {
-        Ok(_) => (met, true),
-        Err(_) => (met, false),
-    }
+    (met, end(txn).is_ok())
 }
 
 // Runs the transaction of a thread, and counts what came of it.
@@ -140,12 +138,12 @@ fn left(committed: bool) -> Option<Cells> {
 fn reads_back(engine: &Engine<AnyState>, pass: &mut Pass<AnyState>, committed: (bool, bool)) -> bool
     requires { IsSeat engine.now pass.old }
 {
-    let Ok(mut txn) = pass.begin(engine, 30) else {
+    let Ok(mut txn) = open(pass, engine, 30) else {
         return false;
     };
     let is_left = has(&mut txn, own(true), left(committed.0))
         && has(&mut txn, own(false), left(committed.1));
-    txn.abort();
+    stop(txn);
     is_left
 }
 
@@ -175,17 +173,15 @@ pub fn both_commit<R: Threads + process::Abort + Sync>(
     alone: Alone<AnyState>,
     reads: (u32, u32),
     due: bool,
-) -> Result<(), Fail>
+)
     requires seat { IsSeat engine.now alone.pass }
     requires not_shared { alone.shared ≡ false }
 {
     let mut passes = shared(alone, engine);
     let tally = run_both(rt, engine, &mut passes, reads);
-    let Some(mut first) = take_first(&mut passes, engine) else {
-        return Err("there are two seats".into());
-    };
+    let mut first = take_one(rt, &mut passes, engine);
     look_back(rt, engine, &mut first, &tally, due);
-    Ok(())
+    drop(first);
 }
 
 #[test]

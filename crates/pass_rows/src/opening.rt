@@ -1,0 +1,82 @@
+//! Transactions, begun and ended by calls of which no more is said than the next call needs: each clause of the engine's own call would
+//! be looked at for each goal behind it.
+ghost use Rattle.std.specs.Prelude.{◌≡◌, IfOk};
+ghost use Rattle.std.specs.Borrow.{sem, RestsIfErr};
+ghost use Rattle.histories.specs.contracts.AnyState.{the_row as any_state};
+ghost use Rattle.txn_engine.specs.contracts.alone.Alone.{the_row as alone_row};
+ghost use Rattle.txn_engine.specs.contracts.pass.Pass.{the_row};
+ghost use Rattle.pass_rows.specs.Seats.{IsSeat, IsOpen};
+
+use histories::AnyState;
+use txn_engine::{
+    Alone, AloneOver, AloneTxn, BeginFault, CommitFault, Committed, Engine, Lent, Pass, Txn,
+    TxnOver,
+};
+
+/// Begins a transaction.
+pub fn open<'a>(
+    pass: &'a mut Pass<AnyState>,
+    engine: &'a Engine<AnyState>,
+    reading: u64,
+) -> Result<Txn<'a, AnyState>, BeginFault>
+    requires { IsSeat engine.now pass.old }
+    ensures* rests { sem 𝓛 (RestsIfErr (the_row any_state) pass.entry (λ t. t.pass.ghost_name) result (λ p. IsSeat engine.now p)) }
+    ensures same_reference { IfOk result (λ t. t.pass.ghost_name ≡ pass.entry.ghost_name) }
+    ensures open { IfOk result (λ t. IsOpen t.pass.now) }
+    ensures of_engine { IfOk result (λ t. t.pass.now.engine ≡ engine.now) }
+{
+    pass.begin(engine, reading)
+}
+
+/// Ends a transaction without an entry.
+pub fn stop<E: Lent<AnyState>>(txn: TxnOver<'_, AnyState, E>)
+    requires { IsOpen txn.pass.now }
+    ensures { IsSeat txn.entry.pass.now.engine txn.exit.0.now }
+{
+    txn.abort();
+}
+
+/// Commits a transaction.
+pub fn end<E: Lent<AnyState>>(txn: TxnOver<'_, AnyState, E>) -> Result<Committed, CommitFault>
+    requires { IsOpen txn.pass.now }
+    ensures { IsSeat txn.entry.pass.now.engine txn.exit.0.now }
+{
+    txn.commit()
+}
+
+/// Begins a transaction of the seat that is alone.
+pub fn open_alone<'a>(
+    alone: &'a mut Alone<AnyState>,
+    engine: &'a Engine<AnyState>,
+    reading: u64,
+) -> Result<AloneTxn<'a, AnyState>, BeginFault>
+    requires { IsSeat engine.now alone.old.pass }
+    ensures* rests { sem 𝓛 (RestsIfErr (alone_row any_state) alone.entry (λ t. t.alone.ghost_name) result (λ a. IsSeat engine.now a.pass × (a.shared ≡ alone.old.shared))) }
+    ensures same_reference { IfOk result (λ t. t.alone.ghost_name ≡ alone.entry.ghost_name) }
+    ensures open { IfOk result (λ t. IsOpen t.alone.now.pass) }
+    ensures of_engine { IfOk result (λ t. t.alone.now.pass.engine ≡ engine.now) }
+    ensures shared { IfOk result (λ t. t.alone.now.shared ≡ alone.old.shared) }
+{
+    alone.begin(engine, reading)
+}
+
+/// Ends a transaction of the seat that is alone without an entry.
+pub fn stop_alone<E: Lent<AnyState>>(txn: AloneOver<'_, AnyState, E>)
+    requires { IsOpen txn.alone.now.pass }
+    ensures seat { IsSeat txn.entry.alone.now.pass.engine txn.exit.0.now.pass }
+    ensures shared { txn.exit.0.now.shared ≡ txn.entry.alone.now.shared }
+{
+    txn.abort();
+}
+
+/// Commits a transaction of the seat that is alone; how many versions took a place of the pool, if it committed.
+pub fn end_alone<E: Lent<AnyState>>(txn: AloneOver<'_, AnyState, E>) -> Option<u32>
+    requires { IsOpen txn.alone.now.pass }
+    ensures seat { IsSeat txn.entry.alone.now.pass.engine txn.exit.0.now.pass }
+    ensures shared { txn.exit.0.now.shared ≡ txn.entry.alone.now.shared }
+{
+    match txn.commit() {
+        Ok(told) => Some(told.pooled),
+        Err(_) => None,
+    }
+}

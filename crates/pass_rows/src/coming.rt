@@ -1,4 +1,7 @@
 //! Passes that a share gives, and seats that retire and come together.
+//!
+//! Who ends with a pass, or with the seat that is alone, hands it to `drop`: where a name goes out of scope, each field of its value is
+//! let go in the proof of the function itself, which is dear.
 ghost use Rattle.std.specs.Prelude.{◌≡◌, ◌<◌, false, All, IfOk, IfSome, vec_len};
 ghost use Rattle.txn_engine.specs.Joining.{AreOfEngine, AreOthers};
 ghost use Rattle.pass_rows.specs.Seats.{IsSeat};
@@ -47,7 +50,7 @@ fn take_first(passes: &mut Vec<Pass<AnyState>>, engine: &Engine<AnyState>) -> Op
     Some(passes.remove(0))
 }
 
-/// The pass that stands first on a list, which has to have one. So who takes it has one way to go on, and no other to prove.
+/// The pass that stands first on a list, which has to have one, so that who takes it has one way on to prove.
 pub fn take_one<R: Abort>(
     rt: &R,
     passes: &mut Vec<Pass<AnyState>>,

@@ -6,7 +6,6 @@ use crate::due::same;
 use crate::flights::Flight;
 use crate::play::{Piece, play};
 use stamp_base::{GREATEST_CLOCK, Stamp};
-use std::alloc::Global;
 use std::test::Fail;
 use txn_engine::{Collected, Conflict, Settled, StartFault, TxnFault};
 
@@ -176,25 +175,13 @@ fn a_clock_is_adopted(rt: HostRuntime) -> Result<(), Fail> {
     play(&rt, rt.alloc(), 2, SIX, Piece::Calls(&steps))
 }
 
-// Why no engine of this size is made.
-fn refusal(alloc: Global, seats: u32, size: Size) -> Option<StartFault> {
-    match begin(alloc, seats, size) {
-        Ok(_) => None,
-        Err(fault) => Some(fault),
-    }
-}
-
 #[test]
 fn an_engine_beyond_its_limits_is_not_made(rt: HostRuntime) {
     let alloc = rt.alloc();
     let sizes = [(0, (1, 1, 1)), (65, (1, 1, 1)), (1, (1, 2, 1))];
     for (i, (seats, size)) in sizes.iter().enumerate() {
-        same(
-            &rt,
-            refusal(alloc, *seats, *size),
-            Some(StartFault::Limit),
-            i,
-        );
+        let refusal = begin(alloc, *seats, *size).err();
+        same(&rt, refusal, Some(StartFault::Limit), i);
     }
 }
 

@@ -1,12 +1,14 @@
 //! A store and plain tables, over which the same blocks run.
+//!
+//! Who makes a large value lends it to a function that may end early, and then hands it to `drop`: where a name goes out of scope, each
+//! field of its value is let go in the proof of the function itself, once for each way out, which is dear.
 
-ghost use Rattle.std.specs.Prelude.{◌<◌, ◌≤◌};
+ghost use Rattle.std.specs.Prelude.{◌<◌, ◌≤◌, All};
 ghost use Rattle.record_store.specs.Limits.{record_limit};
-ghost use Rattle.replay_model.specs.Input.{NamesColumn};
+ghost use Rattle.replay_model.specs.Input.{AreCommands, NamesColumn};
 ghost use Rattle.replay_model.specs.Report.{table_named};
 ghost use Rattle.stored_tables.specs.Answers.{IsShort, ReadsAlone};
 
-use crate::outcomes::is_done;
 use crate::script::Script;
 use crate::shapes::{index_of, plain_tables};
 use crate::store::Store;
@@ -27,27 +29,33 @@ impl Beside {
         requires least { 4112 ≤ records }
         requires most { records ≤ record_limit }
     {
+        let tables = plain_tables(alloc)?;
         let mut store = Store::new(alloc, records);
-        for table in 0..8u32 {
-            let column = index_of(table);
-            if column != 0 && !store.declare(alloc, table, column)? {
-                return Err("an index was not declared".into());
+        match declare(alloc, &mut store) {
+            Ok(()) => Ok(Beside { store, tables }),
+            Err(fail) => {
+                drop(store);
+                drop(tables);
+                Err(fail)
             }
         }
-        let tables = plain_tables(alloc)?;
-        Ok(Beside { store, tables })
     }
 
     /// Runs a block over both, and answers whether it was done.
-    pub fn run(&mut self, alloc: Global, script: &Script) -> Result<bool, Fail> {
-        let block = script.block();
+    pub fn run(&mut self, alloc: Global, script: Script) -> Result<bool, Fail> {
+        let done = self.run_block(alloc, script.block());
+        drop(script);
+        done
+    }
+
+    fn run_block(&mut self, alloc: Global, block: &Block) -> Result<bool, Fail>
+        requires commands { AreCommands 8 block.now.commands }
+        requires short { All IsShort block.now.commands }
+    {
         let due = run_one(alloc, block, &mut self.tables)?;
-        if is_done(&due) {
-            self.store.run(alloc, &block.commands, &due)?;
-            return Ok(true);
-        }
-        self.store.run_refused(alloc, &block.commands, &due)?;
-        Ok(false)
+        let done = self.store.run(alloc, &block.commands, &due);
+        drop(due);
+        done
     }
 
     /// How many records the last block read.
@@ -62,16 +70,26 @@ impl Beside {
         requires short { IsShort command }
         requires reads { ReadsAlone command }
     {
-        let mut commands = Commands::new(alloc);
-        commands.push(command)?;
         let block = Block {
             snap: true,
             lane: 1,
             number: 1,
-            commands,
+            commands: Commands::from_vec(vec![in alloc; command]?),
         };
-        let due = run_one(alloc, &block, &mut self.tables)?;
-        self.store.look(alloc, &block.commands, &due)
+        let looked = self.look_block(alloc, &block);
+        drop(block);
+        looked
+    }
+
+    fn look_block(&mut self, alloc: Global, block: &Block) -> Result<(), Fail>
+        requires commands { AreCommands 8 block.now.commands }
+        requires short { All IsShort block.now.commands }
+        requires reads { All ReadsAlone block.now.commands }
+    {
+        let due = run_one(alloc, block, &mut self.tables)?;
+        let looked = self.store.look(alloc, &block.commands, &due);
+        drop(due);
+        looked
     }
 
     /// Reads all tables back, and answers how many rows they have.
@@ -88,14 +106,25 @@ impl Beside {
         requires { table < 8 }
     {
         let rows = self.tables.pairs(alloc, table)?;
+        let count = rows.len();
+        let read = self.read_rows(alloc, table, rows.as_slice());
+        drop(rows);
+        read?;
+        Ok(count)
+    }
+
+    /// Reads a table back that has these rows.
+    fn read_rows(&mut self, alloc: Global, table: u32, rows: &[(u64, Columns)]) -> Result<(), Fail>
+        requires { table < 8 }
+    {
         self.scan(alloc, table, 0, 256)?;
         self.find(alloc, table, 0, u64::MAX)?;
-        for (i, (key, row)) in rows.as_slice().iter().enumerate() {
+        for (i, (key, row)) in rows.iter().enumerate() {
             let limit = if i % 128 == 0 { 256 } else { 2 };
             self.scan(alloc, table, *key, limit)?;
             self.read_row(alloc, table, *key, row)?;
         }
-        Ok(rows.len())
+        Ok(())
     }
 
     /// Reads a row back by its key and by the index of its table.
@@ -140,4 +169,15 @@ impl Beside {
         };
         self.look(alloc, find)
     }
+}
+
+/// Declares the indexes of the eight tables.
+fn declare(alloc: Global, store: &mut Store) -> Result<(), Fail> {
+    for table in 0..8u32 {
+        let column = index_of(table);
+        if column != 0 && !store.declare(alloc, table, column)? {
+            return Err("an index was not declared".into());
+        }
+    }
+    Ok(())
 }

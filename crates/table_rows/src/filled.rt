@@ -77,10 +77,16 @@ impl Filling {
     /// A block of 64 changes.
     fn block(&self, alloc: Global, change: Change, block: u64) -> Result<Script, Fail> {
         let mut script = Script::new(alloc);
+        let filled = self.push_all(&mut script, change, block);
+        script.if_filled(filled)
+    }
+
+    /// Appends the changes of a block.
+    fn push_all(&self, script: &mut Script, change: Change, block: u64) -> Result<(), Fail> {
         for i in 0..64u64 {
             script.push(self.command(change, block << 6 | i))?;
         }
-        Ok(script)
+        Ok(())
     }
 
     /// Changes the rows of these blocks.
@@ -93,7 +99,7 @@ impl Filling {
     ) -> Result<(), Fail> {
         for i in blocks.0..blocks.1 {
             let script = self.block(alloc, change, i)?;
-            if !beside.run(alloc, &script)? {
+            if !beside.run(alloc, script)? {
                 return Err("a block was refused".into());
             }
         }
@@ -135,6 +141,14 @@ fn fill(alloc: Global, beside: &mut Beside, filling: &Filling) -> Result<(), Fai
     Ok(())
 }
 
+/// Fills one table behind the other.
+fn fill_all(alloc: Global, beside: &mut Beside, fillings: &[Filling]) -> Result<(), Fail> {
+    for filling in fillings {
+        fill(alloc, beside, filling)?;
+    }
+    Ok(())
+}
+
 #[test]
 fn tables_fill_and_are_emptied(rt: HostRuntime) -> Result<(), Fail> {
     let fillings = [
@@ -172,8 +186,7 @@ fn tables_fill_and_are_emptied(rt: HostRuntime) -> Result<(), Fail> {
         },
     ];
     let mut beside = Beside::new(rt.alloc(), 102_416)?;
-    for filling in &fillings {
-        fill(rt.alloc(), &mut beside, filling)?;
-    }
-    Ok(())
+    let filled = fill_all(rt.alloc(), &mut beside, &fillings);
+    drop(beside);
+    filled
 }

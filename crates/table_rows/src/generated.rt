@@ -122,10 +122,16 @@ fn drawn(source: &mut Source, tables: &Tables) -> Command
 /// A block of one to eight commands.
 fn block(alloc: Global, source: &mut Source, tables: &Tables) -> Result<Script, Fail> {
     let mut script = Script::new(alloc);
+    let filled = push_all(&mut script, source, tables);
+    script.if_filled(filled)
+}
+
+/// Appends one to eight commands.
+fn push_all(script: &mut Script, source: &mut Source, tables: &Tables) -> Result<(), Fail> {
     for _ in 0..source.below(8) + 1 {
         script.push(drawn(source, tables))?;
     }
-    Ok(script)
+    Ok(())
 }
 
 /// Runs 250 blocks, and answers how many were done.
@@ -133,7 +139,7 @@ fn run_blocks(alloc: Global, source: &mut Source, beside: &mut Beside) -> Result
     let mut done = 0u32;
     for _ in 0..250u32 {
         let script = block(alloc, source, &beside.tables)?;
-        if beside.run(alloc, &script)? {
+        if beside.run(alloc, script)? {
             done = done.saturating_add(1);
         }
     }
@@ -150,12 +156,19 @@ fn run_part(alloc: Global, source: &mut Source, beside: &mut Beside) -> Result<(
     Ok(())
 }
 
-#[test]
-fn generated_blocks_come_to_the_same(rt: HostRuntime) -> Result<(), Fail> {
+/// Runs twelve parts.
+fn run_parts(alloc: Global, beside: &mut Beside) -> Result<(), Fail> {
     let mut source = Source { state: 7 };
-    let mut beside = Beside::new(rt.alloc(), 12_000)?;
     for _ in 0..12u32 {
-        run_part(rt.alloc(), &mut source, &mut beside)?;
+        run_part(alloc, &mut source, beside)?;
     }
     Ok(())
+}
+
+#[test]
+fn generated_blocks_come_to_the_same(rt: HostRuntime) -> Result<(), Fail> {
+    let mut beside = Beside::new(rt.alloc(), 12_000)?;
+    let ran = run_parts(rt.alloc(), &mut beside);
+    drop(beside);
+    ran
 }

@@ -156,14 +156,30 @@ fn fill(alloc: Global, beside: &mut Beside, table: u32) -> Result<(), Fail>
     requires { table < 8 }
 {
     for block in 0..ROWS / 64 {
-        let mut script = Script::new(alloc);
-        for i in 0..64u64 {
-            let number = block << 6 | i;
-            script.push(Row { table, number }.ins())?;
-        }
-        if !beside.run(alloc, &script)? {
+        let script = adding(alloc, table, block)?;
+        if !beside.run(alloc, script)? {
             return Err("a block was refused".into());
         }
+    }
+    Ok(())
+}
+
+/// A block that adds 64 rows of a table.
+fn adding(alloc: Global, table: u32, block: u64) -> Result<Script, Fail>
+    requires { table < 8 }
+{
+    let mut script = Script::new(alloc);
+    let filled = add_all(&mut script, table, block);
+    script.if_filled(filled)
+}
+
+/// Appends the commands that add 64 rows of a table.
+fn add_all(script: &mut Script, table: u32, block: u64) -> Result<(), Fail>
+    requires { table < 8 }
+{
+    for i in 0..64u64 {
+        let number = block << 6 | i;
+        script.push(Row { table, number }.ins())?;
     }
     Ok(())
 }
@@ -175,8 +191,8 @@ fn run(alloc: Global, beside: &mut Beside, command: Command) -> Result<bool, Fai
     requires short { IsShort command }
 {
     let mut script = Script::new(alloc);
-    script.push(command)?;
-    let done = beside.run(alloc, &script)?;
+    let filled = script.push(command);
+    let done = beside.run(alloc, script.if_filled(filled)?)?;
     if done && beside.records_read() == 0 {
         return Err("a command read nothing".into());
     }
@@ -242,16 +258,23 @@ fn refuse(alloc: Global, beside: &mut Beside, row: Row) -> Result<(), Fail> {
     Ok(())
 }
 
-#[test]
-fn no_command_reads_a_record_twice(rt: HostRuntime) -> Result<(), Fail> {
-    let mut beside = Beside::new(rt.alloc(), 30_000)?;
+/// Fills four tables, and runs commands on rows of each.
+fn run_all(alloc: Global, beside: &mut Beside) -> Result<(), Fail> {
     for table in 0..4u32 {
-        fill(rt.alloc(), &mut beside, table)?;
-        refuse(rt.alloc(), &mut beside, Row { table, number: 7 })?;
+        fill(alloc, beside, table)?;
+        refuse(alloc, beside, Row { table, number: 7 })?;
         for i in 0..40u64 {
             let number = i.wrapping_mul(29) & 1023;
-            change(rt.alloc(), &mut beside, Row { table, number })?;
+            change(alloc, beside, Row { table, number })?;
         }
     }
     Ok(())
+}
+
+#[test]
+fn no_command_reads_a_record_twice(rt: HostRuntime) -> Result<(), Fail> {
+    let mut beside = Beside::new(rt.alloc(), 30_000)?;
+    let ran = run_all(rt.alloc(), &mut beside);
+    drop(beside);
+    ran
 }

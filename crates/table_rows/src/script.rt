@@ -40,6 +40,17 @@ impl Script {
         Script { block }
     }
 
+    /// The script, where what was to fill it did.
+    pub fn if_filled(self, filled: Result<(), Fail>) -> Result<Script, Fail> {
+        match filled {
+            Ok(()) => Ok(self),
+            Err(fail) => {
+                drop(self);
+                Err(fail)
+            }
+        }
+    }
+
     /// Appends a command.
     pub fn push(&mut self, command: Command) -> Result<(), Fail>
         requires table { table_named command < 8 }

@@ -2,7 +2,7 @@
 
 ghost use Rattle.std.specs.Prelude.{◌≤◌};
 
-use replay_model::{Indexes, Input, Lanes, Names, Rows, Tables, is_well_formed};
+use replay_model::{Indexes, Input, Lanes, Names, NoMemory, Rows, Tables, is_well_formed};
 use std::alloc::Global;
 use std::test::Fail;
 
@@ -32,22 +32,33 @@ pub fn index_of(table: u32) -> u32
 
 /// Plain tables without rows, with these indexes.
 pub fn plain_tables(alloc: Global) -> Result<Tables, Fail> {
-    let mut tables = Names::new(alloc);
-    let mut indexes = Indexes::new(alloc);
-    for table in 0..8u32 {
-        tables.push(b"t", columns_of(table))?;
-        if index_of(table) != 0 {
-            indexes.push((table, index_of(table)))?;
-        }
-    }
-    let input = Input {
-        tables,
+    let mut input = Input {
+        tables: Names::new(alloc),
         rows: Rows::new(alloc),
-        indexes,
+        indexes: Indexes::new(alloc),
         lanes: Lanes::new(alloc),
     };
-    if !is_well_formed(alloc, &input)? {
+    let tables = load(alloc, &mut input);
+    drop(input);
+    tables
+}
+
+/// Declares the tables and their indexes, and loads them.
+fn load(alloc: Global, input: &mut Input) -> Result<Tables, Fail> {
+    declare(input)?;
+    if !is_well_formed(alloc, input)? {
         return Err("the input is not well formed".into());
     }
-    Ok(Tables::loaded(alloc, &input)?)
+    Ok(Tables::loaded(alloc, input)?)
+}
+
+/// Declares the tables and their indexes.
+fn declare(input: &mut Input) -> Result<(), NoMemory> {
+    for table in 0..8u32 {
+        input.tables.push(b"t", columns_of(table))?;
+        if index_of(table) != 0 {
+            input.indexes.push((table, index_of(table)))?;
+        }
+    }
+    Ok(())
 }

@@ -6,10 +6,11 @@ ghost use Rattle.replay_model.specs.Input.{AreCommands, IsColumn};
 ghost use Rattle.stored_tables.specs.Answers.{IsShort, ReadsAlone};
 
 use crate::counted::Counted;
-use crate::outcomes::compare;
+use crate::outcomes::{compare, is_done};
 use record_store::{MapFault, RecordRead, RecordStore, Walk};
 use replay_model::{Cells, Commands, Outcome};
 use std::alloc::Global;
+use std::mem::replace;
 use std::test::Fail;
 use stored_tables::{declare_index, exec_snap, exec_txn};
 
@@ -47,15 +48,29 @@ impl Store {
         declare_index(&mut self.map, alloc, table, column)
     }
 
+    /// Runs a transaction, which has to come to this outcome, and answers whether it was done; one that is refused leaves the store as
+    /// it was before.
+    pub fn run(&mut self, alloc: Global, commands: &Commands, due: &Outcome) -> Result<bool, Fail>
+        requires commands { AreCommands 8 commands.now }
+        requires short { All IsShort commands.now }
+    {
+        if is_done(due) {
+            self.come_to(alloc, commands, due)?;
+            return Ok(true);
+        }
+        self.run_refused(alloc, commands, due)?;
+        Ok(false)
+    }
+
     /// Runs a transaction, which has to come to this outcome.
-    pub fn run(&mut self, alloc: Global, commands: &Commands, due: &Outcome) -> Result<(), Fail>
+    pub fn come_to(&mut self, alloc: Global, commands: &Commands, due: &Outcome) -> Result<(), Fail>
         requires commands { AreCommands 8 commands.now }
         requires short { All IsShort commands.now }
     {
         self.map.begin();
         let got = exec_txn(&mut self.map, alloc, commands)?;
-        self.is_read_once(commands)?;
-        compare(&got, due)
+        compare(got, due)?;
+        self.is_read_once(commands)
     }
 
     /// How many records the last block read.
@@ -71,22 +86,34 @@ impl Store {
         Ok(())
     }
 
-    /// Runs a transaction that is refused, and so empties the store, which goes on as it was before.
-    pub fn run_refused(
+    /// Runs a transaction that is refused, and so empties the store, which goes on as it was before. After an `Err` it may have any
+    /// records.
+    fn run_refused(&mut self, alloc: Global, commands: &Commands, due: &Outcome) -> Result<(), Fail>
+        requires commands { AreCommands 8 commands.now }
+        requires short { All IsShort commands.now }
+    {
+        let mut kept = Store::new(alloc, self.size);
+        let emptied = self.empty_by(alloc, commands, due, &mut kept);
+        drop(replace(self, kept));
+        emptied
+    }
+
+    /// Copies the store, and runs a transaction that is refused and so empties it.
+    fn empty_by(
         &mut self,
         alloc: Global,
         commands: &Commands,
         due: &Outcome,
+        copy: &mut Store,
     ) -> Result<(), Fail>
         requires commands { AreCommands 8 commands.now }
         requires short { All IsShort commands.now }
     {
-        let kept = self.copied(alloc)?;
-        self.run(alloc, commands, due)?;
+        copy.copy_all(self)?;
+        self.come_to(alloc, commands, due)?;
         if !self.is_empty()? {
             return Err("a refused block left a record".into());
         }
-        *self = kept;
         Ok(())
     }
 
@@ -98,18 +125,16 @@ impl Store {
     {
         self.map.begin();
         let got = exec_snap(&mut self.map, alloc, commands)?;
-        self.is_read_once(commands)?;
-        compare(&got, due)
+        compare(got, due)?;
+        self.is_read_once(commands)
     }
 
-    /// A store with the same records.
-    fn copied(&mut self, alloc: Global) -> Result<Store, MapFault> {
-        let size = self.size;
-        let mut copy = Store::new(alloc, size);
-        for rid in 0..size {
-            copy.copy_from(self, rid)?;
+    /// Copies the records of another store.
+    fn copy_all(&mut self, other: &mut Store) -> Result<(), MapFault> {
+        for rid in 0..self.size {
+            self.copy_from(other, rid)?;
         }
-        Ok(copy)
+        Ok(())
     }
 
     /// Copies a record of another store.

@@ -32,6 +32,12 @@ impl Call {
     /// The commands of the call.
     fn script(self, alloc: Global) -> Result<Script, Fail> {
         let mut script = Script::new(alloc);
+        let filled = self.push_all(&mut script);
+        script.if_filled(filled)
+    }
+
+    /// Appends the commands of the call.
+    fn push_all(self, script: &mut Script) -> Result<(), Fail> {
         let (table, key) = (0, 1);
         match self {
             Adds(second) => {
@@ -43,19 +49,30 @@ impl Call {
             Drops => script.push(Command::Del { table, key })?,
             _ => script.push(searching())?,
         }
-        Ok(script)
+        Ok(())
     }
 
     /// The outcome that is due.
     fn due(self, alloc: Global) -> Result<Outcome, NoMemory> {
+        if let IsUnindexed = self {
+            return Ok(Outcome::Refused {
+                command: 1,
+                cause: Cause::Unindexed,
+            });
+        }
         let mut answers = Answers::new(alloc);
-        match self {
-            IsUnindexed => {
-                return Ok(Outcome::Refused {
-                    command: 1,
-                    cause: Cause::Unindexed,
-                });
+        match self.answer(alloc, &mut answers) {
+            Ok(()) => Ok(Outcome::Done(answers)),
+            Err(no_memory) => {
+                drop(answers);
+                Err(no_memory)
             }
+        }
+    }
+
+    /// Appends the answers that are due where the commands are done.
+    fn answer(self, alloc: Global, answers: &mut Answers) -> Result<(), NoMemory> {
+        match self {
             Adds(_) => {
                 answers.push(Answer::Nothing)?;
                 answers.push(Answer::Value(5))?;
@@ -63,7 +80,7 @@ impl Call {
             Finds(second) => answers.push(found(alloc, second)?)?,
             _ => answers.push(Answer::Nothing)?,
         }
-        Ok(Outcome::Done(answers))
+        Ok(())
     }
 }
 
@@ -103,17 +120,33 @@ fn make(alloc: Global, store: &mut Store, call: Call) -> Result<(), Fail> {
         return Ok(());
     }
     let script = call.script(alloc)?;
+    let ran = run(alloc, store, &script, call);
+    drop(script);
+    ran
+}
+
+/// Runs the commands of a call, which have to come to what is due.
+fn run(alloc: Global, store: &mut Store, script: &Script, call: Call) -> Result<(), Fail> {
     let due = call.due(alloc)?;
-    store.run(alloc, &script.block().commands, &due)
+    let ran = store.come_to(alloc, &script.block().commands, &due);
+    drop(due);
+    ran
+}
+
+/// Makes these calls one behind the other.
+fn make_each(alloc: Global, store: &mut Store, calls: &[Call]) -> Result<(), Fail> {
+    for call in calls {
+        make(alloc, store, *call)?;
+    }
+    Ok(())
 }
 
 /// Makes these calls on a small store.
 fn make_all(alloc: Global, calls: &[Call]) -> Result<(), Fail> {
     let mut store = Store::new(alloc, 4200);
-    for call in calls {
-        make(alloc, &mut store, *call)?;
-    }
-    Ok(())
+    let made = make_each(alloc, &mut store, calls);
+    drop(store);
+    made
 }
 
 #[test]

@@ -15,6 +15,22 @@ use std::test::Fail;
 /// The rows of each table, which have the numbers from 0.
 const ROWS: u64 = 1024;
 
+/// A command on a row.
+#[derive(Clone, Copy)]
+enum Act {
+    /// Sets the row to its columns at this turn.
+    Put(u64),
+    Ins,
+    Del,
+    Add(u64),
+    Sub(u64),
+    Get,
+    Scan,
+    Find,
+}
+
+use Act::{Add, Del, Find, Get, Ins, Put, Scan, Sub};
+
 /// A row of a table.
 #[derive(Clone, Copy)]
 struct Row {
@@ -45,6 +61,32 @@ impl Row {
             column(11),
             column(13),
         ])
+    }
+
+    /// The row that has this number behind the rows of the table.
+    fn beyond(self) -> Row {
+        let number = self.number.wrapping_add(ROWS);
+        Row {
+            table: self.table,
+            number,
+        }
+    }
+
+    fn command(self, act: Act) -> Command
+        ensures table { table_named result < 8 }
+        ensures column { NamesColumn result }
+        ensures short { IsShort result }
+    {
+        match act {
+            Put(turn) => self.put(turn),
+            Ins => self.ins(),
+            Del => self.del(),
+            Add(by) => self.add(by),
+            Sub(by) => self.sub(by),
+            Get => self.get(),
+            Scan => self.scan(),
+            Find => self.find(),
+        }
     }
 
     fn put(self, turn: u64) -> Command
@@ -199,61 +241,52 @@ fn run(alloc: Global, beside: &mut Beside, command: Command) -> Result<bool, Fai
     Ok(done)
 }
 
-/// Runs a command that has to be done.
-fn done(alloc: Global, beside: &mut Beside, command: Command) -> Result<(), Fail>
-    requires table { table_named command < 8 }
-    requires column { NamesColumn command }
-    requires short { IsShort command }
-{
-    if run(alloc, beside, command)? {
-        return Ok(());
+/// Runs commands on a row, of which each has to be done, or each has to be refused.
+fn run_each(
+    alloc: Global,
+    beside: &mut Beside,
+    row: Row,
+    acts: &[Act],
+    is_done: bool,
+) -> Result<(), Fail> {
+    for act in acts {
+        if run(alloc, beside, row.command(*act))? != is_done {
+            return Err("a command was refused that has to be done, or the other way round".into());
+        }
     }
-    Err("a command was refused".into())
+    Ok(())
 }
 
 /// Commands on a row that is there and on one that is not: rows are put, added and taken out, and entries of the index move and stay.
 fn change(alloc: Global, beside: &mut Beside, row: Row) -> Result<(), Fail> {
-    let new = Row {
-        table: row.table,
-        number: row.number.wrapping_add(ROWS),
-    };
-    done(alloc, beside, new.put(0))?;
-    done(alloc, beside, new.del())?;
-    done(alloc, beside, new.ins())?;
-    done(alloc, beside, row.put(0))?;
-    done(alloc, beside, row.put(1))?;
-    done(alloc, beside, row.put(0xaaa))?;
-    done(alloc, beside, row.add(0))?;
-    done(alloc, beside, row.add(1))?;
-    done(alloc, beside, row.add(1 << 40))?;
-    done(alloc, beside, row.sub(1))?;
-    done(alloc, beside, row.sub(1 << 39))?;
-    done(alloc, beside, row.sub(0))?;
-    done(alloc, beside, row.get())?;
-    done(alloc, beside, row.scan())?;
+    run_each(alloc, beside, row.beyond(), &[Put(0), Del, Ins], true)?;
+    let acts = [
+        Put(0),
+        Put(1),
+        Put(0xaaa),
+        Add(0),
+        Add(1),
+        Add(1 << 40),
+        Sub(1),
+        Sub(1 << 39),
+        Sub(0),
+        Get,
+        Scan,
+    ];
+    run_each(alloc, beside, row, &acts, true)?;
     if index_of(row.table) != 0 {
-        done(alloc, beside, row.find())?;
+        run_each(alloc, beside, row, &[Find], true)?;
     }
     Ok(())
 }
 
 /// Commands that are refused.
 fn refuse(alloc: Global, beside: &mut Beside, row: Row) -> Result<(), Fail> {
-    let new = Row {
-        table: row.table,
-        number: row.number.wrapping_add(ROWS),
-    };
-    let mut any = run(alloc, beside, row.ins())?;
-    any |= run(alloc, beside, new.del())?;
-    any |= run(alloc, beside, new.add(1))?;
-    any |= run(alloc, beside, new.sub(1))?;
-    any |= run(alloc, beside, row.add(u64::MAX))?;
-    any |= run(alloc, beside, row.sub(u64::MAX))?;
+    run_each(alloc, beside, row, &[Ins], false)?;
+    run_each(alloc, beside, row.beyond(), &[Del, Add(1), Sub(1)], false)?;
+    run_each(alloc, beside, row, &[Add(u64::MAX), Sub(u64::MAX)], false)?;
     if index_of(row.table) == 0 {
-        any |= run(alloc, beside, row.find())?;
-    }
-    if any {
-        return Err("a command was done".into());
+        run_each(alloc, beside, row, &[Find], false)?;
     }
     Ok(())
 }

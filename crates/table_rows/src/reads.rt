@@ -22,10 +22,13 @@ enum Act {
     Put(u64),
     Ins,
     Del,
+    /// Adds to the column of the index, or to the first.
     Add(u64),
     Sub(u64),
     Get,
+    /// Lists 100 rows from this one on.
     Scan,
+    /// Lists 100 rows by the index; refused where there is none.
     Find,
 }
 
@@ -77,118 +80,48 @@ impl Row {
         ensures column { NamesColumn result }
         ensures short { IsShort result }
     {
+        let (table, key) = (self.table, self.key());
+        let column = index_of(table).max(1);
         match act {
-            Put(turn) => self.put(turn),
-            Ins => self.ins(),
-            Del => self.del(),
-            Add(by) => self.add(by),
-            Sub(by) => self.sub(by),
-            Get => self.get(),
-            Scan => self.scan(),
-            Find => self.find(),
-        }
-    }
-
-    fn put(self, turn: u64) -> Command
-        ensures table { table_named result < 8 }
-        ensures column { NamesColumn result }
-        ensures short { IsShort result }
-    {
-        Command::Put {
-            table: self.table,
-            key: self.key(),
-            values: self.columns(turn),
-        }
-    }
-
-    fn ins(self) -> Command
-        ensures table { table_named result < 8 }
-        ensures column { NamesColumn result }
-        ensures short { IsShort result }
-    {
-        Command::Ins {
-            table: self.table,
-            key: self.key(),
-            values: self.columns(0),
-        }
-    }
-
-    fn del(self) -> Command
-        ensures table { table_named result < 8 }
-        ensures column { NamesColumn result }
-        ensures short { IsShort result }
-    {
-        Command::Del {
-            table: self.table,
-            key: self.key(),
-        }
-    }
-
-    /// Adds to the column of the index, or to the first.
-    fn add(self, by: u64) -> Command
-        ensures table { table_named result < 8 }
-        ensures column { NamesColumn result }
-        ensures short { IsShort result }
-    {
-        Command::Add {
-            table: self.table,
-            key: self.key(),
-            column: index_of(self.table).max(1),
-            by,
-        }
-    }
-
-    fn sub(self, by: u64) -> Command
-        ensures table { table_named result < 8 }
-        ensures column { NamesColumn result }
-        ensures short { IsShort result }
-    {
-        Command::Sub {
-            table: self.table,
-            key: self.key(),
-            column: index_of(self.table).max(1),
-            by,
-        }
-    }
-
-    fn get(self) -> Command
-        ensures table { table_named result < 8 }
-        ensures column { NamesColumn result }
-        ensures short { IsShort result }
-    {
-        Command::Get {
-            table: self.table,
-            key: self.key(),
-            column: 1,
-        }
-    }
-
-    /// Lists 100 rows from this one on.
-    fn scan(self) -> Command
-        ensures table { table_named result < 8 }
-        ensures column { NamesColumn result }
-        ensures short { IsShort result }
-    {
-        Command::Scan {
-            table: self.table,
-            lo: self.key(),
-            hi: u64::MAX,
-            limit: 100,
-        }
-    }
-
-    /// Lists 100 rows by the index; refused where there is none.
-    fn find(self) -> Command
-        ensures table { table_named result < 8 }
-        ensures column { NamesColumn result }
-        ensures short { IsShort result }
-    {
-        Command::Find {
-            table: self.table,
-            column: index_of(self.table).max(1),
-            lo: self.number & 0xfff,
-            hi: u64::MAX,
-            limit: 100,
+            Put(turn) => {
+                let values = self.columns(turn);
+                Command::Put { table, key, values }
+            }
+            Ins => {
+                let values = self.columns(0);
+                Command::Ins { table, key, values }
+            }
+            Del => Command::Del { table, key },
+            Add(by) => Command::Add {
+                table,
+                key,
+                column,
+                by,
+            },
+            Sub(by) => Command::Sub {
+                table,
+                key,
+                column,
+                by,
+            },
+            Get => Command::Get {
+                table,
+                key,
+                column: 1,
+            },
+            Scan => Command::Scan {
+                table,
+                lo: key,
+                hi: u64::MAX,
+                limit: 100,
+            },
+            Find => Command::Find {
+                table,
+                column,
+                lo: self.number & 0xfff,
+                hi: u64::MAX,
+                limit: 100,
+            },
         }
     }
 }
@@ -221,7 +154,7 @@ fn add_all(script: &mut Script, table: u32, block: u64) -> Result<(), Fail>
 {
     for i in 0..64u64 {
         let number = block << 6 | i;
-        script.push(Row { table, number }.ins())?;
+        script.push(Row { table, number }.command(Ins))?;
     }
     Ok(())
 }

@@ -44,12 +44,11 @@ impl Call {
                 let values = row(second);
                 script.push(Command::Ins { table, key, values })?;
                 let column = 1;
-                script.push(Command::Get { table, key, column })?;
+                script.push(Command::Get { table, key, column })
             }
-            Drops => script.push(Command::Del { table, key })?,
-            _ => script.push(searching())?,
+            Drops => script.push(Command::Del { table, key }),
+            _ => script.push(searching()),
         }
-        Ok(())
     }
 
     /// The outcome that is due.
@@ -75,12 +74,11 @@ impl Call {
         match self {
             Adds(_) => {
                 answers.push(Answer::Nothing)?;
-                answers.push(Answer::Value(5))?;
+                answers.push(Answer::Value(5))
             }
-            Finds(second) => answers.push(found(alloc, second)?)?,
-            _ => answers.push(Answer::Nothing)?,
+            Finds(second) => answers.push(found(alloc, second)?),
+            _ => answers.push(Answer::Nothing),
         }
-        Ok(())
     }
 }
 

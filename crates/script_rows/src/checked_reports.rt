@@ -1,19 +1,34 @@
 //! The checker of reports: verdicts on right and on wrong reports, and the order that a report prints.
+//!
+//! Who ends with an input hands it to `drop`: where its name goes out of scope, each field of it is let go in the proof of the function
+//! itself, and once more at each early return, which is dear. So what is done with an input stands in a function that borrows it.
 
 ghost use Rattle.replay_model.specs.Input.{IsWellFormed};
 
+use crate::reports::report_in;
 use crate::texts::{
     append, append_number, append_times, bytes_of, input_from, input_of, order_from, plain_order,
 };
-use replay_model::{Input, Placed, are_named, report};
+use replay_model::{Input, NoMemory, Placed};
 use report_check::{Verdict, check};
 use std::alloc::{AllocError, Global};
+use std::process::Abort;
 use std::test::Fail;
 
-/// The verdict on a report of an input.
+/// The verdict on a report of an input. It says no more, so that what the checker ensures is not known in the functions that call it.
+fn verdict_on(alloc: Global, input: &Input, report: &[u8]) -> Result<Verdict, NoMemory>
+    requires { IsWellFormed input.now }
+{
+    check(alloc, input, report)
+}
+
+/// The verdict on a report of the input that a text spells.
 fn verdict(alloc: Global, text: &str, report: &str) -> Result<Verdict, Fail> {
+    let report = bytes_of(alloc, report)?;
     let input = input_from(alloc, text)?;
-    Ok(check(alloc, &input, &bytes_of(alloc, report)?)?)
+    let verdict = verdict_on(alloc, &input, &report);
+    drop(input);
+    Ok(verdict?)
 }
 
 const ONE_BLOCK: &str =
@@ -153,12 +168,25 @@ const REPORTS: [Case; 26] = [
     ),
 ];
 
-#[test]
-fn reports_are_judged(rt: HostRuntime) -> Result<(), Fail> {
-    for (text, report, due) in &REPORTS {
+/// Judges each report, and compares the verdict.
+fn try_cases<R: Abort + AllocGlobal>(rt: &R, cases: &[Case]) -> Result<(), Fail> {
+    for (text, report, due) in cases {
         assert_eq!(rt; verdict(rt.alloc(), text, report)?, *due, "{text} {report}");
     }
     Ok(())
+}
+
+#[test]
+fn reports_are_judged(rt: HostRuntime) -> Result<(), Fail> {
+    try_cases(&rt, &REPORTS)
+}
+
+/// The order that these lines of a report print, where the input is the one that a text spells.
+fn order_printed(alloc: Global, text: &str, lines: &str) -> Result<Vec<Placed>, Fail> {
+    let input = input_from(alloc, text)?;
+    let order = order_from(alloc, &input, lines);
+    drop(input);
+    order
 }
 
 #[test]
@@ -183,9 +211,8 @@ fn printed_order_is_read(rt: HostRuntime) -> Result<(), Fail> {
             number: 4,
         },
     ];
-    let input = input_from(rt.alloc(), FINDS)?;
     let lines = "0 1.1 no 1 over/7 1.1 ok /8 1.2 ok/9 3.4 no 2 over/5 1.1 snap";
-    let order = order_from(rt.alloc(), &input, lines)?;
+    let order = order_printed(rt.alloc(), FINDS, lines)?;
     assert_eq!(rt; order.as_slice(), due.as_slice());
     Ok(())
 }
@@ -216,30 +243,33 @@ fn largest(alloc: Global) -> Result<Vec<u8>, AllocError> {
     Ok(text)
 }
 
-/// The verdicts on the report of an input in an order, and on that report with a byte behind it.
-fn verdicts(
-    alloc: Global,
-    input: &Input,
-    order: &[Placed],
-) -> Result<(usize, Verdict, Verdict), Fail>
+/// The report of an input, run lane behind lane.
+fn plain_report(alloc: Global, input: &Input) -> Result<Vec<u8>, Fail>
     requires { IsWellFormed input.now }
 {
-    if !are_named(input, order) {
-        return Err("the order names what is not there".into());
-    }
-    let mut text = report(alloc, input, order)?;
+    let order = plain_order(alloc, input)?;
+    report_in(alloc, input, &order)
+}
+
+/// The length of that report, and the verdicts on it and on it with a byte behind it.
+fn verdicts(alloc: Global, input: &Input) -> Result<(usize, Verdict, Verdict), Fail>
+    requires { IsWellFormed input.now }
+{
+    let mut text = plain_report(alloc, input)?;
     let length = text.len();
-    let whole = check(alloc, input, &text)?;
+    let whole = verdict_on(alloc, input, &text)?;
     text.push(b'x')?;
-    let longer = check(alloc, input, &text)?;
+    let longer = verdict_on(alloc, input, &text)?;
     Ok((length, whole, longer))
 }
 
-/// The same of the largest input, run lane behind lane.
+/// The same of the largest input.
 fn largest_verdicts(alloc: Global) -> Result<(usize, Verdict, Verdict), Fail> {
-    let input = input_of(alloc, &largest(alloc)?)?;
-    let order = plain_order(alloc, &input)?;
-    verdicts(alloc, &input, &order)
+    let text = largest(alloc)?;
+    let input = input_of(alloc, &text)?;
+    let verdicts = verdicts(alloc, &input);
+    drop(input);
+    verdicts
 }
 
 #[test]

@@ -5,7 +5,7 @@ ghost use Rattle.replay_model.specs.Input.{IsWellFormed};
 use crate::texts::{bytes_of, input_from, plain_order};
 use generated_input::generated;
 use load_gen::{generate, summary};
-use replay_model::{Input, Tables, are_named, replay};
+use replay_model::{Input, NoMemory, Placed, Tables, are_named, replay};
 use std::alloc::{AllocError, Global};
 use std::test::Fail;
 
@@ -49,23 +49,33 @@ fn generated_text_begins_so(rt: HostRuntime) -> Result<(), Fail> {
     Ok(())
 }
 
+/// The summary of an input, run in an order.
+fn summary_in(alloc: Global, input: &Input, order: &[Placed]) -> Result<Vec<u8>, Fail>
+    requires { IsWellFormed input.now }
+{
+    if !are_named(input, order) {
+        return Err("the order names what is not there".into());
+    }
+    let replayed = replay(alloc, input, order)?;
+    let text = summary(alloc, input, &replayed.last);
+    drop(replayed);
+    Ok(text?)
+}
+
 /// The summary of an input, run lane behind lane.
 fn summary_of(alloc: Global, input: &Input) -> Result<Vec<u8>, Fail>
     requires { IsWellFormed input.now }
 {
     let order = plain_order(alloc, input)?;
-    if !are_named(input, &order) {
-        return Err("the order names what is not there".into());
-    }
-    let replayed = replay(alloc, input, &order)?;
-    let text = summary(alloc, input, &replayed.last)?;
-    Ok(text)
+    summary_in(alloc, input, &order)
 }
 
 /// The summary of a generated load.
 fn generated_summary(alloc: Global, seed: u64) -> Result<Vec<u8>, Fail> {
     let input = generated(alloc, seed)?;
-    summary_of(alloc, &input)
+    let text = summary_of(alloc, &input);
+    drop(input);
+    text
 }
 
 #[test]
@@ -77,13 +87,25 @@ fn generated_load_keeps_its_sum(rt: HostRuntime) -> Result<(), Fail> {
     Ok(())
 }
 
-/// The summary of an input that is loaded and not run. In its text MOST stands for six times the greatest number.
+/// The summary of an input that is loaded and not run.
+fn summary_at_load(alloc: Global, input: &Input) -> Result<Vec<u8>, NoMemory>
+    requires { IsWellFormed input.now }
+{
+    let last = Tables::loaded(alloc, input)?;
+    let text = summary(alloc, input, &last);
+    drop(last);
+    text
+}
+
+/// The same of the input that a text spells, in which MOST stands for six times the greatest number.
 fn loaded_summary(alloc: Global, text: &str) -> Result<Vec<u8>, Fail> {
     let most =
         "18446744073709551615 18446744073709551615 18446744073709551615 18446744073709551615 18446744073709551615 18446744073709551615";
-    let input = input_from(alloc, &text.replace(alloc, "MOST", most)?)?;
-    let last = Tables::loaded(alloc, &input)?;
-    Ok(summary(alloc, &input, &last)?)
+    let text = text.replace(alloc, "MOST", most)?;
+    let input = input_from(alloc, &text)?;
+    let summary = summary_at_load(alloc, &input);
+    drop(input);
+    Ok(summary?)
 }
 
 #[test]

@@ -124,12 +124,18 @@ pub fn try_order<R: Abort + AllocGlobal>(
     Ok(())
 }
 
+fn try_orders<R: Abort + AllocGlobal>(rt: &R, input: &Input, cases: &[Case]) -> Result<(), Fail> {
+    for (name, first, heads) in cases {
+        let order = order_from(rt.alloc(), input, heads)?;
+        try_order(rt, input, &order, *first, name)?;
+    }
+    Ok(())
+}
+
 #[test]
 fn wrong_orders_fail_at_their_tests(rt: HostRuntime) -> Result<(), Fail> {
     let input = input_from(rt.alloc(), MIXED)?;
-    for (name, first, heads) in &ORDERS {
-        let order = order_from(rt.alloc(), &input, heads)?;
-        try_order(&rt, &input, &order, *first, name)?;
-    }
-    Ok(())
+    let tried = try_orders(&rt, &input, &ORDERS);
+    drop(input);
+    tried
 }

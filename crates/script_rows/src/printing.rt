@@ -9,6 +9,7 @@ use replay_model::{
     Answer, Answers, Block, Cause, Columns, Input, NoMemory, Outcome, Placed, block_at, is_named,
 };
 use std::alloc::Global;
+use std::process::Abort;
 use std::test::Fail;
 use txn_script::{print_block, print_table};
 
@@ -61,33 +62,57 @@ fn lines_of(alloc: Global, input: &Input, outcome: &Outcome) -> Result<Vec<u8>, 
     Ok(text)
 }
 
-/// A value, nothing at a write, and the answer for a row that is not there.
-fn answered(alloc: Global) -> Result<Outcome, NoMemory> {
-    let mut answers = Answers::new(alloc);
+/// Appends a value, nothing at a write, and the answer for a row that is not there.
+fn push_answers(answers: &mut Answers) -> Result<(), NoMemory> {
     answers.push(Answer::Value(7))?;
     answers.push(Answer::Nothing)?;
-    answers.push(Answer::Absent)?;
-    Ok(Outcome::Done(answers))
+    answers.push(Answer::Absent)
+}
+
+/// A block that is done, with those answers.
+fn answered(alloc: Global) -> Result<Outcome, NoMemory> {
+    let mut answers = Answers::new(alloc);
+    match push_answers(&mut answers) {
+        Ok(()) => Ok(Outcome::Done(answers)),
+        Err(no_memory) => {
+            drop(answers);
+            Err(no_memory)
+        }
+    }
+}
+
+/// Compares the lines of that block with those due.
+fn try_block<R: Abort + AllocGlobal>(
+    rt: &R,
+    input: &Input,
+    outcome: Outcome,
+    due: &str,
+) -> Result<(), Fail>
+    requires { IsWellFormed input.now }
+{
+    let lines = lines_of(rt.alloc(), input, &outcome);
+    drop(outcome);
+    assert_eq!(rt; lines?, bytes_of(rt.alloc(), due)?, "{due}");
+    Ok(())
+}
+
+fn try_blocks<R: Abort + AllocGlobal>(rt: &R, input: &Input) -> Result<(), Fail>
+    requires { IsWellFormed input.now }
+{
+    let done = answered(rt.alloc())?;
+    try_block(rt, input, done, "done/512 1.1 ok/= 7/= none/")?;
+    let refused = Outcome::Refused {
+        command: 2,
+        cause: Cause::Short,
+    };
+    try_block(rt, input, refused, "done/512 1.1 no 2 short/")
 }
 
 #[test]
 fn a_block_is_appended_with_its_answers(rt: HostRuntime) -> Result<(), Fail> {
-    let alloc = rt.alloc();
-    let input = input_from(
-        alloc,
-        "cicada 1/table a/lane/txn/get a 1/put a 1 2/get a 3/end/done/",
-    )?;
-    let cause = Cause::Short;
-    let cases = [
-        (answered(alloc)?, "done/512 1.1 ok/= 7/= none/"),
-        (
-            Outcome::Refused { command: 2, cause },
-            "done/512 1.1 no 2 short/",
-        ),
-    ];
-    for (outcome, due) in cases.iter() {
-        let lines = lines_of(alloc, &input, outcome)?;
-        assert_eq!(rt; lines, bytes_of(alloc, due)?, "{due}");
-    }
-    Ok(())
+    let text = "cicada 1/table a/lane/txn/get a 1/put a 1 2/get a 3/end/done/";
+    let input = input_from(rt.alloc(), text)?;
+    let tried = try_blocks(&rt, &input);
+    drop(input);
+    tried
 }

@@ -1,6 +1,8 @@
 //! Texts that are refused, each with its first faulty line and the kind of its fault, and texts at the limits.
 
-use crate::texts::{MAX_INPUT, append, append_times, bytes_of};
+ghost use Rattle.std.specs.Prelude.{◌≤◌, length};
+
+use crate::texts::{MAX_INPUT, append, append_times, bytes_of, repeated};
 use std::alloc::{AllocError, Global};
 use std::process::Abort;
 use std::test::Fail;
@@ -32,15 +34,22 @@ const END: u32 = 6;
 
 const COLUMNS: u32 = 7;
 
+/// Why the bytes are no input, if they are none. The input itself is let go by the call that takes the fault out.
+fn fault(alloc: Global, bytes: &[u8]) -> Option<ParseFault>
+    requires { length bytes.now ≤ 4194304 }
+{
+    parse(alloc, bytes).err()
+}
+
 /// What reading answers: the fault, if there is one.
 fn answer(alloc: Global, bytes: &[u8]) -> Result<Option<(u64, u32)>, Fail> {
     if bytes.len() > MAX_INPUT {
         return Err("the text is longer than an input may be".into());
     }
-    match parse(alloc, bytes) {
-        Ok(_) => Ok(None),
-        Err(ParseFault::Refused(InputFault { line, kind })) => Ok(Some((line, kind))),
-        Err(ParseFault::NoMemory) => Err("there is memory".into()),
+    match fault(alloc, bytes) {
+        None => Ok(None),
+        Some(ParseFault::Refused(InputFault { line, kind })) => Ok(Some((line, kind))),
+        Some(ParseFault::NoMemory) => Err("there is memory".into()),
     }
 }
 
@@ -55,21 +64,6 @@ fn try_cases<R: Abort + AllocGlobal>(rt: &R, cases: &[Case]) -> Result<(), Fail>
         assert_eq!(rt; answer_to(rt.alloc(), text)?, *due, "{text}");
     }
     Ok(())
-}
-
-/// A piece that comes many times, and what stands around it.
-fn repeated(
-    alloc: Global,
-    front: &str,
-    piece: &str,
-    times: usize,
-    behind: &str,
-) -> Result<Vec<u8>, AllocError> {
-    let mut bytes = Vec::new(alloc);
-    append(&mut bytes, front)?;
-    append_times(&mut bytes, piece, times)?;
-    append(&mut bytes, behind)?;
-    Ok(bytes)
 }
 
 /// The same of texts with a piece that comes many times.
@@ -355,10 +349,22 @@ fn commands(alloc: Global, front: &str, command: &str) -> Result<Vec<u8>, AllocE
     Ok(bytes)
 }
 
+/// What stands before 16,385 commands, the command, and the fault of the whole.
+type Counted = (&'static str, &'static str, Option<(u64, u32)>);
+
+/// The same of texts of many commands.
+fn try_counted<R: Abort + AllocGlobal>(rt: &R, cases: &[Counted]) -> Result<(), Fail> {
+    for (front, command, due) in cases {
+        let bytes = commands(rt.alloc(), front, command)?;
+        assert_eq!(rt; answer(rt.alloc(), &bytes)?, *due, "{front} and {command}");
+    }
+    Ok(())
+}
+
 /// Commands that count with the rows, or do not.
 #[test]
 fn rows_and_changes_are_counted(rt: HostRuntime) -> Result<(), Fail> {
-    let cases: [(&str, &str, Option<(u64, u32)>); 6] = [
+    let cases: [Counted; 6] = [
         (
             "cicada 1/table a/lane/",
             "put a 1 1/",
@@ -382,11 +388,7 @@ fn rows_and_changes_are_counted(rt: HostRuntime) -> Result<(), Fail> {
             Some((16_903, LIMIT)),
         ),
     ];
-    for (front, command, due) in &cases {
-        let bytes = commands(rt.alloc(), front, command)?;
-        assert_eq!(rt; answer(rt.alloc(), &bytes)?, *due, "{front} and {command}");
-    }
-    Ok(())
+    try_counted(&rt, &cases)
 }
 
 /// 8,064 blocks of 64 commands, in 4,193,307 bytes with the lines around them, are an input.

@@ -1,6 +1,7 @@
 //! Replays and runs of one block.
+//!
+//! Inputs, tables and what a replay gives are dropped by call, as in the tests of reports that are checked.
 
-ghost use Rattle.std.specs.Prelude.{IfOk};
 ghost use Rattle.replay_model.specs.Input.{IsWellFormed};
 
 use crate::orders::try_order;
@@ -8,10 +9,11 @@ use crate::reports::try_text;
 use crate::texts::{bytes_of, input_from};
 use replay_model::{
     Answer, Block, Blocks, Cause, Columns, Command, Commands, Input, Lanes, NoMemory, Outcome,
-    Placed, Tables, are_named, block_at, is_well_formed, replay, run_one,
+    Placed, Replayed, Tables, are_named, block_at, is_well_formed, replay, run_one,
 };
 use report_check::printed;
 use std::alloc::Global;
+use std::process::Abort;
 use std::test::Fail;
 
 /// Whether the outcome is Done with these answers of reads, and nothing at the writes.
@@ -46,7 +48,21 @@ fn run_at(alloc: Global, input: &Input, number: u32, tables: &mut Tables) -> Res
     Ok(outcome)
 }
 
-/// Whether the replay in an order has one outcome, with these answers, and leaves these rows of the first table.
+/// Whether a replay has one outcome, with these answers, and leaves these rows of the first table.
+fn has_replayed(
+    alloc: Global,
+    replayed: &Replayed,
+    wanted: &[Option<u64>],
+    rows: &[(u64, Columns)],
+) -> Result<bool, NoMemory> {
+    if replayed.outcomes.len() != 1 {
+        return Ok(false);
+    }
+    let last = replayed.last.pairs(alloc, 0)?;
+    Ok(answers(replayed.outcomes.get(0), wanted) && last.as_slice() == rows)
+}
+
+/// The same of the replay of an input in an order.
 fn replays(
     alloc: Global,
     input: &Input,
@@ -60,14 +76,35 @@ fn replays(
         return Err("the order names what is not there".into());
     }
     let replayed = replay(alloc, input, order)?;
-    if replayed.outcomes.len() != 1 {
-        return Ok(false);
-    }
-    let last = replayed.last.pairs(alloc, 0)?;
-    Ok(answers(replayed.outcomes.get(0), wanted) && last.as_slice() == rows)
+    let has = has_replayed(alloc, &replayed, wanted, rows);
+    drop(replayed);
+    Ok(has?)
 }
 
-/// Whether the first block has these answers on the tables as they are loaded, and takes the row at key 1 from one value to another.
+/// Whether the first table has this row at key 1.
+fn has_row(tables: &Tables, row: Columns) -> bool {
+    tables.get(0, 1) == Some(row)
+}
+
+/// Whether the first block has these answers on these tables, and takes the row at key 1 from one value to another.
+fn runs_on(
+    alloc: Global,
+    input: &Input,
+    tables: &mut Tables,
+    wanted: &[Option<u64>],
+    before: u64,
+    behind: u64,
+) -> Result<bool, Fail>
+    requires { IsWellFormed input.now }
+{
+    let starts = has_row(tables, row_of(before));
+    let outcome = run_at(alloc, input, 1, tables)?;
+    let answers = answers(&outcome, wanted);
+    drop(outcome);
+    Ok(starts && answers && has_row(tables, row_of(behind)))
+}
+
+/// The same on the tables as they are loaded.
 fn runs(
     alloc: Global,
     input: &Input,
@@ -78,19 +115,16 @@ fn runs(
     requires { IsWellFormed input.now }
 {
     let mut tables = Tables::loaded(alloc, input)?;
-    let starts = tables.get(0, 1) == Some(row_of(before));
-    let outcome = run_at(alloc, input, 1, &mut tables)?;
-    let ends = tables.get(0, 1) == Some(row_of(behind));
-    Ok(starts && ends && answers(&outcome, wanted))
+    let runs = runs_on(alloc, input, &mut tables, wanted, before, behind);
+    drop(tables);
+    runs
 }
 
-#[test]
-fn replay_and_run_of_one_block_agree(rt: HostRuntime) -> Result<(), Fail> {
+/// Compares the replay and the run of the only block of an input.
+fn try_one_block<R: Abort + AllocGlobal>(rt: &R, input: &Input) -> Result<(), Fail>
+    requires { IsWellFormed input.now }
+{
     let alloc = rt.alloc();
-    let input = input_from(
-        alloc,
-        "cicada 1/table a/row a 1 100/lane/txn/get a 1/sub a 1 30/get a 1/end/done/",
-    )?;
     let order = [Placed {
         stamp: 512,
         snap: false,
@@ -98,32 +132,46 @@ fn replay_and_run_of_one_block_agree(rt: HostRuntime) -> Result<(), Fail> {
         number: 1,
     }];
     let wanted = [Some(100), None, Some(70)];
-    assert!(rt; is_well_formed(alloc, &input)?);
-    assert!(rt; replays(alloc, &input, &order, &wanted, &[(1, row_of(70))])?);
-    assert!(rt; runs(alloc, &input, &wanted, 100, 70)?);
-    try_order(&rt, &input, &[], 3, "the empty order")
+    assert!(rt; is_well_formed(alloc, input)?);
+    assert!(rt; replays(alloc, input, &order, &wanted, &[(1, row_of(70))])?);
+    assert!(rt; runs(alloc, input, &wanted, 100, 70)?);
+    try_order(rt, input, &[], 3, "the empty order")
 }
 
-fn block_of(
-    alloc: Global,
-    snap: bool,
-    number: u32,
-    commands: &[Command],
-) -> Result<Block, NoMemory> {
-    let mut list = Commands::new(alloc);
+#[test]
+fn replay_and_run_of_one_block_agree(rt: HostRuntime) -> Result<(), Fail> {
+    let text = "cicada 1/table a/row a 1 100/lane/txn/get a 1/sub a 1 30/get a 1/end/done/";
+    let input = input_from(rt.alloc(), text)?;
+    let tried = try_one_block(&rt, &input);
+    drop(input);
+    tried
+}
+
+/// Appends each of these commands.
+fn push_commands(list: &mut Commands, commands: &[Command]) -> Result<(), NoMemory> {
     for command in commands {
         list.push(*command)?;
+    }
+    Ok(())
+}
+
+/// A block of the first lane.
+fn block_of(alloc: Global, snap: bool, number: u32, list: &[Command]) -> Result<Block, NoMemory> {
+    let mut commands = Commands::new(alloc);
+    if let Err(no_memory) = push_commands(&mut commands, list) {
+        drop(commands);
+        return Err(no_memory);
     }
     Ok(Block {
         snap,
         lane: 1,
         number,
-        commands: list,
+        commands,
     })
 }
 
-/// A snapshot that writes, a block whose last command is refused, and a search on a column without an index.
-fn changing_nothing(alloc: Global) -> Result<Lanes, NoMemory> {
+/// Appends a snapshot that writes, a block whose last command is refused, and a search on a column without an index.
+fn push_blocks(alloc: Global, blocks: &mut Blocks) -> Result<(), NoMemory> {
     let table = 0;
     let key = 1;
     let column = 1;
@@ -145,33 +193,26 @@ fn changing_nothing(alloc: Global) -> Result<Lanes, NoMemory> {
         hi: 9,
         limit: 5,
     };
-    let mut blocks = Blocks::new(alloc);
     blocks.push(block_of(alloc, true, 1, &[put, get])?)?;
     blocks.push(block_of(alloc, false, 2, &[put, del, add])?)?;
-    blocks.push(block_of(alloc, false, 3, &[find])?)?;
-    let mut lanes = Lanes::new(alloc);
-    lanes.push(blocks)?;
-    Ok(lanes)
+    blocks.push(block_of(alloc, false, 3, &[find])?)
 }
 
-/// An input of one row, with these lanes.
-fn input_with(alloc: Global, lanes: Lanes) -> Result<Input, Fail>
-    ensures { IfOk result IsWellFormed }
-{
-    let mut input = input_from(alloc, "cicada 2/table a 2/index a 2/row a 1 100 7/done/")?;
-    input.lanes = lanes;
-    if !is_well_formed(alloc, &input)? {
-        return Err("the input is well formed".into());
+/// Appends a lane of those blocks.
+fn push_lane(alloc: Global, lanes: &mut Lanes) -> Result<(), NoMemory> {
+    let mut blocks = Blocks::new(alloc);
+    if let Err(no_memory) = push_blocks(alloc, &mut blocks) {
+        drop(blocks);
+        return Err(no_memory);
     }
-    Ok(input)
+    lanes.push(blocks)
 }
 
-/// Whether the second block is refused at its last command, and leaves the row as it was.
-fn is_refused(alloc: Global, input: &Input) -> Result<bool, Fail>
+/// Whether the second block is refused at its last command on these tables, and leaves the row as it was.
+fn is_refused_on(alloc: Global, input: &Input, tables: &mut Tables) -> Result<bool, Fail>
     requires { IsWellFormed input.now }
 {
-    let mut tables = Tables::loaded(alloc, input)?;
-    let outcome = run_at(alloc, input, 2, &mut tables)?;
+    let outcome = run_at(alloc, input, 2, tables)?;
     let refused = matches!(
         &outcome,
         Outcome::Refused {
@@ -179,20 +220,48 @@ fn is_refused(alloc: Global, input: &Input) -> Result<bool, Fail>
             cause: Cause::Missing
         }
     );
-    Ok(refused && tables.get(0, 1) == Some(Columns::new([100, 7, 0, 0, 0, 0])))
+    drop(outcome);
+    Ok(refused && has_row(tables, Columns::new([100, 7, 0, 0, 0, 0])))
 }
 
-#[test]
-fn snapshots_and_refused_blocks_change_nothing(rt: HostRuntime) -> Result<(), Fail> {
+/// The same on the tables as they are loaded.
+fn is_refused(alloc: Global, input: &Input) -> Result<bool, Fail>
+    requires { IsWellFormed input.now }
+{
+    let mut tables = Tables::loaded(alloc, input)?;
+    let refused = is_refused_on(alloc, input, &mut tables);
+    drop(tables);
+    refused
+}
+
+/// Compares the report of an input with the one due, in its order, and runs the second block.
+fn try_changing_nothing<R: Abort + AllocGlobal>(rt: &R, input: &Input) -> Result<(), Fail> {
     let alloc = rt.alloc();
-    let input = input_with(alloc, changing_nothing(alloc)?)?;
+    if !is_well_formed(alloc, input)? {
+        return Err("the input is well formed".into());
+    }
     let due = bytes_of(
         alloc,
         "256 1.1 snap/= 5/512 1.2 no 3 missing/768 1.3 no 1 unindexed/table a/1 100 7/done/",
     )?;
-    let order = printed(alloc, &input, &due)?;
-    try_order(&rt, &input, &order, 0, "by number")?;
-    try_text(&rt, &input, &order, &due)?;
-    assert!(rt; is_refused(alloc, &input)?);
+    let order = printed(alloc, input, &due)?;
+    try_order(rt, input, &order, 0, "by number")?;
+    try_text(rt, input, &order, &due)?;
+    assert!(rt; is_refused(alloc, input)?);
     Ok(())
+}
+
+/// Tries an input without lanes, once it has that lane.
+fn try_with_lane<R: Abort + AllocGlobal>(rt: &R, input: &mut Input) -> Result<(), Fail> {
+    push_lane(rt.alloc(), &mut input.lanes)?;
+    try_changing_nothing(rt, input)
+}
+
+#[test]
+fn snapshots_and_refused_blocks_change_nothing(rt: HostRuntime) -> Result<(), Fail> {
+    let text = "cicada 2/table a 2/index a 2/row a 1 100 7/done/";
+    let mut input = input_from(rt.alloc(), text)?;
+    let tried = try_with_lane(&rt, &mut input);
+    drop(input);
+    tried
 }

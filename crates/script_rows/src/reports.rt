@@ -1,7 +1,9 @@
 //! Reports of worked inputs, each in the order that the report prints.
 
-use crate::texts::{append, append_number, append_times, bytes_of, input_of};
-use replay_model::{Input, NoMemory, Placed, are_named, is_order, is_well_formed, report};
+ghost use Rattle.replay_model.specs.Input.{IsWellFormed};
+
+use crate::texts::{append, append_number, bytes_of, input_of, repeated};
+use replay_model::{Input, Placed, are_named, is_order, is_well_formed, report};
 use report_check::printed;
 use std::alloc::{AllocError, Global};
 use std::process::Abort;
@@ -10,16 +12,22 @@ use std::test::Fail;
 /// The text of an input, and its report in the order of the report's head lines.
 type Case = (&'static str, &'static str);
 
-/// The report of an input in an order; none where the order names what is not there.
-fn report_of(alloc: Global, input: &Input, order: &[Placed]) -> Result<Option<Vec<u8>>, NoMemory> {
-    if !is_well_formed(alloc, input)? {
-        return Ok(None);
-    }
+/// The report of an input in an order, which has to name what is there.
+pub fn report_in(alloc: Global, input: &Input, order: &[Placed]) -> Result<Vec<u8>, Fail>
+    requires { IsWellFormed input.now }
+{
     if !are_named(input, order) {
-        return Ok(None);
+        return Err("the order names what is not there".into());
     }
-    let text = report(alloc, input, order)?;
-    Ok(Some(text))
+    Ok(report(alloc, input, order)?)
+}
+
+/// The same of an input that has to be well formed.
+fn report_of(alloc: Global, input: &Input, order: &[Placed]) -> Result<Vec<u8>, Fail> {
+    if !is_well_formed(alloc, input)? {
+        return Err("the input is well formed".into());
+    }
+    report_in(alloc, input, order)
 }
 
 /// Compares the report of an input in an order with the one due.
@@ -29,20 +37,24 @@ pub fn try_text<R: Abort + AllocGlobal>(
     order: &[Placed],
     due: &[u8],
 ) -> Result<(), Fail> {
-    match report_of(rt.alloc(), input, order)? {
-        Some(text) => assert_eq!(rt; text.as_slice(), due),
-        None => return Err("the order names what is not there".into()),
-    }
+    let text = report_of(rt.alloc(), input, order)?;
+    assert_eq!(rt; text.as_slice(), due);
     Ok(())
 }
 
-/// Compares the report of these bytes, in the order that the one due prints, with it.
+/// Compares the report of an input, in the order that the one due prints, with it.
+fn try_input<R: Abort + AllocGlobal>(rt: &R, input: &Input, due: &[u8]) -> Result<(), Fail> {
+    let order = printed(rt.alloc(), input, due)?;
+    assert!(rt; is_order(rt.alloc(), input, &order)?);
+    try_text(rt, input, &order, due)
+}
+
+/// The same of the input that these bytes spell.
 pub fn try_report<R: Abort + AllocGlobal>(rt: &R, bytes: &[u8], due: &[u8]) -> Result<(), Fail> {
-    let alloc = rt.alloc();
-    let input = input_of(alloc, bytes)?;
-    let order = printed(alloc, &input, due)?;
-    assert!(rt; is_order(alloc, &input, &order)?);
-    try_text(rt, &input, &order, due)
+    let input = input_of(rt.alloc(), bytes)?;
+    let tried = try_input(rt, &input, due);
+    drop(input);
+    tried
 }
 
 fn try_cases<R: Abort + AllocGlobal>(rt: &R, cases: &[Case]) -> Result<(), Fail> {
@@ -172,21 +184,11 @@ fn a_scan_lists_what_it_asks_for(rt: HostRuntime) -> Result<(), Fail> {
 }
 
 /// A block of 64 reads of a row that is not there, and its report.
-fn reads(alloc: Global) -> Result<(Vec<u8>, Vec<u8>), AllocError> {
-    let mut bytes = Vec::new(alloc);
-    append(&mut bytes, "cicada 1/table a/lane/txn/")?;
-    append_times(&mut bytes, "get a 1/", 64)?;
-    append(&mut bytes, "end/done/")?;
-    let mut due = Vec::new(alloc);
-    append(&mut due, "256 1.1 ok/")?;
-    append_times(&mut due, "= none/", 64)?;
-    append(&mut due, "table a/done/")?;
-    Ok((bytes, due))
-}
-
 #[test]
 fn a_block_may_have_64_commands(rt: HostRuntime) -> Result<(), Fail> {
-    let (bytes, due) = reads(rt.alloc())?;
+    let front = "cicada 1/table a/lane/txn/";
+    let bytes = repeated(rt.alloc(), front, "get a 1/", 64, "end/done/")?;
+    let due = repeated(rt.alloc(), "256 1.1 ok/", "= none/", 64, "table a/done/")?;
     try_report(&rt, &bytes, &due)
 }
 

@@ -1,8 +1,13 @@
 //! What an input declares, the calls of tables, and the values of rows and cells.
+//!
+//! Inputs, tables and pairs are dropped by call, as in the tests of reports that are checked.
+
+ghost use Rattle.replay_model.specs.Input.{IsWellFormed};
 
 use crate::texts::input_from;
-use replay_model::{Cells, Columns, Input, Tables, is_well_formed};
+use replay_model::{Cells, Columns, Input, NoMemory, Pairs, Tables, is_well_formed};
 use std::alloc::Global;
+use std::process::Abort;
 use std::test::Fail;
 
 /// The numbers of tables, rows, indexes and lanes.
@@ -28,17 +33,30 @@ fn has_first(input: &Input, row: (u32, u64, Columns), index: (u32, u32)) -> bool
         && *input.indexes.get(0) == index
 }
 
+fn try_declared<R: Abort>(rt: &R, input: &Input) {
+    assert_eq!(rt; counts(input), [2, 1, 1, 0]);
+    assert!(rt; has_second_table(input, b"two", 3));
+    let row = Columns::new([1, 2, 3, 0, 0, 0]);
+    assert!(rt; has_first(input, (1, 4, row), (1, 3)));
+}
+
 #[test]
 fn an_input_keeps_what_it_declares(rt: HostRuntime) -> Result<(), Fail> {
-    let input = input_from(
-        rt.alloc(),
-        "cicada 2/table one 1/table two 3/index two 3/row two 4 1 2 3/done/",
-    )?;
-    assert_eq!(rt; counts(&input), [2, 1, 1, 0]);
-    assert!(rt; has_second_table(&input, b"two", 3));
-    let row = Columns::new([1, 2, 3, 0, 0, 0]);
-    assert!(rt; has_first(&input, (1, 4, row), (1, 3)));
+    let text = "cicada 2/table one 1/table two 3/index two 3/row two 4 1 2 3/done/";
+    let input = input_from(rt.alloc(), text)?;
+    try_declared(&rt, &input);
+    drop(input);
     Ok(())
+}
+
+/// The tables of an input, which has to be well formed.
+fn loaded_from(alloc: Global, input: &Input) -> Result<Tables, Fail>
+    requires { IsWellFormed input.now }
+{
+    if !is_well_formed(alloc, input)? {
+        return Err("the input is well formed".into());
+    }
+    Ok(Tables::loaded(alloc, input)?)
 }
 
 /// Three tables, of which the second has an index on its second column.
@@ -47,30 +65,36 @@ fn loaded(alloc: Global) -> Result<Tables, Fail> {
         alloc,
         "cicada 2/table a 1/table b 2/index b 2/table c 1/row a 5 1/row b 3 1 9/row b 4 2 8/row b 6 3 9/row b 8 4 7/row c 5 1/done/",
     )?;
-    if !is_well_formed(alloc, &input)? {
-        return Err("the input is well formed".into());
-    }
-    Ok(Tables::loaded(alloc, &input)?)
+    let tables = loaded_from(alloc, &input);
+    drop(input);
+    tables
 }
 
 /// Puts a row at key 5 of the second table and takes out that at key 6; whether both went as they should.
-fn change(tables: &mut Tables) -> Result<bool, Fail> {
-    tables.put(1, 5, Columns::new([5, 9, 0, 0, 0, 0]))?;
+fn change(tables: &mut Tables) -> bool {
+    let is_put = tables.put(1, 5, Columns::new([5, 9, 0, 0, 0, 0])).is_ok();
     let was_there = tables.remove(1, 6).is_some();
     let is_there = tables.remove(1, 6).is_some();
-    Ok(was_there && !is_there)
+    is_put && was_there && !is_there
+}
+
+/// The keys of pairs.
+fn keys_of(alloc: Global, pairs: Pairs) -> Result<Vec<u64>, NoMemory> {
+    let keys = pairs.as_slice().iter().map(|(key, _)| *key).collect(alloc);
+    drop(pairs);
+    Ok(keys?)
 }
 
 /// The keys that a scan lists.
-fn scanned(alloc: Global, tables: &Tables) -> Result<Vec<u64>, Fail> {
+fn scanned(alloc: Global, tables: &Tables) -> Result<Vec<u64>, NoMemory> {
     let pairs = tables.scan(alloc, 1, 4, 8, 2)?;
-    Ok(pairs.as_slice().iter().map(|(key, _)| *key).collect(alloc)?)
+    keys_of(alloc, pairs)
 }
 
 /// The keys that a search by the second column finds.
-fn found(alloc: Global, tables: &Tables) -> Result<Vec<u64>, Fail> {
+fn found(alloc: Global, tables: &Tables) -> Result<Vec<u64>, NoMemory> {
     let pairs = tables.find(alloc, 1, 2, 8, 9, 3)?;
-    Ok(pairs.as_slice().iter().map(|(key, _)| *key).collect(alloc)?)
+    keys_of(alloc, pairs)
 }
 
 #[test]
@@ -78,39 +102,44 @@ fn tables_have_their_indexes(rt: HostRuntime) -> Result<(), Fail> {
     let tables = loaded(rt.alloc())?;
     assert_eq!(rt; tables.index_of(1), Some(2));
     assert_eq!(rt; tables.index_of(0), None);
+    drop(tables);
     Ok(())
 }
 
 /// The tables, once changed.
-fn changed(alloc: Global) -> Result<Tables, Fail> {
-    let mut tables = loaded(alloc)?;
-    if !change(&mut tables)? {
-        return Err("a row is not where it should be".into());
-    }
+fn changed<R: Abort + AllocGlobal>(rt: &R) -> Result<Tables, Fail> {
+    let mut tables = loaded(rt.alloc())?;
+    assert!(rt; change(&mut tables), "a row is not where it should be");
     Ok(tables)
 }
 
 /// How many rows the second table has.
-fn count(alloc: Global, tables: &Tables) -> Result<usize, Fail> {
-    Ok(tables.pairs(alloc, 1)?.len())
+fn count(alloc: Global, tables: &Tables) -> Result<usize, NoMemory> {
+    let pairs = tables.pairs(alloc, 1)?;
+    let count = pairs.len();
+    drop(pairs);
+    Ok(count)
 }
 
 #[test]
 fn tables_are_changed(rt: HostRuntime) -> Result<(), Fail> {
-    let tables = changed(rt.alloc())?;
-    assert_eq!(rt; tables.get(1, 5), Some(Columns::new([5, 9, 0, 0, 0, 0])));
-    assert_eq!(rt; count(rt.alloc(), &tables)?, 4);
+    let tables = changed(&rt)?;
+    let row = tables.get(1, 5);
+    let count = count(rt.alloc(), &tables);
+    drop(tables);
+    assert_eq!(rt; row, Some(Columns::new([5, 9, 0, 0, 0, 0])));
+    assert_eq!(rt; count?, 4);
     Ok(())
 }
 
 #[test]
 fn tables_are_scanned_and_searched(rt: HostRuntime) -> Result<(), Fail> {
-    let tables = changed(rt.alloc())?;
-    assert_eq!(rt; scanned(rt.alloc(), &tables)?.as_slice(), [4, 5].as_slice());
-    assert_eq!(rt;
-        found(rt.alloc(), &tables)?.as_slice(),
-        [4, 3, 5].as_slice()
-    );
+    let tables = changed(&rt)?;
+    let scanned = scanned(rt.alloc(), &tables);
+    let found = found(rt.alloc(), &tables);
+    drop(tables);
+    assert_eq!(rt; scanned?.as_slice(), [4, 5].as_slice());
+    assert_eq!(rt; found?.as_slice(), [4, 3, 5].as_slice());
     Ok(())
 }
 

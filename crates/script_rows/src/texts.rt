@@ -37,6 +37,21 @@ pub fn bytes_of(alloc: Global, text: &str) -> Result<Vec<u8>, AllocError> {
     Ok(bytes)
 }
 
+/// A piece that comes many times, and what stands around it.
+pub fn repeated(
+    alloc: Global,
+    front: &str,
+    piece: &str,
+    times: usize,
+    behind: &str,
+) -> Result<Vec<u8>, AllocError> {
+    let mut bytes = Vec::new(alloc);
+    append(&mut bytes, front)?;
+    append_times(&mut bytes, piece, times)?;
+    append(&mut bytes, behind)?;
+    Ok(bytes)
+}
+
 /// The input that the bytes spell.
 pub fn input_of(alloc: Global, bytes: &[u8]) -> Result<Input, Fail>
     ensures { IfOk result IsWellFormed }

@@ -1,0 +1,124 @@
+//! Transactions of a ledger.
+ghost use Rattle.std.specs.Prelude.{◌≡◌, All};
+ghost use Rattle.ledger_example.specs.Seats.{IsSeat};
+
+use crate::accounts::{Transfer, add_up, make_transfer, open_all};
+use crate::{ACCOUNTS, FIRST};
+use histories::AnyState;
+use std::thread::{Threads, for_each_mut};
+use txn_engine::{Alone, Engine, Pass};
+
+// How many transfers a thread makes, and how often it tries each at most.
+const TRANSFERS: u32 = 200;
+
+const MOST_TRIES: u32 = 1_000;
+
+/// Opens all accounts in one transaction of the seat that is alone; whether it committed.
+pub fn fill(engine: &Engine<AnyState>, alone: &mut Alone<AnyState>) -> bool
+    requires { IsSeat engine.now alone.old.pass }
+    ensures seat { IsSeat engine.now alone.new.pass }
+    ensures shared { alone.new.shared ≡ alone.old.shared }
+{
+    let Ok(mut txn) = alone.begin(engine, 0) else {
+        return false;
+    };
+    if open_all(&mut txn, ACCOUNTS, FIRST) {
+        txn.commit().is_ok()
+    } else {
+        txn.abort();
+        false
+    }
+}
+
+// Makes a transfer in one transaction; whether it committed.
+fn try_once(
+    engine: &Engine<AnyState>,
+    pass: &mut Pass<AnyState>,
+    moved: Transfer,
+    reading: u64,
+) -> bool
+    requires { IsSeat engine.now pass.old }
+    ensures { IsSeat engine.now pass.new }
+{
+    let Ok(mut txn) = pass.begin(engine, reading) else {
+        return false;
+    };
+    if make_transfer(&mut txn, moved) {
+        txn.commit().is_ok()
+    } else {
+        txn.abort();
+        false
+    }
+}
+
+// Tries a transfer again until it commits: after a conflict, and where no place is left, nothing has changed.
+fn try_until(
+    engine: &Engine<AnyState>,
+    pass: &mut Pass<AnyState>,
+    moved: Transfer,
+    reading: u64,
+) -> bool
+    requires { IsSeat engine.now pass.old }
+    ensures { IsSeat engine.now pass.new }
+{
+    for _ in 0..MOST_TRIES {
+        if try_once(engine, pass, moved, reading) {
+            return true;
+        }
+        pass.collect(engine);
+    }
+    false
+}
+
+// The transfers of one thread. Each takes back the versions that no reader can reach any more.
+fn work(engine: &Engine<AnyState>, pass: &mut Pass<AnyState>)
+    requires { IsSeat engine.now pass.old }
+    ensures { IsSeat engine.now pass.new }
+{
+    let first = pass.seat();
+    for turn in 0..TRANSFERS {
+        let moved = Transfer {
+            from: first.wrapping_add(turn) % ACCOUNTS,
+            to: first.wrapping_mul(3).wrapping_add(turn / 2) % ACCOUNTS,
+            amount: 1 + u64::from(turn % 7),
+        };
+        try_until(engine, pass, moved, u64::from(turn));
+        pass.collect(engine);
+    }
+}
+
+/// Each pass makes its transfers in a thread of its own.
+pub fn run_all<R: Threads + Sync>(
+    rt: &R,
+    engine: &Engine<AnyState>,
+    passes: &mut Vec<Pass<AnyState>>,
+)
+    requires { All (IsSeat engine.now) passes.old.items }
+    ensures { All (IsSeat engine.now) passes.new.items }
+{
+    for_each_mut(
+        rt,
+        passes.as_mut_slice(),
+        4,
+        &|_i: usize, pass: &mut Pass<AnyState>|
+            requires { IsSeat engine.now pass.old }
+            ensures { IsSeat engine.entry.now pass.new }
+        {
+            work(engine, pass);
+        },
+    );
+}
+
+/// What all accounts have, by a snapshot of the last pass. Whatever its stamp, it is the same: each state that it may see has all of a
+/// transfer or nothing.
+pub fn sum(engine: &Engine<AnyState>, passes: &mut Vec<Pass<AnyState>>) -> Option<u64>
+    requires { All (IsSeat engine.now) passes.old.items }
+{
+    let Some(mut pass) = passes.pop() else {
+        return None;
+    };
+    let mut snapshot = pass.snapshot(engine);
+    let sum = add_up(&mut snapshot, ACCOUNTS);
+    snapshot.finish();
+    sum
+}

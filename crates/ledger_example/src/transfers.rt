@@ -120,5 +120,6 @@ pub fn sum(engine: &Engine<AnyState>, passes: &mut Vec<Pass<AnyState>>) -> Optio
     let mut snapshot = pass.snapshot(engine);
     let sum = add_up(&mut snapshot, ACCOUNTS);
     snapshot.finish();
+    drop(pass);
     sum
 }

@@ -1,23 +1,19 @@
 //! A ledger over the engine, as a caller embeds it: transfers by threads, which begin again after a conflict, older versions taken back
 //! beside them, and a snapshot that adds up all accounts. No transfer changes the sum, which is printed.
-//!
-//! Who ends with an engine or a pass hands it to `drop`: where a name goes out of scope, each field of its value is let go in the proof of
-//! the function itself, which is dear.
 #![tactic(auto)]
 
-ghost use Rattle.std.specs.Prelude.{◌≡◌, false};
-ghost use Rattle.ledger_example.specs.Seats.{IsSeat};
+ghost use Rattle.std.specs.Prelude.{◌≡◌, false, IfOk};
+ghost use Rattle.txn_engine.specs.Pass.{IsIdleOf};
 
 mod accounts;
-mod share_out;
 mod transfers;
 
 use histories::AnyState;
-use share_out::{begin, shared};
+use std::alloc::Global;
 use std::io::{self, Print};
 use std::thread::Threads;
 use transfers::{fill, run_all, sum};
-use txn_engine::{Alone, Engine};
+use txn_engine::{Alone, Engine, StartFault};
 
 /// How many accounts there are: records 0 to 7.
 pub const ACCOUNTS: u32 = 8;
@@ -27,13 +23,17 @@ pub const FIRST: u64 = 100;
 
 fn main(rt: HostRuntime) -> io::Result<()> {
     match begin(rt.alloc()) {
-        Ok((engine, alone)) => {
-            let told = run(&rt, &engine, alone);
-            drop(engine);
-            told
-        }
+        Ok((engine, alone)) => run(&rt, &engine, alone),
         Err(fault) => println!(&rt; "no engine: {fault}"),
     }
+}
+
+// An engine of four seats, with a record for each account and places for 64 more versions, and its seat that is alone.
+fn begin(alloc: Global) -> Result<(Engine<AnyState>, Alone<AnyState>), StartFault>
+    ensures seat { IfOk result (λ made. IsIdleOf made.0 made.1.pass) }
+    ensures not_shared { IfOk result (λ made. made.1.shared ≡ false) }
+{
+    Engine::start(alloc, 4, ACCOUNTS, ACCOUNTS, 64)
 }
 
 // Opens the accounts, makes all transfers, and prints the sum.
@@ -42,18 +42,15 @@ fn run<R: Threads + Sync + Print>(
     engine: &Engine<AnyState>,
     mut alone: Alone<AnyState>,
 ) -> io::Result<()>
-    requires seat { IsSeat engine.now alone.pass }
+    requires seat { IsIdleOf engine.now alone.pass }
     requires not_shared { alone.shared ≡ false }
 {
     if !fill(engine, &mut alone) {
-        drop(alone);
         return println!(rt; "the accounts were not opened");
     }
-    let mut passes = shared(alone, engine);
+    let mut passes = alone.share(engine);
     run_all(rt, engine, &mut passes);
-    let sum = sum(engine, &mut passes);
-    drop(passes);
-    match sum {
+    match sum(engine, &mut passes) {
         Some(sum) => println!(rt; "the accounts have {sum}"),
         None => println!(rt; "an account was not read"),
     }

@@ -1,6 +1,6 @@
 //! Transactions of a ledger.
 ghost use Rattle.std.specs.Prelude.{◌≡◌, All};
-ghost use Rattle.ledger_example.specs.Seats.{IsSeat};
+ghost use Rattle.txn_engine.specs.Pass.{IsIdleOf};
 
 use crate::accounts::{Transfer, add_up, make_transfer, open_all};
 use crate::{ACCOUNTS, FIRST};
@@ -15,8 +15,8 @@ const MOST_TRIES: u32 = 1_000;
 
 /// Opens all accounts in one transaction of the seat that is alone; whether it committed.
 pub fn fill(engine: &Engine<AnyState>, alone: &mut Alone<AnyState>) -> bool
-    requires { IsSeat engine.now alone.old.pass }
-    ensures seat { IsSeat engine.now alone.new.pass }
+    requires { IsIdleOf engine.now alone.old.pass }
+    ensures seat { IsIdleOf engine.now alone.new.pass }
     ensures shared { alone.new.shared ≡ alone.old.shared }
 {
     let Ok(mut txn) = alone.begin(engine, 0) else {
@@ -37,8 +37,8 @@ fn try_once(
     moved: Transfer,
     reading: u64,
 ) -> bool
-    requires { IsSeat engine.now pass.old }
-    ensures { IsSeat engine.now pass.new }
+    requires { IsIdleOf engine.now pass.old }
+    ensures { IsIdleOf engine.now pass.new }
 {
     let Ok(mut txn) = pass.begin(engine, reading) else {
         return false;
@@ -58,8 +58,8 @@ fn try_until(
     moved: Transfer,
     reading: u64,
 ) -> bool
-    requires { IsSeat engine.now pass.old }
-    ensures { IsSeat engine.now pass.new }
+    requires { IsIdleOf engine.now pass.old }
+    ensures { IsIdleOf engine.now pass.new }
 {
     for _ in 0..MOST_TRIES {
         if try_once(engine, pass, moved, reading) {
@@ -72,8 +72,8 @@ fn try_until(
 
 // The transfers of one thread. Each takes back the versions that no reader can reach any more.
 fn work(engine: &Engine<AnyState>, pass: &mut Pass<AnyState>)
-    requires { IsSeat engine.now pass.old }
-    ensures { IsSeat engine.now pass.new }
+    requires { IsIdleOf engine.now pass.old }
+    ensures { IsIdleOf engine.now pass.new }
 {
     let first = pass.seat();
     for turn in 0..TRANSFERS {
@@ -93,16 +93,16 @@ pub fn run_all<R: Threads + Sync>(
     engine: &Engine<AnyState>,
     passes: &mut Vec<Pass<AnyState>>,
 )
-    requires { All (IsSeat engine.now) passes.old.items }
-    ensures { All (IsSeat engine.now) passes.new.items }
+    requires { All (IsIdleOf engine.now) passes.old.items }
+    ensures { All (IsIdleOf engine.now) passes.new.items }
 {
     for_each_mut(
         rt,
         passes.as_mut_slice(),
         4,
         &|_i: usize, pass: &mut Pass<AnyState>|
-            requires { IsSeat engine.now pass.old }
-            ensures { IsSeat engine.entry.now pass.new }
+            requires { IsIdleOf engine.now pass.old }
+            ensures { IsIdleOf engine.entry.now pass.new }
         {
             work(engine, pass);
         },
@@ -112,14 +112,11 @@ pub fn run_all<R: Threads + Sync>(
 /// What all accounts have, by a snapshot of the last pass. Whatever its stamp, it is the same: each state that it may see has all of a
 /// transfer or nothing.
 pub fn sum(engine: &Engine<AnyState>, passes: &mut Vec<Pass<AnyState>>) -> Option<u64>
-    requires { All (IsSeat engine.now) passes.old.items }
+    requires { All (IsIdleOf engine.now) passes.old.items }
 {
-    let Some(mut pass) = passes.pop() else {
-        return None;
-    };
+    let mut pass = passes.pop()?;
     let mut snapshot = pass.snapshot(engine);
     let sum = add_up(&mut snapshot, ACCOUNTS);
     snapshot.finish();
-    drop(pass);
     sum
 }

@@ -1,32 +1,12 @@
--- The passes that a share gives, and the seats that come together.
-use Rattle.std.proofs.Common.{◌≡◌, ℕ, ◌+◌, ◌-◌, List, [], ◌∷◌, ◌++◌, length, map, All, IsPermutation, sym, ap, subst, ◌∙◌, arith, length-append}
+-- The seats that come together.
+use Rattle.std.proofs.Common.{◌≡◌, ℕ, ◌+◌, ◌-◌, List, [], ◌∷◌, ◌++◌, length, map, IsPermutation, sym, ap, subst, ◌∙◌, arith, length-append}
 use Rattle.std.specs.List.{range_with_len}
 use Rattle.std.proofs.lemmas.List.{map-append, map-id}
 use Rattle.std.proofs.lemmas.List.FromFn.{map-range_with_len_more}
 use Rattle.std.proofs.lemmas.List.Sorted.{IsPermutation-refl}
-use Rattle.std.proofs.lemmas.List.Elements.{All-nil, All-cons}
-use Rattle.txn_engine.specs.Pass.{EngineView, PassView, IsIdle, unglanced}
-use Rattle.txn_engine.specs.Sharing.{share_at, first_share, announced, shares}
+use Rattle.txn_engine.specs.Pass.{EngineView}
 use Rattle.txn_engine.specs.Joining.{AreOfEngine}
 use Rattle.txn_engine.specs.Retired.{RetiredView}
-use Rattle.pass_rows.specs.Seats.{IsSeat}
-
-others_are : (p : PassView) (xs : List PassView) (seats : List ℕ) → map unglanced xs ≡ map (share_at p) seats → All (IsSeat p.engine) xs
-others_are p [] seats is = All-nil (IsSeat p.engine)
-others_are p (x ∷ xs) [] is = cc
-others_are p (x ∷ xs) (seat ∷ seats) is =
-    let head : unglanced x ≡ share_at p seat = cc in
-    let tail : map unglanced xs ≡ map (share_at p) seats = cc in
-    All-cons (IsSeat p.engine) x xs (ap (λ (q : PassView). q.engine) head, ap (λ (q : PassView). q.desk) head) (others_are p xs seats tail)
-
--- each pass that a share gives is of the engine, with nothing in flight
-pub shares_are : (p : PassView) (xs : List PassView) → IsIdle p → map unglanced xs ≡ shares p → All (IsSeat p.engine) xs
-shares_are p [] idle is = All-nil (IsSeat p.engine)
-shares_are p (x ∷ xs) idle is =
-    let head : unglanced x ≡ first_share (announced p) = cc in
-    let seats = range_with_len 1 (p.engine.size.seats - 1) in
-    let tail : map unglanced xs ≡ map (share_at (announced p)) seats = cc in
-    All-cons (IsSeat p.engine) x xs (ap (λ (q : PassView). q.engine) head, ap (λ (q : PassView). q.desk) head ∙ idle) (others_are (announced p) xs seats tail)
 
 pub of_engine-snoc : (engine : EngineView) (rs : List RetiredView) (r : RetiredView) → AreOfEngine engine rs → r.engine ≡ engine → AreOfEngine engine (rs ++ r ∷ [])
 of_engine-snoc engine [] r all is = (is, tt)

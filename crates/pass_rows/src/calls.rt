@@ -2,7 +2,7 @@
 //!
 //! What is refused memory is called again, once: all is as before then.
 ghost use Rattle.std.specs.Prelude.{◌≡◌, All};
-ghost use Rattle.pass_rows.specs.Seats.{IsSeat};
+ghost use Rattle.txn_engine.specs.Pass.{IsIdleOf};
 
 use crate::due::{hold, same};
 use crate::opening::{end, open, stop};
@@ -189,8 +189,8 @@ fn not_begun(fault: BeginFault) -> Told {
 
 // A transaction that ends without an entry.
 fn abort(engine: &Engine<AnyState>, pass: &mut Pass<AnyState>, reading: u64) -> Told
-    requires { IsSeat engine.now pass.old }
-    ensures { IsSeat engine.now pass.new }
+    requires { IsIdleOf engine.now pass.old }
+    ensures { IsIdleOf engine.now pass.new }
 {
     match open(pass, engine, reading) {
         Err(fault) => not_begun(fault),
@@ -211,8 +211,8 @@ pub fn commit(
     act: Act,
     again: bool,
 ) -> Told
-    requires { IsSeat engine.now pass.old }
-    ensures { IsSeat engine.now pass.new }
+    requires { IsIdleOf engine.now pass.old }
+    ensures { IsIdleOf engine.now pass.new }
 {
     match open(pass, engine, reading) {
         Err(fault) => not_begun(fault),
@@ -229,8 +229,8 @@ pub fn commit(
 
 // A snapshot that reads a record.
 fn glance(engine: &Engine<AnyState>, pass: &mut Pass<AnyState>, rid: u32) -> Told
-    requires { IsSeat engine.now pass.old }
-    ensures { IsSeat engine.now pass.new }
+    requires { IsIdleOf engine.now pass.old }
+    ensures { IsIdleOf engine.now pass.new }
 {
     let mut snapshot = pass.snapshot(engine);
     let value = if rid < snapshot.size() {
@@ -259,8 +259,8 @@ fn of_refusal(fault: PromoteFault) -> Told {
 
 // A promotion of a record.
 fn promote(engine: &Engine<AnyState>, pass: &mut Pass<AnyState>, rid: u32) -> Told
-    requires { IsSeat engine.now pass.old }
-    ensures { IsSeat engine.now pass.new }
+    requires { IsIdleOf engine.now pass.old }
+    ensures { IsIdleOf engine.now pass.new }
 {
     if rid >= engine.records() {
         return Told::Nothing;
@@ -273,8 +273,8 @@ fn promote(engine: &Engine<AnyState>, pass: &mut Pass<AnyState>, rid: u32) -> To
 
 // Hears the stamp of a clock and seat 0.
 fn hear(engine: &Engine<AnyState>, pass: &mut Pass<AnyState>, clock: u64) -> Told
-    requires { IsSeat engine.now pass.old }
-    ensures { IsSeat engine.now pass.new }
+    requires { IsIdleOf engine.now pass.old }
+    ensures { IsIdleOf engine.now pass.new }
 {
     if !is_clock(clock) {
         return Told::ClockOut;
@@ -285,8 +285,8 @@ fn hear(engine: &Engine<AnyState>, pass: &mut Pass<AnyState>, clock: u64) -> Tol
 
 // Adopts the clock of a seat.
 fn sync(engine: &Engine<AnyState>, pass: &mut Pass<AnyState>, seat: u32) -> Told
-    requires { IsSeat engine.now pass.old }
-    ensures { IsSeat engine.now pass.new }
+    requires { IsIdleOf engine.now pass.old }
+    ensures { IsIdleOf engine.now pass.new }
 {
     if seat >= engine.seats() {
         return Told::ClockOut;
@@ -297,8 +297,8 @@ fn sync(engine: &Engine<AnyState>, pass: &mut Pass<AnyState>, seat: u32) -> Told
 
 // Makes a call once.
 fn make_once(engine: &Engine<AnyState>, pass: &mut Pass<AnyState>, call: Call) -> Told
-    requires { IsSeat engine.now pass.old }
-    ensures { IsSeat engine.now pass.new }
+    requires { IsIdleOf engine.now pass.old }
+    ensures { IsIdleOf engine.now pass.new }
 {
     match call {
         Call::Tick(reading) => drawn(pass.tick(engine, reading)),
@@ -315,8 +315,8 @@ fn make_once(engine: &Engine<AnyState>, pass: &mut Pass<AnyState>, call: Call) -
 
 // Makes a call, and again where it is refused memory.
 fn make(engine: &Engine<AnyState>, pass: &mut Pass<AnyState>, call: Call) -> Told
-    requires { IsSeat engine.now pass.old }
-    ensures { IsSeat engine.now pass.new }
+    requires { IsIdleOf engine.now pass.old }
+    ensures { IsIdleOf engine.now pass.new }
 {
     match make_once(engine, pass, call) {
         Told::NoMemory => make_once(engine, pass, call),
@@ -332,8 +332,8 @@ fn step<R: Abort>(
     step: &Step,
     number: usize,
 )
-    requires { All (IsSeat engine.now) passes.old.items }
-    ensures { All (IsSeat engine.now) passes.new.items }
+    requires { All (IsIdleOf engine.now) passes.old.items }
+    ensures { All (IsIdleOf engine.now) passes.new.items }
 {
     let (place, call, due) = *step;
     match passes.get_mut(place) {
@@ -349,8 +349,8 @@ pub fn make_all<R: Abort>(
     passes: &mut Vec<Pass<AnyState>>,
     steps: &[Step],
 )
-    requires { All (IsSeat engine.now) passes.old.items }
-    ensures { All (IsSeat engine.now) passes.new.items }
+    requires { All (IsIdleOf engine.now) passes.old.items }
+    ensures { All (IsIdleOf engine.now) passes.new.items }
 {
     for i in 0..steps.len() {
         step(rt, engine, passes, &steps[i], i);

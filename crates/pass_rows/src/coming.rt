@@ -1,10 +1,7 @@
 //! Passes that a share gives, and seats that retire and come together.
-//!
-//! Who ends with a pass, or with the seat that is alone, hands it to `drop`: where a name goes out of scope, each field of its value is
-//! let go in the proof of the function itself, which is dear.
 ghost use Rattle.std.specs.Prelude.{◌≡◌, ◌<◌, false, All, IfOk, IfSome, vec_len};
 ghost use Rattle.txn_engine.specs.Joining.{AreOfEngine, AreOthers};
-ghost use Rattle.pass_rows.specs.Seats.{IsSeat};
+ghost use Rattle.txn_engine.specs.Pass.{IsIdleOf};
 
 use crate::due::{hold, same};
 use histories::AnyState;
@@ -21,7 +18,7 @@ pub fn begin(
     seats: u32,
     size: Size,
 ) -> Result<(Engine<AnyState>, Alone<AnyState>), StartFault>
-    ensures seat { IfOk result (λ made. IsSeat made.0 made.1.pass) }
+    ensures seat { IfOk result (λ made. IsIdleOf made.0 made.1.pass) }
     ensures not_shared { IfOk result (λ made. made.1.shared ≡ false) }
 {
     let (records, fixed, spare) = size;
@@ -30,19 +27,19 @@ pub fn begin(
 
 /// The passes of all seats.
 pub fn shared(alone: Alone<AnyState>, engine: &Engine<AnyState>) -> Vec<Pass<AnyState>>
-    requires seat { IsSeat engine.now alone.pass }
+    requires seat { IsIdleOf engine.now alone.pass }
     requires not_shared { alone.shared ≡ false }
-    ensures { All (IsSeat engine.now) result.items }
+    ensures { All (IsIdleOf engine.now) result.items }
 {
     alone.share(engine)
 }
 
 // The pass that stands first on a list, if there is one.
 fn take_first(passes: &mut Vec<Pass<AnyState>>, engine: &Engine<AnyState>) -> Option<Pass<AnyState>>
-    requires { All (IsSeat engine.now) passes.old.items }
-    ensures first { IfSome result (IsSeat engine.now) }
+    requires { All (IsIdleOf engine.now) passes.old.items }
+    ensures first { IfSome result (IsIdleOf engine.now) }
     ensures fewer { IfSome result (λ _. vec_len passes.new < vec_len passes.old) }
-    ensures others { All (IsSeat engine.now) passes.new.items }
+    ensures others { All (IsIdleOf engine.now) passes.new.items }
 {
     if passes.is_empty() {
         return None;
@@ -56,9 +53,9 @@ pub fn take_one<R: Abort>(
     passes: &mut Vec<Pass<AnyState>>,
     engine: &Engine<AnyState>,
 ) -> Pass<AnyState>
-    requires { All (IsSeat engine.now) passes.old.items }
-    ensures first { IsSeat engine.now result }
-    ensures others { All (IsSeat engine.now) passes.new.items }
+    requires { All (IsIdleOf engine.now) passes.old.items }
+    ensures first { IsIdleOf engine.now result }
+    ensures others { All (IsIdleOf engine.now) passes.new.items }
 {
     hold(rt, !passes.is_empty(), 0);
     passes.remove(0)
@@ -70,9 +67,9 @@ pub fn take_two<R: Abort>(
     passes: &mut Vec<Pass<AnyState>>,
     engine: &Engine<AnyState>,
 ) -> (Pass<AnyState>, Pass<AnyState>)
-    requires { All (IsSeat engine.now) passes.old.items }
-    ensures first { IsSeat engine.now result.0 }
-    ensures second { IsSeat engine.now result.1 }
+    requires { All (IsIdleOf engine.now) passes.old.items }
+    ensures first { IsIdleOf engine.now result.0 }
+    ensures second { IsIdleOf engine.now result.1 }
 {
     let first = take_one(rt, passes, engine);
     (first, take_one(rt, passes, engine))
@@ -86,18 +83,13 @@ pub fn meet<R: Abort>(
     first: Pass<AnyState>,
     others: Vec<Pass<AnyState>>,
 ) -> Result<Alone<AnyState>, AllocError>
-    requires first { IsSeat engine.now first }
-    requires others { All (IsSeat engine.now) others.items }
-    ensures { IfOk result (λ alone. IsSeat engine.now alone.pass) }
+    requires first { IsIdleOf engine.now first }
+    requires others { All (IsIdleOf engine.now) others.items }
+    ensures { IfOk result (λ alone. IsIdleOf engine.now alone.pass) }
 {
     hold(rt, first.seat() == 0, 0);
-    match retire_all(rt, alloc, engine, others) {
-        Ok(retired) => Ok(engine.alone(first, retired)),
-        Err(fault) => {
-            drop(first);
-            Err(fault)
-        }
-    }
+    let retired = retire_all(rt, alloc, engine, others)?;
+    Ok(engine.alone(first, retired))
 }
 
 // Retires a seat, which has to have this number.
@@ -107,7 +99,7 @@ fn retire_as<R: Abort>(
     pass: Pass<AnyState>,
     seat: usize,
 ) -> Retired<AnyState>
-    requires { IsSeat engine.now pass }
+    requires { IsIdleOf engine.now pass }
     ensures engine { result.engine ≡ engine.now }
     ensures seat { result.seat ≡ seat }
 {
@@ -132,7 +124,7 @@ fn retire_all<R: Abort>(
     engine: &Engine<AnyState>,
     passes: Vec<Pass<AnyState>>,
 ) -> Result<Vec<Retired<AnyState>>, AllocError>
-    requires { All (IsSeat engine.now) passes.items }
+    requires { All (IsIdleOf engine.now) passes.items }
     ensures of_engine { IfOk result (λ retired. AreOfEngine engine.now retired.items) }
     ensures others { IfOk result (λ retired. AreOthers engine.now.size retired.items) }
 {

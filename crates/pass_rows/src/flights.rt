@@ -1,6 +1,6 @@
 //! A transaction of the first pass in flight, while another pass makes calls.
 ghost use Rattle.std.specs.Prelude.{◌≡◌, false, All};
-ghost use Rattle.pass_rows.specs.Seats.{IsSeat};
+ghost use Rattle.txn_engine.specs.Pass.{IsIdleOf};
 
 use crate::calls::{Act, Done, Step, Told, act_on, ended, make_all};
 use crate::coming::{meet, shared, take_one, take_two};
@@ -33,10 +33,10 @@ fn fly_open<R: Abort>(
     others: &mut Vec<Pass<AnyState>>,
     flight: &Flight<'_>,
 ) -> bool
-    requires first { IsSeat engine.now first.old }
-    requires others { All (IsSeat engine.now) others.old.items }
-    ensures first { IsSeat engine.now first.new }
-    ensures others { All (IsSeat engine.now) others.new.items }
+    requires first { IsIdleOf engine.now first.old }
+    requires others { All (IsIdleOf engine.now) others.old.items }
+    ensures first { IsIdleOf engine.now first.new }
+    ensures others { All (IsIdleOf engine.now) others.new.items }
 {
     let Ok(mut txn) = open(first, engine, 10) else {
         return false;
@@ -56,10 +56,10 @@ fn fly_linked<R: Abort>(
     others: &mut Vec<Pass<AnyState>>,
     flight: &Flight<'_>,
 ) -> bool
-    requires first { IsSeat engine.now first.old }
-    requires others { All (IsSeat engine.now) others.old.items }
-    ensures first { IsSeat engine.now first.new }
-    ensures others { All (IsSeat engine.now) others.new.items }
+    requires first { IsIdleOf engine.now first.old }
+    requires others { All (IsIdleOf engine.now) others.old.items }
+    ensures first { IsIdleOf engine.now first.new }
+    ensures others { All (IsIdleOf engine.now) others.new.items }
 {
     let Ok(mut txn) = open(first, engine, 10) else {
         return false;
@@ -87,10 +87,10 @@ fn fly<R: Abort>(
     others: &mut Vec<Pass<AnyState>>,
     flight: &Flight<'_>,
 )
-    requires first { IsSeat engine.now first.old }
-    requires others { All (IsSeat engine.now) others.old.items }
-    ensures first { IsSeat engine.now first.new }
-    ensures others { All (IsSeat engine.now) others.new.items }
+    requires first { IsIdleOf engine.now first.old }
+    requires others { All (IsIdleOf engine.now) others.old.items }
+    ensures first { IsIdleOf engine.now first.new }
+    ensures others { All (IsIdleOf engine.now) others.new.items }
 {
     let flown = if flight.is_linked {
         fly_linked(rt, engine, first, others, flight)
@@ -110,10 +110,10 @@ fn cross<R: Abort>(
     second: &mut Pass<AnyState>,
     due: (Told, Told),
 )
-    requires first { IsSeat engine.now first.old }
-    requires second { IsSeat engine.now second.old }
-    ensures first { IsSeat engine.now first.new }
-    ensures second { IsSeat engine.now second.new }
+    requires first { IsIdleOf engine.now first.old }
+    requires second { IsIdleOf engine.now second.old }
+    ensures first { IsIdleOf engine.now first.new }
+    ensures second { IsIdleOf engine.now second.new }
 {
     let Ok(mut early) = open(first, engine, 10) else {
         hold(rt, false, 0);
@@ -148,15 +148,15 @@ fn cross<R: Abort>(
 
 // Settles what is left, where a seat is alone again.
 fn settled(engine: &Engine<AnyState>, alone: &mut Alone<AnyState>) -> Result<Settled, ClockOut>
-    requires { IsSeat engine.now alone.old.pass }
-    ensures { IsSeat engine.now alone.new.pass }
+    requires { IsIdleOf engine.now alone.old.pass }
+    ensures { IsIdleOf engine.now alone.new.pass }
 {
     alone.settle(engine)
 }
 
 // The first pass, alone again, settles what is left.
 fn settle<R: Abort>(rt: &R, engine: &Engine<AnyState>, alone: &mut Alone<AnyState>, due: Settled)
-    requires { IsSeat engine.now alone.old.pass }
+    requires { IsIdleOf engine.now alone.old.pass }
 {
     same(rt, alone.last().number(), 5_120, 5);
     same(rt, settled(engine, alone), Ok(due), 6);
@@ -171,10 +171,10 @@ pub fn fly_on<R: Abort>(
     alone: Alone<AnyState>,
     flight: &Flight<'_>,
 ) -> (Pass<AnyState>, Vec<Pass<AnyState>>)
-    requires seat { IsSeat engine.now alone.pass }
+    requires seat { IsIdleOf engine.now alone.pass }
     requires not_shared { alone.shared ≡ false }
-    ensures first { IsSeat engine.now result.0 }
-    ensures others { All (IsSeat engine.now) result.1.items }
+    ensures first { IsIdleOf engine.now result.0 }
+    ensures others { All (IsIdleOf engine.now) result.1.items }
 {
     let mut passes = shared(alone, engine);
     let mut first = take_one(rt, &mut passes, engine);
@@ -191,13 +191,12 @@ pub fn fly_and_settle<R: Abort>(
     flight: &Flight<'_>,
     due: Settled,
 ) -> Result<(), AllocError>
-    requires seat { IsSeat engine.now alone.pass }
+    requires seat { IsIdleOf engine.now alone.pass }
     requires not_shared { alone.shared ≡ false }
 {
     let (first, others) = fly_on(rt, engine, alone, flight);
     let mut alone = meet(rt, alloc, engine, first, others)?;
     settle(rt, engine, &mut alone, due);
-    drop(alone);
     Ok(())
 }
 
@@ -208,12 +207,10 @@ pub fn cross_on<R: Abort>(
     alone: Alone<AnyState>,
     due: (Told, Told),
 )
-    requires seat { IsSeat engine.now alone.pass }
+    requires seat { IsIdleOf engine.now alone.pass }
     requires not_shared { alone.shared ≡ false }
 {
     let mut passes = shared(alone, engine);
     let (mut first, mut second) = take_two(rt, &mut passes, engine);
     cross(rt, engine, &mut first, &mut second, due);
-    drop(first);
-    drop(second);
 }

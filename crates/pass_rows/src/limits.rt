@@ -1,6 +1,6 @@
 //! Engines of the greatest sizes, and transactions that touch every record.
 ghost use Rattle.std.specs.Prelude.{◌≡◌, false, All, IfOk};
-ghost use Rattle.pass_rows.specs.Seats.{IsSeat};
+ghost use Rattle.txn_engine.specs.Pass.{IsIdleOf};
 
 use crate::coming::{meet, shared, take_one};
 use crate::due::{hold, same};
@@ -96,8 +96,8 @@ fn take_all<F: Drop, S: RecordStore<Fault = F>>(store: &mut S, first: u32, last:
 
 // Writes every record in one transaction of the seat that is alone.
 fn fill<R: process::Abort>(rt: &R, engine: &Engine<AnyState>, alone: &mut Alone<AnyState>)
-    requires { IsSeat engine.now alone.old.pass }
-    ensures seat { IsSeat engine.now alone.new.pass }
+    requires { IsIdleOf engine.now alone.old.pass }
+    ensures seat { IsIdleOf engine.now alone.new.pass }
     ensures shared { alone.new.shared ≡ alone.old.shared }
 {
     let Ok(mut txn) = open_alone(alone, engine, 0) else {
@@ -122,8 +122,8 @@ fn refill<R: process::Abort>(
     last: u32,
     from: u32,
 )
-    requires { IsSeat engine.now pass.old }
-    ensures { IsSeat engine.now pass.new }
+    requires { IsIdleOf engine.now pass.old }
+    ensures { IsIdleOf engine.now pass.new }
 {
     let Ok(mut txn) = open(pass, engine, 0) else {
         hold(rt, false, 2);
@@ -140,8 +140,8 @@ fn refill<R: process::Abort>(
 
 // Reads every record by a snapshot.
 fn glance<R: process::Abort>(rt: &R, engine: &Engine<AnyState>, pass: &mut Pass<AnyState>)
-    requires { IsSeat engine.now pass.old }
-    ensures { IsSeat engine.now pass.new }
+    requires { IsIdleOf engine.now pass.old }
+    ensures { IsIdleOf engine.now pass.new }
 {
     let mut snapshot = pass.snapshot(engine);
     same(
@@ -159,16 +159,16 @@ fn change_own<R: Threads + process::Abort + Sync>(
     engine: &Engine<AnyState>,
     passes: &mut Vec<Pass<AnyState>>,
 )
-    requires { All (IsSeat engine.now) passes.old.items }
-    ensures { All (IsSeat engine.now) passes.new.items }
+    requires { All (IsIdleOf engine.now) passes.old.items }
+    ensures { All (IsIdleOf engine.now) passes.new.items }
 {
     for_each_mut(
         rt,
         passes.as_mut_slice(),
         64,
         &|_i: usize, pass: &mut Pass<AnyState>|
-            requires { IsSeat engine.now pass.old }
-            ensures { IsSeat engine.entry.now pass.new }
+            requires { IsIdleOf engine.now pass.old }
+            ensures { IsIdleOf engine.entry.now pass.new }
         {
             let rid = pass.seat().wrapping_add(130_000);
             refill(rt, engine, pass, rid, rid.wrapping_add(1), 2);
@@ -190,8 +190,8 @@ fn is_left<F: Drop, S: RecordRead<Fault = F>>(store: &mut S) -> bool
 
 // Reads what all have left, once they have come together.
 fn look_back<R: process::Abort>(rt: &R, engine: &Engine<AnyState>, alone: &mut Alone<AnyState>)
-    requires { IsSeat engine.now alone.old.pass }
-    ensures { IsSeat engine.now alone.new.pass }
+    requires { IsIdleOf engine.now alone.old.pass }
+    ensures { IsIdleOf engine.now alone.new.pass }
 {
     let Ok(mut txn) = open_alone(alone, engine, 0) else {
         hold(rt, false, 9);
@@ -209,9 +209,9 @@ fn fill_and_share<R: process::Abort>(
     engine: &Engine<AnyState>,
     mut alone: Alone<AnyState>,
 ) -> Vec<Pass<AnyState>>
-    requires seat { IsSeat engine.now alone.pass }
+    requires seat { IsIdleOf engine.now alone.pass }
     requires not_shared { alone.shared ≡ false }
-    ensures { All (IsSeat engine.now) result.items }
+    ensures { All (IsIdleOf engine.now) result.items }
 {
     fill(rt, engine, &mut alone);
     same(rt, alone.collect(engine).places, MOST_RECORDS, 5);
@@ -225,8 +225,8 @@ fn change_and_meet<R: Threads + process::Abort + Sync>(
     engine: &Engine<AnyState>,
     mut passes: Vec<Pass<AnyState>>,
 ) -> Result<Alone<AnyState>, AllocError>
-    requires { All (IsSeat engine.now) passes.items }
-    ensures { IfOk result (λ alone. IsSeat engine.now alone.pass) }
+    requires { All (IsIdleOf engine.now) passes.items }
+    ensures { IfOk result (λ alone. IsIdleOf engine.now alone.pass) }
 {
     let mut first = take_one(rt, &mut passes, engine);
     glance(rt, engine, &mut first);
@@ -242,13 +242,12 @@ pub fn touch_all<R: Threads + process::Abort + Sync>(
     engine: &Engine<AnyState>,
     alone: Alone<AnyState>,
 ) -> Result<(), AllocError>
-    requires seat { IsSeat engine.now alone.pass }
+    requires seat { IsIdleOf engine.now alone.pass }
     requires not_shared { alone.shared ≡ false }
 {
     let passes = fill_and_share(rt, engine, alone);
     let mut alone = change_and_meet(rt, alloc, engine, passes)?;
     look_back(rt, engine, &mut alone);
-    drop(alone);
     Ok(())
 }
 
@@ -265,8 +264,8 @@ fn count_up<R: process::Abort>(
     pass: &mut Pass<AnyState>,
     commits: u32,
 )
-    requires { IsSeat engine.now pass.old }
-    ensures { IsSeat engine.now pass.new }
+    requires { IsIdleOf engine.now pass.old }
+    ensures { IsIdleOf engine.now pass.new }
 {
     for count in 0..commits {
         refill(rt, engine, pass, 0, 1, count);
@@ -283,14 +282,13 @@ pub fn commit_often<R: process::Abort>(
     alone: Alone<AnyState>,
     commits: u32,
 )
-    requires seat { IsSeat engine.now alone.pass }
+    requires seat { IsIdleOf engine.now alone.pass }
     requires not_shared { alone.shared ≡ false }
 {
     let mut passes = shared(alone, engine);
     let mut pass = take_one(rt, &mut passes, engine);
     count_up(rt, engine, &mut pass, commits);
     same(rt, pass.last().number(), u64::from(commits) * 256, 0);
-    drop(pass);
 }
 
 #[test]
@@ -308,8 +306,8 @@ fn take_new<R: process::Abort>(
     alone: &mut Alone<AnyState>,
     commits: bool,
 )
-    requires { IsSeat engine.now alone.old.pass }
-    ensures { IsSeat engine.now alone.new.pass }
+    requires { IsIdleOf engine.now alone.old.pass }
+    ensures { IsIdleOf engine.now alone.new.pass }
 {
     let Ok(mut txn) = open_alone(alone, engine, 0) else {
         hold(rt, false, 0);
@@ -332,8 +330,8 @@ fn take_new<R: process::Abort>(
 
 // Deletes them in one transaction, in which none is given out.
 fn delete_new<R: process::Abort>(rt: &R, engine: &Engine<AnyState>, alone: &mut Alone<AnyState>)
-    requires { IsSeat engine.now alone.old.pass }
-    ensures { IsSeat engine.now alone.new.pass }
+    requires { IsIdleOf engine.now alone.old.pass }
+    ensures { IsIdleOf engine.now alone.new.pass }
 {
     let Ok(mut txn) = open_alone(alone, engine, 0) else {
         hold(rt, false, 3);
@@ -356,14 +354,13 @@ pub fn give_out_all<R: process::Abort>(
     engine: &Engine<AnyState>,
     mut alone: Alone<AnyState>,
 )
-    requires { IsSeat engine.now alone.pass }
+    requires { IsIdleOf engine.now alone.pass }
 {
     take_new(rt, engine, &mut alone, false);
     take_new(rt, engine, &mut alone, true);
     delete_new(rt, engine, &mut alone);
     take_new(rt, engine, &mut alone, false);
     same(rt, alone.last().number(), 4 * 256, 7);
-    drop(alone);
 }
 
 #[test]

@@ -5,7 +5,8 @@ ghost use Rattle.std.specs.Borrow.{sem, RestsIfErr};
 ghost use Rattle.histories.specs.contracts.AnyState.{the_row as any_state};
 ghost use Rattle.txn_engine.specs.contracts.alone.Alone.{the_row as alone_row};
 ghost use Rattle.txn_engine.specs.contracts.pass.Pass.{the_row};
-ghost use Rattle.pass_rows.specs.Seats.{IsSeat, IsOpen};
+ghost use Rattle.txn_engine.specs.Pass.{IsIdleOf};
+ghost use Rattle.pass_rows.specs.Seats.{IsOpen};
 
 use histories::AnyState;
 use txn_engine::{
@@ -19,8 +20,8 @@ pub fn open<'a>(
     engine: &'a Engine<AnyState>,
     reading: u64,
 ) -> Result<Txn<'a, AnyState>, BeginFault>
-    requires { IsSeat engine.now pass.old }
-    ensures* rests { sem 𝓛 (RestsIfErr (the_row any_state) pass.entry (λ t. t.pass.ghost_name) result (λ p. IsSeat engine.now p)) }
+    requires { IsIdleOf engine.now pass.old }
+    ensures* rests { sem 𝓛 (RestsIfErr (the_row any_state) pass.entry (λ t. t.pass.ghost_name) result (λ p. IsIdleOf engine.now p)) }
     ensures same_reference { IfOk result (λ t. t.pass.ghost_name ≡ pass.entry.ghost_name) }
     ensures open { IfOk result (λ t. IsOpen t.pass.now) }
     ensures of_engine { IfOk result (λ t. t.pass.now.engine ≡ engine.now) }
@@ -31,7 +32,7 @@ pub fn open<'a>(
 /// Ends a transaction without an entry.
 pub fn stop<E: Lent<AnyState>>(txn: TxnOver<'_, AnyState, E>)
     requires { IsOpen txn.pass.now }
-    ensures { IsSeat txn.entry.pass.now.engine txn.exit.0.now }
+    ensures { IsIdleOf txn.entry.pass.now.engine txn.exit.0.now }
 {
     txn.abort();
 }
@@ -39,7 +40,7 @@ pub fn stop<E: Lent<AnyState>>(txn: TxnOver<'_, AnyState, E>)
 /// Commits a transaction.
 pub fn end<E: Lent<AnyState>>(txn: TxnOver<'_, AnyState, E>) -> Result<Committed, CommitFault>
     requires { IsOpen txn.pass.now }
-    ensures { IsSeat txn.entry.pass.now.engine txn.exit.0.now }
+    ensures { IsIdleOf txn.entry.pass.now.engine txn.exit.0.now }
 {
     txn.commit()
 }
@@ -50,8 +51,8 @@ pub fn open_alone<'a>(
     engine: &'a Engine<AnyState>,
     reading: u64,
 ) -> Result<AloneTxn<'a, AnyState>, BeginFault>
-    requires { IsSeat engine.now alone.old.pass }
-    ensures* rests { sem 𝓛 (RestsIfErr (alone_row any_state) alone.entry (λ t. t.alone.ghost_name) result (λ a. IsSeat engine.now a.pass × (a.shared ≡ alone.old.shared))) }
+    requires { IsIdleOf engine.now alone.old.pass }
+    ensures* rests { sem 𝓛 (RestsIfErr (alone_row any_state) alone.entry (λ t. t.alone.ghost_name) result (λ a. IsIdleOf engine.now a.pass × (a.shared ≡ alone.old.shared))) }
     ensures same_reference { IfOk result (λ t. t.alone.ghost_name ≡ alone.entry.ghost_name) }
     ensures open { IfOk result (λ t. IsOpen t.alone.now.pass) }
     ensures of_engine { IfOk result (λ t. t.alone.now.pass.engine ≡ engine.now) }
@@ -63,7 +64,7 @@ pub fn open_alone<'a>(
 /// Ends a transaction of the seat that is alone without an entry.
 pub fn stop_alone<E: Lent<AnyState>>(txn: AloneOver<'_, AnyState, E>)
     requires { IsOpen txn.alone.now.pass }
-    ensures seat { IsSeat txn.entry.alone.now.pass.engine txn.exit.0.now.pass }
+    ensures seat { IsIdleOf txn.entry.alone.now.pass.engine txn.exit.0.now.pass }
     ensures shared { txn.exit.0.now.shared ≡ txn.entry.alone.now.shared }
 {
     txn.abort();
@@ -72,7 +73,7 @@ pub fn stop_alone<E: Lent<AnyState>>(txn: AloneOver<'_, AnyState, E>)
 /// Commits a transaction of the seat that is alone; how many versions took a place of the pool, if it committed.
 pub fn end_alone<E: Lent<AnyState>>(txn: AloneOver<'_, AnyState, E>) -> Option<u32>
     requires { IsOpen txn.alone.now.pass }
-    ensures seat { IsSeat txn.entry.alone.now.pass.engine txn.exit.0.now.pass }
+    ensures seat { IsIdleOf txn.entry.alone.now.pass.engine txn.exit.0.now.pass }
     ensures shared { txn.exit.0.now.shared ≡ txn.entry.alone.now.shared }
 {
     match txn.commit() {

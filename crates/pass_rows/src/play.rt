@@ -1,6 +1,6 @@
 //! What is played on an engine: one function owns the engine of every test, since each such function is dear to prove.
 ghost use Rattle.std.specs.Prelude.{◌≡◌, false};
-ghost use Rattle.pass_rows.specs.Seats.{IsSeat};
+ghost use Rattle.txn_engine.specs.Pass.{IsIdleOf};
 
 use crate::calls::{Step, Told, make_all};
 use crate::coming::{Size, begin, shared};
@@ -61,7 +61,7 @@ fn play_on<R: Threads + Wait + Abort + Sync>(
     alone: Alone<AnyState>,
     piece: Piece<'_>,
 ) -> Result<(), AllocError>
-    requires seat { IsSeat engine.now alone.pass }
+    requires seat { IsIdleOf engine.now alone.pass }
     requires not_shared { alone.shared ≡ false }
 {
     match piece {
@@ -74,9 +74,7 @@ fn play_on<R: Threads + Wait + Abort + Sync>(
         }
         Piece::Calls(steps) => make_all(rt, engine, &mut shared(alone, engine), steps),
         Piece::Flies(flight) => {
-            let (first, others) = fly_on(rt, engine, alone, flight);
-            drop(first);
-            drop(others);
+            fly_on(rt, engine, alone, flight);
         }
         Piece::Settles(flight, due) => {
             return fly_and_settle(rt, alloc, engine, alone, flight, due);

@@ -1,6 +1,6 @@
 //! Calls that may be refused memory: a transaction in which one is refused is aborted, and the pass goes on.
 ghost use Rattle.std.specs.Prelude.{◌≡◌, false};
-ghost use Rattle.pass_rows.specs.Seats.{IsSeat};
+ghost use Rattle.txn_engine.specs.Pass.{IsIdleOf};
 
 use crate::calls::{Act, Done, Told, act_on, commit, is_refused};
 use crate::coming::{shared, take_one, take_two};
@@ -14,8 +14,8 @@ use txn_engine::{Alone, Conflict, Engine, Pass, TxnFault};
 
 // A new transaction reads record 0, which is absent, and commits.
 fn go_on<R: Abort>(rt: &R, engine: &Engine<AnyState>, pass: &mut Pass<AnyState>)
-    requires { IsSeat engine.now pass.old }
-    ensures { IsSeat engine.now pass.new }
+    requires { IsIdleOf engine.now pass.old }
+    ensures { IsIdleOf engine.now pass.new }
 {
     let told = commit(engine, pass, 0, Act::Read(0), false);
     let has_read = matches!(told, Told::Committed(_, Done::Read(None), 0, 0));
@@ -31,8 +31,8 @@ fn make<R: Abort>(
     act: Act,
     due: Told,
 ) -> bool
-    requires { IsSeat engine.now pass.old }
-    ensures { IsSeat engine.now pass.new }
+    requires { IsIdleOf engine.now pass.old }
+    ensures { IsIdleOf engine.now pass.new }
 {
     let told = commit(engine, pass, reading, act, false);
     if told == Told::NoMemory {
@@ -51,10 +51,10 @@ fn meet_pending<R: Abort>(
     first: &mut Pass<AnyState>,
     second: &mut Pass<AnyState>,
 ) -> Option<bool>
-    requires first { IsSeat engine.now first.old }
-    requires second { IsSeat engine.now second.old }
-    ensures first { IsSeat engine.now first.new }
-    ensures second { IsSeat engine.now second.new }
+    requires first { IsIdleOf engine.now first.old }
+    requires second { IsIdleOf engine.now second.old }
+    ensures first { IsIdleOf engine.now first.new }
+    ensures second { IsIdleOf engine.now second.new }
 {
     let Ok(mut txn) = open(first, engine, 10) else {
         return None;
@@ -79,7 +79,7 @@ fn meet_pending<R: Abort>(
 
 /// Two passes, of which the second one meets a pending version of the first, and reads it once it is published.
 pub fn meet_pending_on<R: Abort>(rt: &R, engine: &Engine<AnyState>, alone: Alone<AnyState>)
-    requires seat { IsSeat engine.now alone.pass }
+    requires seat { IsIdleOf engine.now alone.pass }
     requires not_shared { alone.shared ≡ false }
 {
     let mut passes = shared(alone, engine);
@@ -92,13 +92,11 @@ pub fn meet_pending_on<R: Abort>(rt: &R, engine: &Engine<AnyState>, alone: Alone
             make(rt, engine, &mut second, 30, Act::Read(5), read);
         }
     }
-    drop(first);
-    drop(second);
 }
 
 /// A pass asks for new numbers in two transactions.
 pub fn ask_twice_on<R: Abort>(rt: &R, engine: &Engine<AnyState>, alone: Alone<AnyState>)
-    requires seat { IsSeat engine.now alone.pass }
+    requires seat { IsIdleOf engine.now alone.pass }
     requires not_shared { alone.shared ≡ false }
 {
     let mut passes = shared(alone, engine);
@@ -109,7 +107,6 @@ pub fn ask_twice_on<R: Abort>(rt: &R, engine: &Engine<AnyState>, alone: Alone<An
     if make(rt, engine, &mut pass, 0, Act::Fresh, first) {
         make(rt, engine, &mut pass, 0, Act::Fresh, second);
     }
-    drop(pass);
 }
 
 #[test]

@@ -1,6 +1,6 @@
 //! Four passes in four threads on few records.
 ghost use Rattle.std.specs.Prelude.{◌≡◌, false, All};
-ghost use Rattle.pass_rows.specs.Seats.{IsSeat};
+ghost use Rattle.txn_engine.specs.Pass.{IsIdleOf};
 
 use crate::checker::{GLANCE, READ, Touch, lawful};
 use crate::coming::{meet, shared, take_one};
@@ -30,8 +30,8 @@ fn transact(
     round: u64,
     touches: &mut Vec<Touch>,
 ) -> bool
-    requires { IsSeat engine.now pass.old }
-    ensures { IsSeat engine.now pass.new }
+    requires { IsIdleOf engine.now pass.old }
+    ensures { IsIdleOf engine.now pass.new }
 {
     // Each value that is written has a number of its own.
     let number = round
@@ -53,8 +53,8 @@ fn transact(
 
 // A snapshot of all records.
 fn glance(engine: &Engine<AnyState>, pass: &mut Pass<AnyState>, touches: &mut Vec<Touch>)
-    requires { IsSeat engine.now pass.old }
-    ensures { IsSeat engine.now pass.new }
+    requires { IsIdleOf engine.now pass.old }
+    ensures { IsIdleOf engine.now pass.new }
 {
     let mut snapshot = pass.snapshot(engine);
     let stamp = snapshot.stamp();
@@ -70,8 +70,8 @@ fn aside(
     round: u64,
     touches: &mut Vec<Touch>,
 )
-    requires { IsSeat engine.now pass.old }
-    ensures { IsSeat engine.now pass.new }
+    requires { IsIdleOf engine.now pass.old }
+    ensures { IsIdleOf engine.now pass.new }
 {
     let rid = draws.below(RECORDS);
     let other = draws.below(4);
@@ -99,8 +99,8 @@ fn go_round(
     round: u64,
     touches: &mut Vec<Touch>,
 )
-    requires { IsSeat engine.now pass.old }
-    ensures { IsSeat engine.now pass.new }
+    requires { IsIdleOf engine.now pass.old }
+    ensures { IsIdleOf engine.now pass.new }
 {
     aside(engine, pass, draws, round, touches);
     let before = touches.len();
@@ -112,8 +112,8 @@ fn go_round(
 
 // All rounds of a thread, and what its commits and snapshots touched.
 fn work(alloc: Global, engine: &Engine<AnyState>, pass: &mut Pass<AnyState>) -> Vec<Touch>
-    requires { IsSeat engine.now pass.old }
-    ensures { IsSeat engine.now pass.new }
+    requires { IsIdleOf engine.now pass.old }
+    ensures { IsIdleOf engine.now pass.new }
 {
     let state = u64::from(pass.seat());
     let mut draws = Draws { state };
@@ -136,8 +136,8 @@ fn run_all<R: Threads + Wait + Sync>(
     engine: &Engine<AnyState>,
     passes: &mut Vec<Pass<AnyState>>,
 ) -> Vec<Touch>
-    requires { All (IsSeat engine.now) passes.old.items }
-    ensures { All (IsSeat engine.now) passes.new.items }
+    requires { All (IsIdleOf engine.now) passes.old.items }
+    ensures { All (IsIdleOf engine.now) passes.new.items }
 {
     let all = Mutex::new(Vec::new(alloc));
     let shared = &all;
@@ -146,8 +146,8 @@ fn run_all<R: Threads + Wait + Sync>(
         passes.as_mut_slice(),
         4,
         &|_i: usize, pass: &mut Pass<AnyState>|
-            requires { IsSeat engine.now pass.old }
-            ensures { IsSeat engine.entry.now pass.new }
+            requires { IsIdleOf engine.now pass.old }
+            ensures { IsIdleOf engine.entry.now pass.new }
         {
             let touches = work(alloc, engine, pass);
             put(rt, shared, touches);
@@ -158,8 +158,8 @@ fn run_all<R: Threads + Wait + Sync>(
 
 // Reads what the seat that is alone sees, and notes it.
 fn note_left(engine: &Engine<AnyState>, alone: &mut Alone<AnyState>, touches: &mut Vec<Touch>)
-    requires { IsSeat engine.now alone.old.pass }
-    ensures { IsSeat engine.now alone.new.pass }
+    requires { IsIdleOf engine.now alone.old.pass }
+    ensures { IsIdleOf engine.now alone.new.pass }
 {
     let Ok(mut txn) = open_alone(alone, engine, 0) else {
         return;
@@ -176,14 +176,13 @@ fn run_and_meet<R: Threads + Wait + Abort + Sync>(
     engine: &Engine<AnyState>,
     mut passes: Vec<Pass<AnyState>>,
 ) -> Result<Vec<Touch>, AllocError>
-    requires { All (IsSeat engine.now) passes.items }
+    requires { All (IsIdleOf engine.now) passes.items }
 {
     let mut touches = run_all(rt, alloc, engine, &mut passes);
     let first = take_one(rt, &mut passes, engine);
     let mut alone = meet(rt, alloc, engine, first, passes)?;
     alone.tell(engine);
     note_left(engine, &mut alone, &mut touches);
-    drop(alone);
     Ok(touches)
 }
 
@@ -194,7 +193,7 @@ pub fn run_and_check<R: Threads + Wait + Abort + Sync>(
     engine: &Engine<AnyState>,
     alone: Alone<AnyState>,
 ) -> Result<(), AllocError>
-    requires seat { IsSeat engine.now alone.pass }
+    requires seat { IsIdleOf engine.now alone.pass }
     requires not_shared { alone.shared ≡ false }
 {
     let passes = shared(alone, engine);

@@ -1,6 +1,6 @@
 //! Two passes in two threads, whose transactions are in flight at the same time.
 ghost use Rattle.std.specs.Prelude.{◌≡◌, false, All};
-ghost use Rattle.pass_rows.specs.Seats.{IsSeat};
+ghost use Rattle.txn_engine.specs.Pass.{IsIdleOf};
 
 use crate::coming::{shared, take_one};
 use crate::due::{hold, same};
@@ -67,8 +67,8 @@ fn transact(
     read: u32,
     place: &Meeting,
 ) -> (bool, bool)
-    requires { IsSeat engine.now pass.old }
-    ensures { IsSeat engine.now pass.new }
+    requires { IsIdleOf engine.now pass.old }
+    ensures { IsIdleOf engine.now pass.new }
 {
     let Ok(mut txn) = open(pass, engine, reading(is_first)) else {
         return (false, false);
@@ -86,8 +86,8 @@ fn run(
     place: &Meeting,
     tally: &Tally,
 )
-    requires { IsSeat engine.now pass.old }
-    ensures { IsSeat engine.now pass.new }
+    requires { IsIdleOf engine.now pass.old }
+    ensures { IsIdleOf engine.now pass.new }
 {
     let is_first = pass.seat() == 0;
     let (read, own) = if is_first { (reads.0, 1) } else { (reads.1, 2) };
@@ -106,8 +106,8 @@ fn run_both<R: Threads + Sync>(
     passes: &mut Vec<Pass<AnyState>>,
     reads: (u32, u32),
 ) -> Tally
-    requires { All (IsSeat engine.now) passes.old.items }
-    ensures { All (IsSeat engine.now) passes.new.items }
+    requires { All (IsIdleOf engine.now) passes.old.items }
+    ensures { All (IsIdleOf engine.now) passes.new.items }
 {
     let meeting = Meeting::new();
     let place = &meeting;
@@ -122,8 +122,8 @@ fn run_both<R: Threads + Sync>(
         passes.as_mut_slice(),
         2,
         &|_i: usize, pass: &mut Pass<AnyState>|
-            requires { IsSeat engine.now pass.old }
-            ensures { IsSeat engine.entry.now pass.new }
+            requires { IsIdleOf engine.now pass.old }
+            ensures { IsIdleOf engine.entry.now pass.new }
         { run(engine, pass, reads, place, all) },
     );
     tally
@@ -136,7 +136,7 @@ fn left(committed: bool) -> Option<Cells> {
 
 // Whether what both have left reads as that, in a later transaction.
 fn reads_back(engine: &Engine<AnyState>, pass: &mut Pass<AnyState>, committed: (bool, bool)) -> bool
-    requires { IsSeat engine.now pass.old }
+    requires { IsIdleOf engine.now pass.old }
 {
     let Ok(mut txn) = open(pass, engine, 30) else {
         return false;
@@ -155,7 +155,7 @@ fn look_back<R: process::Abort>(
     tally: &Tally,
     due: bool,
 )
-    requires { IsSeat engine.now pass.old }
+    requires { IsIdleOf engine.now pass.old }
 {
     let committed = tally.committed.load(Ordering::SeqCst);
     let (first, second) = (committed % 2 == 1, committed >= 2);
@@ -174,14 +174,13 @@ pub fn both_commit<R: Threads + process::Abort + Sync>(
     reads: (u32, u32),
     due: bool,
 )
-    requires seat { IsSeat engine.now alone.pass }
+    requires seat { IsIdleOf engine.now alone.pass }
     requires not_shared { alone.shared ≡ false }
 {
     let mut passes = shared(alone, engine);
     let tally = run_both(rt, engine, &mut passes, reads);
     let mut first = take_one(rt, &mut passes, engine);
     look_back(rt, engine, &mut first, &tally, due);
-    drop(first);
 }
 
 #[test]

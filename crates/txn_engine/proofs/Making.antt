@@ -1,17 +1,18 @@
 -- The seats that are made, and their passes.
 use Rattle.txn_engine.specs.Alone.{counting}
-use Rattle.std.proofs.Common.{◌≡◌, ℕ, ◌+◌, ◌-◌, ◌≤◌, Bool, true, false, cond, ltb, ltb-false, lt-ltb, List, [], ◌∷◌, ◌++◌, refl, sym, ap, subst, ◌∙◌, arith, length, map, inl, inr}
+use Rattle.std.proofs.Common.{◌≡◌, ℕ, ◌+◌, ◌-◌, ◌≤◌, Bool, true, false, cond, ltb, ltb-false, lt-ltb, List, [], ◌∷◌, ◌++◌, refl, sym, ap, subst, ◌∙◌, arith, length, map, inl, inr, All}
 use Rattle.std.specs.List.{range_with_len}
 use mathlib.Core.List.{map-append}
 use Rattle.std.proofs.lemmas.List.{length-map}
+use Rattle.std.proofs.lemmas.List.Elements.{All-nil, All-cons}
 use Rattle.std.proofs.lemmas.List.FromFn.{map-range_with_len_more, length-map-range_with_len}
 use Rattle.core_rule.specs.View.{single, sharing}
 use Rattle.core_rule.specs.Views.{Among}
 use Rattle.core_rule.specs.Offers.{MayOffer, made_of}
-use Rattle.txn_engine.specs.Pass.{PassView, with_glance, unglanced}
+use Rattle.txn_engine.specs.Pass.{PassView, IsIdle, IsIdleOf, with_glance, unglanced}
 use Rattle.seat_post.specs.Seats.{Others}
 use Rattle.seat_post.specs.Sharing.{no_knowledge}
-use Rattle.txn_engine.specs.Sharing.{others_made, with_made, share_at, shares_of}
+use Rattle.txn_engine.specs.Sharing.{others_made, with_made, share_at, first_share, announced, shares, shares_of}
 
 -- ---- making seats
 
@@ -90,3 +91,20 @@ count_shares p passes seat are = sym (length-map passes unglanced) ∙ ap length
 -- where no other seat counted, the count is its own
 pub counting_none : (p : PassView) (n : ℕ) → n ≡ 0 → counting p n ≡ p
 counting_none p n none = let same : p.refusals + n ≡ p.refusals = omega arith in ap (λ r. record p { refusals = r }) same
+
+others_are_idle : (p : PassView) (xs : List PassView) (seats : List ℕ) → map unglanced xs ≡ map (share_at p) seats → All (IsIdleOf p.engine) xs
+others_are_idle p [] seats is = All-nil (IsIdleOf p.engine)
+others_are_idle p (x ∷ xs) [] is = cc
+others_are_idle p (x ∷ xs) (seat ∷ seats) is =
+    let head : unglanced x ≡ share_at p seat = cc in
+    let tail : map unglanced xs ≡ map (share_at p) seats = cc in
+    All-cons (IsIdleOf p.engine) x xs (ap (λ (q : PassView). q.engine) head, ap (λ (q : PassView). q.desk) head) (others_are_idle p xs seats tail)
+
+-- each is of the engine, with nothing in flight
+pub shares_are_idle : (p : PassView) (xs : List PassView) → IsIdle p → map unglanced xs ≡ shares p → All (IsIdleOf p.engine) xs
+shares_are_idle p [] idle is = All-nil (IsIdleOf p.engine)
+shares_are_idle p (x ∷ xs) idle is =
+    let head : unglanced x ≡ first_share (announced p) = cc in
+    let seats = range_with_len 1 (p.engine.size.seats - 1) in
+    let tail : map unglanced xs ≡ map (share_at (announced p)) seats = cc in
+    All-cons (IsIdleOf p.engine) x xs (ap (λ (q : PassView). q.engine) head, ap (λ (q : PassView). q.desk) head ∙ idle) (others_are_idle (announced p) xs seats tail)

@@ -50,6 +50,10 @@ pub record PassView : Type 0 where
 abbrev pub IsIdle : PassView → Type 0
 IsIdle p = p.desk ≡ no_desk
 
+-- a pass of this engine, with nothing in flight
+abbrev pub IsIdleOf : EngineView → PassView → Type 0
+IsIdleOf engine p = (p.engine ≡ engine) × IsIdle p
+
 -- no other seat of its engine is open
 abbrev pub IsAlone : PassView → Type 0
 IsAlone p = IsAloneAt p.engine.size p.seat p.others

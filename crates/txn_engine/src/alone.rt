@@ -1,20 +1,21 @@
 //! The seat that is alone.
-ghost use Rattle.std.specs.Prelude.{◌≡◌, ◌+◌, ◌≤◌, ◌↔◌, IsErr, IfOk, IfErr, OnOk, OnErr, false};
+ghost use Rattle.std.specs.Prelude.{◌≡◌, ◌+◌, ◌<◌, ◌≤◌, ◌↔◌, All, IsErr, IfOk, IfErr, OnOk, OnErr, length, map, false};
+ghost use Rattle.core_rule.specs.Views.{Among};
 ghost use Rattle.record_store.specs.Limits.{record_limit};
 ghost use Rattle.stamp_base.specs.Limits.{greatest_clock};
-ghost use Rattle.stamp_base.specs.Stamp.{stamp_of};
+ghost use Rattle.stamp_base.specs.Stamp.{stamp_of, bound_of_clock};
 
 use crate::engine::Engine;
 use crate::faults::BeginFault;
 use crate::parts::Parts;
 use crate::pass::Pass;
+use crate::sharing::share_out;
 use clock_stamps::ClockOut;
 use core_rule::Keeps;
 use stamp_base::Stamp;
 use std::marker::Model;
 
 /// Seat 0 of an engine while no other seat is open. Its calls meet no conflict.
-#[derive(Drop)]
 pub struct Alone<J> {
     pub(crate) pass: Pass<J>,
     /// How many refusals were counted at the other seats before they retired.
@@ -33,9 +34,21 @@ impl<J> Model for Alone<J> {
     ghost invariant = { λ a. IsAloneSeat a.pass a.earlier a.parts };
 }
 
+// Written out, as that of a pass is.
+impl<J> Drop for Alone<J> {
+    fn drop(self) {
+        let Alone {
+            pass: _,
+            earlier: _,
+            parts: _,
+        } = self;
+    }
+}
+
 impl<J: Keeps> Alone<J> {
     ghost use Rattle.txn_engine.specs.Alone.{AloneView, with_pass, HasParts};
-    ghost use Rattle.txn_engine.specs.Pass.{PassView, IsIdle, IsAlone, first_pass, next_clock, ticked, heard, begun, meaning_of_pass};
+    ghost use Rattle.txn_engine.specs.Pass.{PassView, IsIdle, IsIdleOf, IsAlone, first_pass, next_clock, ticked, heard, begun, meaning_of_pass, unglanced};
+    ghost use Rattle.txn_engine.specs.Sharing.{shares};
     ghost use Rattle.seat_post.specs.Logs.{IsAbove};
 
     /// Seat 0 of a new engine.
@@ -123,5 +136,31 @@ impl<J: Keeps> Alone<J> {
         ensures fixed { (meaning_of_pass self.now.pass).fixed ≤ result }
     {
         self.pass.size()
+    }
+
+    /// One pass for each seat, by rising seat number. No entry to come is stamped under what is published first, and `min_wts` is
+    /// raised to it: a snapshot of any pass sees all that was committed before. Spare record i of the list, counted from 0, goes
+    /// to pass i mod seats. No commit entry of the log is stamped above the clock. The pass of seat 0 keeps the boost, the log, the queue
+    /// and the count of refusals.
+    pub fn share(self, engine: &Engine<J>) -> Vec<Pass<J>>
+        requires engine { self.pass.engine ≡ engine.now }
+        requires idle { IsIdle self.pass }
+        requires not_shared { self.shared ≡ false }
+        ensures passes { map unglanced result.items ≡ shares self.pass }
+        ensures count { length result.items ≡ engine.now.size.seats }
+        ensures each { All (IsIdleOf engine.now) result.items }
+        ensures above { IsAbove self.pass.log (bound_of_clock self.pass.clock) }
+        ensures met { (pass : PassView) → Among pass result.items → stamp_of self.pass.clock self.pass.seat < pass.met }
+    {
+        let Alone {
+            mut pass,
+            earlier: _,
+            parts,
+        } = self;
+        let Some(parts) = parts else {
+            unreachable!();
+        };
+        pass.announce(engine);
+        share_out(pass, engine, parts)
     }
 }

@@ -8,6 +8,7 @@ ghost use Rattle.seat_post.specs.Post.{shared_of};
 
 use crate::engine::Engine;
 use crate::faults::BeginFault;
+use crate::retired::Retired;
 use clock_stamps::ClockOut;
 use core_rule::{Hand, Keeps};
 use plain_data::NoMemory;
@@ -21,7 +22,6 @@ use validate_core::Conflict;
 /// A seat of an engine with what its thread keeps. Passes move between threads.
 ///
 /// What a transaction in flight has read and written lies here, in room that is used again.
-#[derive(Drop)]
 pub struct Pass<J> {
     pub(crate) post: Post<J>,
     pub(crate) boost: u64,
@@ -45,8 +45,24 @@ impl<J> Model for Pass<J> {
     ghost invariant = { λ p. IsPass p.post p.queue p.numbers p.refusals p.dead p.counted };
 }
 
+// Written out, so that whoever lets a pass go needs one call in the proof and not one for each part of it.
+impl<J> Drop for Pass<J> {
+    fn drop(self) {
+        let Pass {
+            post: _,
+            boost: _,
+            queue: _,
+            numbers: _,
+            refusals: _,
+            dead: _,
+            counted: _,
+        } = self;
+    }
+}
+
 impl<J: Keeps> Pass<J> {
     ghost use Rattle.txn_engine.specs.Pass.{PassView, IsIdle, first_pass, next_clock, ticked, heard, synchronised, begun};
+    ghost use Rattle.txn_engine.specs.Retired.{retired};
     ghost use Rattle.seat_post.specs.Logs.{IsAbove};
 
     /// The pass of seat 0 of a new table.
@@ -152,5 +168,28 @@ impl<J: Keeps> Pass<J> {
         self.numbers.take_back();
         self.counted = false;
         Ok(())
+    }
+
+    /// Ends the pass. Other seats do not wait for it any more.
+    pub fn retire(self, engine: &Engine<J>) -> Retired<J>
+        requires engine { self.engine ≡ engine.now }
+        requires idle { IsIdle self }
+        ensures { result ≡ retired self }
+    {
+        let Pass {
+            post,
+            boost: _,
+            queue: _,
+            mut numbers,
+            refusals,
+            dead: _,
+            counted: _,
+        } = self;
+        numbers.take_back();
+        Retired {
+            hand: post.retire(&engine.core),
+            numbers,
+            refusals,
+        }
     }
 }

@@ -1,12 +1,9 @@
 //! A seat that has retired.
 ghost use Rattle.std.specs.Prelude.{◌≡◌, ◌<◌};
 ghost use Rattle.stamp_base.specs.Stamp.{stamp_of};
-ghost use Rattle.txn_engine.specs.Pass.{IsIdle};
-ghost use Rattle.txn_engine.specs.Retired.{RetiredView, retired};
+ghost use Rattle.txn_engine.specs.Retired.{RetiredView};
 
-use crate::engine::Engine;
-use crate::pass::Pass;
-use core_rule::{Hand, Keeps};
+use core_rule::Hand;
 use seat_post::Numbers;
 use stamp_base::Stamp;
 use std::marker::Model;
@@ -43,30 +40,5 @@ impl<J> Retired<J> {
         ensures { result ≡ stamp_of self.now.clock self.now.seat }
     {
         Stamp::make(self.hand.clock(), self.hand.number())
-    }
-}
-
-impl<J: Keeps> Pass<J> {
-    /// Ends the pass. Other seats do not wait for it any more.
-    pub fn retire(self, engine: &Engine<J>) -> Retired<J>
-        requires engine { self.engine ≡ engine.now }
-        requires idle { IsIdle self }
-        ensures { result ≡ retired self }
-    {
-        let Pass {
-            post,
-            boost: _,
-            queue: _,
-            mut numbers,
-            refusals,
-            dead: _,
-            counted: _,
-        } = self;
-        numbers.take_back();
-        Retired {
-            hand: post.retire(&engine.core),
-            numbers,
-            refusals,
-        }
     }
 }

@@ -1,17 +1,15 @@
 //! Sharing: the seat that is alone makes the other seats of its engine.
-ghost use Rattle.std.specs.Prelude.{◌≡◌, ◌+◌, ◌<◌, [], length, map, false};
+ghost use Rattle.std.specs.Prelude.{◌≡◌, ◌+◌, ◌<◌, [], length, map};
 ghost use Rattle.core_rule.specs.Offers.{MayOffer, made_of};
 ghost use Rattle.core_rule.specs.View.{single, sharing};
-ghost use Rattle.core_rule.specs.Views.{Among};
-ghost use Rattle.stamp_base.specs.Stamp.{stamp_of, bound_of_clock};
+ghost use Rattle.stamp_base.specs.Stamp.{bound_of_clock};
 ghost use Rattle.seat_post.specs.Logs.{IsAbove};
-ghost use Rattle.txn_engine.specs.Alone.{AloneView, HasParts};
+ghost use Rattle.txn_engine.specs.Alone.{HasParts};
 ghost use Rattle.seat_post.specs.Spare.{no_numbers, every};
-ghost use Rattle.txn_engine.specs.Pass.{PassView, IsIdle, IsAlone, with_glance, unglanced};
+ghost use Rattle.txn_engine.specs.Pass.{IsIdle, IsAlone, with_glance, unglanced};
 ghost use Rattle.seat_post.specs.Sharing.{no_knowledge};
-ghost use Rattle.txn_engine.specs.Sharing.{announced, share_at, shares_of, shares};
+ghost use Rattle.txn_engine.specs.Sharing.{announced, share_at, shares_of};
 
-use crate::alone::Alone;
 use crate::engine::Engine;
 use crate::parts::{Part, Parts};
 use crate::pass::Pass;
@@ -20,9 +18,9 @@ use rapid_gc::Queue;
 use std::alloc::Global;
 
 impl<J: Keeps> Pass<J> {
-    // Publishes the bound of its clock, which is above each commit entry of the log, and raises `min_wts` to it. What was given out is
-    // spare again.
-    fn announce(&mut self, engine: &Engine<J>)
+    /// Publishes the bound of its clock, which is above each commit entry of the log, and raises `min_wts` to it. What was given out is
+    /// spare again.
+    pub(crate) fn announce(&mut self, engine: &Engine<J>)
         requires engine { self.old.engine ≡ engine.now }
         requires idle { IsIdle self.old }
         requires alone { IsAlone self.old }
@@ -67,8 +65,12 @@ impl<J: Keeps> Pass<J> {
     }
 }
 
-// Makes the passes of all seats out of that of seat 0, which is the only one.
-fn share_out<J: Keeps>(mut pass: Pass<J>, engine: &Engine<J>, parts: Parts<J>) -> Vec<Pass<J>>
+/// Makes the passes of all seats out of that of seat 0, which is the only one.
+pub(crate) fn share_out<J: Keeps>(
+    mut pass: Pass<J>,
+    engine: &Engine<J>,
+    parts: Parts<J>,
+) -> Vec<Pass<J>>
     requires engine { pass.engine ≡ engine.now }
     requires idle { IsIdle pass }
     requires only { pass.others ≡ record { splitting = single; taken_in = [] } }
@@ -95,31 +97,4 @@ fn share_out<J: Keeps>(mut pass: Pass<J>, engine: &Engine<J>, parts: Parts<J>) -
         unreachable!();
     };
     passes
-}
-
-impl<J: Keeps> Alone<J> {
-    /// One pass for each seat, by rising seat number. No entry to come is stamped under what is published first, and `min_wts` is
-    /// raised to it: a snapshot of any pass sees all that was committed before. Spare record i of the list, counted from 0, goes
-    /// to pass i mod seats. No commit entry of the log is stamped above the clock. The pass of seat 0 keeps the boost, the log, the queue
-    /// and the count of refusals.
-    pub fn share(self, engine: &Engine<J>) -> Vec<Pass<J>>
-        requires engine { self.pass.engine ≡ engine.now }
-        requires idle { IsIdle self.pass }
-        requires not_shared { self.shared ≡ false }
-        ensures passes { map unglanced result.items ≡ shares self.pass }
-        ensures count { length result.items ≡ engine.now.size.seats }
-        ensures above { IsAbove self.pass.log (bound_of_clock self.pass.clock) }
-        ensures met { (pass : PassView) → Among pass result.items → stamp_of self.pass.clock self.pass.seat < pass.met }
-    {
-        let Alone {
-            mut pass,
-            earlier: _,
-            parts,
-        } = self;
-        let Some(parts) = parts else {
-            unreachable!();
-        };
-        pass.announce(engine);
-        share_out(pass, engine, parts)
-    }
 }

@@ -88,9 +88,9 @@ impl<'a, J: Keeps, E: Lent<J>> TxnOver<'a, J, E> {
     /// Commits. At `Ok` its entry stands at the end of the log, and a kept state of the history agrees with its reads.
     ///
     /// The condition: from every kept state that agrees with its reads, its writes leave a kept state. A conflict is one that
-    /// a read met or that validation meets, at a record that was read or is written; `PlacesOut` comes only where something is written. Where the seat is alone and knows of
-    /// one version at most outside the inline place of each record, it comes only where the spare places are no more than the
-    /// records and the writes together.
+    /// a read met or that validation meets, at a record that was read or is written; `PlacesOut` comes only where something is
+    /// written. Where the seat is alone and knows of one version at most outside the inline place of each record, it comes only
+    /// where the spare places are no more than the records and the writes together.
     pub fn commit(self) -> Result<Committed, CommitFault>
         requires open { self.pass.now.desk.phase ≡ Phase.Open }
         requires fits { Fits J.kept self.pass.now.engine.size.records (entry_of self.pass.now.desk) }

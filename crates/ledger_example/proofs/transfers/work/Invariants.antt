@@ -1,5 +1,5 @@
-use Rattle.ledger_example.specs.Seats.{IsSeat}
+use Rattle.txn_engine.specs.Pass.{IsIdleOf}
 use Rattle.ledger_example.proofs.transfers.work.Given as goal
 
 abbrev pub invariant-loop-turn : goal.invariant-loop-turn
-invariant-loop-turn l = IsSeat l.engine l.pass
+invariant-loop-turn l = IsIdleOf l.engine l.pass

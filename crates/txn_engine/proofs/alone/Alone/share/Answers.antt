@@ -1,10 +1,10 @@
-use Rattle.std.proofs.Common.{ap, sym, subst, ◌∙◌, arith}
+use Rattle.std.proofs.Common.{ap, sym, subst, ◌∙◌, arith, All}
 use Rattle.stamp_base.specs.Stamp.{bound_of_clock}
 use Rattle.seat_post.specs.Logs.{IsAbove}
 use Rattle.txn_engine.specs.Alone.{AloneView}
-use Rattle.txn_engine.specs.Pass.{PassView}
+use Rattle.txn_engine.specs.Pass.{EngineView, PassView, IsIdleOf}
 use Rattle.txn_engine.specs.Sharing.{shares, shares_of}
-use Rattle.txn_engine.proofs.Making.{met_shared, counting_none}
+use Rattle.txn_engine.proofs.Making.{met_shared, counting_none, shares_are_idle}
 use Rattle.txn_engine.proofs.alone.Alone.share.Goals as goal
 
 pub returns-clause-above : goal.returns-clause-above
@@ -25,3 +25,6 @@ returns-clause-passes g c =
     let unshared = rw c.in-Some.is at c.self.invariant.unshared in
     let counted = sym (counting_none i.pass i.earlier unshared.none_earlier) ∙ ap (λ (a : AloneView). a.pass) c.self.view_is in
     c.share_out.ensures.passes ∙ ap (λ (p : PassView). shares_of p) c.announce.ensures.announces ∙ ap (λ (p : PassView). shares p) counted
+
+pub returns-clause-each : goal.returns-clause-each
+returns-clause-each g c = subst (λ (e : EngineView). All (IsIdleOf e) c.share_out.result.items) c.requires.engine (shares_are_idle c.args.self.pass c.share_out.result.items c.requires.idle (returns-clause-passes g c))

@@ -168,10 +168,17 @@ const REPORTS: [Case; 26] = [
     ),
 ];
 
-/// Judges each report, and compares the verdict.
+/// Judges a report, and compares the verdict.
+fn try_case<R: Abort + AllocGlobal>(rt: &R, case: &Case) -> Result<(), Fail> {
+    let (text, report, due) = case;
+    assert_eq!(rt; verdict(rt.alloc(), text, report)?, *due, "{text} {report}");
+    Ok(())
+}
+
+/// The same of each report.
 fn try_cases<R: Abort + AllocGlobal>(rt: &R, cases: &[Case]) -> Result<(), Fail> {
-    for (text, report, due) in cases {
-        assert_eq!(rt; verdict(rt.alloc(), text, report)?, *due, "{text} {report}");
+    for case in cases {
+        try_case(rt, case)?;
     }
     Ok(())
 }
@@ -189,32 +196,39 @@ fn order_printed(alloc: Global, text: &str, lines: &str) -> Result<Vec<Placed>, 
     order
 }
 
+/// Compares the order that these lines print with the one due.
+fn try_printed<R: Abort + AllocGlobal>(rt: &R, lines: &str, due: &[Placed]) -> Result<(), Fail> {
+    let order = order_printed(rt.alloc(), FINDS, lines)?;
+    assert_eq!(rt; order.as_slice(), due);
+    Ok(())
+}
+
+/// What the lines of the next test print.
+const PRINTED: [Placed; 3] = [
+    Placed {
+        stamp: 0,
+        snap: true,
+        lane: 1,
+        number: 1,
+    },
+    Placed {
+        stamp: 8,
+        snap: false,
+        lane: 1,
+        number: 2,
+    },
+    Placed {
+        stamp: 9,
+        snap: false,
+        lane: 3,
+        number: 4,
+    },
+];
+
 #[test]
 fn printed_order_is_read(rt: HostRuntime) -> Result<(), Fail> {
-    let due = [
-        Placed {
-            stamp: 0,
-            snap: true,
-            lane: 1,
-            number: 1,
-        },
-        Placed {
-            stamp: 8,
-            snap: false,
-            lane: 1,
-            number: 2,
-        },
-        Placed {
-            stamp: 9,
-            snap: false,
-            lane: 3,
-            number: 4,
-        },
-    ];
     let lines = "0 1.1 no 1 over/7 1.1 ok /8 1.2 ok/9 3.4 no 2 over/5 1.1 snap";
-    let order = order_printed(rt.alloc(), FINDS, lines)?;
-    assert_eq!(rt; order.as_slice(), due.as_slice());
-    Ok(())
+    try_printed(&rt, lines, &PRINTED)
 }
 
 /// Appends a row with a number of 20 digits.
@@ -230,16 +244,21 @@ fn append_lane(text: &mut Vec<u8>) -> Result<(), AllocError> {
     append_times(text, "txn/scan a 0 999 256/end/", 256)
 }
 
+/// Appends the rows, and then the lanes.
+fn append_largest(text: &mut Vec<u8>) -> Result<(), AllocError> {
+    for key in 100..260_u64 {
+        append_row(text, key)?;
+    }
+    for _ in 0..64 {
+        append_lane(text)?;
+    }
+    append(text, "done/")
+}
+
 /// An input at the limits of its lanes, blocks and scans: each of 16,384 blocks in 64 lanes scans 160 rows of a number of 20 digits.
 fn largest(alloc: Global) -> Result<Vec<u8>, AllocError> {
     let mut text = bytes_of(alloc, "cicada 1/table a/")?;
-    for key in 100..260_u64 {
-        append_row(&mut text, key)?;
-    }
-    for _ in 0..64 {
-        append_lane(&mut text)?;
-    }
-    append(&mut text, "done/")?;
+    append_largest(&mut text)?;
     Ok(text)
 }
 
@@ -263,20 +282,30 @@ fn verdicts(alloc: Global, input: &Input) -> Result<(usize, Verdict, Verdict), F
     Ok((length, whole, longer))
 }
 
-/// The same of the largest input.
-fn largest_verdicts(alloc: Global) -> Result<(usize, Verdict, Verdict), Fail> {
-    let text = largest(alloc)?;
-    let input = input_of(alloc, &text)?;
+/// The same of the input that these bytes spell.
+fn verdicts_of(alloc: Global, text: &[u8]) -> Result<(usize, Verdict, Verdict), Fail> {
+    let input = input_of(alloc, text)?;
     let verdicts = verdicts(alloc, &input);
     drop(input);
     verdicts
+}
+
+/// The same of the largest input.
+fn largest_verdicts(alloc: Global) -> Result<(usize, Verdict, Verdict), Fail> {
+    let text = largest(alloc)?;
+    verdicts_of(alloc, &text)
+}
+
+/// Compares a verdict with the one due.
+fn try_verdict<R: Abort>(rt: &R, verdict: Verdict, due: Verdict) {
+    assert_eq!(rt; verdict, due);
 }
 
 #[test]
 fn largest_report_is_judged(rt: HostRuntime) -> Result<(), Fail> {
     let (length, whole, longer) = largest_verdicts(rt.alloc())?;
     assert!(rt; length > 70_000_000);
-    assert_eq!(rt; whole, Verdict::Yes);
-    assert_eq!(rt; longer, Verdict::NoLine(2_637_987));
+    try_verdict(&rt, whole, Verdict::Yes);
+    try_verdict(&rt, longer, Verdict::NoLine(2_637_987));
     Ok(())
 }

@@ -9,14 +9,19 @@ use replay_model::{Input, NoMemory, Placed, Tables, are_named, replay};
 use std::alloc::{AllocError, Global};
 use std::test::Fail;
 
+/// What stands behind the first line of a text; the text, where it has no whole line.
+fn behind_line(text: &[u8]) -> &[u8] {
+    match text.iter().position(|byte| *byte == b'\n') {
+        Some(at) => &text[at + 1..],
+        None => text,
+    }
+}
+
 /// What stands behind so many lines of a text.
 fn behind(text: &[u8], lines: usize) -> &[u8] {
     let mut rest = text;
     for _ in 0..lines {
-        rest = match rest.iter().position(|byte| *byte == b'\n') {
-            Some(at) => &rest[at + 1..],
-            None => rest,
-        };
+        rest = behind_line(rest);
     }
     rest
 }

@@ -66,15 +66,22 @@ fn try_cases<R: Abort + AllocGlobal>(rt: &R, cases: &[Case]) -> Result<(), Fail>
     Ok(())
 }
 
-/// The same of texts with a piece that comes many times.
+/// The same of a text with a piece that comes many times.
+fn try_one_repeated<R: Abort + AllocGlobal>(rt: &R, case: &Repeated) -> Result<(), Fail> {
+    let (front, piece, times, behind, due) = case;
+    let bytes = repeated(rt.alloc(), front, piece, *times, behind)?;
+    assert_eq!(rt;
+        answer(rt.alloc(), &bytes)?,
+        *due,
+        "{front}, {times} times {piece}, {behind}"
+    );
+    Ok(())
+}
+
+/// The same of each of these texts.
 fn try_repeated<R: Abort + AllocGlobal>(rt: &R, cases: &[Repeated]) -> Result<(), Fail> {
-    for (front, piece, times, behind, due) in cases {
-        let bytes = repeated(rt.alloc(), front, piece, *times, behind)?;
-        assert_eq!(rt;
-            answer(rt.alloc(), &bytes)?,
-            *due,
-            "{front}, {times} times {piece}, {behind}"
-        );
+    for case in cases {
+        try_one_repeated(rt, case)?;
     }
     Ok(())
 }
@@ -391,6 +398,16 @@ fn rows_and_changes_are_counted(rt: HostRuntime) -> Result<(), Fail> {
     try_counted(&rt, &cases)
 }
 
+/// Compares what reading bytes answers with what is due.
+fn try_answer<R: Abort + AllocGlobal>(
+    rt: &R,
+    bytes: &[u8],
+    due: Option<(u64, u32)>,
+) -> Result<(), Fail> {
+    assert_eq!(rt; answer(rt.alloc(), bytes)?, due);
+    Ok(())
+}
+
 /// 8,064 blocks of 64 commands, in 4,193,307 bytes with the lines around them, are an input.
 fn greatest(alloc: Global) -> Result<Vec<u8>, AllocError> {
     let mut bytes = Vec::new(alloc);
@@ -402,9 +419,8 @@ fn greatest(alloc: Global) -> Result<Vec<u8>, AllocError> {
 #[test]
 fn a_text_of_the_greatest_size_is_read(rt: HostRuntime) -> Result<(), Fail> {
     let mut bytes = greatest(rt.alloc())?;
-    assert_eq!(rt; answer(rt.alloc(), &bytes)?, Some((532_228, END)));
+    try_answer(&rt, &bytes, Some((532_228, END)))?;
     append(&mut bytes, "done/")?;
     assert_eq!(rt; bytes.len(), 4_193_307);
-    assert_eq!(rt; answer(rt.alloc(), &bytes)?, None);
-    Ok(())
+    try_answer(&rt, &bytes, None)
 }

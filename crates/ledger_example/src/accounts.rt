@@ -4,7 +4,7 @@ ghost use Rattle.std.specs.Prelude.{◌≡◌};
 use plain_data::Cells;
 use record_store::{RecordRead, RecordStore};
 
-// The balance of an account; none where the store refuses to read.
+// The balance of an account; none where the store has no such record or refuses to read it.
 fn balance<F: Drop, S: RecordRead<Fault = F>>(store: &mut S, account: u32) -> Option<u64>
     ensures { S.rest store.new ≡ S.rest store.old }
 {
@@ -18,7 +18,7 @@ fn balance<F: Drop, S: RecordRead<Fault = F>>(store: &mut S, account: u32) -> Op
     }
 }
 
-// Sets it; whether the store did not refuse.
+// Sets it; whether the store has such a record and did not refuse.
 fn set_balance<F: Drop, S: RecordStore<Fault = F>>(store: &mut S, account: u32, sum: u64) -> bool
     ensures { S.rest store.new ≡ S.rest store.old }
 {
@@ -38,7 +38,8 @@ pub struct Transfer {
     pub amount: u64,
 }
 
-/// Moves the amount, or what the account has where that is less; whether the store did not refuse.
+/// Moves the amount, or what the account has where that is less. Whether it did: no read or write was refused, and the other account can
+/// hold the sum.
 pub fn make_transfer<F: Drop, S: RecordStore<Fault = F>>(store: &mut S, transfer: Transfer) -> bool
     ensures { S.rest store.new ≡ S.rest store.old }
 {
@@ -72,16 +73,13 @@ pub fn open_all<F: Drop, S: RecordStore<Fault = F>>(
     true
 }
 
-/// What all accounts have together.
+/// What all accounts have together, modulo 2^64; none where one is not read.
 pub fn add_up<F: Drop, S: RecordRead<Fault = F>>(store: &mut S, accounts: u32) -> Option<u64>
     ensures { S.rest store.new ≡ S.rest store.old }
 {
     let mut sum = 0u64;
     for account in 0..accounts {
-        let Some(has) = balance(store, account) else {
-            return None;
-        };
-        sum = sum.wrapping_add(has);
+        sum = sum.wrapping_add(balance(store, account)?);
     }
     Some(sum)
 }

@@ -1,5 +1,5 @@
 //! A ledger over the engine, as a caller embeds it: transfers by threads, which begin again after a conflict, older versions taken back
-//! beside them, and a snapshot that adds up all accounts. No transfer changes the sum, which is printed.
+//! beside them, and a snapshot that adds up all accounts. The sum, which no transfer changes, is printed; contracts do not speak of it.
 #![tactic(auto)]
 
 ghost use Rattle.std.specs.Prelude.{◌≡◌, false, IfOk};

@@ -51,7 +51,8 @@ fn try_once(
     }
 }
 
-// Tries a transfer again until it commits: after a conflict, and where no place is left, nothing has changed.
+// Tries a transfer again until it commits, so often at most: after a conflict, and where no place is left, nothing has changed. Whether
+// it committed.
 fn try_until(
     engine: &Engine<AnyState>,
     pass: &mut Pass<AnyState>,
@@ -109,8 +110,8 @@ pub fn run_all<R: Threads + Sync>(
     );
 }
 
-/// What all accounts have, by a snapshot of the last pass. Whatever its stamp, it is the same: each state that it may see has all of a
-/// transfer or nothing.
+/// What all accounts have, by a snapshot of the last pass, which is taken off the list; none where there is no pass. Whatever the stamp of
+/// the snapshot, each state that it may see has all of a transfer or nothing.
 pub fn sum(engine: &Engine<AnyState>, passes: &mut Vec<Pass<AnyState>>) -> Option<u64>
     requires { All (IsIdleOf engine.now) passes.old.items }
 {

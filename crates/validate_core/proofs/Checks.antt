@@ -6,7 +6,7 @@ use Rattle.plain_data.specs.State.{State}
 use Rattle.word_layout.specs.Name.{rts}
 use Rattle.core_rule.specs.View.{View, Flight, writing, Read, Write, checks, Stand, shown, Search, still, stands, Work, Load}
 use Rattle.core_rule.specs.Views.{Among}
-use Rattle.core_rule.specs.Searching.{stand_in, look_in, stamp_seen, state_seen, checked_in, OthersPassed, Begins}
+use Rattle.core_rule.specs.Searching.{IsAt, stand_in, look_in, stamp_seen, state_seen, checked_in, IsFinal, OthersPassed, Begins}
 use Rattle.core_rule.specs.Deciding.{stamp_in, commit_of, IsFitting}
 use Rattle.core_rule.specs.Hands.{Shared, Seated, IsReady, StaysReady, Steps}
 use Rattle.core_rule.specs.Kinds.{load_read_stamp, decide_by_check}
@@ -40,6 +40,19 @@ module _ (stamp : ℕ) (s : SetsView) (i : ℕ) (u : Write) (place w n : ℕ) (v
     undecided = record { undecided = st.undecided.undecided; unsettled = st.undecided.unsettled };
     collected = st.collected;
   }
+
+  -- the search stands at the place of the version, which is committed or deleted
+  pub found_at : IsAt place x.work.search
+  found_at = subst (IsAt place) (sym found_search) refl
+
+  pub found_look : look_in x.work.search ≡ shown (stamp_seen (look_in x.work.search)) (state_seen (look_in x.work.search))
+  found_look = subst (λ (z : Search). look_in z ≡ shown (stamp_seen (look_in z)) (state_seen (look_in z))) (sym found_search) refl
+
+  pub found_final : n ≢ 2 → IsFinal (state_seen (look_in x.work.search))
+  found_final ne = let range = f.reaches.state in let low = range.0 in subst (λ (z : Search). IsFinal (state_seen (look_in z))) (sym found_search) (omega arith, range.1)
+
+  pub found_aim : (stand_in x.work.search).aim ≡ checks (checked_in x.work.search)
+  found_aim = subst (λ (z : Search). (stand_in z).aim ≡ checks (checked_in z)) (sym found_search) refl
 
   -- all others have passed, at the last write
   pub others_passed : {up done : List Read} → Turn i s.writes u → i + 1 ≡ length s.writes → Stage stamp s up done (take i s.writes) v → OthersPassed (checked_in x.work.search).record_number x.work.linked x.work.passed
@@ -128,8 +141,11 @@ refused_works kept p u w n r now at step later =
       seen = record x.seen { loads = x.seen.loads ++ load (rts p.place) r ∷ [] };
     })) refl refl
 
--- the entry that fits is the one that is decided
+-- what is in flight is the commit entry of the sets, once all reads are finished
+pub entry_is : (stamp : ℕ) (s : SetsView) (checked : List Write) (x : View) → Stage stamp s s.reads s.reads checked x → commit_of x.flight x.work.finished x.work.linked ≡ commit_of (writing stamp) s.reads s.writes
+entry_is stamp s checked x st = λ i. commit_of (st.in_flight i) (st.finished i) (st.linked i)
+
+-- so the entry that fits is the one that is decided
 pub fits_found : (kept : State → Type 0) (records stamp : ℕ) (s : SetsView) (checked : List Write) (x : View) → Stage stamp s s.reads s.reads checked x → IsFitting kept records (commit_of (writing stamp) s.reads s.writes)
     → IsFitting kept records (commit_of x.flight x.work.finished x.work.linked)
-fits_found kept records stamp s checked x st fits =
-    subst (IsFitting kept records) (λ i. commit_of (sym st.in_flight i) (sym st.finished i) (sym st.linked i)) fits
+fits_found kept records stamp s checked x st fits = subst (IsFitting kept records) (sym (entry_is stamp s checked x st)) fits

@@ -1,5 +1,6 @@
 pub mod Bounds
 pub mod Checks
+pub mod LastCheck
 pub mod Placing
 pub mod Settling
 pub mod Staging

@@ -8,7 +8,7 @@ use Rattle.core_rule.specs.Hands.{Shared, Seated, IsReady, StaysReady, Steps}
 use Rattle.core_rule.specs.Kinds.{store_status}
 use Rattle.validate_core.specs.Sets.{SetsView, Turn, Once}
 use Rattle.validate_core.specs.Validating.{Works, Settled}
-use Rattle.validate_core.proofs.Works.{works_none, works_both, works_step, ready_after, ready_none, ready_both, among_left, among_middle, among_last, once_turn}
+use Rattle.validate_core.proofs.Works.{works_none, works_both, works_step, ready_over, ready_none, ready_both, among_left, among_middle, among_last, once_turn}
 use Rattle.validate_core.proofs.Writes.{take_within}
 
 -- of the first writes, so many, which are linked, the first have their last status
@@ -55,7 +55,7 @@ module _ (core : Shared) (before : Seated) (s : SetsView) (count : ℕ) (decided
       let e = step.view in
       let settled_is : next'.view.work.settled ≡ u.record_number ∷ now.view.work.settled = ap (λ (v : View). v.work.settled) e in
       record {
-        stays = ready_both core before now next' at.stays (ready_after core now next' at.stays.ready step.seat (ap (λ (v : View). v.size) e) (ap (λ (v : View). v.number) e) (ap (λ (v : View). v.published) e));
+        stays = ready_both core before now next' at.stays (ready_over core now next' _ e refl refl refl at.stays.ready step.seat);
         works = works_both before.view now.view next'.view at.works (works_step now.view next'.view _ _ [] e (sym (append-nil now.view.seen.loads)) refl);
         seen = ap (λ (v : View). v.seen) e ∙ at.seen;
         rests = subst (λ (v : View). Rests v.work.search) (sym e) tt;

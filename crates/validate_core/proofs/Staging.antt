@@ -17,7 +17,7 @@ use Rattle.version_search.specs.Finding.{Finds, stand_for}
 use Rattle.version_search.proofs.Grown.{grows_both}
 use Rattle.validate_core.specs.Sets.{SetsView, Turn, IsInside, Once}
 use Rattle.validate_core.specs.Validating.{Works, Decides, Stage, Stopped, Met, MetFinal, no_more, its_read_stamp, IsShown, HasRead}
-use Rattle.validate_core.proofs.Works.{works_none, works_both, works_step, ready_after, ready_none, ready_both, among_turn, once_turn}
+use Rattle.validate_core.proofs.Works.{works_none, works_both, works_step, ready_over, ready_none, ready_both, among_turn, once_turn}
 
 pub read_of : (ds found : List Read) (d : Read) → AreReads ds found → Among d ds → Among d found × IsWhole d
 read_of [] found d h a = absurd a
@@ -54,7 +54,7 @@ module _ (core : Shared) (before : Seated) (stamp : ℕ) (s : SetsView) (i : ℕ
   pub raises : {kept : State → Type 0} (n : ℕ) (next' : Seated) → Steps kept (raise_read_stamp d) now n next' → Raising core before stamp s (i + 1) next'
   raises {kept} n next' step =
       let e = step.view in let st = at.stage in record {
-        stays = ready_both core before now next' at.stays (ready_after core now next' at.stays.ready step.seat (ap (λ (v : View). v.size) e) (ap (λ (v : View). v.number) e) (ap (λ (v : View). v.published) e));
+        stays = ready_both core before now next' at.stays (ready_over core now next' _ e refl refl refl at.stays.ready step.seat);
         works = works_both before.view now.view next'.view at.works (works_step now.view next'.view _ _ _ e refl refl);
         stage = subst (Stage stamp s (take (i + 1) s.reads) [] []) (sym e) record {
           in_flight = st.in_flight;
@@ -227,7 +227,7 @@ pub err_shown : {T : Type 0} (stamp : ℕ) (s : SetsView) (u v x : View) (r : Re
 err_shown stamp s u v x (Ok t) a h = tt
 err_shown stamp s u v x (Err c) a h = shown_earlier stamp s u v x c a h
 
-decides_earlier : (kept : State → Type 0) (records stamp : ℕ) (s : SetsView) (u v x : View) → Works u v → Decides kept records stamp s v x → Decides kept records stamp s u x
+pub decides_earlier : (kept : State → Type 0) (records stamp : ℕ) (s : SetsView) (u v x : View) → Works u v → Decides kept records stamp s v x → Decides kept records stamp s u x
 decides_earlier kept records stamp s u v x a d =
     let same : v.log ≡ u.log = ap (λ (y : View). y.log) a.only in record {
       log = d.log ∙ ap (λ (l : List Logged). l ++ commit_of (writing stamp) s.reads s.writes ∷ []) same;

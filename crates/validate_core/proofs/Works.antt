@@ -53,19 +53,24 @@ logs_stand v w e grows = record {
   grows = grows;
 }
 
--- a hand stays ready over a step that changes none of its published words
-pub ready_after : (core : Shared) (now after' : Seated) → IsReady core now → IsSameSeat now after' → after'.view.size ≡ now.view.size → after'.view.number ≡ now.view.number
-    → after'.view.published ≡ now.view.published → StaysReady core now after'
-ready_after core now after' ready seat size number published = record {
-  seat = seat;
-  ready = record {
-    hand_of = record { same_table = seat.same_table ∙ ready.hand_of.same_table; same_size = size ∙ ready.hand_of.same_size; in_range = rw number ready.hand_of.in_range };
-    open_words = record {
-      write = subst (λ (p : Published). p.write < end_of_stamps) (sym published) ready.open_words.write;
-      read = subst (λ (p : Published). p.read < end_of_stamps) (sym published) ready.open_words.read;
-    };
-  };
-}
+-- a hand stays ready over a step that leads to this view, which has the same published words
+pub ready_over : (core : Shared) (now after' : Seated) (x : View) → after'.view ≡ x → x.size ≡ now.view.size → x.number ≡ now.view.number → x.published ≡ now.view.published
+    → IsReady core now → IsSameSeat now after' → StaysReady core now after'
+ready_over core now after' x e size number published ready seat =
+    let same : after'.view.published ≡ now.view.published = ap (λ (v : View). v.published) e ∙ published in record {
+      seat = seat;
+      ready = record {
+        hand_of = record {
+          same_table = seat.same_table ∙ ready.hand_of.same_table;
+          same_size = ap (λ (v : View). v.size) e ∙ size ∙ ready.hand_of.same_size;
+          in_range = subst (λ (n : ℕ). n < core.size.seats) (sym (ap (λ (v : View). v.number) e ∙ number)) ready.hand_of.in_range;
+        };
+        open_words = record {
+          write = subst (λ (p : Published). p.write < end_of_stamps) (sym same) ready.open_words.write;
+          read = subst (λ (p : Published). p.read < end_of_stamps) (sym same) ready.open_words.read;
+        };
+      };
+    }
 
 pub ready_none : (core : Shared) (before : Seated) → IsReady core before → StaysReady core before before
 ready_none core before ready = record { seat = record { same_table = refl; same_id = refl }; ready = ready }

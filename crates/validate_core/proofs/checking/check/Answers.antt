@@ -3,9 +3,10 @@ use Rattle.core_rule.specs.View.{View, checks}
 use Rattle.core_rule.specs.Deciding.{stamp_in}
 use Rattle.validate_core.specs.Validating.{IsShown}
 use Rattle.validate_core.specs.declared.conflict.Conflict.TheVariants.{Pending, ReadLater}
-use Rattle.validate_core.proofs.Checks.{check_begins, passes_works, passes_stage, found_stage, later_shown}
-use Rattle.validate_core.proofs.Staging.{pending_shown}
-use Rattle.validate_core.proofs.Works.{among_turn, works_step}
+use Rattle.validate_core.proofs.Checks.{check_begins, found_at, found_look, found_final, found_aim, passes_works, passes_stage, found_stage, later_shown}
+use Rattle.validate_core.proofs.LastCheck.{load_stops}
+use Rattle.validate_core.proofs.Staging.{pending_shown, found_stops, found_works}
+use Rattle.validate_core.proofs.Works.{among_turn, works_step, ready_both, ready_over}
 use Rattle.validate_core.proofs.checking.check.Goals as goal
 
 pub find_to_check-shown-requires-clause-rid : goal.find_to_check-shown-requires-clause-rid
@@ -44,3 +45,53 @@ returns-clause-stage g c =
     let le : c.load_read_stamp-rts.result ≤ c.args.stamp = omega arith in
     passes_stage c.args.stamp c.args.sets.now c.args.i u f.place f.wts f.status c.args.hand.now.view x.view c.find_to_check-shown.ensures.finds g.J.Keeps.kept x c.load_read_stamp-rts.new.hand c.load_read_stamp-rts.result refl c.load_read_stamp-rts.ensures
     c.write_at-write.ensures c.requires.stage le
+
+-- ---- the search ended at a version
+
+pub returns-then-shown-eq-PENDING-clause-works : goal.returns-then-shown-eq-PENDING-clause-works
+returns-then-shown-eq-PENDING-clause-works g c =
+    let u = c.write_at-write.result in let f = c.find_to_check-shown.result in
+    found_works (checks u) c.args.stamp u.record_number f.place f.wts f.status c.args.hand.now.view c.find_to_check-shown.new.hand.view c.find_to_check-shown.ensures.finds
+
+pub returns-then-shown-eq-PENDING-clause-stopped : goal.returns-then-shown-eq-PENDING-clause-stopped
+returns-then-shown-eq-PENDING-clause-stopped g c =
+    let u = c.write_at-write.result in let f = c.find_to_check-shown.result in
+    found_stops c.args.stamp c.args.sets.now _ _ _ (checks u) c.args.stamp u.record_number f.place f.wts f.status c.args.hand.now.view c.find_to_check-shown.new.hand.view tt c.requires.stage c.find_to_check-shown.ensures.finds
+
+pub load_read_stamp-rts-requires-clause-here : goal.load_read_stamp-rts-requires-clause-here
+load_read_stamp-rts-requires-clause-here g c =
+    let f = c.find_to_check-shown.result in
+    found_at c.args.stamp c.args.sets.now c.args.i c.write_at-write.result f.place f.wts f.status c.args.hand.now.view c.find_to_check-shown.new.hand.view c.find_to_check-shown.ensures.finds
+
+pub load_read_stamp-rts-requires-clause-seen : goal.load_read_stamp-rts-requires-clause-seen
+load_read_stamp-rts-requires-clause-seen g c =
+    let f = c.find_to_check-shown.result in
+    found_look c.args.stamp c.args.sets.now c.args.i c.write_at-write.result f.place f.wts f.status c.args.hand.now.view c.find_to_check-shown.new.hand.view c.find_to_check-shown.ensures.finds
+
+pub load_read_stamp-rts-requires-clause-last : goal.load_read_stamp-rts-requires-clause-last
+load_read_stamp-rts-requires-clause-last g c =
+    let f = c.find_to_check-shown.result in
+    found_final c.args.stamp c.args.sets.now c.args.i c.write_at-write.result f.place f.wts f.status c.args.hand.now.view c.find_to_check-shown.new.hand.view c.find_to_check-shown.ensures.finds c.if-shown-eq-PENDING.false
+
+pub load_read_stamp-rts-requires-clause-aim : goal.load_read_stamp-rts-requires-clause-aim
+load_read_stamp-rts-requires-clause-aim g c =
+    let f = c.find_to_check-shown.result in
+    found_aim c.args.stamp c.args.sets.now c.args.i c.write_at-write.result f.place f.wts f.status c.args.hand.now.view c.find_to_check-shown.new.hand.view c.find_to_check-shown.ensures.finds
+
+-- ---- its read stamp was loaded
+
+pub returns-then-rts-stamp-clause-stopped : goal.returns-then-rts-stamp-clause-stopped
+returns-then-rts-stamp-clause-stopped g c =
+    let u = c.write_at-write.result in let f = c.find_to_check-shown.result in let x = c.find_to_check-shown.new.hand in
+    load_stops g.J.Keeps.kept c.args.stamp c.args.sets.now _ x c.load_read_stamp-rts.new.hand c.load_read_stamp-rts.result
+    (found_stage c.args.stamp c.args.sets.now c.args.i u f.place f.wts f.status c.args.hand.now.view x.view c.find_to_check-shown.ensures.finds c.requires.stage) _ _ _ _ c.load_read_stamp-rts.ensures
+
+pub returns-then-rts-stamp-clause-stays : goal.returns-then-rts-stamp-clause-stays
+returns-then-rts-stamp-clause-stays g c =
+    let x = c.find_to_check-shown.new.hand in let stays = c.find_to_check-shown.ensures.stays in let step = c.load_read_stamp-rts.ensures in
+    ready_both c.args.core.now c.args.hand.now x c.load_read_stamp-rts.new.hand stays (ready_over c.args.core.now x c.load_read_stamp-rts.new.hand _ step.view refl refl refl stays.ready step.seat)
+
+pub returns-clause-stays : goal.returns-clause-stays
+returns-clause-stays g c =
+    let x = c.find_to_check-shown.new.hand in let stays = c.find_to_check-shown.ensures.stays in let step = c.load_read_stamp-rts.ensures in
+    ready_both c.args.core.now c.args.hand.now x c.load_read_stamp-rts.new.hand stays (ready_over c.args.core.now x c.load_read_stamp-rts.new.hand _ step.view refl refl refl stays.ready step.seat)

@@ -1,11 +1,13 @@
-use Rattle.std.proofs.Common.{◌≡◌, ℕ, refl, sym, ap, subst, arith, inr}
+use Rattle.std.proofs.Common.{◌≡◌, ◌≤◌, ℕ, refl, sym, ap, subst, arith, inr}
+use Rattle.word_layout.specs.Size.{Size}
 use Rattle.core_rule.specs.View.{View, checks}
 use Rattle.core_rule.specs.Deciding.{stamp_in}
-use Rattle.validate_core.specs.Validating.{IsShown}
+use Rattle.validate_core.specs.Validating.{IsShown, Decides}
 use Rattle.validate_core.specs.declared.conflict.Conflict.TheVariants.{Pending, ReadLater}
-use Rattle.validate_core.proofs.Checks.{check_begins, others_passed, found_stage, later_shown, refused_works, fits_found}
-use Rattle.validate_core.proofs.Staging.{pending_shown}
-use Rattle.validate_core.proofs.Works.{among_turn}
+use Rattle.validate_core.proofs.Checks.{check_begins, found_at, found_look, found_final, found_aim, others_passed, found_stage, later_shown, refused_works, fits_found}
+use Rattle.validate_core.proofs.LastCheck.{check_stops, check_decides}
+use Rattle.validate_core.proofs.Staging.{pending_shown, found_stops, found_works, decides_earlier}
+use Rattle.validate_core.proofs.Works.{among_turn, works_both, ready_both, ready_over}
 use Rattle.validate_core.proofs.checking.check_last.Goals as goal
 
 pub find_to_check-shown-requires-clause-rid : goal.find_to_check-shown-requires-clause-rid
@@ -43,3 +45,70 @@ decide_by_check-rts-requires-clause-fits g c =
     let u = c.write_at-write.result in let f = c.find_to_check-shown.result in let x = c.find_to_check-shown.new.hand in
     fits_found g.J.Keeps.kept c.args.core.now.size.records c.args.stamp c.args.sets.now _ x.view
     (found_stage c.args.stamp c.args.sets.now c.args.i u f.place f.wts f.status c.args.hand.now.view x.view c.find_to_check-shown.ensures.finds c.requires.stage) c.requires.fits
+
+-- ---- the search ended at a version
+
+pub returns-then-shown-eq-PENDING-clause-works : goal.returns-then-shown-eq-PENDING-clause-works
+returns-then-shown-eq-PENDING-clause-works g c =
+    let u = c.write_at-write.result in let f = c.find_to_check-shown.result in
+    found_works (checks u) c.args.stamp u.record_number f.place f.wts f.status c.args.hand.now.view c.find_to_check-shown.new.hand.view c.find_to_check-shown.ensures.finds
+
+pub returns-then-shown-eq-PENDING-clause-stopped : goal.returns-then-shown-eq-PENDING-clause-stopped
+returns-then-shown-eq-PENDING-clause-stopped g c =
+    let u = c.write_at-write.result in let f = c.find_to_check-shown.result in
+    found_stops c.args.stamp c.args.sets.now _ _ _ (checks u) c.args.stamp u.record_number f.place f.wts f.status c.args.hand.now.view c.find_to_check-shown.new.hand.view tt c.requires.stage c.find_to_check-shown.ensures.finds
+
+pub decide_by_check-rts-requires-clause-here : goal.decide_by_check-rts-requires-clause-here
+decide_by_check-rts-requires-clause-here g c =
+    let f = c.find_to_check-shown.result in
+    found_at c.args.stamp c.args.sets.now c.args.i c.write_at-write.result f.place f.wts f.status c.args.hand.now.view c.find_to_check-shown.new.hand.view c.find_to_check-shown.ensures.finds
+
+pub decide_by_check-rts-requires-clause-seen : goal.decide_by_check-rts-requires-clause-seen
+decide_by_check-rts-requires-clause-seen g c =
+    let f = c.find_to_check-shown.result in
+    found_look c.args.stamp c.args.sets.now c.args.i c.write_at-write.result f.place f.wts f.status c.args.hand.now.view c.find_to_check-shown.new.hand.view c.find_to_check-shown.ensures.finds
+
+pub decide_by_check-rts-requires-clause-last : goal.decide_by_check-rts-requires-clause-last
+decide_by_check-rts-requires-clause-last g c =
+    let f = c.find_to_check-shown.result in
+    found_final c.args.stamp c.args.sets.now c.args.i c.write_at-write.result f.place f.wts f.status c.args.hand.now.view c.find_to_check-shown.new.hand.view c.find_to_check-shown.ensures.finds c.if-shown-eq-PENDING.false
+
+pub decide_by_check-rts-requires-clause-aim : goal.decide_by_check-rts-requires-clause-aim
+decide_by_check-rts-requires-clause-aim g c =
+    let f = c.find_to_check-shown.result in
+    found_aim c.args.stamp c.args.sets.now c.args.i c.write_at-write.result f.place f.wts f.status c.args.hand.now.view c.find_to_check-shown.new.hand.view c.find_to_check-shown.ensures.finds
+
+-- ---- the last check was made
+
+pub returns-then-rts-stamp-clause-works : goal.returns-then-rts-stamp-clause-works
+returns-then-rts-stamp-clause-works g c =
+    let u = c.write_at-write.result in let f = c.find_to_check-shown.result in let v = c.args.hand.now.view in let x = c.find_to_check-shown.new.hand in let y = c.decide_by_check-rts.new.hand in
+    let found = c.find_to_check-shown.ensures.finds in
+    let in_flight : stamp_in x.view.flight ≡ c.args.stamp = ap stamp_in (found_stage c.args.stamp c.args.sets.now c.args.i u f.place f.wts f.status v x.view found c.requires.stage).in_flight in
+    let later = c.if-rts-stamp.true in
+    works_both v x.view y.view (found_works (checks u) c.args.stamp u.record_number f.place f.wts f.status v x.view found) (refused_works g.J.Keeps.kept _ _ _ _ c.decide_by_check-rts.result x y c.decide_by_check-rts.ensures (omega arith))
+
+pub returns-then-rts-stamp-clause-stopped : goal.returns-then-rts-stamp-clause-stopped
+returns-then-rts-stamp-clause-stopped g c =
+    let u = c.write_at-write.result in let f = c.find_to_check-shown.result in let x = c.find_to_check-shown.new.hand in
+    check_stops g.J.Keeps.kept c.args.stamp c.args.sets.now _ x c.decide_by_check-rts.new.hand c.decide_by_check-rts.result
+    (found_stage c.args.stamp c.args.sets.now c.args.i u f.place f.wts f.status c.args.hand.now.view x.view c.find_to_check-shown.ensures.finds c.requires.stage) _ _ _ _ c.decide_by_check-rts.ensures c.if-rts-stamp.true
+
+pub returns-then-rts-stamp-clause-stays : goal.returns-then-rts-stamp-clause-stays
+returns-then-rts-stamp-clause-stays g c =
+    let x = c.find_to_check-shown.new.hand in let stays = c.find_to_check-shown.ensures.stays in let step = c.decide_by_check-rts.ensures in
+    ready_both c.args.core.now c.args.hand.now x c.decide_by_check-rts.new.hand stays (ready_over c.args.core.now x c.decide_by_check-rts.new.hand _ step.view refl refl refl stays.ready step.seat)
+
+pub returns-clause-ok : goal.returns-clause-ok
+returns-clause-ok g c =
+    let u = c.write_at-write.result in let f = c.find_to_check-shown.result in let v = c.args.hand.now.view in let x = c.find_to_check-shown.new.hand in let y = c.decide_by_check-rts.new.hand in
+    let found = c.find_to_check-shown.ensures.finds in
+    let le : c.decide_by_check-rts.result ≤ c.args.stamp = omega arith in
+    subst (λ (n : ℕ). Decides g.J.Keeps.kept n c.args.stamp c.args.sets.now v y.view) (ap (λ (z : Size). z.records) c.find_to_check-shown.ensures.stays.ready.hand_of.same_size)
+    (decides_earlier g.J.Keeps.kept x.view.size.records c.args.stamp c.args.sets.now v x.view y.view (found_works (checks u) c.args.stamp u.record_number f.place f.wts f.status v x.view found)
+    (check_decides g.J.Keeps.kept c.args.stamp c.args.sets.now _ x y c.decide_by_check-rts.result (found_stage c.args.stamp c.args.sets.now c.args.i u f.place f.wts f.status v x.view found c.requires.stage) _ _ _ _ c.decide_by_check-rts.ensures le))
+
+pub returns-clause-stays : goal.returns-clause-stays
+returns-clause-stays g c =
+    let x = c.find_to_check-shown.new.hand in let stays = c.find_to_check-shown.ensures.stays in let step = c.decide_by_check-rts.ensures in
+    ready_both c.args.core.now c.args.hand.now x c.decide_by_check-rts.new.hand stays (ready_over c.args.core.now x c.decide_by_check-rts.new.hand _ step.view refl refl refl stays.ready step.seat)

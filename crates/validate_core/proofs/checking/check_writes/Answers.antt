@@ -1,5 +1,10 @@
+use Rattle.std.proofs.Common.{ℕ, refl, ap, subst}
+use Rattle.word_layout.specs.Size.{Size}
+use Rattle.validate_core.specs.Validating.{Decides}
 use Rattle.validate_core.proofs.Checks.{checking_starts}
+use Rattle.validate_core.proofs.LastCheck.{bare_decides}
 use Rattle.validate_core.proofs.Staging.{shown_earlier, err_works, err_shown, ok_decides}
+use Rattle.validate_core.proofs.Works.{works_both, ready_both, ready_over}
 use Rattle.validate_core.proofs.checking.check_writes.Goals as goal
 
 pub loop-i-init : goal.loop-i-init
@@ -16,3 +21,24 @@ returns-clause-conflict g c = err_shown c.args.stamp c.args.sets.now c.args.hand
 
 pub returns-in-Err-clause-conflict : goal.returns-in-Err-clause-conflict
 returns-in-Err-clause-conflict g c = shown_earlier c.args.stamp c.args.sets.now c.args.hand.now.view c.loop-i.hand.view c.check.new.hand.view c.in-Err.conflict c.loop-i.invariant.works c.in-Err.ensures.conflict
+
+-- ---- without writes
+
+pub returns-then-count-eq0-clause-ok : goal.returns-then-count-eq0-clause-ok
+returns-then-count-eq0-clause-ok g c =
+    subst (λ (n : ℕ). Decides g.J.Keeps.kept n c.args.stamp c.args.sets.now c.args.hand.now.view c.decide_bare.new.hand.view) (ap (λ (z : Size). z.records) c.requires.ready.hand_of.same_size)
+    (bare_decides g.J.Keeps.kept c.args.stamp c.args.sets.now _ c.args.hand.now c.decide_bare.new.hand c.decide_bare.result c.requires.stage c.decide_bare.ensures)
+
+pub returns-then-count-eq0-clause-stays : goal.returns-then-count-eq0-clause-stays
+returns-then-count-eq0-clause-stays g c = let step = c.decide_bare.ensures in ready_over c.args.core.now c.args.hand.now c.decide_bare.new.hand _ step.view refl refl refl c.requires.ready step.seat
+
+-- ---- a check fails, or passes
+
+pub returns-in-Err-clause-works : goal.returns-in-Err-clause-works
+returns-in-Err-clause-works g c = works_both c.args.hand.now.view c.loop-i.hand.view c.check.new.hand.view c.loop-i.invariant.works c.in-Err.ensures.works
+
+pub returns-in-Err-clause-stays : goal.returns-in-Err-clause-stays
+returns-in-Err-clause-stays g c = ready_both c.args.core.now c.args.hand.now c.loop-i.hand c.check.new.hand c.loop-i.invariant.stays c.check.ensures.stays
+
+pub returns-clause-stays : goal.returns-clause-stays
+returns-clause-stays g c = ready_both c.args.core.now c.args.hand.now c.loop-i.hand c.check_last.new.hand c.loop-i.invariant.stays c.check_last.ensures.stays

@@ -1,9 +1,9 @@
-use Rattle.std.proofs.Common.{◌≡◌, ◌≢◌, ℕ, refl, sym, ◌∙◌, subst, inl}
+use Rattle.std.proofs.Common.{◌≡◌, ◌≢◌, ◌≤◌, ℕ, refl, sym, ◌∙◌, subst, inl, length, arith}
 use Rattle.core_rule.specs.View.{again}
 use Rattle.validate_core.specs.Validating.{IsShown}
 use Rattle.validate_core.specs.declared.conflict.Conflict.TheVariants.{Pending, Overtaken}
-use Rattle.validate_core.proofs.Staging.{again_starts, again_begins, again_next, overtaken_shown, pending_shown, shown_earlier}
-use Rattle.validate_core.proofs.Works.{among_turn}
+use Rattle.validate_core.proofs.Staging.{again_starts, again_begins, again_next, again_all, found_stops, found_works, overtaken_shown, pending_shown, shown_earlier}
+use Rattle.validate_core.proofs.Works.{among_turn, works_both, ready_both}
 use Rattle.validate_core.proofs.checking.search_again.Goals as goal
 
 pub loop-i-init : goal.loop-i-init
@@ -39,3 +39,34 @@ loop-i-preserved g c =
     let is : f.wts ≡ d.version = c.if-shown-wts.false ∙ c.wts.ensures in
     again_next c.args.core.now c.args.hand.now c.args.stamp c.args.sets.now c.loop-i.i d f.place f.wts f.status c.loop-i.hand at c.read_at-read.ensures c.loop-i.invariant c.find_again-shown.ensures.stays
     c.find_again-shown.ensures.finds c.if-shown-eq-PENDING.false is
+
+-- ---- what stops the search
+
+pub returns-then-shown-eq-PENDING-clause-works : goal.returns-then-shown-eq-PENDING-clause-works
+returns-then-shown-eq-PENDING-clause-works g c =
+    let d = c.read_at-read.result.now in let f = c.find_again-shown.result in let x = c.find_again-shown.new.hand.view in
+    works_both c.args.hand.now.view c.loop-i.hand.view x c.loop-i.invariant.works (found_works (again d) c.args.stamp d.record_number f.place f.wts f.status c.loop-i.hand.view x c.find_again-shown.ensures.finds)
+
+pub returns-then-shown-eq-PENDING-clause-stopped : goal.returns-then-shown-eq-PENDING-clause-stopped
+returns-then-shown-eq-PENDING-clause-stopped g c =
+    let d = c.read_at-read.result.now in let f = c.find_again-shown.result in
+    found_stops c.args.stamp c.args.sets.now _ _ _ (again d) c.args.stamp d.record_number f.place f.wts f.status c.loop-i.hand.view c.find_again-shown.new.hand.view tt c.loop-i.invariant.stage c.find_again-shown.ensures.finds
+
+pub returns-then-shown-eq-PENDING-clause-stays : goal.returns-then-shown-eq-PENDING-clause-stays
+returns-then-shown-eq-PENDING-clause-stays g c = ready_both c.args.core.now c.args.hand.now c.loop-i.hand c.find_again-shown.new.hand c.loop-i.invariant.stays c.find_again-shown.ensures.stays
+
+pub returns-then-shown-wts-clause-works : goal.returns-then-shown-wts-clause-works
+returns-then-shown-wts-clause-works g c =
+    let d = c.read_at-read.result.now in let f = c.find_again-shown.result in let x = c.find_again-shown.new.hand.view in
+    works_both c.args.hand.now.view c.loop-i.hand.view x c.loop-i.invariant.works (found_works (again d) c.args.stamp d.record_number f.place f.wts f.status c.loop-i.hand.view x c.find_again-shown.ensures.finds)
+
+pub returns-then-shown-wts-clause-stopped : goal.returns-then-shown-wts-clause-stopped
+returns-then-shown-wts-clause-stopped g c =
+    let d = c.read_at-read.result.now in let f = c.find_again-shown.result in
+    found_stops c.args.stamp c.args.sets.now _ _ _ (again d) c.args.stamp d.record_number f.place f.wts f.status c.loop-i.hand.view c.find_again-shown.new.hand.view tt c.loop-i.invariant.stage c.find_again-shown.ensures.finds
+
+pub returns-then-shown-wts-clause-stays : goal.returns-then-shown-wts-clause-stays
+returns-then-shown-wts-clause-stays g c = ready_both c.args.core.now c.args.hand.now c.loop-i.hand c.find_again-shown.new.hand c.loop-i.invariant.stays c.find_again-shown.ensures.stays
+
+pub returns-clause-stage : goal.returns-clause-stage
+returns-clause-stage g c = let over : length c.args.sets.now.reads ≤ c.loop-i.i = omega arith in again_all c.args.core.now c.args.hand.now c.args.stamp c.args.sets.now c.loop-i.i c.loop-i.hand over c.loop-i.invariant

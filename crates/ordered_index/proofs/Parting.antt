@@ -72,6 +72,12 @@ next_in : (size : ℕ) (kind : Kind) (fresh : ℕ) → fresh < size → IfSome (
 next_in size Leaf fresh within = within
 next_in size Inner fresh within = tt
 
+pub left_few : (node now : Content) (entries : List (Key × ℕ)) (fresh : ℕ) → now ≡ left_of node entries fresh → length now.entries ≤ 9
+left_few node now entries fresh is = omega (arith, ap (λ (n : Content). length n.entries) is, length-take 5 entries)
+
+pub right_few : (node now : Content) (entries : List (Key × ℕ)) → length entries ≤ 10 → now ≡ right_of node entries → length now.entries ≤ 9
+right_few node now entries ten is = omega (arith, ap (λ (n : Content). length n.entries) is, length-drop 5 entries)
+
 pub left_sound : (size : ℕ) (node : Content) (entries : List (Key × ℕ)) (fresh : ℕ) → Fills size node.kind node.low entries → length entries ≡ 10 → fresh < size → IsSound size (left_of node entries fresh)
 left_sound size node entries fresh fills ten within =
     let five : length (take 5 entries) ≡ 5 = omega (arith, length-take 5 entries) in

@@ -2,7 +2,7 @@ use Rattle.std.proofs.Common.{◌+◌, ◌<◌, ℕ, Some, None, Ok, refl, sym, 
 use Rattle.std.specs.Prelude.{is_some}
 use Rattle.record_store.specs.Calls.Calls.{none}
 use Rattle.record_store.proofs.Refusals.{fault_moved, torn_moved, IfStore-map, IfTorn-map}
-use Rattle.record_store.proofs.Agreement.{OnlyReads-refl, extends-refl, size_same}
+use Rattle.record_store.proofs.Agreement.{OnlyReads-refl, extends-refl, size_same, OnlyReads-trans, ReadsGrow-only, ReadsGrow-behind, ReadsGrow-trans}
 use Rattle.record_store.proofs.Known.{gives-reads, gives-behind, gives-trans, fewer-behind, known-reads, known-behind, known-then-found}
 use Rattle.record_store.proofs.Paths.{Calls-trans, Calls-reads, CallFault-read, CallFault-behind}
 use Rattle.ordered_index.specs.Keys.{first_key}
@@ -353,3 +353,28 @@ pub returns-in-None-2-clause-writes : goal.returns-in-None-2-clause-writes
 returns-in-None-2-clause-writes g t c =
     let at = child_at c.args.size _ (g.S.RecordRead.meaning c.args.store.now) (g.S.RecordRead.meaning c.read_node.new.store) c.in-Some-2.child c.in_ok-child.field-0 c.in-Some-2.is c.in_ok-child.ensures.read in
     known-then-found (asks_at c.in-Some-2.child.node.entries.items) (g.S.RecordRead.meaning c.args.store.now) (g.S.RecordRead.meaning c.read_node.new.store) (g.S.RecordRead.meaning c.enter.new.store) (g.S.RecordRead.meaning c.put_entry.new.store) c.in-Some-2.child.at (known-behind (g.S.RecordRead.meaning c.args.store.now) (g.S.RecordRead.meaning c.read_node.new.store) (g.S.RecordRead.meaning c.enter.new.store) c.in_ok-child.ensures.after c.enter.ensures.writes) c.enter.ensures.after.reads c.put_entry.ensures.after.reads c.put_entry.ensures.given c.put_entry.ensures.writes (λ state agrees. (let is = at state agrees in (is.words, is.here)))
+
+-- what is left of the store
+pub returns-in_default-clause-after : goal.returns-in_default-clause-after
+returns-in_default-clause-after g t c = ReadsGrow-only _ _ c.in_ok-child.ensures.after
+
+pub returns-in_err-enter-clause-after : goal.returns-in_err-enter-clause-after
+returns-in_err-enter-clause-after g t c = ReadsGrow-behind _ _ _ c.in_ok-child.ensures.after c.enter.ensures.after
+
+pub returns-in-There-clause-after : goal.returns-in-There-clause-after
+returns-in-There-clause-after g t c = ReadsGrow-behind _ _ _ c.in_ok-child.ensures.after c.enter.ensures.after
+
+pub returns-in-Done-clause-after : goal.returns-in-Done-clause-after
+returns-in-Done-clause-after g t c = ReadsGrow-behind _ _ _ c.in_ok-child.ensures.after c.enter.ensures.after
+
+pub returns-in_err-new-in-Takes-clause-after : goal.returns-in_err-new-in-Takes-clause-after
+returns-in_err-new-in-Takes-clause-after g t c = ReadsGrow-trans _ _ _ (ReadsGrow-behind _ _ _ c.in_ok-child.ensures.after c.enter.ensures.after) c.put_entry.ensures.after
+
+pub returns-in-Some-3-clause-after : goal.returns-in-Some-3-clause-after
+returns-in-Some-3-clause-after g t c = ReadsGrow-trans _ _ _ (ReadsGrow-behind _ _ _ c.in_ok-child.ensures.after c.enter.ensures.after) c.put_entry.ensures.after
+
+pub returns-in-None-2-clause-after : goal.returns-in-None-2-clause-after
+returns-in-None-2-clause-after g t c = ReadsGrow-trans _ _ _ (ReadsGrow-behind _ _ _ c.in_ok-child.ensures.after c.enter.ensures.after) c.put_entry.ensures.after
+
+pub returns-in-There-clause-there : goal.returns-in-There-clause-there
+returns-in-There-clause-there g t c = OnlyReads-trans _ _ _ c.in_ok-child.ensures.after (rw c.in-There.is at c.in_ok-enter.ensures.there)

@@ -9,6 +9,10 @@ use Rattle.record_store.proofs.Writes.{writes-none, writes-weaken}
 use Rattle.ordered_index.specs.Asks.{asks_at}
 use Rattle.ordered_index.proofs.Counting.{asks_nine}
 use Rattle.ordered_index.proofs.Asking.{asks_few, had_nine, wrote_none, wrote_fresh, wrote_one}
+use Rattle.record_store.proofs.Agreement.{OnlyReads-refl, ReadsGrow-only}
+use Rattle.ordered_index.proofs.Rooting.{grow_fresh, grow_write, grow_equal}
+use Rattle.ordered_index.proofs.Parting.{left_few, right_few}
+use Rattle.ordered_index.specs.Held.{content_of}
 use Rattle.ordered_index.proofs.enter.put_entry.Goals as goal
 
 pub returns-in_err-write_node-clause-fault : goal.returns-in_err-write_node-clause-fault
@@ -150,3 +154,54 @@ pub returns-clause-given : goal.returns-clause-given
 returns-clause-given g c =
     let nine = had_nine c.args.link.node.entries.items c.args.rank c.args.entry c.insert.new.self.items c.is_full.result c.insert.ensures.items c.is_full.ensures.value c.if-not-is_full.false in
     gives-weaken 1 (asks_at c.args.link.node.entries.items) (g.S.RecordRead.meaning c.args.store.now) (g.S.RecordRead.meaning c.write_node-3.new.store) (omega (arith, asks_nine c.args.link.node.entries.items nine)) (goes-trans 1 0 (λ rid. rid ≡ c.args.link.at) (g.S.RecordRead.meaning c.args.store.now) (g.S.RecordRead.meaning c.write_node-2.new.store) (g.S.RecordRead.meaning c.write_node-3.new.store) (goes-added (λ rid. rid ≡ c.args.link.at) (g.S.RecordRead.meaning c.args.store.now) (g.S.RecordRead.meaning c.fresh.new.self) (g.S.RecordRead.meaning c.write_node-2.new.store) c.in_ok-fresh.fresh c.in_ok-fresh.ensures.ok (tries c.write_node-2.result (g.S.RecordRead.meaning c.fresh.new.self) (g.S.RecordRead.meaning c.write_node-2.new.store) c.in_ok-fresh.fresh _ c.write_node-2.ensures.ok c.write_node-2.ensures.err)) (goes-tried (λ rid. rid ≡ c.args.link.at) (g.S.RecordRead.meaning c.write_node-2.new.store) (g.S.RecordRead.meaning c.write_node-3.new.store) c.args.link.at (tries c.write_node-3.result (g.S.RecordRead.meaning c.write_node-2.new.store) (g.S.RecordRead.meaning c.write_node-3.new.store) c.args.link.at _ c.write_node-3.ensures.ok c.write_node-3.ensures.err) refl)).given
+
+-- what is left of the store
+pub returns-in_err-write_node-clause-after : goal.returns-in_err-write_node-clause-after
+returns-in_err-write_node-clause-after g c =
+    let m0 = g.S.RecordRead.meaning c.args.store.now in
+    grow_equal m0 m0 _ (ReadsGrow-only m0 m0 (OnlyReads-refl m0)) c.in_err-write_node.ensures.err
+
+pub returns-then-not-is_full-clause-after : goal.returns-then-not-is_full-clause-after
+returns-then-not-is_full-clause-after g c =
+    let m0 = g.S.RecordRead.meaning c.args.store.now in
+    grow_write m0 m0 _ _ _ (ReadsGrow-only m0 m0 (OnlyReads-refl m0)) c.in_ok-write_node.ensures.ok
+
+pub returns-in_err-fresh-clause-after : goal.returns-in_err-fresh-clause-after
+returns-in_err-fresh-clause-after g c =
+    let m0 = g.S.RecordRead.meaning c.args.store.now in
+    grow_equal m0 m0 _ (ReadsGrow-only m0 m0 (OnlyReads-refl m0)) c.in_err-fresh.ensures.err
+
+pub returns-in_err-write_node-2-clause-after : goal.returns-in_err-write_node-2-clause-after
+returns-in_err-write_node-2-clause-after g c =
+    let m0 = g.S.RecordRead.meaning c.args.store.now in
+    let m1 = g.S.RecordRead.meaning c.fresh.new.self in
+    let m2 = g.S.RecordRead.meaning c.write_node-2.new.store in
+    let given = grow_fresh m0 m0 m1 c.in_ok-fresh.fresh (ReadsGrow-only m0 m0 (OnlyReads-refl m0)) c.in_ok-fresh.ensures.ok in
+    grow_equal m0 m1 m2 given c.in_err-write_node-2.ensures.err
+
+pub returns-in_err-write_node-3-clause-after : goal.returns-in_err-write_node-3-clause-after
+returns-in_err-write_node-3-clause-after g c =
+    let m0 = g.S.RecordRead.meaning c.args.store.now in
+    let m1 = g.S.RecordRead.meaning c.fresh.new.self in
+    let m2 = g.S.RecordRead.meaning c.write_node-2.new.store in
+    let m3 = g.S.RecordRead.meaning c.write_node-3.new.store in
+    let given = grow_fresh m0 m0 m1 c.in_ok-fresh.fresh (ReadsGrow-only m0 m0 (OnlyReads-refl m0)) c.in_ok-fresh.ensures.ok in
+    let right = grow_write m0 m1 m2 _ _ given c.in_ok-write_node-2.ensures.ok in
+    grow_equal m0 m2 m3 right c.in_err-write_node-3.ensures.err
+
+pub returns-clause-after : goal.returns-clause-after
+returns-clause-after g c =
+    let m0 = g.S.RecordRead.meaning c.args.store.now in
+    let m1 = g.S.RecordRead.meaning c.fresh.new.self in
+    let m2 = g.S.RecordRead.meaning c.write_node-2.new.store in
+    let m3 = g.S.RecordRead.meaning c.write_node-3.new.store in
+    let given = grow_fresh m0 m0 m1 c.in_ok-fresh.fresh (ReadsGrow-only m0 m0 (OnlyReads-refl m0)) c.in_ok-fresh.ensures.ok in
+    let right = grow_write m0 m1 m2 _ _ given c.in_ok-write_node-2.ensures.ok in
+    grow_write m0 m2 m3 _ _ right c.in_ok-write_node-3.ensures.ok
+
+-- nine entries at most are written
+pub write_node-requires-2-clause-few : goal.write_node-requires-2-clause-few
+write_node-requires-2-clause-few g c = right_few (content_of c.args.link.node) (content_of c.part-right.result) c.insert.new.self.items c.is_full.ensures.fits c.part-right.ensures.right
+
+pub write_node-requires-3-clause-few : goal.write_node-requires-3-clause-few
+write_node-requires-3-clause-few g c = left_few (content_of c.args.link.node) (content_of c.part-right.new.self) c.insert.new.self.items c.in_ok-fresh.fresh c.part-right.ensures.left

@@ -8,11 +8,13 @@ use Rattle.record_store.proofs.Refusals.{store_fault, fault_moved, IfStore-map}
 use Rattle.record_store.proofs.Paths.{Calls-trans, CallFault-never}
 use Rattle.record_store.specs.Calls.CallFault.{by_fresh}
 use Rattle.ordered_index.specs.Enter.PutsRoot.{parted}
-use Rattle.ordered_index.proofs.Rooting.{grow_two, grow_write, grow_equal}
+use Rattle.ordered_index.proofs.Rooting.{grow_fresh, grow_write, grow_equal}
 use Rattle.record_store.proofs.Known.{tries, gives-weaken, fewer-refused, goes-same, goes-fresh, goes-trans}
 use Rattle.ordered_index.proofs.Going.{left_goes, right_goes, over_goes}
 use Rattle.record_store.proofs.Writes.{writes-none, writes-trans, writes-weaken}
 use Rattle.ordered_index.proofs.Asking.{wrote_none, wrote_fresh, wrote_one, on_err}
+use Rattle.record_store.proofs.Agreement.{OnlyReads-refl, ReadsGrow-only}
+use Rattle.ordered_index.proofs.Parting.{left_few, right_few}
 use Rattle.ordered_index.proofs.enter.split_root.Goals as goal
 
 pub returns-in_err-left-clause-fault : goal.returns-in_err-left-clause-fault
@@ -69,34 +71,64 @@ returns-clause-ok g c =
     parted c.in_ok-left.left c.in_ok-right.right c.requires.ten c.in_ok-left.ensures.fresh (rw c.in_ok-left.ensures.ok at c.in_ok-right.ensures.fresh)
     (c.in_ok-write_node-3.ensures.ok ∙ ap (λ n. after_write (g.S.RecordRead.meaning c.write_node-2.new.store) c.args.top.at (Some (words_of n))) over ∙ ap (λ m. after_write m c.args.top.at (Some (words_of (over_of c.args.top.node.low c.in_ok-left.left (key_at c.args.top.node.entries.items 5) c.in_ok-right.right)))) two)
 
+pub returns-in_err-left-clause-after : goal.returns-in_err-left-clause-after
+returns-in_err-left-clause-after g c =
+    let m0 = g.S.RecordRead.meaning c.args.store.now in
+    let m1 = g.S.RecordRead.meaning c.fresh.new.self in
+    grow_equal m0 m0 m1 (ReadsGrow-only m0 m0 (OnlyReads-refl m0)) c.in_err-left.ensures.err
+
+pub returns-in_err-right-clause-after : goal.returns-in_err-right-clause-after
+returns-in_err-right-clause-after g c =
+    let m0 = g.S.RecordRead.meaning c.args.store.now in
+    let m1 = g.S.RecordRead.meaning c.fresh.new.self in
+    let m2 = g.S.RecordRead.meaning c.fresh-2.new.self in
+    grow_equal m0 m1 m2 (grow_fresh m0 m0 m1 c.in_ok-left.left (ReadsGrow-only m0 m0 (OnlyReads-refl m0)) c.in_ok-left.ensures.ok) c.in_err-right.ensures.err
+
 pub returns-in_err-write_node-clause-after : goal.returns-in_err-write_node-clause-after
 returns-in_err-write_node-clause-after g c =
-    let base : g.S.RecordRead.meaning c.fresh-2.new.self ≡ after_fresh (after_fresh (g.S.RecordRead.meaning c.args.store.now) c.in_ok-left.left) c.in_ok-right.right = c.in_ok-right.ensures.ok ∙ ap (λ m. after_fresh m c.in_ok-right.right) c.in_ok-left.ensures.ok in
-    let g0 = grow_equal (g.S.RecordRead.meaning c.args.store.now) _ (g.S.RecordRead.meaning c.fresh-2.new.self) (grow_two (g.S.RecordRead.meaning c.args.store.now) c.in_ok-left.left c.in_ok-right.right) base in
-    grow_equal (g.S.RecordRead.meaning c.args.store.now) (g.S.RecordRead.meaning c.fresh-2.new.self) (g.S.RecordRead.meaning c.write_node.new.store) g0 c.in_err-write_node.ensures.err
+    let m0 = g.S.RecordRead.meaning c.args.store.now in
+    let m1 = g.S.RecordRead.meaning c.fresh.new.self in
+    let m2 = g.S.RecordRead.meaning c.fresh-2.new.self in
+    let m3 = g.S.RecordRead.meaning c.write_node.new.store in
+    let two = grow_fresh m0 m1 m2 c.in_ok-right.right (grow_fresh m0 m0 m1 c.in_ok-left.left (ReadsGrow-only m0 m0 (OnlyReads-refl m0)) c.in_ok-left.ensures.ok) c.in_ok-right.ensures.ok in
+    grow_equal m0 m2 m3 two c.in_err-write_node.ensures.err
 
 pub returns-in_err-write_node-2-clause-after : goal.returns-in_err-write_node-2-clause-after
 returns-in_err-write_node-2-clause-after g c =
-    let base : g.S.RecordRead.meaning c.fresh-2.new.self ≡ after_fresh (after_fresh (g.S.RecordRead.meaning c.args.store.now) c.in_ok-left.left) c.in_ok-right.right = c.in_ok-right.ensures.ok ∙ ap (λ m. after_fresh m c.in_ok-right.right) c.in_ok-left.ensures.ok in
-    let g0 = grow_equal (g.S.RecordRead.meaning c.args.store.now) _ (g.S.RecordRead.meaning c.fresh-2.new.self) (grow_two (g.S.RecordRead.meaning c.args.store.now) c.in_ok-left.left c.in_ok-right.right) base in
-    let g1 = grow_write (g.S.RecordRead.meaning c.args.store.now) (g.S.RecordRead.meaning c.fresh-2.new.self) (g.S.RecordRead.meaning c.write_node.new.store) _ _ g0 c.in_ok-write_node.ensures.ok in
-    grow_equal (g.S.RecordRead.meaning c.args.store.now) (g.S.RecordRead.meaning c.write_node.new.store) (g.S.RecordRead.meaning c.write_node-2.new.store) g1 c.in_err-write_node-2.ensures.err
+    let m0 = g.S.RecordRead.meaning c.args.store.now in
+    let m1 = g.S.RecordRead.meaning c.fresh.new.self in
+    let m2 = g.S.RecordRead.meaning c.fresh-2.new.self in
+    let m3 = g.S.RecordRead.meaning c.write_node.new.store in
+    let m4 = g.S.RecordRead.meaning c.write_node-2.new.store in
+    let two = grow_fresh m0 m1 m2 c.in_ok-right.right (grow_fresh m0 m0 m1 c.in_ok-left.left (ReadsGrow-only m0 m0 (OnlyReads-refl m0)) c.in_ok-left.ensures.ok) c.in_ok-right.ensures.ok in
+    let one = grow_write m0 m2 m3 _ _ two c.in_ok-write_node.ensures.ok in
+    grow_equal m0 m3 m4 one c.in_err-write_node-2.ensures.err
 
 pub returns-in_err-write_node-3-clause-after : goal.returns-in_err-write_node-3-clause-after
 returns-in_err-write_node-3-clause-after g c =
-    let base : g.S.RecordRead.meaning c.fresh-2.new.self ≡ after_fresh (after_fresh (g.S.RecordRead.meaning c.args.store.now) c.in_ok-left.left) c.in_ok-right.right = c.in_ok-right.ensures.ok ∙ ap (λ m. after_fresh m c.in_ok-right.right) c.in_ok-left.ensures.ok in
-    let g0 = grow_equal (g.S.RecordRead.meaning c.args.store.now) _ (g.S.RecordRead.meaning c.fresh-2.new.self) (grow_two (g.S.RecordRead.meaning c.args.store.now) c.in_ok-left.left c.in_ok-right.right) base in
-    let g1 = grow_write (g.S.RecordRead.meaning c.args.store.now) (g.S.RecordRead.meaning c.fresh-2.new.self) (g.S.RecordRead.meaning c.write_node.new.store) _ _ g0 c.in_ok-write_node.ensures.ok in
-    let g2 = grow_write (g.S.RecordRead.meaning c.args.store.now) (g.S.RecordRead.meaning c.write_node.new.store) (g.S.RecordRead.meaning c.write_node-2.new.store) _ _ g1 c.in_ok-write_node-2.ensures.ok in
-    grow_equal (g.S.RecordRead.meaning c.args.store.now) (g.S.RecordRead.meaning c.write_node-2.new.store) (g.S.RecordRead.meaning c.write_node-3.new.store) g2 c.in_err-write_node-3.ensures.err
+    let m0 = g.S.RecordRead.meaning c.args.store.now in
+    let m1 = g.S.RecordRead.meaning c.fresh.new.self in
+    let m2 = g.S.RecordRead.meaning c.fresh-2.new.self in
+    let m3 = g.S.RecordRead.meaning c.write_node.new.store in
+    let m4 = g.S.RecordRead.meaning c.write_node-2.new.store in
+    let m5 = g.S.RecordRead.meaning c.write_node-3.new.store in
+    let two = grow_fresh m0 m1 m2 c.in_ok-right.right (grow_fresh m0 m0 m1 c.in_ok-left.left (ReadsGrow-only m0 m0 (OnlyReads-refl m0)) c.in_ok-left.ensures.ok) c.in_ok-right.ensures.ok in
+    let one = grow_write m0 m2 m3 _ _ two c.in_ok-write_node.ensures.ok in
+    let both = grow_write m0 m3 m4 _ _ one c.in_ok-write_node-2.ensures.ok in
+    grow_equal m0 m4 m5 both c.in_err-write_node-3.ensures.err
 
 pub returns-clause-after : goal.returns-clause-after
 returns-clause-after g c =
-    let base : g.S.RecordRead.meaning c.fresh-2.new.self ≡ after_fresh (after_fresh (g.S.RecordRead.meaning c.args.store.now) c.in_ok-left.left) c.in_ok-right.right = c.in_ok-right.ensures.ok ∙ ap (λ m. after_fresh m c.in_ok-right.right) c.in_ok-left.ensures.ok in
-    let g0 = grow_equal (g.S.RecordRead.meaning c.args.store.now) _ (g.S.RecordRead.meaning c.fresh-2.new.self) (grow_two (g.S.RecordRead.meaning c.args.store.now) c.in_ok-left.left c.in_ok-right.right) base in
-    let g1 = grow_write (g.S.RecordRead.meaning c.args.store.now) (g.S.RecordRead.meaning c.fresh-2.new.self) (g.S.RecordRead.meaning c.write_node.new.store) _ _ g0 c.in_ok-write_node.ensures.ok in
-    let g2 = grow_write (g.S.RecordRead.meaning c.args.store.now) (g.S.RecordRead.meaning c.write_node.new.store) (g.S.RecordRead.meaning c.write_node-2.new.store) _ _ g1 c.in_ok-write_node-2.ensures.ok in
-    grow_write (g.S.RecordRead.meaning c.args.store.now) (g.S.RecordRead.meaning c.write_node-2.new.store) (g.S.RecordRead.meaning c.write_node-3.new.store) _ _ g2 c.in_ok-write_node-3.ensures.ok
+    let m0 = g.S.RecordRead.meaning c.args.store.now in
+    let m1 = g.S.RecordRead.meaning c.fresh.new.self in
+    let m2 = g.S.RecordRead.meaning c.fresh-2.new.self in
+    let m3 = g.S.RecordRead.meaning c.write_node.new.store in
+    let m4 = g.S.RecordRead.meaning c.write_node-2.new.store in
+    let m5 = g.S.RecordRead.meaning c.write_node-3.new.store in
+    let two = grow_fresh m0 m1 m2 c.in_ok-right.right (grow_fresh m0 m0 m1 c.in_ok-left.left (ReadsGrow-only m0 m0 (OnlyReads-refl m0)) c.in_ok-left.ensures.ok) c.in_ok-right.ensures.ok in
+    let one = grow_write m0 m2 m3 _ _ two c.in_ok-write_node.ensures.ok in
+    let both = grow_write m0 m3 m4 _ _ one c.in_ok-write_node-2.ensures.ok in
+    grow_write m0 m4 m5 _ _ both c.in_ok-write_node-3.ensures.ok
 
 pub returns-in_err-left-clause-few : goal.returns-in_err-left-clause-few
 returns-in_err-left-clause-few g c =
@@ -165,3 +197,10 @@ returns-in_err-write_node-3-clause-writes g c = (over_goes (λ rid. rid ≡ c.ar
 
 pub returns-clause-writes : goal.returns-clause-writes
 returns-clause-writes g c = (over_goes (λ rid. rid ≡ c.args.top.at) (g.S.RecordRead.meaning c.args.store.now) (g.S.RecordRead.meaning c.fresh.new.self) (g.S.RecordRead.meaning c.fresh-2.new.self) (g.S.RecordRead.meaning c.write_node.new.store) c.in_ok-left.left c.in_ok-right.right c.in_ok-left.ensures.ok c.in_ok-right.ensures.ok (tries c.write_node.result (g.S.RecordRead.meaning c.fresh-2.new.self) (g.S.RecordRead.meaning c.write_node.new.store) c.in_ok-left.left _ c.write_node.ensures.ok c.write_node.ensures.err) (g.S.RecordRead.meaning c.write_node-2.new.store) (tries c.write_node-2.result (g.S.RecordRead.meaning c.write_node.new.store) (g.S.RecordRead.meaning c.write_node-2.new.store) c.in_ok-right.right _ c.write_node-2.ensures.ok c.write_node-2.ensures.err) (g.S.RecordRead.meaning c.write_node-3.new.store) c.args.top.at refl (tries c.write_node-3.result (g.S.RecordRead.meaning c.write_node-2.new.store) (g.S.RecordRead.meaning c.write_node-3.new.store) c.args.top.at _ c.write_node-3.ensures.ok c.write_node-3.ensures.err)).only
+
+-- nine entries at most are written
+pub write_node-requires-clause-few : goal.write_node-requires-clause-few
+write_node-requires-clause-few g c = left_few (content_of c.args.top.node) (content_of c.part-right_node.new.self) c.args.top.node.entries.items c.in_ok-right.right c.part-right_node.ensures.left
+
+pub write_node-requires-2-clause-few : goal.write_node-requires-2-clause-few
+write_node-requires-2-clause-few g c = right_few (content_of c.args.top.node) (content_of c.part-right_node.result) c.args.top.node.entries.items (omega (arith, c.requires.ten)) c.part-right_node.ensures.right

@@ -9,7 +9,7 @@ use Rattle.plain_data.specs.State.{overlay}
 use Rattle.ordered_index.proofs.Trees.{is_torn}
 use Rattle.std.proofs.Common.{[], ◌∷◌}
 use Rattle.record_store.specs.Meaning.{after_write}
-use Rattle.record_store.proofs.Agreement.{OnlyReads-trans, extends-refl}
+use Rattle.record_store.proofs.Agreement.{OnlyReads-trans, extends-refl, ReadsGrow-behind, ReadsGrow-trans, written_after}
 use Rattle.ordered_index.specs.Keys.{first_key}
 use Rattle.ordered_index.specs.Node.{IsSound, words_of}
 use Rattle.ordered_index.specs.Held.{content_of}
@@ -257,3 +257,22 @@ pub returns-in_ok-put_root-in-Takes-clause-writes : goal.returns-in_ok-put_root-
 returns-in_ok-put_root-in-Takes-clause-writes g c =
     let link = at_some (IsLink c.size-size.result c.args.root first_key) c.in-Some.top c.in-Some.is c.in_ok-top.ensures.link in
     known-then-fixed c.put_root.ensures.calls.0 (g.S.RecordRead.meaning c.args.store.now) (g.S.RecordRead.meaning c.enter.new.store) (g.S.RecordRead.meaning c.put_root.new.store) c.in-Some.top.at (known-behind (g.S.RecordRead.meaning c.args.store.now) (g.S.RecordRead.meaning c.read_node.new.store) (g.S.RecordRead.meaning c.enter.new.store) c.in_ok-top.ensures.after c.enter.ensures.writes) c.put_root.ensures.after.reads c.put_root.ensures.calls.3 c.put_root.ensures.writes (rw link.at c.requires.root)
+
+-- what is left of the store
+pub returns-in_default-clause-after : goal.returns-in_default-clause-after
+returns-in_default-clause-after g c = (written_after _ _ _ c.args.root _ c.in_ok-top.ensures.after c.in_ok-write_node.ensures.ok).grow
+
+pub returns-in_err-enter-clause-after : goal.returns-in_err-enter-clause-after
+returns-in_err-enter-clause-after g c = ReadsGrow-behind _ _ _ c.in_ok-top.ensures.after c.enter.ensures.after
+
+pub returns-in-There-clause-after : goal.returns-in-There-clause-after
+returns-in-There-clause-after g c = ReadsGrow-behind _ _ _ c.in_ok-top.ensures.after c.enter.ensures.after
+
+pub returns-in-Done-clause-after : goal.returns-in-Done-clause-after
+returns-in-Done-clause-after g c = ReadsGrow-behind _ _ _ c.in_ok-top.ensures.after c.enter.ensures.after
+
+pub returns-in_err-put_root-in-Takes-clause-after : goal.returns-in_err-put_root-in-Takes-clause-after
+returns-in_err-put_root-in-Takes-clause-after g c = ReadsGrow-trans _ _ _ (ReadsGrow-behind _ _ _ c.in_ok-top.ensures.after c.enter.ensures.after) c.put_root.ensures.after
+
+pub returns-in_ok-put_root-in-Takes-clause-after : goal.returns-in_ok-put_root-in-Takes-clause-after
+returns-in_ok-put_root-in-Takes-clause-after g c = ReadsGrow-trans _ _ _ (ReadsGrow-behind _ _ _ c.in_ok-top.ensures.after c.enter.ensures.after) c.put_root.ensures.after

@@ -1,6 +1,6 @@
 use Rattle.std.proofs.Common.{refl, sym, ◌∙◌}
 use Rattle.record_store.specs.Calls.Reads.{none, read}
-use Rattle.record_store.proofs.Agreement.{answered}
+use Rattle.record_store.proofs.Agreement.{answered, OnlyReads-refl, OnlyReads-after_read}
 use Rattle.record_store.proofs.Refusals.{store_fault}
 use Rattle.plain_data.specs.State.{overlay}
 use Rattle.ordered_index.specs.Held.{content_of}
@@ -54,3 +54,19 @@ returns-clause-read g c = λ state agrees. record {
 
 pub returns-clause-calls : goal.returns-clause-calls
 returns-clause-calls g c = read _ _ _ c.args.rid _ (none _) c.read.ensures.gives
+
+-- what is left of the store
+pub returns-in_err-cells-clause-after : goal.returns-in_err-cells-clause-after
+returns-in_err-cells-clause-after g c = rw c.in_err-cells.ensures.err (OnlyReads-refl _)
+
+pub returns-in_default-clause-after : goal.returns-in_default-clause-after
+returns-in_default-clause-after g c = OnlyReads-after_read _ _ c.args.rid _ c.in_ok-cells.ensures.ok
+
+pub returns-in_default-read-clause-after : goal.returns-in_default-read-clause-after
+returns-in_default-read-clause-after g c = OnlyReads-after_read _ _ c.args.rid _ c.in_ok-cells.ensures.ok
+
+pub returns-then-is_inner-clause-after : goal.returns-then-is_inner-clause-after
+returns-then-is_inner-clause-after g c = OnlyReads-after_read _ _ c.args.rid _ c.in_ok-cells.ensures.ok
+
+pub returns-clause-after : goal.returns-clause-after
+returns-clause-after g c = OnlyReads-after_read _ _ c.args.rid _ c.in_ok-cells.ensures.ok

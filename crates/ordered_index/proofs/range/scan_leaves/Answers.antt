@@ -89,3 +89,9 @@ loop-goes_on-preserved g c =
 pub returns-clause-ok : goal.returns-clause-ok
 returns-clause-ok g c =
     rw (← c.size-size.ensures.size) (λ state agrees. let listed = c.loop-goes_on.invariant.listed state agrees in scans_by c.size-size.result c.args.root c.args.lo c.args.hi c.args.limit (overlay (g.S.RecordRead.meaning c.args.store.now).writes state) (node_of c.loop-goes_on.here) c.args.out.now.items c.loop-goes_on.out.items c.loop-goes_on.goes_on listed (listed.ends c.loop-goes_on-test.false))
+
+pub returns-in_err-link-clause-after : goal.returns-in_err-link-clause-after
+returns-in_err-link-clause-after g c = OnlyReads-trans _ _ _ c.loop-goes_on.invariant.after c.read_next_leaf.ensures.after
+
+pub returns-then-is_before-clause-after : goal.returns-then-is_before-clause-after
+returns-then-is_before-clause-after g c = OnlyReads-trans _ _ _ c.loop-goes_on.invariant.after c.read_next_leaf.ensures.after

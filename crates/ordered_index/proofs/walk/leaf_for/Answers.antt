@@ -77,3 +77,9 @@ loop-key-preserved g c =
 
 pub returns-clause-leaf : goal.returns-clause-leaf
 returns-clause-leaf g c = λ state agrees. walk_ends c.args.size c.args.root c.loop-key.depth c.args.key _ c.loop-key.here (c.loop-key.invariant.walked state agrees) c.loop-key.invariant.deep (c.is_inner.ensures.leaf c.loop-key-test.false)
+
+pub returns-in_err-link-clause-after : goal.returns-in_err-link-clause-after
+returns-in_err-link-clause-after g c = OnlyReads-trans _ _ _ c.loop-key.invariant.after c.read_node-in-loop-key.ensures.after
+
+pub returns-in_default-2-clause-after : goal.returns-in_default-2-clause-after
+returns-in_default-2-clause-after g c = OnlyReads-trans _ _ _ c.loop-key.invariant.after c.in_ok-link.ensures.after

@@ -9,7 +9,7 @@ use Rattle.record_store.specs.Meaning.{Meaning}
 use Rattle.record_store.specs.Walks.{ReadsGrow}
 use Rattle.record_store.specs.declared.walk.Walk.{Walk}
 use Rattle.record_store.specs.declared.walk.Walk.TheVariants.{Torn, NoMemory}
-use Rattle.record_store.proofs.Agreement.{agrees-extends, extends-trans, OnlyReads-refl, OnlyReads-trans, ReadsGrow-only, writes_same}
+use Rattle.record_store.proofs.Agreement.{agrees-extends, OnlyReads-refl, OnlyReads-trans, ReadsGrow-only, ReadsGrow-trans, writes_same}
 use Rattle.record_store.proofs.Known.{gives-reads, gives-trans, fewer-behind, known-reads}
 use Rattle.record_store.proofs.Paths.{Reads-trans, ReadFault-behind, Calls-reads, Calls-trans, CallFault-read, CallFault-behind}
 use Rattle.record_store.proofs.Refusals.{fault_moved, torn_moved, IfStore-map, IfTorn-map, OnOk-map, OnOk_then}
@@ -44,13 +44,6 @@ at_value : {T E : Type 0} (result : Result T E) (value : T) (P : T → Type 0) �
     → IfOk result (λ _. P value)
 at_value (Ok v) value P is holds = let same : v ≡ value = cc in subst P same holds
 at_value (Err e) value P is holds = tt
-
-pub grow_trans : (first before after : Meaning) → ReadsGrow first before → ReadsGrow before after → ReadsGrow first after
-grow_trans first before after a b = record {
-  reads = extends-trans first.reads before.reads after.reads a.reads b.reads;
-  size = b.size ∙ a.size;
-  fixed = b.fixed ∙ a.fixed;
-}
 
 at_zero : (P : ℕ → Type 0) (n : ℕ) → P n → P (0 + n)
 at_zero P n holds = let same : n ≡ 0 + n = omega arith in subst P same holds
@@ -335,5 +328,5 @@ module _ {S F : Type 0} {read_gives : S → ℕ → Result (Option (List ℕ)) F
         given = gives-trans a.asked b.asked (meaning first) (meaning middle) (meaning last) a.given b.given;
         writes = λ state x agrees stands. (let g = at state x agrees stands in known_trans b.asked (meaning first) (meaning middle)
             (meaning last) state a.grow.fixed (a.writes state x (back state agrees) stands) b.given (b.writes state g.0 agrees g.1));
-        grow = grow_trans (meaning first) (meaning middle) (meaning last) a.grow b.grow;
+        grow = ReadsGrow-trans (meaning first) (meaning middle) (meaning last) a.grow b.grow;
       }

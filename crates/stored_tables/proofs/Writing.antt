@@ -9,7 +9,7 @@ use Rattle.record_store.specs.Store.{IsFresh}
 use Rattle.record_store.specs.Walks.{ReadsGrow}
 use Rattle.record_store.specs.declared.walk.Walk.{Walk}
 use Rattle.record_store.specs.declared.walk.Walk.TheVariants.{Store}
-use Rattle.record_store.proofs.Agreement.{extends-refl, extends-after_read, known-overlay}
+use Rattle.record_store.proofs.Agreement.{known-overlay, ReadsGrow-refl, ReadsGrow-same, ReadsGrow-fresh, ReadsGrow-write}
 use Rattle.record_store.specs.Writes.{IsKnown}
 use Rattle.record_store.proofs.Known.{gives-none, gives-weaken, fewer-refused, goes-same, goes-fresh}
 use Rattle.record_store.proofs.Refusals.{store_fault}
@@ -19,10 +19,6 @@ use Rattle.stored_tables.specs.Runs.{Runs}
 use Rattle.stored_tables.proofs.Knowing.{MayWrite, known_write}
 use Rattle.stored_tables.proofs.Runs.{no_ok, never_ok}
 use Rattle.stored_tables.proofs.Looking.{no_torn}
-
-same_grows : (before after : Meaning) → after ≡ before → ReadsGrow before after
-same_grows before after same = let P : Meaning → Type 0 = λ m. ReadsGrow before m in subst P (sym same)
-    (record { reads = extends-refl before.reads; size = refl; fixed = refl })
 
 -- a new record is absent in each state that agrees
 pub fresh_absent : (before after : Meaning) (rid : ℕ) (state : State) → IsFresh before rid → after ≡ after_fresh before rid
@@ -47,7 +43,7 @@ module _ {S F : Type 0} {read_gives : S → ℕ → Result (Option (List ℕ)) F
     few = never_ok result (Store fault) _ is;
     given = (goes-same (λ _. ⊥) (meaning first) (meaning last) same).given;
     writes = λ state x agrees stands. (goes-same (IsKnown (meaning first).fixed state) (meaning first) (meaning last) same).only;
-    grow = same_grows (meaning first) (meaning last) same;
+    grow = ReadsGrow-same (meaning first) (meaning first) (meaning last) (ReadsGrow-refl (meaning first)) same;
   }
 
   pub write_done : {T X : Type 0} (Stands : State → X → Type 0) (Due : ℕ → State → X → Type 0) (Did : T → ℕ → State → X → Type 0)
@@ -68,8 +64,7 @@ module _ {S F : Type 0} {read_gives : S → ℕ → Result (Option (List ℕ)) F
         few = writes-one (meaning first) (meaning last) rid value (ap (λ (m : Meaning). m.writes) is);
         given = gives-none (meaning first) (meaning last) (ap (λ (m : Meaning). m.given) is);
         writes = λ state x agrees stands. known_write (meaning first) (meaning last) rid value state is (may_write state x stands);
-        grow = let P : Meaning → Type 0 = λ m. ReadsGrow (meaning first) m in subst P (sym is)
-            (record { reads = extends-refl (meaning first).reads; size = refl; fixed = refl });
+        grow = ReadsGrow-write (meaning first) (meaning first) (meaning last) rid value (ReadsGrow-refl (meaning first)) is;
       }
 
   pub fresh_refused : {T X : Type 0} (Stands : State → X → Type 0) (Due : ℕ → State → X → Type 0) (Did : T → ℕ → State → X → Type 0)
@@ -92,7 +87,7 @@ module _ {S F : Type 0} {read_gives : S → ℕ → Result (Option (List ℕ)) F
     given = gives-weaken 0 1 (meaning first) (meaning last) (omega arith)
         (goes-same (λ _. ⊥) (meaning first) (meaning last) same).given;
     writes = λ state x agrees stands. (goes-same (IsKnown (meaning first).fixed state) (meaning first) (meaning last) same).only;
-    grow = same_grows (meaning first) (meaning last) same;
+    grow = ReadsGrow-same (meaning first) (meaning first) (meaning last) (ReadsGrow-refl (meaning first)) same;
   }
 
   pub fresh_done : {X : Type 0} (Stands : State → X → Type 0) (Due : ℕ → State → X → Type 0) (first last : S) (rid : ℕ)
@@ -109,9 +104,5 @@ module _ {S F : Type 0} {read_gives : S → ℕ → Result (Option (List ℕ)) F
     few = writes-none (meaning first) (meaning last) (ap (λ (m : Meaning). m.writes) is);
     given = (goes-fresh (λ _. ⊥) (meaning first) (meaning last) rid is).given;
     writes = λ state x agrees stands. (goes-fresh (IsKnown (meaning first).fixed state) (meaning first) (meaning last) rid is).only;
-    grow = record {
-      reads = rw (ap (λ (m : Meaning). m.reads) is) (extends-after_read (meaning first) rid None);
-      size = ap (λ (m : Meaning). m.size) is;
-      fixed = ap (λ (m : Meaning). m.fixed) is;
-    };
+    grow = ReadsGrow-fresh (meaning first) (meaning first) (meaning last) rid (ReadsGrow-refl (meaning first)) is;
   }

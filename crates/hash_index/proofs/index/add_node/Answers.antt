@@ -7,6 +7,7 @@ use Rattle.record_store.proofs.Refusals.{store_fault, fault_moved, IfStore-map, 
 use Rattle.record_store.proofs.Paths.{Calls-trans, CallFault-never}
 use Rattle.hash_index.specs.Node.{words_of}
 use Rattle.hash_index.proofs.Words.{words_alike}
+use Rattle.record_store.proofs.Agreement.{ReadsGrow-refl, ReadsGrow-same, ReadsGrow-fresh, ReadsGrow-write, ReadsGrow-tried}
 use Rattle.hash_index.proofs.index.add_node.Goals as goal
 
 pub returns-in_err-fresh-clause-fault : goal.returns-in_err-fresh-clause-fault
@@ -65,3 +66,22 @@ returns-in_err-fresh-clause-writes g c = (goes-same (λ rid. rid ≡ c.args.last
 
 pub returns-in_err-fresh-clause-given : goal.returns-in_err-fresh-clause-given
 returns-in_err-fresh-clause-given g c = gives-weaken 0 1 (g.S.RecordRead.meaning c.args.store.now) (g.S.RecordRead.meaning c.fresh.new.self) (omega arith) (goes-same (λ rid. rid ≡ c.args.last.at) (g.S.RecordRead.meaning c.args.store.now) (g.S.RecordRead.meaning c.fresh.new.self) c.in_err-fresh.ensures.err).given
+
+-- what is left of the store
+pub returns-in_err-write_node-clause-after : goal.returns-in_err-write_node-clause-after
+returns-in_err-write_node-clause-after g c =
+    let m0 = g.S.RecordRead.meaning c.args.store.now in
+    let m1 = g.S.RecordRead.meaning c.fresh.new.self in
+    let m2 = g.S.RecordRead.meaning c.write_node.new.store in
+    let given = ReadsGrow-fresh m0 m0 m1 c.in_ok-fresh.fresh (ReadsGrow-refl m0) c.in_ok-fresh.ensures.ok in
+    ReadsGrow-same m0 m1 m2 given c.in_err-write_node.ensures.err
+
+pub returns-clause-after : goal.returns-clause-after
+returns-clause-after g c =
+    let m0 = g.S.RecordRead.meaning c.args.store.now in
+    let m1 = g.S.RecordRead.meaning c.fresh.new.self in
+    let m2 = g.S.RecordRead.meaning c.write_node.new.store in
+    let m3 = g.S.RecordRead.meaning c.write_node-2.new.store in
+    let given = ReadsGrow-fresh m0 m0 m1 c.in_ok-fresh.fresh (ReadsGrow-refl m0) c.in_ok-fresh.ensures.ok in
+    let written = ReadsGrow-write m0 m1 m2 _ _ given c.in_ok-write_node.ensures.ok in
+    ReadsGrow-tried c.write_node-2.result m0 m2 m3 _ _ written c.write_node-2.ensures.ok c.write_node-2.ensures.err

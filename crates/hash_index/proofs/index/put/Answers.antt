@@ -8,6 +8,7 @@ use Rattle.hash_index.proofs.Chains.{bucket_below, is_torn}
 use Rattle.hash_index.proofs.Stored.{puts_found, puts_room, puts_empty, puts_full, needs_node, edited_pairs}
 use Rattle.hash_index.proofs.Ends.{walked_on, walked_written}
 use Rattle.hash_index.proofs.Asked.{never_ok, asked_none, asked_one}
+use Rattle.record_store.proofs.Agreement.{ReadsGrow-only, ReadsGrow-behind, ReadsGrow-tried}
 use Rattle.hash_index.proofs.index.put.Goals as goal
 
 pub returns-in_err-link-clause-torn : goal.returns-in_err-link-clause-torn
@@ -118,3 +119,16 @@ returns-in-Empty-clause-writes g c =
 
 pub returns-in_err-link-clause-writes : goal.returns-in_err-link-clause-writes
 returns-in_err-link-clause-writes g c = known-reads (g.S.RecordRead.meaning c.args.store.now) (g.S.RecordRead.meaning c.search.new.store) c.search.ensures.after
+
+-- what is left of the store
+pub returns-in-Found-clause-after : goal.returns-in-Found-clause-after
+returns-in-Found-clause-after g c = ReadsGrow-tried c.write_node.result _ _ _ _ _ (ReadsGrow-only _ _ c.in_ok-link.ensures.after) c.write_node.ensures.ok c.write_node.ensures.err
+
+pub returns-in-Room-clause-after : goal.returns-in-Room-clause-after
+returns-in-Room-clause-after g c = ReadsGrow-tried c.write_node-in-Room.result _ _ _ _ _ (ReadsGrow-only _ _ c.in_ok-link.ensures.after) c.write_node-in-Room.ensures.ok c.write_node-in-Room.ensures.err
+
+pub returns-in-Full-clause-after : goal.returns-in-Full-clause-after
+returns-in-Full-clause-after g c = ReadsGrow-behind _ _ _ c.in_ok-link.ensures.after c.add_node.ensures.after
+
+pub returns-in-Empty-clause-after : goal.returns-in-Empty-clause-after
+returns-in-Empty-clause-after g c = ReadsGrow-tried c.write_node-in-Empty.result _ _ _ _ _ (ReadsGrow-only _ _ c.in_ok-link.ensures.after) c.write_node-in-Empty.ensures.ok c.write_node-in-Empty.ensures.err

@@ -1,6 +1,6 @@
 use Rattle.std.proofs.Common.{refl, ◌∙◌}
 use Rattle.record_store.specs.Calls.Reads.{none, read}
-use Rattle.record_store.proofs.Agreement.{answered}
+use Rattle.record_store.proofs.Agreement.{answered, OnlyReads-refl, OnlyReads-after_read}
 use Rattle.record_store.proofs.Refusals.{store_fault}
 use Rattle.hash_index.proofs.search.read_link.Goals as goal
 
@@ -48,3 +48,16 @@ returns-in-Some-read-clause-link g c = record {
     pairs = rw c.in-Some-read.ensures.node.1.pairs c.in-Some-read.ensures.node.0.records;
   };
 }
+
+-- what is left of the store
+pub returns-in_err-cells-clause-after : goal.returns-in_err-cells-clause-after
+returns-in_err-cells-clause-after g c = rw c.in_err-cells.ensures.err (OnlyReads-refl _)
+
+pub returns-in_default-clause-after : goal.returns-in_default-clause-after
+returns-in_default-clause-after g c = OnlyReads-after_read _ _ c.args.rid _ c.in_ok-cells.ensures.ok
+
+pub returns-in-Some-read-clause-after : goal.returns-in-Some-read-clause-after
+returns-in-Some-read-clause-after g c = OnlyReads-after_read _ _ c.args.rid _ c.in_ok-cells.ensures.ok
+
+pub returns-in-None-clause-after : goal.returns-in-None-clause-after
+returns-in-None-clause-after g c = OnlyReads-after_read _ _ c.args.rid _ c.in_ok-cells.ensures.ok

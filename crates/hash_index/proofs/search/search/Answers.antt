@@ -73,3 +73,9 @@ returns-in-Some-find-clause-walked g c = λ state agrees.
 pub returns-in_default-next-clause-walked : goal.returns-in_default-next-clause-walked
 returns-in_default-next-clause-walked g c = λ state agrees.
     ends_last c.args.size _ c.args.key _ c.loop-index.here (c.loop-index.invariant.walked state agrees).reaches c.in_default-next.is
+
+pub returns-in_err-link-clause-after : goal.returns-in_err-link-clause-after
+returns-in_err-link-clause-after g c = OnlyReads-trans _ _ _ c.loop-index.invariant.after c.read_link-in-loop-index.ensures.after
+
+pub returns-in_default-2-clause-after : goal.returns-in_default-2-clause-after
+returns-in_default-2-clause-after g c = OnlyReads-trans _ _ _ c.loop-index.invariant.after c.in_ok-link.ensures.after

@@ -9,8 +9,7 @@ use Rattle.record_store.proofs.Writes.{writes-none, writes-weaken}
 use Rattle.ordered_index.specs.Asks.{asks_at}
 use Rattle.ordered_index.proofs.Counting.{asks_nine}
 use Rattle.ordered_index.proofs.Asking.{asks_few, had_nine, wrote_none, wrote_fresh, wrote_one}
-use Rattle.record_store.proofs.Agreement.{OnlyReads-refl, ReadsGrow-only}
-use Rattle.ordered_index.proofs.Rooting.{grow_fresh, grow_write, grow_equal}
+use Rattle.record_store.proofs.Agreement.{ReadsGrow-refl, ReadsGrow-same, ReadsGrow-fresh, ReadsGrow-write}
 use Rattle.ordered_index.proofs.Parting.{left_few, right_few}
 use Rattle.ordered_index.specs.Held.{content_of}
 use Rattle.ordered_index.proofs.enter.put_entry.Goals as goal
@@ -159,25 +158,25 @@ returns-clause-given g c =
 pub returns-in_err-write_node-clause-after : goal.returns-in_err-write_node-clause-after
 returns-in_err-write_node-clause-after g c =
     let m0 = g.S.RecordRead.meaning c.args.store.now in
-    grow_equal m0 m0 _ (ReadsGrow-only m0 m0 (OnlyReads-refl m0)) c.in_err-write_node.ensures.err
+    ReadsGrow-same m0 m0 _ (ReadsGrow-refl m0) c.in_err-write_node.ensures.err
 
 pub returns-then-not-is_full-clause-after : goal.returns-then-not-is_full-clause-after
 returns-then-not-is_full-clause-after g c =
     let m0 = g.S.RecordRead.meaning c.args.store.now in
-    grow_write m0 m0 _ _ _ (ReadsGrow-only m0 m0 (OnlyReads-refl m0)) c.in_ok-write_node.ensures.ok
+    ReadsGrow-write m0 m0 _ _ _ (ReadsGrow-refl m0) c.in_ok-write_node.ensures.ok
 
 pub returns-in_err-fresh-clause-after : goal.returns-in_err-fresh-clause-after
 returns-in_err-fresh-clause-after g c =
     let m0 = g.S.RecordRead.meaning c.args.store.now in
-    grow_equal m0 m0 _ (ReadsGrow-only m0 m0 (OnlyReads-refl m0)) c.in_err-fresh.ensures.err
+    ReadsGrow-same m0 m0 _ (ReadsGrow-refl m0) c.in_err-fresh.ensures.err
 
 pub returns-in_err-write_node-2-clause-after : goal.returns-in_err-write_node-2-clause-after
 returns-in_err-write_node-2-clause-after g c =
     let m0 = g.S.RecordRead.meaning c.args.store.now in
     let m1 = g.S.RecordRead.meaning c.fresh.new.self in
     let m2 = g.S.RecordRead.meaning c.write_node-2.new.store in
-    let given = grow_fresh m0 m0 m1 c.in_ok-fresh.fresh (ReadsGrow-only m0 m0 (OnlyReads-refl m0)) c.in_ok-fresh.ensures.ok in
-    grow_equal m0 m1 m2 given c.in_err-write_node-2.ensures.err
+    let given = ReadsGrow-fresh m0 m0 m1 c.in_ok-fresh.fresh (ReadsGrow-refl m0) c.in_ok-fresh.ensures.ok in
+    ReadsGrow-same m0 m1 m2 given c.in_err-write_node-2.ensures.err
 
 pub returns-in_err-write_node-3-clause-after : goal.returns-in_err-write_node-3-clause-after
 returns-in_err-write_node-3-clause-after g c =
@@ -185,9 +184,9 @@ returns-in_err-write_node-3-clause-after g c =
     let m1 = g.S.RecordRead.meaning c.fresh.new.self in
     let m2 = g.S.RecordRead.meaning c.write_node-2.new.store in
     let m3 = g.S.RecordRead.meaning c.write_node-3.new.store in
-    let given = grow_fresh m0 m0 m1 c.in_ok-fresh.fresh (ReadsGrow-only m0 m0 (OnlyReads-refl m0)) c.in_ok-fresh.ensures.ok in
-    let right = grow_write m0 m1 m2 _ _ given c.in_ok-write_node-2.ensures.ok in
-    grow_equal m0 m2 m3 right c.in_err-write_node-3.ensures.err
+    let given = ReadsGrow-fresh m0 m0 m1 c.in_ok-fresh.fresh (ReadsGrow-refl m0) c.in_ok-fresh.ensures.ok in
+    let right = ReadsGrow-write m0 m1 m2 _ _ given c.in_ok-write_node-2.ensures.ok in
+    ReadsGrow-same m0 m2 m3 right c.in_err-write_node-3.ensures.err
 
 pub returns-clause-after : goal.returns-clause-after
 returns-clause-after g c =
@@ -195,9 +194,9 @@ returns-clause-after g c =
     let m1 = g.S.RecordRead.meaning c.fresh.new.self in
     let m2 = g.S.RecordRead.meaning c.write_node-2.new.store in
     let m3 = g.S.RecordRead.meaning c.write_node-3.new.store in
-    let given = grow_fresh m0 m0 m1 c.in_ok-fresh.fresh (ReadsGrow-only m0 m0 (OnlyReads-refl m0)) c.in_ok-fresh.ensures.ok in
-    let right = grow_write m0 m1 m2 _ _ given c.in_ok-write_node-2.ensures.ok in
-    grow_write m0 m2 m3 _ _ right c.in_ok-write_node-3.ensures.ok
+    let given = ReadsGrow-fresh m0 m0 m1 c.in_ok-fresh.fresh (ReadsGrow-refl m0) c.in_ok-fresh.ensures.ok in
+    let right = ReadsGrow-write m0 m1 m2 _ _ given c.in_ok-write_node-2.ensures.ok in
+    ReadsGrow-write m0 m2 m3 _ _ right c.in_ok-write_node-3.ensures.ok
 
 -- nine entries at most are written
 pub write_node-requires-2-clause-few : goal.write_node-requires-2-clause-few

@@ -8,12 +8,11 @@ use Rattle.record_store.proofs.Refusals.{store_fault, fault_moved, IfStore-map}
 use Rattle.record_store.proofs.Paths.{Calls-trans, CallFault-never}
 use Rattle.record_store.specs.Calls.CallFault.{by_fresh}
 use Rattle.ordered_index.specs.Enter.PutsRoot.{parted}
-use Rattle.ordered_index.proofs.Rooting.{grow_fresh, grow_write, grow_equal}
 use Rattle.record_store.proofs.Known.{tries, gives-weaken, fewer-refused, goes-same, goes-fresh, goes-trans}
 use Rattle.ordered_index.proofs.Going.{left_goes, right_goes, over_goes}
 use Rattle.record_store.proofs.Writes.{writes-none, writes-trans, writes-weaken}
 use Rattle.ordered_index.proofs.Asking.{wrote_none, wrote_fresh, wrote_one, on_err}
-use Rattle.record_store.proofs.Agreement.{OnlyReads-refl, ReadsGrow-only}
+use Rattle.record_store.proofs.Agreement.{ReadsGrow-refl, ReadsGrow-same, ReadsGrow-fresh, ReadsGrow-write}
 use Rattle.ordered_index.proofs.Parting.{left_few, right_few}
 use Rattle.ordered_index.proofs.enter.split_root.Goals as goal
 
@@ -75,14 +74,14 @@ pub returns-in_err-left-clause-after : goal.returns-in_err-left-clause-after
 returns-in_err-left-clause-after g c =
     let m0 = g.S.RecordRead.meaning c.args.store.now in
     let m1 = g.S.RecordRead.meaning c.fresh.new.self in
-    grow_equal m0 m0 m1 (ReadsGrow-only m0 m0 (OnlyReads-refl m0)) c.in_err-left.ensures.err
+    ReadsGrow-same m0 m0 m1 (ReadsGrow-refl m0) c.in_err-left.ensures.err
 
 pub returns-in_err-right-clause-after : goal.returns-in_err-right-clause-after
 returns-in_err-right-clause-after g c =
     let m0 = g.S.RecordRead.meaning c.args.store.now in
     let m1 = g.S.RecordRead.meaning c.fresh.new.self in
     let m2 = g.S.RecordRead.meaning c.fresh-2.new.self in
-    grow_equal m0 m1 m2 (grow_fresh m0 m0 m1 c.in_ok-left.left (ReadsGrow-only m0 m0 (OnlyReads-refl m0)) c.in_ok-left.ensures.ok) c.in_err-right.ensures.err
+    ReadsGrow-same m0 m1 m2 (ReadsGrow-fresh m0 m0 m1 c.in_ok-left.left (ReadsGrow-refl m0) c.in_ok-left.ensures.ok) c.in_err-right.ensures.err
 
 pub returns-in_err-write_node-clause-after : goal.returns-in_err-write_node-clause-after
 returns-in_err-write_node-clause-after g c =
@@ -90,8 +89,8 @@ returns-in_err-write_node-clause-after g c =
     let m1 = g.S.RecordRead.meaning c.fresh.new.self in
     let m2 = g.S.RecordRead.meaning c.fresh-2.new.self in
     let m3 = g.S.RecordRead.meaning c.write_node.new.store in
-    let two = grow_fresh m0 m1 m2 c.in_ok-right.right (grow_fresh m0 m0 m1 c.in_ok-left.left (ReadsGrow-only m0 m0 (OnlyReads-refl m0)) c.in_ok-left.ensures.ok) c.in_ok-right.ensures.ok in
-    grow_equal m0 m2 m3 two c.in_err-write_node.ensures.err
+    let two = ReadsGrow-fresh m0 m1 m2 c.in_ok-right.right (ReadsGrow-fresh m0 m0 m1 c.in_ok-left.left (ReadsGrow-refl m0) c.in_ok-left.ensures.ok) c.in_ok-right.ensures.ok in
+    ReadsGrow-same m0 m2 m3 two c.in_err-write_node.ensures.err
 
 pub returns-in_err-write_node-2-clause-after : goal.returns-in_err-write_node-2-clause-after
 returns-in_err-write_node-2-clause-after g c =
@@ -100,9 +99,9 @@ returns-in_err-write_node-2-clause-after g c =
     let m2 = g.S.RecordRead.meaning c.fresh-2.new.self in
     let m3 = g.S.RecordRead.meaning c.write_node.new.store in
     let m4 = g.S.RecordRead.meaning c.write_node-2.new.store in
-    let two = grow_fresh m0 m1 m2 c.in_ok-right.right (grow_fresh m0 m0 m1 c.in_ok-left.left (ReadsGrow-only m0 m0 (OnlyReads-refl m0)) c.in_ok-left.ensures.ok) c.in_ok-right.ensures.ok in
-    let one = grow_write m0 m2 m3 _ _ two c.in_ok-write_node.ensures.ok in
-    grow_equal m0 m3 m4 one c.in_err-write_node-2.ensures.err
+    let two = ReadsGrow-fresh m0 m1 m2 c.in_ok-right.right (ReadsGrow-fresh m0 m0 m1 c.in_ok-left.left (ReadsGrow-refl m0) c.in_ok-left.ensures.ok) c.in_ok-right.ensures.ok in
+    let one = ReadsGrow-write m0 m2 m3 _ _ two c.in_ok-write_node.ensures.ok in
+    ReadsGrow-same m0 m3 m4 one c.in_err-write_node-2.ensures.err
 
 pub returns-in_err-write_node-3-clause-after : goal.returns-in_err-write_node-3-clause-after
 returns-in_err-write_node-3-clause-after g c =
@@ -112,10 +111,10 @@ returns-in_err-write_node-3-clause-after g c =
     let m3 = g.S.RecordRead.meaning c.write_node.new.store in
     let m4 = g.S.RecordRead.meaning c.write_node-2.new.store in
     let m5 = g.S.RecordRead.meaning c.write_node-3.new.store in
-    let two = grow_fresh m0 m1 m2 c.in_ok-right.right (grow_fresh m0 m0 m1 c.in_ok-left.left (ReadsGrow-only m0 m0 (OnlyReads-refl m0)) c.in_ok-left.ensures.ok) c.in_ok-right.ensures.ok in
-    let one = grow_write m0 m2 m3 _ _ two c.in_ok-write_node.ensures.ok in
-    let both = grow_write m0 m3 m4 _ _ one c.in_ok-write_node-2.ensures.ok in
-    grow_equal m0 m4 m5 both c.in_err-write_node-3.ensures.err
+    let two = ReadsGrow-fresh m0 m1 m2 c.in_ok-right.right (ReadsGrow-fresh m0 m0 m1 c.in_ok-left.left (ReadsGrow-refl m0) c.in_ok-left.ensures.ok) c.in_ok-right.ensures.ok in
+    let one = ReadsGrow-write m0 m2 m3 _ _ two c.in_ok-write_node.ensures.ok in
+    let both = ReadsGrow-write m0 m3 m4 _ _ one c.in_ok-write_node-2.ensures.ok in
+    ReadsGrow-same m0 m4 m5 both c.in_err-write_node-3.ensures.err
 
 pub returns-clause-after : goal.returns-clause-after
 returns-clause-after g c =
@@ -125,10 +124,10 @@ returns-clause-after g c =
     let m3 = g.S.RecordRead.meaning c.write_node.new.store in
     let m4 = g.S.RecordRead.meaning c.write_node-2.new.store in
     let m5 = g.S.RecordRead.meaning c.write_node-3.new.store in
-    let two = grow_fresh m0 m1 m2 c.in_ok-right.right (grow_fresh m0 m0 m1 c.in_ok-left.left (ReadsGrow-only m0 m0 (OnlyReads-refl m0)) c.in_ok-left.ensures.ok) c.in_ok-right.ensures.ok in
-    let one = grow_write m0 m2 m3 _ _ two c.in_ok-write_node.ensures.ok in
-    let both = grow_write m0 m3 m4 _ _ one c.in_ok-write_node-2.ensures.ok in
-    grow_write m0 m4 m5 _ _ both c.in_ok-write_node-3.ensures.ok
+    let two = ReadsGrow-fresh m0 m1 m2 c.in_ok-right.right (ReadsGrow-fresh m0 m0 m1 c.in_ok-left.left (ReadsGrow-refl m0) c.in_ok-left.ensures.ok) c.in_ok-right.ensures.ok in
+    let one = ReadsGrow-write m0 m2 m3 _ _ two c.in_ok-write_node.ensures.ok in
+    let both = ReadsGrow-write m0 m3 m4 _ _ one c.in_ok-write_node-2.ensures.ok in
+    ReadsGrow-write m0 m4 m5 _ _ both c.in_ok-write_node-3.ensures.ok
 
 pub returns-in_err-left-clause-few : goal.returns-in_err-left-clause-few
 returns-in_err-left-clause-few g c =

@@ -2,7 +2,7 @@ use Rattle.std.proofs.Common.{◌+◌, ◌<◌, ℕ, Some, None, Ok, refl, sym, 
 use Rattle.std.specs.Prelude.{is_some}
 use Rattle.record_store.specs.Calls.Calls.{none}
 use Rattle.record_store.proofs.Refusals.{fault_moved, torn_moved, IfStore-map, IfTorn-map}
-use Rattle.record_store.proofs.Agreement.{OnlyReads-refl, extends-refl, size_same, OnlyReads-trans, ReadsGrow-only, ReadsGrow-behind, ReadsGrow-trans}
+use Rattle.record_store.proofs.Agreement.{OnlyReads-refl, extends-refl, size_same, OnlyReads-trans, ReadsGrow-only, ReadsGrow-behind, ReadsGrow-trans, ReadsGrow-refl}
 use Rattle.record_store.proofs.Known.{gives-reads, gives-behind, gives-trans, fewer-behind, known-reads, known-behind, known-then-found}
 use Rattle.record_store.proofs.Paths.{Calls-trans, Calls-reads, CallFault-read, CallFault-behind}
 use Rattle.ordered_index.specs.Keys.{first_key}
@@ -18,6 +18,7 @@ use Rattle.ordered_index.proofs.Entries.{entry_at-place}
 use Rattle.ordered_index.proofs.Passed.{at_some}
 use Rattle.ordered_index.proofs.Tearing.{tears_deep, tears_unfit, tears_absent, tears_below, rank_some, child_is, child_at, from_reads}
 use Rattle.ordered_index.proofs.Entering.{IsChild, child_low, enter_there, enter_done, enter_takes}
+use Rattle.ordered_index.proofs.Rows.{leaf_inner}
 use Rattle.ordered_index.proofs.enter.+enter.Goals as goal
 
 pub returns-in-Some-clause-leaf : goal.returns-in-Some-clause-leaf
@@ -378,3 +379,52 @@ returns-in-None-2-clause-after g t c = ReadsGrow-trans _ _ _ (ReadsGrow-behind _
 
 pub returns-in-There-clause-there : goal.returns-in-There-clause-there
 returns-in-There-clause-there g t c = OnlyReads-trans _ _ _ c.in_ok-child.ensures.after (rw c.in-There.is at c.in_ok-enter.ensures.there)
+
+pub returns-in-Some-clause-there : goal.returns-in-Some-clause-there
+returns-in-Some-clause-there g t c = OnlyReads-refl (g.S.RecordRead.meaning c.args.store.now)
+
+pub returns-in-Some-clause-after : goal.returns-in-Some-clause-after
+returns-in-Some-clause-after g t c = ReadsGrow-refl (g.S.RecordRead.meaning c.args.store.now)
+
+pub returns-in-None-clause-after : goal.returns-in-None-clause-after
+returns-in-None-clause-after g t c = ReadsGrow-refl (g.S.RecordRead.meaning c.args.store.now)
+
+pub returns-then-depth-eq-MOST_DEPTH-clause-after : goal.returns-then-depth-eq-MOST_DEPTH-clause-after
+returns-then-depth-eq-MOST_DEPTH-clause-after g t c = ReadsGrow-refl (g.S.RecordRead.meaning c.args.store.now)
+
+pub returns-in-There-clause-rest : goal.returns-in-There-clause-rest
+returns-in-There-clause-rest g t c = c.enter.ensures.rest ∙ c.read_node.ensures.rest
+
+pub returns-in-Done-clause-rest : goal.returns-in-Done-clause-rest
+returns-in-Done-clause-rest g t c = c.enter.ensures.rest ∙ c.read_node.ensures.rest
+
+pub returns-in-Some-3-clause-rest : goal.returns-in-Some-3-clause-rest
+returns-in-Some-3-clause-rest g t c = c.put_entry.ensures.rest ∙ c.enter.ensures.rest ∙ c.read_node.ensures.rest
+
+pub returns-in-None-2-clause-rest : goal.returns-in-None-2-clause-rest
+returns-in-None-2-clause-rest g t c = c.put_entry.ensures.rest ∙ c.enter.ensures.rest ∙ c.read_node.ensures.rest
+
+-- no node is both a leaf and an inner one
+pub returns-in-Some-clause-inner : goal.returns-in-Some-clause-inner
+returns-in-Some-clause-inner g t c = λ inner. absurd (leaf_inner c.args.here.now.kind (c.is_inner.ensures.leaf c.if-not-is_inner.true) inner)
+
+pub returns-in-None-clause-inner : goal.returns-in-None-clause-inner
+returns-in-None-clause-inner g t c = λ inner. absurd (leaf_inner c.args.here.now.kind (c.is_inner.ensures.leaf c.if-not-is_inner.true) inner)
+
+pub returns-in-Some-clause-walked : goal.returns-in-Some-clause-walked
+returns-in-Some-clause-walked g t c = λ inner. absurd (leaf_inner c.args.here.now.kind (c.is_inner.ensures.leaf c.if-not-is_inner.true) inner)
+
+pub returns-in-None-clause-walked : goal.returns-in-None-clause-walked
+returns-in-None-clause-walked g t c = λ inner. absurd (leaf_inner c.args.here.now.kind (c.is_inner.ensures.leaf c.if-not-is_inner.true) inner)
+
+pub returns-in-There-clause-leaf : goal.returns-in-There-clause-leaf
+returns-in-There-clause-leaf g t c = λ leaf. absurd (leaf_inner c.args.here.now.kind leaf (c.is_inner.ensures.inner c.if-not-is_inner.false))
+
+pub returns-in-Done-clause-leaf : goal.returns-in-Done-clause-leaf
+returns-in-Done-clause-leaf g t c = λ leaf. absurd (leaf_inner c.args.here.now.kind leaf (c.is_inner.ensures.inner c.if-not-is_inner.false))
+
+pub returns-in-Some-3-clause-leaf : goal.returns-in-Some-3-clause-leaf
+returns-in-Some-3-clause-leaf g t c = λ leaf. absurd (leaf_inner c.args.here.now.kind leaf (c.is_inner.ensures.inner c.if-not-is_inner.false))
+
+pub returns-in-None-2-clause-leaf : goal.returns-in-None-2-clause-leaf
+returns-in-None-2-clause-leaf g t c = λ leaf. absurd (leaf_inner c.args.here.now.kind leaf (c.is_inner.ensures.inner c.if-not-is_inner.false))

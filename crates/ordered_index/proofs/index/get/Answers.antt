@@ -5,6 +5,8 @@ use Rattle.ordered_index.specs.Held.{content_of}
 use Rattle.ordered_index.proofs.Entries.{entry_at-place}
 use Rattle.ordered_index.proofs.Words.{key_of}
 use Rattle.ordered_index.proofs.Trees.{is_torn, found_in}
+use Rattle.record_store.proofs.Agreement.{extends-refl}
+use Rattle.ordered_index.proofs.Reaching.{leaf_ends}
 use Rattle.ordered_index.proofs.index.get.Goals as goal
 
 pub returns-in_err-leaf-clause-torn : goal.returns-in_err-leaf-clause-torn
@@ -25,3 +27,16 @@ returns-in-None-clause-ok g c = λ state levels leaves agrees tree.
     let reaches = rw c.in-Some.is at (c.in_ok-leaf.ensures.leaf state agrees) in
     let found = found_in c.size-size.result c.args.root c.args.key (overlay (g.S.RecordRead.meaning c.args.store.now).writes state) levels leaves (c.in-Some.leaf.at, content_of c.in-Some.leaf.node) (rw c.size-size.ensures.size tree) reaches in
     sym (found ∙ rw c.in-None.is at c.place.ensures.absent)
+
+-- the walk ended well
+pub returns-in_default-clause-walked : goal.returns-in_default-clause-walked
+returns-in_default-clause-walked g c =
+    leaf_ends (g.S.RecordRead.meaning c.args.store.now).size c.args.root c.args.key c.size-size.result (g.S.RecordRead.meaning c.args.store.now) (g.S.RecordRead.meaning c.leaf_for.new.store) (g.S.RecordRead.meaning c.leaf_for.new.store) c.in_ok-leaf.field-0 c.size-size.ensures.size (extends-refl (g.S.RecordRead.meaning c.leaf_for.new.store).reads) c.in_ok-leaf.ensures.leaf
+
+pub returns-in-Some-place-clause-walked : goal.returns-in-Some-place-clause-walked
+returns-in-Some-place-clause-walked g c =
+    leaf_ends (g.S.RecordRead.meaning c.args.store.now).size c.args.root c.args.key c.size-size.result (g.S.RecordRead.meaning c.args.store.now) (g.S.RecordRead.meaning c.leaf_for.new.store) (g.S.RecordRead.meaning c.leaf_for.new.store) c.in_ok-leaf.field-0 c.size-size.ensures.size (extends-refl (g.S.RecordRead.meaning c.leaf_for.new.store).reads) c.in_ok-leaf.ensures.leaf
+
+pub returns-in-None-clause-walked : goal.returns-in-None-clause-walked
+returns-in-None-clause-walked g c =
+    leaf_ends (g.S.RecordRead.meaning c.args.store.now).size c.args.root c.args.key c.size-size.result (g.S.RecordRead.meaning c.args.store.now) (g.S.RecordRead.meaning c.leaf_for.new.store) (g.S.RecordRead.meaning c.leaf_for.new.store) c.in_ok-leaf.field-0 c.size-size.ensures.size (extends-refl (g.S.RecordRead.meaning c.leaf_for.new.store).reads) c.in_ok-leaf.ensures.leaf

@@ -2,7 +2,7 @@ use Rattle.std.proofs.Common.{Some, ap, ◌∙◌}
 use Rattle.record_store.proofs.Refusals.{fault_moved, torn_moved, IfStore-map, IfTorn-map}
 use Rattle.record_store.specs.Meaning.{after_write}
 use Rattle.record_store.proofs.Paths.{Calls-reads, Calls-trans, CallFault-read, CallFault-never}
-use Rattle.record_store.proofs.Agreement.{writes_same}
+use Rattle.record_store.proofs.Agreement.{writes_same, extends-refl, ReadsGrow-refl, ReadsGrow-write, ReadsGrow-only, written_after}
 use Rattle.record_store.proofs.Known.{tries, gives-reads, gives-tried, known-reads, known-found}
 use Rattle.record_store.proofs.Writes.{writes-none}
 use Rattle.ordered_index.proofs.Asking.{read_few, wrote_none, wrote_one}
@@ -10,6 +10,7 @@ use Rattle.ordered_index.specs.Node.{words_of, Content}
 use Rattle.ordered_index.specs.Held.{content_of}
 use Rattle.ordered_index.proofs.Trees.{is_torn}
 use Rattle.ordered_index.proofs.Removed.{removes_entry, removes_nothing, each_absent}
+use Rattle.ordered_index.proofs.Reaching.{leaf_ends}
 use Rattle.ordered_index.proofs.index.remove.Goals as goal
 
 pub returns-in_err-leaf-clause-torn : goal.returns-in_err-leaf-clause-torn
@@ -112,3 +113,26 @@ returns-clause-writes g c =
 pub returns-clause-given : goal.returns-clause-given
 returns-clause-given g c =
     gives-tried (g.S.RecordRead.meaning c.args.store.now) (g.S.RecordRead.meaning c.leaf_for.new.store) (g.S.RecordRead.meaning c.write_node.new.store) c.in-Some.leaf.at c.in_ok-leaf.ensures.after (tries c.write_node.result (g.S.RecordRead.meaning c.leaf_for.new.store) (g.S.RecordRead.meaning c.write_node.new.store) c.in-Some.leaf.at _ c.write_node.ensures.ok c.write_node.ensures.err)
+
+-- the walk ended well
+pub returns-in_default-clause-walked : goal.returns-in_default-clause-walked
+returns-in_default-clause-walked g c =
+    leaf_ends (g.S.RecordRead.meaning c.args.store.now).size c.args.root c.args.key c.size-size.result (g.S.RecordRead.meaning c.args.store.now) (g.S.RecordRead.meaning c.leaf_for.new.store) (g.S.RecordRead.meaning c.leaf_for.new.store) c.in_ok-leaf.field-0 c.size-size.ensures.size (extends-refl (g.S.RecordRead.meaning c.leaf_for.new.store).reads) c.in_ok-leaf.ensures.leaf
+
+pub returns-in_default-place-clause-walked : goal.returns-in_default-place-clause-walked
+returns-in_default-place-clause-walked g c =
+    leaf_ends (g.S.RecordRead.meaning c.args.store.now).size c.args.root c.args.key c.size-size.result (g.S.RecordRead.meaning c.args.store.now) (g.S.RecordRead.meaning c.leaf_for.new.store) (g.S.RecordRead.meaning c.leaf_for.new.store) c.in_ok-leaf.field-0 c.size-size.ensures.size (extends-refl (g.S.RecordRead.meaning c.leaf_for.new.store).reads) c.in_ok-leaf.ensures.leaf
+
+pub returns-clause-walked : goal.returns-clause-walked
+returns-clause-walked g c =
+    leaf_ends (g.S.RecordRead.meaning c.args.store.now).size c.args.root c.args.key c.size-size.result (g.S.RecordRead.meaning c.args.store.now) (g.S.RecordRead.meaning c.leaf_for.new.store) (g.S.RecordRead.meaning c.write_node.new.store) c.in_ok-leaf.field-0 c.size-size.ensures.size (ReadsGrow-write (g.S.RecordRead.meaning c.leaf_for.new.store) (g.S.RecordRead.meaning c.leaf_for.new.store) (g.S.RecordRead.meaning c.write_node.new.store) _ _ (ReadsGrow-refl (g.S.RecordRead.meaning c.leaf_for.new.store)) c.in_ok-write_node.ensures.ok).reads c.in_ok-leaf.ensures.leaf
+
+-- what is left of the store
+pub returns-in_default-clause-after : goal.returns-in_default-clause-after
+returns-in_default-clause-after g c = ReadsGrow-only _ _ c.in_ok-leaf.ensures.after
+
+pub returns-in_default-place-clause-after : goal.returns-in_default-place-clause-after
+returns-in_default-place-clause-after g c = ReadsGrow-only _ _ c.in_ok-leaf.ensures.after
+
+pub returns-clause-after : goal.returns-clause-after
+returns-clause-after g c = (written_after _ _ _ c.in-Some.leaf.at _ c.in_ok-leaf.ensures.after c.in_ok-write_node.ensures.ok).grow

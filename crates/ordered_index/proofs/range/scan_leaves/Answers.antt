@@ -95,3 +95,12 @@ returns-in_err-link-clause-after g c = OnlyReads-trans _ _ _ c.loop-goes_on.inva
 
 pub returns-then-is_before-clause-after : goal.returns-then-is_before-clause-after
 returns-then-is_before-clause-after g c = OnlyReads-trans _ _ _ c.loop-goes_on.invariant.after c.read_next_leaf.ensures.after
+
+pub returns-in_default-next-clause-appends : goal.returns-in_default-next-clause-appends
+returns-in_default-next-clause-appends g c = rw (← c.size-size.ensures.size) c.loop-goes_on.invariant.appends
+
+pub returns-then-is_before-clause-appends : goal.returns-then-is_before-clause-appends
+returns-then-is_before-clause-appends g c = rw (← c.size-size.ensures.size) c.loop-goes_on.invariant.appends
+
+pub returns-clause-appends : goal.returns-clause-appends
+returns-clause-appends g c = rw (← c.size-size.ensures.size) c.loop-goes_on.invariant.appends

@@ -63,7 +63,7 @@ err_refused : {F : Type 0} (result : Result Outcome (Walk F)) (walk : Walk F) (P
 err_refused (Ok outcome) walk P is = absurd is
 err_refused (Err w) walk P is = tt
 
-on_err : {T E : Type 0} (result : Result T E) (P : Type 0) → P → OnErr result P
+pub on_err : {T E : Type 0} (result : Result T E) (P : Type 0) → P → OnErr result P
 on_err (Ok v) P holds = tt
 on_err (Err e) P holds = holds
 

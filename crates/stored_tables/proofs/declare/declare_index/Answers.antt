@@ -5,7 +5,7 @@ use Rattle.record_store.proofs.Agreement.{ReadsGrow-only}
 use Rattle.record_store.proofs.Paths.{Calls-reads, CallFault-read}
 use Rattle.record_store.proofs.Refusals.{torn_moved, fault_moved, store_fault, IfStore-map}
 use Rattle.stored_tables.proofs.DeclareRuns.{head_declared, index_then_rows, reads_few, write_few, write_grows, same_only}
-use Rattle.stored_tables.proofs.Ending.{looks_torn_tables}
+use Rattle.stored_tables.proofs.Ending.{looks_torn_tables, on_err}
 use Rattle.stored_tables.proofs.Looking.{no_torn}
 use Rattle.stored_tables.proofs.Runs.{ok_of}
 use Rattle.stored_tables.proofs.declare.declare_index.Goals as goal
@@ -179,3 +179,16 @@ returns-in_ok-write-in-None-clause-after g c = write_grows (g.S.RecordRead.meani
     (index_then_rows {meaning = g.S.RecordRead.meaning} c.args.table c.args.store.now c.index_of.new.store c.has_row.new.store
     c.index_of.result c.has_row.result c.index_of.ensures.looks (c.in_ok-_index.was ∙ ap (λ o. Ok o) c.in-None.is)
     c.has_row.ensures.looks).only c.in_ok-write-in-None.ensures.ok
+
+pub returns-in_err-has_row-in-None-clause-refused : goal.returns-in_err-has_row-in-None-clause-refused
+returns-in_err-has_row-in-None-clause-refused g c = on_err c.from_residual-in_err-has_row-in-None.result _
+    (index_then_rows {meaning = g.S.RecordRead.meaning} c.args.table c.args.store.now c.index_of.new.store c.has_row.new.store
+    c.index_of.result c.has_row.result c.index_of.ensures.looks (c.in_ok-_index.was ∙ ap (λ o. Ok o) c.in-None.is)
+    c.has_row.ensures.looks).only
+
+pub returns-in_err-write-in-None-clause-refused : goal.returns-in_err-write-in-None-clause-refused
+returns-in_err-write-in-None-clause-refused g c = on_err c.from_residual-in_err-write-in-None.result _
+    (same_only (g.S.RecordRead.meaning c.args.store.now) (g.S.RecordRead.meaning c.has_row.new.store) (g.S.RecordRead.meaning c.write.new.self)
+    (index_then_rows {meaning = g.S.RecordRead.meaning} c.args.table c.args.store.now c.index_of.new.store c.has_row.new.store
+    c.index_of.result c.has_row.result c.index_of.ensures.looks (c.in_ok-_index.was ∙ ap (λ o. Ok o) c.in-None.is)
+    c.has_row.ensures.looks).only c.in_err-write-in-None.ensures.err)

@@ -79,3 +79,12 @@ returns-in_err-link-clause-after g c = OnlyReads-trans _ _ _ c.loop-index.invari
 
 pub returns-in_default-2-clause-after : goal.returns-in_default-2-clause-after
 returns-in_default-2-clause-after g c = OnlyReads-trans _ _ _ c.loop-index.invariant.after c.in_ok-link.ensures.after
+
+pub returns-in_default-2-clause-place : goal.returns-in_default-2-clause-place
+returns-in_default-2-clause-place g c = tt
+
+pub returns-in_default-2-clause-within : goal.returns-in_default-2-clause-within
+returns-in_default-2-clause-within g c = tt
+
+pub returns-in_default-2-clause-walked : goal.returns-in_default-2-clause-walked
+returns-in_default-2-clause-walked g c = tt

@@ -75,3 +75,6 @@ returns-clause-items c =
     all
     ∙ ap (λ ys. old ++ ys) (between_whole c.args.lo c.args.hi xs n few)
     ∙ ap (λ ys. old ++ take n (between c.args.lo c.args.hi ys)) c.as_slice-entry-items.ensures.value
+
+pub returns-clause-ends : goal.returns-clause-ends
+returns-clause-ends c = λ no. cc

@@ -126,3 +126,13 @@ returns-in-Err-clause-unrefused g c =
     ∙ ap (λ (cs : List Command). get_or cs c.loop-i.i c.command-item.result) c.as_slice-command-items.ensures in
     λ all. not_refused _ c.in-Err.cause c.in-Err.is (ok_of c.run_command.result (λ ran. IsOk ran) _ c.in_ok-answer.was
     (c.run_command.ensures.answered (idle_at c.args.commands.now c.command-item.result c.loop-i.i all within here)))
+
+-- what no call changes
+pub returns-in_err-answer-clause-rest : goal.returns-in_err-answer-clause-rest
+returns-in_err-answer-clause-rest g c = c.run_command.ensures.rest ∙ c.loop-i.invariant.rest
+
+pub returns-then-is_err-2-clause-rest : goal.returns-then-is_err-2-clause-rest
+returns-then-is_err-2-clause-rest g c = c.run_command.ensures.rest ∙ c.loop-i.invariant.rest
+
+pub returns-in-Err-clause-rest : goal.returns-in-Err-clause-rest
+returns-in-Err-clause-rest g c = c.run_command.ensures.rest ∙ c.loop-i.invariant.rest

@@ -1,6 +1,7 @@
 pub mod Again
 pub mod AloneSeats
 pub mod Announcing
+pub mod Answered
 pub mod Bounds
 pub mod EndMore
 pub mod FreedPlaces
@@ -22,6 +23,7 @@ pub mod Queued
 pub mod ReadMore
 pub mod Renewed
 pub mod Rescanning
+pub mod Searching
 pub mod Settlement
 pub mod Shares
 pub mod Steady

@@ -1,9 +1,9 @@
 -- What a promotion leaves of a hand, of a post and of a pass.
-use Rattle.std.proofs.Common.{◌≡◌, ◌≢◌, ℕ, ◌<◌, List, [], ◌∷◌, ◌++◌, length, Option, Some, None, Result, Ok, Err, refl, sym, ap, ◌∙◌, subst, inl, inr, ⊎_elim, eq-eqb, ne_eqb, eqb, Bool, cond, arith}
-use Rattle.std.specs.Prelude.{IfSome, IfErr}
-use Rattle.std.specs.Result.{IsErrAnd}
+use Rattle.std.proofs.Common.{◌≡◌, ◌≢◌, ℕ, ◌<◌, List, [], ◌∷◌, ◌++◌, length, Option, Some, None, refl, sym, ap, ◌∙◌, subst, inl, inr, ⊎_elim, eq-eqb, ne_eqb, eqb, Bool, cond, arith}
+use Rattle.std.specs.Prelude.{IfSome}
 use Rattle.word_layout.specs.Size.{Size, IsSize, kept_place}
-use Rattle.core_rule.specs.View.{View, Work, Write, Load, no_work, writing, version_kept}
+use Rattle.core_rule.specs.View.{View, Work, Write, Load, no_work, still, writing, version_kept}
+use Rattle.core_rule.specs.Versions.{read_version}
 use Rattle.core_rule.specs.Views.{Among}
 use Rattle.core_rule.specs.Searching.{Ends, Rests, counted_more}
 use Rattle.core_rule.specs.Holding.{without}
@@ -21,13 +21,13 @@ use Rattle.validate_core.specs.declared.conflict.Conflict.{Conflict}
 use Rattle.validate_core.specs.declared.conflict.Conflict.TheVariants.{Pending}
 use Rattle.seat_post.specs.Searched.{Stops}
 use Rattle.seat_post.specs.Promoting.{IsDrawn, MeetsPending, IsStoppedWriting, FindsElsewhere, LoadsElsewhere, FindsOccupied, WritesInline, PromotesAt, FailsAt, MeetsElsewhere, CameUpon, IsStoppedPost}
-use Rattle.seat_post.specs.Rewriting.{IsStopped, LinksOne, IsLoadedIn, others_in}
+use Rattle.seat_post.specs.Rewriting.{HasFound, Rewrites, IsStopped, LinksOne, IsLoadedIn, others_in}
 use Rattle.seat_post.specs.Observing.{WasLost}
 use Rattle.seat_post.specs.declared.promoting.Promotion.{Promotion}
 use Rattle.seat_post.specs.declared.promoting.Promotion.TheVariants.{Promoted, Inline, Absent, Occupied}
 use Rattle.seat_post.specs.Conflicts.{ShowsOf}
 use Rattle.seat_post.specs.Post.{IsPost, post_view}
-use Rattle.stamp_base.specs.Stamp.{stamp_of}
+use Rattle.stamp_base.specs.Stamp.{stamp_of, IsStamp}
 use Rattle.seat_post.specs.declared.phase.Phase.{Phase}
 use Rattle.seat_post.specs.declared.phase.Phase.TheVariants.{Idle}
 use Rattle.seat_post.proofs.Posts.{at_phase, post_idle}
@@ -59,12 +59,38 @@ pub still_published : (stamp rid place wts : ℕ) (words : List ℕ) (v b t l : 
 still_published stamp rid place wts words v b t l drawn found takes loads =
     ap (λ (y : View). y.published.write) loads ∙ ap (λ (y : View). y.published.write) takes.view ∙ ap (λ (y : View). y.published.write) found.view ∙ drawn.published
 
+-- it was taken, and the value was loaded
+elsewhere_loaded : (words : List ℕ) (stamp rid place wts : ℕ) (v b t l : View) → l ≡ with_value t words l.seen → Grows t.seen l.seen → place ≢ rid → Reads stamp rid place wts 3 v b → TakesFree rid b t → LoadsElsewhere stamp rid words v l
+elsewhere_loaded words stamp rid place wts v b t l loads grows elsewhere found takes = record { between = b; finds = record { place = place; elsewhere = elsewhere; wts = wts; found = found }; taken = t; takes = takes; loads = loads; grows = grows }
+
+-- what was found and loaded then
+pub has_found : (value : Option (List ℕ)) (stamp rid place wts : ℕ) (v b t l : View) → IsStamp stamp → IsDrawn stamp v → value ≢ None → IfSome value (λ words. (length words ≡ 32) × (l ≡ with_value t words l.seen)) → Reads stamp rid place wts 3 v b → TakesFree rid b t → HasFound l.published.write (read_version rid place wts value) l
+has_found None stamp rid place wts v b t l is drawn present loads found takes = absurd (present refl)
+has_found (Some words) stamp rid place wts v b t l is drawn present loads found takes =
+    let published = still_published stamp rid place wts words v b t l drawn found takes loads.1 in
+    let whole = loads.1 ∙ ap (λ (y : View). with_value y words l.seen) takes.view ∙ ap (λ (y : View). with_value (after_taking y rid) words l.seen) found.view in
+    record {
+      in_flight = ap (λ (y : View). y.flight) whole ∙ drawn.in_flight ∙ ap writing (sym published);
+      published = refl;
+      is_stamp = subst IsStamp (sym published) is;
+      work = ap (λ (y : View). y.work) whole ∙ ap (λ (x : Work). record x { search = still; reads = read_version rid place wts (Some words) ∷ x.reads }) drawn.work;
+    }
+
+pub writes_inline : (kept : State → Type 0) (records : ℕ) (value : Option (List ℕ)) (stamp rid place wts : ℕ) (v b t l w : View) → IsDrawn stamp v → value ≢ None → IfSome value (λ words. (length words ≡ 32) × (l ≡ with_value t words l.seen)) → Grows t.seen l.seen → place ≢ rid → Reads stamp rid place wts 3 v b → TakesFree rid b t → Rewrites kept records rid rid l.published.write value l w → WritesInline kept records stamp rid v w
+writes_inline kept records None stamp rid place wts v b t l w drawn present loads grows elsewhere found takes rewrites = absurd (present refl)
+writes_inline kept records (Some words) stamp rid place wts v b t l w drawn present loads grows elsewhere found takes rewrites = record {
+  words = words;
+  loaded = l;
+  loads = elsewhere_loaded words stamp rid place wts v b t l loads.1 grows elsewhere found takes;
+  rewrites = subst (λ (n : ℕ). Rewrites kept records rid rid n (Some words) l w) (still_published stamp rid place wts words v b t l drawn found takes loads.1) rewrites;
+}
+
 pub stopped_writing : (value : Option (List ℕ)) (stamp rid place wts : ℕ) (v b t l w : View) (conflict : Conflict) → IsDrawn stamp v → value ≢ None → IfSome value (λ words. (length words ≡ 32) × (l ≡ with_value t words l.seen)) → Grows t.seen l.seen → place ≢ rid → Reads stamp rid place wts 3 v b → TakesFree rid b t → IsStopped rid rid l.published.write l w conflict → IsStoppedWriting stamp rid v w conflict
 stopped_writing None stamp rid place wts v b t l w conflict drawn present loads grows elsewhere found takes stops = absurd (present refl)
 stopped_writing (Some words) stamp rid place wts v b t l w conflict drawn present loads grows elsewhere found takes stops = record {
   words = words;
   loaded = l;
-  loads = record { between = b; finds = record { place = place; elsewhere = elsewhere; wts = wts; found = found }; taken = t; takes = takes; loads = loads.1; grows = grows };
+  loads = elsewhere_loaded words stamp rid place wts v b t l loads.1 grows elsewhere found takes;
   stops = subst (λ (n : ℕ). IsStopped rid rid n l w conflict) (still_published stamp rid place wts words v b t l drawn found takes loads.1) stops;
 }
 
@@ -281,8 +307,3 @@ module _ (hand hand' : Seated) (phase : Phase) (ps : ℕ) (reads writes : List (
 
   pub fails_post : FailsAt stamp rid v hand'.view conflict → IsStoppedPost rid clock (post_view hand phase ps reads writes) (post_view hand' phase ps reads writes) conflict
   fails_post fails = ⊎_elim (λ (met : MeetsPending stamp rid v hand'.view conflict). met_post met) (λ (stops : IsStoppedWriting stamp rid v hand'.view conflict). stopped_post stops) fails
-
--- an error that is told in another type
-pub err_told : {T E : Type 0} (r : Result T E) (e : E) (P : E → Type 0) → IsErrAnd r (λ x. x ≡ e) → P e → IfErr r P
-err_told (Ok t) e P told holds = absurd told
-err_told (Err x) e P told holds = subst P (sym told) holds

@@ -1,9 +1,12 @@
 use Rattle.std.proofs.Common.{◌≡◌, ◌<◌, ◌+◌, ℕ, sym, ap, ◌∙◌, subst, inr, arith}
 use Rattle.stamp_base.specs.Stamp.{stamp_of}
 use Rattle.core_rule.specs.Hands.{Seated}
+use Rattle.core_rule.specs.View.{View}
+use Rattle.word_layout.specs.Size.{Size}
 use Rattle.clock_stamps.specs.Clocks.{drawn_clock}
 use Rattle.seat_post.specs.Rewriting.{Rewrites}
-use Rattle.seat_post.specs.Settling.{IsRewrittenAt}
+use Rattle.seat_post.specs.Settling.{IsRewrittenAt, WantsKept}
+use Rattle.seat_post.proofs.Answered.{not_ok, on_err}
 use Rattle.seat_post.proofs.Bounds.{drawn_later, less_is_most, seat_below}
 use Rattle.seat_post.proofs.Steady.{steady_same, steady_settles}
 use Rattle.seat_post.proofs.Renewed.{alone_drawn, none_taken, taken_alone, rewritten_settling, rewritten_settles, rewritten_at, none_stops, spare_found, free_found}
@@ -26,6 +29,32 @@ returns-in_err-taken-clause-settles g c =
     let v = c.args.hand.now.view in
     let r = c.in-Ok.read in
     (none_taken g.J.Keeps.kept v c.draw.new.hand.view c.search.new.hand.view c.take_place.new.hand.view (drawn_clock v.clock.clock 0) c.args.rid r.place r.wts r.value c.requires.settling (less_is_most _ _ (drawn_later v.clock.clock 0)) c.in_ok-stamp.ensures.view c.in-Ok.ensures.ok c.in_err-taken.ensures.none).1
+
+pub returns-in_err-taken-clause-ok : goal.returns-in_err-taken-clause-ok
+returns-in_err-taken-clause-ok g c = not_ok c.from_residual-in_err-taken.result _ _ c.from_residual-in_err-taken.ensures.1
+
+pub returns-in_err-taken-clause-in_kept : goal.returns-in_err-taken-clause-in_kept
+returns-in_err-taken-clause-in_kept g c = not_ok c.from_residual-in_err-taken.result _ _ c.from_residual-in_err-taken.ensures.1
+
+pub returns-in_err-taken-clause-left : goal.returns-in_err-taken-clause-left
+returns-in_err-taken-clause-left g c = not_ok c.from_residual-in_err-taken.result _ _ c.from_residual-in_err-taken.ensures.1
+
+pub returns-in_err-taken-clause-clock_out : goal.returns-in_err-taken-clause-clock_out
+returns-in_err-taken-clause-clock_out g c = on_err c.from_residual-in_err-taken.result (ap (λ (y : View). y.clock.clock) c.in_err-taken.ensures.none.view ∙ c.in_err-taken.ensures.clock_out)
+
+pub returns-in_err-taken-clause-none : goal.returns-in_err-taken-clause-none
+returns-in_err-taken-clause-none g c = on_err c.from_residual-in_err-taken.result (ap (λ (y : View). y.counts) c.in_err-taken.ensures.none.view ∙ ap (λ (y : View). y.counts) c.in-Ok.ensures.ok.view ∙ ap (λ (y : View). y.counts) c.in_ok-stamp.ensures.view)
+
+pub returns-in_err-taken-clause-runs_out : goal.returns-in_err-taken-clause-runs_out
+returns-in_err-taken-clause-runs_out g c =
+    let v = c.args.hand.now.view in
+    let before = ap (λ (y : View). y.clock.clock) c.in-Ok.ensures.ok.view ∙ ap (λ (y : View). y.clock.clock) c.in_ok-stamp.ensures.view in
+    let out = c.in_err-taken.ensures.clock_out in
+    let wants = subst (λ (z : Size). WantsKept z c.args.rid c.search.new.hand.view c.take_place.new.hand.view) (sym c.requires.ready.hand_of.same_size) c.in_err-taken.ensures.wanted in
+    on_err c.from_residual-in_err-taken.result (inr (omega arith, (c.search.new.hand.view, wants)))
+
+pub rewrite-requires-clause-fits : goal.rewrite-requires-clause-fits
+rewrite-requires-clause-fits g c = c.in_ok-taken.ensures.fits.0
 
 pub unreachable-requires-in-Err-rewrite : goal.unreachable-requires-in-Err-rewrite
 unreachable-requires-in-Err-rewrite g c =

@@ -1,5 +1,6 @@
-use Rattle.std.proofs.Common.{refl}
+use Rattle.std.proofs.Common.{refl, rules, inr}
 use Rattle.seat_post.proofs.Steady.{steady_same, steady_idle, steady_raised, steady_looked, steady_settling, steady_settles}
+use Rattle.seat_post.proofs.Searching.{only_looked}
 use Rattle.seat_post.proofs.Observed.{raises_grow}
 use Rattle.seat_post.proofs.Settlement.{visible_entered}
 use Rattle.seat_post.proofs.settling.is_visible.Goals as goal
@@ -17,6 +18,13 @@ returns-then-found-first-clause-settling g c =
     let b = c.publish_read-bound in
     let steady = steady_looked c.args.hand.now c.idle.new.hand r.new.hand b.new.hand c.find.new.hand.view r.result b.result c.args.rid c.in-Version.place c.in-Version.found _ c.requires.settling.ends i.rises i.unchanged r.ensures.view (raises_grow _ _ _ c.idle.new.hand.view r.result r.new.hand.view r.ensures.raises) r.ensures.not_back b.ensures.view b.ensures.met c.in-Version.ensures.version in
     steady_settling c.args.hand.now.view c.find.new.hand.view c.requires.settling steady
+
+pub returns-then-found-first-clause-searches : goal.returns-then-found-first-clause-searches
+returns-then-found-first-clause-searches g c =
+    let i = c.idle.ensures in
+    let r = c.raise_min_write in
+    let b = c.publish_read-bound in
+    only_looked c.args.hand.now c.idle.new.hand r.new.hand b.new.hand c.find.new.hand.view r.result b.result _ c.args.rid c.in-Version.place c.in-Version.found _ i.rises i.unchanged r.ensures.view b.ensures.view c.in-Version.ensures.version
 
 pub returns-then-found-first-clause-settles : goal.returns-then-found-first-clause-settles
 returns-then-found-first-clause-settles g c =
@@ -36,6 +44,9 @@ returns-then-found-first-clause-entered g c = λ above.
     let alone = (steady_settling c.args.hand.now.view c.find.new.hand.view c.requires.settling steady).alone in
     visible_entered _ c.args.rid _ c.in-Version.found c.args.first.wts _ b.new.hand.view c.find.new.hand.view alone c.if-found-first.true above found
 
+pub returns-then-found-first-clause-hidden : goal.returns-then-found-first-clause-hidden
+returns-then-found-first-clause-hidden g c = λ off. inr (record { before = c.publish_read-bound.new.hand.view; limit = _; place = c.in-Version.place; found = c.in-Version.found; status = _; reads = c.in-Version.ensures.version; other = inr (search rules) })
+
 pub returns-else-found-first-clause-settling : goal.returns-else-found-first-clause-settling
 returns-else-found-first-clause-settling g c =
     let i = c.idle.ensures in
@@ -43,6 +54,13 @@ returns-else-found-first-clause-settling g c =
     let b = c.publish_read-bound in
     let steady = steady_looked c.args.hand.now c.idle.new.hand r.new.hand b.new.hand c.find.new.hand.view r.result b.result c.args.rid c.in-Version.place c.in-Version.found _ c.requires.settling.ends i.rises i.unchanged r.ensures.view (raises_grow _ _ _ c.idle.new.hand.view r.result r.new.hand.view r.ensures.raises) r.ensures.not_back b.ensures.view b.ensures.met c.in-Version.ensures.version in
     steady_settling c.args.hand.now.view c.find.new.hand.view c.requires.settling steady
+
+pub returns-else-found-first-clause-searches : goal.returns-else-found-first-clause-searches
+returns-else-found-first-clause-searches g c =
+    let i = c.idle.ensures in
+    let r = c.raise_min_write in
+    let b = c.publish_read-bound in
+    only_looked c.args.hand.now c.idle.new.hand r.new.hand b.new.hand c.find.new.hand.view r.result b.result _ c.args.rid c.in-Version.place c.in-Version.found _ i.rises i.unchanged r.ensures.view b.ensures.view c.in-Version.ensures.version
 
 pub returns-else-found-first-clause-settles : goal.returns-else-found-first-clause-settles
 returns-else-found-first-clause-settles g c =

@@ -1,6 +1,7 @@
 use Rattle.std.proofs.Common.{refl, sym, subst, arith, ℕ}
 use Rattle.seat_post.specs.Settling.{Draws}
 use Rattle.rapid_gc.proofs.Going.{frees_more}
+use Rattle.seat_post.proofs.Answered.{not_ok}
 use Rattle.seat_post.proofs.FreedPlaces.{freed_none}
 use Rattle.seat_post.proofs.Steady.{steady_same, steady_settles, settles_both}
 use Rattle.seat_post.proofs.Settlement.{settled_more, draws_both, stays_both}
@@ -25,6 +26,18 @@ loop-rid-init g c =
 
 pub returns-in_err-settle_record-clause-settles : goal.returns-in_err-settle_record-clause-settles
 returns-in_err-settle_record-clause-settles g c = settles_both g.J.Keeps.kept c.args.hand.now.view c.loop-rid.hand.view c.settle_record.new.hand.view c.loop-rid.invariant.settles c.settle_record.ensures.settles
+
+pub returns-in_err-settle_record-clause-settled : goal.returns-in_err-settle_record-clause-settled
+returns-in_err-settle_record-clause-settled g c = not_ok c.from_residual.result _ _ c.from_residual.ensures.1
+
+pub returns-in_err-settle_record-clause-draws : goal.returns-in_err-settle_record-clause-draws
+returns-in_err-settle_record-clause-draws g c = not_ok c.from_residual.result _ _ c.from_residual.ensures.1
+
+pub returns-in_err-settle_record-clause-counts : goal.returns-in_err-settle_record-clause-counts
+returns-in_err-settle_record-clause-counts g c = not_ok c.from_residual.result _ _ c.from_residual.ensures.1
+
+pub returns-in_err-settle_record-clause-freed : goal.returns-in_err-settle_record-clause-freed
+returns-in_err-settle_record-clause-freed g c = not_ok c.from_residual.result _ _ c.from_residual.ensures.1
 
 pub loop-rid-preserved : goal.loop-rid-preserved
 loop-rid-preserved g c =

@@ -22,6 +22,14 @@ is_visible-requires-clause-settling g c =
     let v = c.args.hand.now.view in
     steady_settling v c.first-found.new.hand.view c.requires.settling (steady_first v c.first-found.new.hand.view _ _ _ _ c.first-found.ensures.view (grows_loads v.seen c.first-found.new.hand.view.seen _ c.first-found.ensures.looked.loads c.first-found.ensures.lost) c.requires.settling.ends)
 
+pub returns-then-is_visible-clause-settles : goal.returns-then-is_visible-clause-settles
+returns-then-is_visible-clause-settles g c =
+    let kept = g.J.Keeps.kept in
+    let v = c.args.hand.now.view in
+    let looked = steady_settles kept v c.first-found.new.hand.view (steady_first v c.first-found.new.hand.view _ _ _ _ c.first-found.ensures.view (grows_loads v.seen c.first-found.new.hand.view.seen _ c.first-found.ensures.looked.loads c.first-found.ensures.lost) c.requires.settling.ends) in
+    let seen = settles_both kept v c.first-found.new.hand.view c.is_visible.new.hand.view looked c.is_visible.ensures.settles in
+    settles_both kept v c.is_visible.new.hand.view c.cut_below-places.new.hand.view seen c.cut_below-places.ensures.settles
+
 pub returns-in_err-once-clause-settles : goal.returns-in_err-once-clause-settles
 returns-in_err-once-clause-settles g c =
     let kept = g.J.Keeps.kept in

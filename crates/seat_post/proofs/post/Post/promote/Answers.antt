@@ -10,7 +10,8 @@ use Rattle.seat_post.specs.Promoting.{CameUpon, IsStoppedPost}
 use Rattle.seat_post.specs.declared.promoting.PromoteFault.TheVariants as fault
 use Rattle.seat_post.specs.declared.phase.Phase.TheVariants.{Idle}
 use Rattle.seat_post.proofs.Posts.{at_phase}
-use Rattle.seat_post.proofs.Promotions.{inline_apart, is_drawn, promotes_rested, fails_rested, post_rested, promotes_grow, fails_grow, came_upon, fails_post, err_told}
+use Rattle.seat_post.proofs.Promotions.{inline_apart, is_drawn, promotes_rested, fails_rested, post_rested, promotes_grow, fails_grow, came_upon, fails_post}
+use Rattle.seat_post.proofs.Answered.{err_told}
 use Rattle.seat_post.proofs.Observed.{post_grows, seen_grows, drawn_grows}
 use Rattle.version_search.proofs.Grown.{grows_both}
 use Rattle.seat_post.proofs.post.Post.promote.Goals as goal

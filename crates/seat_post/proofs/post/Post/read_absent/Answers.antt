@@ -36,6 +36,12 @@ invariant_of-self-in-Err g c =
     let room = post_room c.self.inside.hand c.self.inside.stamp c.self.inside.reads.entries c.make_room.new.reads.entries c.self.inside.writes.entries c.self.inside.sets c.make_room.new.sets (is_open _ _ _ _ _ _ phase c.self.invariant) m.entries m.reads m.writes m.not_less in
     open_at _ _ _ _ _ _ phase (post_stopped c.args.core.now _ _ _ c.args.rid _ _ _ _ room c.search.ensures.stays.ready (rw c.number.ensures.value at c.in-Err.ensures.err))
 
+pub note-requires-clause-first : goal.note-requires-clause-first
+note-requires-clause-first g c =
+    let m = c.make_room.ensures in
+    let unread : value_at c.args.self.now.reads c.args.rid ≡ None = not_read (value_at c.args.self.now.writes c.args.rid) (value_at c.args.self.now.reads c.args.rid) c.requires.first in
+    ap (λ vs. value_at vs c.args.rid) m.entries ∙ ap (λ (p : PostView). value_at p.reads c.args.rid) c.self.view_is ∙ unread
+
 pub note-requires-clause-same : goal.note-requires-clause-same
 note-requires-clause-same g c =
     let phase = ap (λ (p : PostView). p.phase) c.self.view_is ∙ c.requires.open in

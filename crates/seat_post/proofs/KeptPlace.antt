@@ -1,5 +1,5 @@
 -- What stands in the kept place while a record is written again there, and once more.
-use Rattle.std.proofs.Common.{◌≡◌, ℕ, ◌<◌, Bool, true, false, not, [], ◌∷◌, refl, sym, ap, subst, ◌∙◌, inl, inr, arith}
+use Rattle.std.proofs.Common.{◌≡◌, ◌≢◌, ℕ, ◌<◌, Bool, true, false, cond, eqb, eq-eqb, ne_eqb, not, [], ◌∷◌, refl, sym, ap, subst, ◌∙◌, inl, inr, arith}
 use Rattle.std.specs.Prelude.{if◌then◌else◌}
 use Rattle.core_rule.specs.View.{Counted, Kept, version_kept}
 use Rattle.core_rule.specs.Views.{Among}
@@ -40,3 +40,8 @@ stands_kept rid stamp c kept one = record { stamp = stamp; kept = kept; bound = 
 -- a later version is above it
 pub below_later : (i : Queued) (stamp : ℕ) (k : Kept) → k ≡ version_kept i.rid stamp → stamp < i.stamp → IsBelow i k
 below_later i stamp k is less = subst (IsBelow i) (sym is) (refl, less)
+
+-- which place was taken tells whether the version stands there
+pub kept_in : (here : Bool) (place spot : ℕ) (a b : Kept) → (here ≡ true → place ≡ spot) → (here ≡ false → place ≢ spot) → cond (eqb place spot) a b ≡ cond here a b
+kept_in true place spot a b on off = ap (λ (x : Bool). cond x a b) (eq-eqb place spot (on refl))
+kept_in false place spot a b on off = ap (λ (x : Bool). cond x a b) (ne_eqb place spot (off refl))

@@ -1,15 +1,17 @@
-use Rattle.std.proofs.Common.{◌≡◌, ◌<◌, ◌+◌, ℕ, sym, ap, ◌∙◌, subst, inr, arith}
+use Rattle.std.specs.Prelude.{if◌then◌else◌}
+use Rattle.std.proofs.Common.{◌≡◌, ◌≢◌, ◌<◌, ◌+◌, ℕ, sym, ap, ◌∙◌, subst, inr, arith}
 use Rattle.stamp_base.specs.Stamp.{stamp_of}
 use Rattle.core_rule.specs.Hands.{Seated}
-use Rattle.core_rule.specs.View.{View}
-use Rattle.word_layout.specs.Size.{Size}
+use Rattle.core_rule.specs.View.{View, Counted, version_kept}
+use Rattle.word_layout.specs.Size.{Size, kept_place}
 use Rattle.clock_stamps.specs.Clocks.{drawn_clock}
 use Rattle.seat_post.specs.Rewriting.{Rewrites}
 use Rattle.seat_post.specs.Settling.{IsRewrittenAt, WantsKept}
 use Rattle.seat_post.proofs.Answered.{not_ok, on_err}
 use Rattle.seat_post.proofs.Bounds.{drawn_later, less_is_most, seat_below}
 use Rattle.seat_post.proofs.Steady.{steady_same, steady_settles}
-use Rattle.seat_post.proofs.Renewed.{alone_drawn, none_taken, taken_alone, rewritten_settling, rewritten_settles, rewritten_at, none_stops, spare_found, free_found}
+use Rattle.seat_post.proofs.KeptPlace.{kept_in}
+use Rattle.seat_post.proofs.Renewed.{drew_found, drew_taking, alone_drawn, none_taken, taken_alone, rewritten_settling, rewritten_settles, rewritten_at, none_stops, spare_found, free_found}
 use Rattle.seat_post.proofs.renewing.renew.Goals as goal
 
 pub returns-in_err-stamp-clause-settles : goal.returns-in_err-stamp-clause-settles
@@ -115,3 +117,21 @@ returns-clause-inline g c = λ stands less.
     let r = c.in-Ok.read in
     let within : c.args.rid < v.size.records = rw c.requires.ready.hand_of.same_size c.requires.rid in
     c.in_ok-taken.ensures.inline (free_found v c.draw.new.hand.view c.search.new.hand.view (drawn_clock v.clock.clock 0) c.args.rid r.place r.wts c.args.rid r.value c.in_ok-stamp.ensures.view c.in-Ok.ensures.ok c.requires.settling (inr (within, stands)))
+
+pub returns-clause-in_kept : goal.returns-clause-in_kept
+returns-clause-in_kept g c =
+    let v = c.args.hand.now.view in
+    let t = c.take_place.new.hand.view in
+    let r = c.in-Ok.read in
+    let taken = c.in_ok-taken.taken in
+    let e = c.in_ok-taken.ensures in
+    let clock = drawn_clock v.clock.clock 0 in
+    let found = drew_found v c.draw.new.hand.view c.search.new.hand.view clock c.args.rid r.place r.wts r.value c.in_ok-stamp.ensures.view c.in-Ok.ensures.ok in
+    let drew = drew_taking v c.search.new.hand.view t clock taken.place v.places.held found e.takes in
+    let size : c.args.core.now.size ≡ t.size = sym (drew.size ∙ c.requires.ready.hand_of.same_size) in
+    let counts : t.counts ≡ v.counts = ap (λ (y : View). y.counts) e.takes.takes.view ∙ ap (λ (y : View). y.counts) c.in-Ok.ensures.ok.view ∙ ap (λ (y : View). y.counts) c.in_ok-stamp.ensures.view in
+    let stamp : t.published.write ≡ c.number-in-Ok-rewrite.result = drew.published ∙ sym (c.number-in-Ok-rewrite.ensures.value ∙ c.in_ok-stamp.ensures.stamp) in
+    ap (λ (y : View). y.counts.in_kept) c.in-Ok-rewrite.ensures.ok.links.only
+    ∙ kept_in taken.kept taken.place (kept_place t.size) (version_kept c.args.rid t.published.write) t.counts.in_kept (λ here. (e.kept here).0 ∙ ap kept_place size) (λ off. subst (λ (z : Size). taken.place ≢ kept_place z) size (e.apart off))
+    ∙ ap (λ (n : ℕ). if taken.kept then version_kept c.args.rid n else t.counts.in_kept) stamp
+    ∙ ap (λ (k : Counted). if taken.kept then version_kept c.args.rid c.number-in-Ok-rewrite.result else k.in_kept) counts

@@ -1,14 +1,19 @@
 -- What a pass keeps through a collection.
-use Rattle.std.proofs.Common.{ℕ, ◌≤◌, Bool, true, false, List, [], ◌∷◌, Option, ap, subst, inl, inr, arith, length, cond}
+use Rattle.std.proofs.Common.{◌≡◌, ℕ, ◌≤◌, Bool, true, false, List, [], ◌∷◌, Option, Some, ap, subst, sym, ◌⊎◌, inl, inr, ⊎_elim, arith, length, cond}
 use Rattle.plain_data.specs.declared.entry.Entry.{Entry}
+use Rattle.core_rule.specs.View.{Bound, Counted}
 use Rattle.core_rule.specs.Views.{Among}
+use Rattle.core_rule.specs.Searching.{known_of, newest_stamp}
 use Rattle.rapid_gc.specs.declared.queue.Queued.{Queued}
 use Rattle.rapid_gc.specs.declared.collecting.Collected.{Collected}
 use Rattle.rapid_gc.specs.Queues.{Waiting, AllBelow}
+use Rattle.rapid_gc.specs.Bounds.{IsOneLeft, IsNewest, AreKept, LeavesOne}
 use Rattle.rapid_gc.specs.Ends.{stays, Ended, items_of, remaining}
 use Rattle.validate_core.specs.declared.conflict.Conflict.{Conflict}
 use Rattle.seat_post.specs.Collecting.{Collects, AreQueued}
+use Rattle.seat_post.specs.Lists.{HasLinked, HasOutside}
 use Rattle.txn_engine.specs.Inside.{IsPass}
+use Rattle.txn_engine.specs.Lists.{IsQueuedNewest}
 use Rattle.seat_post.specs.Logs.{IsAbove}
 use Rattle.seat_post.specs.Post.{PostView, collected_at}
 use Rattle.seat_post.specs.Seats.{Known}
@@ -61,3 +66,25 @@ pass_collected p met known q q' tally n refusals dead counted is later collects 
   logged = is.logged;
   room = let h = is.room in let fewer = remaining_fewer collects.ended in let a = ap length collects.stay in let b = ap length collects.each_item in omega arith;
 }
+
+-- ---- what is known of lists
+
+one_linked : (known : Option Bound) → IsOneLeft known → HasLinked 1 known
+one_linked known one = rw one.is (let h = one.linked in omega arith)
+
+one_outside : (known : Option Bound) → IsOneLeft known → HasOutside 1 known
+one_outside known one = rw one.is one.outside
+
+-- what holds of each list but those whose newest version was queued holds of all, where it does of one version
+once_collected : (P : Option Bound → Type 0) (items : List Queued) (known : Known) (counts : Counted) (r : ℕ) → ((k : Option Bound) → IsOneLeft k → P k) → AreKept items known.counts counts → LeavesOne items known.tops counts → P (known_of known.counts r) ⊎ IsQueuedNewest items known r → P (known_of counts r)
+once_collected P items known counts r of_one kept leaves before =
+    ⊎_elim (λ (was : P (known_of known.counts r)). ⊎_elim (λ same. subst P (sym same) was) (λ one. of_one (known_of counts r) one) (kept r).0)
+    (λ (newest : IsQueuedNewest items known r).
+    let low : IsNewest known.tops newest.item = record { stamp = newest.stamp; known = subst (λ (n : ℕ). newest_stamp known.tops n ≡ Some newest.stamp) (sym newest.of_record) newest.newest; low = newest.low } in
+    subst (λ (n : ℕ). P (known_of counts n)) newest.of_record (of_one (known_of counts newest.item.rid) (leaves newest.item newest.among low))) before
+
+pub tidy_collected : (items : List Queued) (known : Known) (counts : Counted) (r : ℕ) → AreKept items known.counts counts → LeavesOne items known.tops counts → HasLinked 1 (known_of known.counts r) ⊎ IsQueuedNewest items known r → HasLinked 1 (known_of counts r)
+tidy_collected items known counts r = once_collected (HasLinked 1) items known counts r one_linked
+
+pub roomy_collected : (items : List Queued) (known : Known) (counts : Counted) (r : ℕ) → AreKept items known.counts counts → LeavesOne items known.tops counts → HasOutside 1 (known_of known.counts r) ⊎ IsQueuedNewest items known r → HasOutside 1 (known_of counts r)
+roomy_collected items known counts r = once_collected (HasOutside 1) items known counts r one_outside

@@ -1,4 +1,5 @@
 use Rattle.std.proofs.Common.{◌≡◌, None, ap, ◌∙◌, sym, subst}
+use Rattle.record_store.specs.Meaning.{value_at}
 use Rattle.txn_engine.specs.Pass.{PassView, IsAlone}
 use Rattle.seat_post.specs.Leaves.{LeavesValue}
 use Rattle.seat_post.specs.Post.{PostView, known_at}
@@ -21,6 +22,13 @@ invariant_of-self-in-Err-Pending g c = rw c.in-Err-Pending.ensures.err (pass_obs
 
 pub invariant_of-self-in-Err-NoMemory : goal.invariant_of-self-in-Err-NoMemory
 invariant_of-self-in-Err-NoMemory g c = rw c.in-Err-NoMemory.ensures.err (pass_observing _ _ _ _ _ _ _ c.self.invariant)
+
+pub returns-in-Some-clause-left : goal.returns-in-Some-clause-left
+returns-in-Some-clause-left g c = λ alone unwritten.
+    let same = c.self.view_is ∙ c.in_ok-stopped.ensures.ok.0 in
+    let flying = ap (λ (x : PassView). x.desk.phase) same ∙ c.requires.open in
+    let still = ap (λ (x : PassView). value_at x.desk.writes c.args.rid) same ∙ unwritten in
+    subst (λ (x : PassView). LeavesValue x.log c.args.rid x.desk.stamp c.in-Some.value) same (c.in-Some.ensures.left flying (subst (λ (x : PassView). IsAlone x) (sym same) alone) still)
 
 pub returns-in-Ok-clause-left : goal.returns-in-Ok-clause-left
 returns-in-Ok-clause-left g c = λ alone unwritten.

@@ -1,5 +1,5 @@
-//! Tests of tables in a store of records: worked rows, and blocks of commands that run over a map of records in memory and over the
-//! plain tables side by side.
+//! Tests of stores of records, and of the indexes and tables over them: worked rows, and blocks of commands that run over a map of
+//! records in memory and over the plain tables side by side.
 #![tactic(auto)]
 
 #[cfg(test)]
@@ -13,6 +13,10 @@ mod filled;
 #[cfg(test)]
 mod generated;
 #[cfg(test)]
+mod hash;
+#[cfg(test)]
+mod map;
+#[cfg(test)]
 mod outcomes;
 #[cfg(test)]
 mod reads;
@@ -22,5 +26,9 @@ mod script;
 mod shapes;
 #[cfg(test)]
 mod store;
+#[cfg(test)]
+mod tree;
+#[cfg(test)]
+mod words;
 #[cfg(test)]
 mod worked;

@@ -1,5 +1,5 @@
 use Rattle.std.proofs.Common.{◌≡◌, ◌≤◌}
-use Rattle.store_rows.proofs.tree.grown.Given as goal
+use Rattle.table_rows.proofs.tree.grown.Given as goal
 
 -- the store keeps its size, and no more keys were new than inserted
 abbrev pub invariant-loop-i : goal.invariant-loop-i

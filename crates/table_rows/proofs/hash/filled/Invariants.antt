@@ -1,5 +1,5 @@
 use Rattle.std.proofs.Common.{◌≡◌}
-use Rattle.store_rows.proofs.hash.filled.Given as goal
+use Rattle.table_rows.proofs.hash.filled.Given as goal
 
 -- the store keeps its size
 abbrev pub invariant-loop-i : goal.invariant-loop-i

@@ -1,5 +1,5 @@
-use Rattle.std.proofs.Common.{◌≡◌, ◌≤◌}
-use Rattle.store_rows.proofs.hash.count_held.Given as goal
+use Rattle.std.proofs.Common.{◌≡◌}
+use Rattle.table_rows.proofs.hash.count_held.Given as goal
 
 -- the store keeps its size, and so many calls were made
 abbrev pub invariant-loop-i : goal.invariant-loop-i

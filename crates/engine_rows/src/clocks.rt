@@ -3,14 +3,16 @@ ghost use Rattle.std.specs.Prelude.{◌≡◌, ◌<◌, [], IfOk};
 ghost use Rattle.core_rule.specs.Hands.{IsHandOf, IsReady, IsRetired};
 ghost use Rattle.core_rule.specs.Searching.{Ends};
 
+use crate::due::{hold, same};
 use crate::tables::{first_seat, two_seats};
 use clock_stamps::{
     ClockOut, draw, hear, idle, publish_read, raise_min_read, raise_min_write, retire, sync,
 };
 use core_rule::{AnyState, Core, Hand};
 use stamp_base::{GREATEST_CLOCK, Stamp};
+use std::alloc::{AllocError, Global};
 use std::test::*;
-use std::thread::join;
+use std::thread::{Threads, join};
 
 // A call at a seat, and what is due of it.
 #[derive(Clone, Copy)]
@@ -106,21 +108,28 @@ fn all_hold(core: &Core<AnyState>, hand: &mut Hand<AnyState>, steps: &[Step]) ->
 fn two_seats_raise_the_minima(rt: HostRuntime) -> Result<(), Fail> {
     let (core, mut first, mut second) = two_seats(rt.alloc(), 6, 4)?;
     let steps = [Draws(10, Some(2_560))];
-    assert!(rt; all_hold(&core, &mut first, &steps));
+    hold(&rt, all_hold(&core, &mut first, &steps), 0);
     let steps = [
         Draws(20, Some(5_121)),
         RaisesWrite(2_560),
         PublishesRead(2_559),
         RaisesRead(0),
     ];
-    assert!(rt; all_hold(&core, &mut second, &steps));
+    hold(&rt, all_hold(&core, &mut second, &steps), 1);
     let steps = [RaisesWrite(2_560), PublishesRead(2_559), RaisesRead(2_559)];
-    assert!(rt; all_hold(&core, &mut first, &steps));
+    hold(&rt, all_hold(&core, &mut first, &steps), 2);
     Ok(())
+}
+
+// Whether a clock that is out is shown by these words.
+fn is_shown(alloc: Global, words: &str) -> Result<bool, AllocError> {
+    let text = format!(in alloc; "{ClockOut}")?;
+    Ok(text.as_str() == words)
 }
 
 #[test]
 fn a_clock_at_its_end_draws_no_stamp(rt: HostRuntime) -> Result<(), Fail> {
+    hold(&rt, is_shown(rt.alloc(), "clock out")?, 0);
     let (core, mut hand) = first_seat(rt.alloc(), 1, 1, 1)?;
     let steps = [
         Hears(Stamp::make(GREATEST_CLOCK, 0)),
@@ -129,8 +138,7 @@ fn a_clock_at_its_end_draws_no_stamp(rt: HostRuntime) -> Result<(), Fail> {
         HasClock(GREATEST_CLOCK),
         HasPublished(1),
     ];
-    assert!(rt; all_hold(&core, &mut hand, &steps));
-    assert_eq!(rt; format!(in rt.alloc(); "{ClockOut}")?.as_str(), "clock out");
+    hold(&rt, all_hold(&core, &mut hand, &steps), 1);
     Ok(())
 }
 
@@ -145,17 +153,17 @@ fn clocks_follow_readings_and_each_other(rt: HostRuntime) -> Result<(), Fail> {
         Idles,
         HasPublished(11 * 256 + 64),
     ];
-    assert!(rt; all_hold(&core, &mut first, &steps));
+    hold(&rt, all_hold(&core, &mut first, &steps), 0);
     let steps = [Syncs, HasClock(11), Draws(0, Some(12 * 256 + 1))];
-    assert!(rt; all_hold(&core, &mut second, &steps));
+    hold(&rt, all_hold(&core, &mut second, &steps), 1);
     let steps = [
         Draws(u64::MAX, Some(1 << 63)),
         Hears(Stamp::make((1 << 55) + 9, 1)),
         Draws(u64::MAX, Some(((1 << 55) + 10) * 256)),
     ];
-    assert!(rt; all_hold(&core, &mut first, &steps));
+    hold(&rt, all_hold(&core, &mut first, &steps), 2);
     let steps = [Syncs, HasClock(1 << 55)];
-    assert!(rt; all_hold(&core, &mut second, &steps));
+    hold(&rt, all_hold(&core, &mut second, &steps), 3);
     Ok(())
 }
 
@@ -200,25 +208,63 @@ fn draw_and_raise(
     Ok((hand, trace))
 }
 
+// Draws one more stamp at each of two seats, and gives the lesser number.
+fn draw_last(
+    core: &Core<AnyState>,
+    mut first: Hand<AnyState>,
+    mut second: Hand<AnyState>,
+) -> Result<u64, ClockOut>
+    requires first_ready { IsReady core.now first }
+    requires second_ready { IsReady core.now second }
+    requires first_ends { Ends first.view.work }
+    requires second_ends { Ends second.view.work }
+{
+    let by_first = draw_number(core, &mut first, 0).ok_or(ClockOut)?;
+    let by_second = draw_number(core, &mut second, 0).ok_or(ClockOut)?;
+    Ok(by_first.min(by_second))
+}
+
+// What two seats draw and raise, each in its own thread, and the lesser number of those that they draw last.
+fn draw_in_threads<R: Threads>(
+    rt: &R,
+    core: &Core<AnyState>,
+    first: Hand<AnyState>,
+    second: Hand<AnyState>,
+) -> Result<(Trace, Trace, u64), ClockOut>
+    requires first_ready { IsReady core.now first }
+    requires second_ready { IsReady core.now second }
+    requires first_ends { Ends first.view.work }
+    requires second_ends { Ends second.view.work }
+{
+    let (left, right) = join(
+        rt,
+        move || draw_and_raise(core, first),
+        move || draw_and_raise(core, second),
+    );
+    let (first, left) = left?;
+    let (second, right) = right?;
+    let last = draw_last(core, first, second)?;
+    Ok((left, right, last))
+}
+
+// Whether no stamp was drawn by both.
+fn draw_apart(left: &Trace, right: &Trace) -> bool {
+    let mut stamps = left.stamps.iter();
+    !stamps.any(|stamp| right.stamps.contains(stamp))
+}
+
+// Whether no minimum is above this number.
+fn stays_below(trace: &Trace, number: u64) -> bool {
+    trace.minima.iter().all(|minimum| *minimum <= number)
+}
+
 #[test]
 fn threads_draw_different_stamps_above_the_minima(rt: HostRuntime) -> Result<(), Fail> {
     let (core, first, second) = two_seats(rt.alloc(), 6, 4)?;
-    let (left, right) = join(
-        &rt,
-        || draw_and_raise(&core, first),
-        || draw_and_raise(&core, second),
-    );
-    let (mut first, left) = left?;
-    let (mut second, right) = right?;
-    for stamp in left.stamps {
-        assert!(rt; !right.stamps.contains(&stamp));
-    }
-    let by_first = draw_number(&core, &mut first, 0).ok_or(ClockOut)?;
-    let by_second = draw_number(&core, &mut second, 0).ok_or(ClockOut)?;
-    let later = by_first.min(by_second);
-    for minimum in left.minima.iter().chain(right.minima.iter()) {
-        assert!(rt; *minimum <= later);
-    }
+    let (left, right, last) = draw_in_threads(&rt, &core, first, second)?;
+    hold(&rt, draw_apart(&left, &right), 0);
+    hold(&rt, stays_below(&left, last), 1);
+    hold(&rt, stays_below(&right, last), 2);
     Ok(())
 }
 
@@ -240,8 +286,8 @@ fn hear_and_retire(core: &Core<AnyState>, mut hand: Hand<AnyState>) -> Hand<AnyS
 fn the_word_of_a_retired_seat_is_not_adopted(rt: HostRuntime) -> Result<(), Fail> {
     let (core, first, mut second) = two_seats(rt.alloc(), 6, 4)?;
     let first = hear_and_retire(&core, first);
-    assert!(rt; all_hold(&core, &mut second, &[Syncs, HasClock(0)]));
+    hold(&rt, all_hold(&core, &mut second, &[Syncs, HasClock(0)]), 0);
     core.join(&mut second, first);
-    assert_eq!(rt; second.clock(), 7);
+    same(&rt, second.clock(), 7, 1);
     Ok(())
 }

@@ -4,6 +4,7 @@ ghost use Rattle.core_rule.specs.Hands.{IsReady};
 ghost use Rattle.core_rule.specs.Searching.{Ends};
 ghost use Rattle.rapid_gc.specs.Queues.{AreCommitted};
 
+use crate::due::same;
 use crate::tables::first_seat;
 use crate::validation::{begin, write_one};
 use core_rule::{AnyState, Core, Hand};
@@ -66,8 +67,8 @@ fn what_is_older_than_a_commit_is_taken_back(rt: HostRuntime) -> Result<(), Fail
         places: 1,
         ..nothing
     };
-    assert_eq!(rt; collect_once(&core, &mut hand, &mut queue), done);
-    assert_eq!(rt; collect_once(&core, &mut hand, &mut queue), nothing);
-    assert_eq!(rt; take(&core, &mut hand, 0), Ok((0, Kind::Inline)));
+    same(&rt, collect_once(&core, &mut hand, &mut queue), done, 0);
+    same(&rt, collect_once(&core, &mut hand, &mut queue), nothing, 1);
+    same(&rt, take(&core, &mut hand, 0), Ok((0, Kind::Inline)), 2);
     Ok(())
 }

@@ -7,6 +7,7 @@ ghost use Rattle.core_rule.specs.View.{writing, no_work};
 ghost use Rattle.core_rule.specs.Hands.{IsReady};
 ghost use Rattle.core_rule.specs.Versions.{written_version};
 
+use crate::due::same;
 use crate::rule::publish;
 use crate::tables::first_seat;
 use core_rule::{AnyState, Core, Hand, WrittenVersion};
@@ -81,7 +82,7 @@ fn settle_deletion(
 fn a_deletion_is_linked_checked_and_published(rt: HostRuntime) -> Result<(), Fail> {
     let (core, mut hand) = first_seat(rt.alloc(), 1, 1, 1)?;
     let stamp = publish(&core, &mut hand);
-    assert_eq!(rt; stamp.number(), 5120);
+    same(&rt, stamp.number(), 5120, 0);
     if !link_deletion(&core, &mut hand, stamp) {
         return Err("the kept place is free".into());
     }
@@ -89,10 +90,8 @@ fn a_deletion_is_linked_checked_and_published(rt: HostRuntime) -> Result<(), Fai
     let Some(read) = decide_deletion(&core, &mut hand, &write, stamp) else {
         return Err("the version below is deleted, in place 0 from the start".into());
     };
-    assert_eq!(rt; read, 0);
-    assert_eq!(rt;
-        settle_deletion(&core, &mut hand, &write, read, stamp),
-        5184
-    );
+    same(&rt, read, 0, 1);
+    let bound = settle_deletion(&core, &mut hand, &write, read, stamp);
+    same(&rt, bound, 5184, 2);
     Ok(())
 }

@@ -10,6 +10,8 @@ mod collection;
 #[cfg(test)]
 mod deletion;
 #[cfg(test)]
+mod due;
+#[cfg(test)]
 mod lists;
 #[cfg(test)]
 mod places;

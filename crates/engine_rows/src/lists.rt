@@ -6,6 +6,7 @@ ghost use Rattle.core_rule.specs.Views.{Has};
 ghost use Rattle.core_rule.specs.Hands.{IsReady};
 ghost use Rattle.core_rule.specs.Searching.{Ends, FitsPlace, Rests};
 
+use crate::due::{hold, same};
 use crate::tables::two_seats;
 use clock_stamps::{ClockOut, draw};
 use core_rule::{AnyState, Core, Hand};
@@ -29,6 +30,28 @@ fn draw_one(
     ensures begins { OnOk result (hand.new.view.work ≡ no_work) }
 {
     draw(core, hand, reading)
+}
+
+// Draws a stamp at each of two seats.
+fn draw_both(
+    core: &Core<AnyState>,
+    first: &mut Hand<AnyState>,
+    second: &mut Hand<AnyState>,
+) -> Result<(Stamp, Stamp), ClockOut>
+    requires first_ready { IsReady core.now first.old }
+    requires second_ready { IsReady core.now second.old }
+    requires first_ends { Ends first.old.view.work }
+    requires second_ends { Ends second.old.view.work }
+    ensures first_ready { IsReady core.now first.new }
+    ensures second_ready { IsReady core.now second.new }
+    ensures early { IfOk result (λ stamps. first.new.view.flight ≡ writing stamps.0) }
+    ensures late { IfOk result (λ stamps. second.new.view.flight ≡ writing stamps.1) }
+    ensures first_begins { OnOk result (first.new.view.work ≡ no_work) }
+    ensures second_begins { OnOk result (second.new.view.work ≡ no_work) }
+{
+    let early = draw_one(core, first, 10)?;
+    let late = draw_one(core, second, 20)?;
+    Ok((early, late))
 }
 
 // Takes a place for record 5.
@@ -132,41 +155,60 @@ fn find_both<R: Threads>(
 #[test]
 fn a_pending_version_ends_a_later_search(rt: HostRuntime) -> Result<(), Fail> {
     let (core, mut first, mut second) = two_seats(rt.alloc(), 6, 4)?;
-    let early = draw_one(&core, &mut first, 10)?;
-    let late = draw_one(&core, &mut second, 20)?;
-    assert_eq!(rt; (early.number(), late.number()), (2_560, 5_121));
+    let (early, late) = draw_both(&core, &mut first, &mut second)?;
+    same(&rt, (early.number(), late.number()), (2_560, 5_121), 0);
     let (first, place, kind) = link_one(&core, first, early)?;
-    assert_eq!(rt; (place, kind), (6, Kind::Pool));
-    assert!(rt; find_both(&rt, &core, first, second, (early, late)));
+    same(&rt, (place, kind), (6, Kind::Pool), 1);
+    hold(&rt, find_both(&rt, &core, first, second, (early, late)), 2);
     Ok(())
 }
 
 #[test]
 fn an_earlier_version_is_linked_below_a_later_one(rt: HostRuntime) -> Result<(), Fail> {
     let (core, mut first, mut second) = two_seats(rt.alloc(), 6, 4)?;
-    let early = draw_one(&core, &mut first, 10)?;
-    let late = draw_one(&core, &mut second, 20)?;
+    let (early, late) = draw_both(&core, &mut first, &mut second)?;
     let (second, upper, _) = link_one(&core, second, late)?;
     let (first, lower, _) = link_one(&core, first, early)?;
-    assert_eq!(rt; (upper, lower), (6, 7));
-    assert!(rt; find_both(&rt, &core, first, second, (early, late)));
+    same(&rt, (upper, lower), (6, 7), 0);
+    hold(&rt, find_both(&rt, &core, first, second, (early, late)), 1);
     Ok(())
+}
+
+// Takes a place at each of two seats, fills it and links it, each in its own thread: both places, and whether both searches find
+// what they have to.
+fn link_in_threads<R: Threads>(
+    rt: &R,
+    core: &Core<AnyState>,
+    first: Hand<AnyState>,
+    second: Hand<AnyState>,
+    stamps: (Stamp, Stamp),
+) -> Result<(u32, u32, bool), PlacesOut>
+    requires first_ready { IsReady core.now first }
+    requires second_ready { IsReady core.now second }
+    requires record { 5 < core.now.size.records }
+    requires early { first.view.flight ≡ writing stamps.0 }
+    requires late { second.view.flight ≡ writing stamps.1 }
+    requires first_begins { first.view.work ≡ no_work }
+    requires second_begins { second.view.work ≡ no_work }
+{
+    let (early, late) = stamps;
+    let (by_first, by_second) = join(
+        rt,
+        move || link_one(core, first, early),
+        move || link_one(core, second, late),
+    );
+    let (first, lower, _) = by_first?;
+    let (second, upper, _) = by_second?;
+    let found = find_both(rt, core, first, second, stamps);
+    Ok((lower, upper, found))
 }
 
 #[test]
 fn two_threads_link_in_either_order(rt: HostRuntime) -> Result<(), Fail> {
     let (core, mut first, mut second) = two_seats(rt.alloc(), 6, 4)?;
-    let early = draw_one(&core, &mut first, 10)?;
-    let late = draw_one(&core, &mut second, 20)?;
-    let shared = &core;
-    let (by_first, by_second) = join(
-        &rt,
-        move || link_one(shared, first, early),
-        move || link_one(shared, second, late),
-    );
-    let (first, lower, _) = by_first?;
-    let (second, upper, _) = by_second?;
-    assert_ne!(rt; lower, upper);
-    assert!(rt; find_both(&rt, &core, first, second, (early, late)));
+    let (early, late) = draw_both(&core, &mut first, &mut second)?;
+    let (lower, upper, found) = link_in_threads(&rt, &core, first, second, (early, late))?;
+    hold(&rt, lower != upper, 0);
+    hold(&rt, found, 1);
     Ok(())
 }

@@ -4,13 +4,14 @@ ghost use Rattle.core_rule.specs.Views.{Has};
 ghost use Rattle.core_rule.specs.Hands.{IsReady};
 ghost use Rattle.core_rule.specs.Searching.{Ends};
 
+use crate::due::{hold, same};
 use crate::tables::{first_seat, two_seats};
 use core_rule::{AnyState, Core, Hand};
 use plain_data::Cells;
 use stamp_base::Stamp;
 use std::alloc::{AllocError, Global};
 use std::test::*;
-use std::thread::join;
+use std::thread::{Threads, join};
 use version_pool::{Kind, PlacesOut, fill, give, take, take_inline, take_kept};
 
 // Takes a place for a record.
@@ -98,12 +99,11 @@ fn each_usable_place_is_tried_and_the_turn_goes_round(rt: HostRuntime) -> Result
     ];
     give_back(&core, &mut hand, place);
     let again = take_one(&core, &mut hand, 0);
-    assert_eq!(rt; (place, kind), (3, Kind::Pool));
-    assert_eq!(rt;
-        [first, third, again],
-        [Ok((2, Kind::Pool)), Err(PlacesOut), Ok((3, Kind::Pool))]
-    );
-    assert_eq!(rt; kept, [Some(4), None]);
+    same(&rt, (place, kind), (3, Kind::Pool), 0);
+    same(&rt, first, Ok((2, Kind::Pool)), 1);
+    same(&rt, third, Err(PlacesOut), 2);
+    same(&rt, again, Ok((3, Kind::Pool)), 3);
+    same(&rt, kept, [Some(4), None], 4);
     Ok(())
 }
 
@@ -112,32 +112,20 @@ fn the_turn_begins_after_the_last_place_taken(rt: HostRuntime) -> Result<(), Fai
     let (core, mut hand) = first_seat(rt.alloc(), 1, 1, 4)?;
     let (place, kind) = take_one(&core, &mut hand, 0)?;
     give_back(&core, &mut hand, place);
-    let later = [
-        take_one(&core, &mut hand, 0),
-        take_one(&core, &mut hand, 0),
-        take_one(&core, &mut hand, 0),
-    ];
-    assert_eq!(rt; (place, kind), (1, Kind::Pool));
-    assert_eq!(rt;
-        later,
-        [
-            Ok((2, Kind::Pool)),
-            Ok((3, Kind::Pool)),
-            Ok((1, Kind::Pool))
-        ]
-    );
+    same(&rt, (place, kind), (1, Kind::Pool), 0);
+    same(&rt, take_one(&core, &mut hand, 0), Ok((2, Kind::Pool)), 1);
+    same(&rt, take_one(&core, &mut hand, 0), Ok((3, Kind::Pool)), 2);
+    same(&rt, take_one(&core, &mut hand, 0), Ok((1, Kind::Pool)), 3);
     Ok(())
 }
 
 #[test]
 fn without_usable_places_the_kept_one_is_left(rt: HostRuntime) -> Result<(), Fail> {
     let (core, mut hand) = first_seat(rt.alloc(), 1, 1, 1)?;
-    assert!(rt;
-        !inline_is_free(&core, &mut hand),
-        "it is linked from the start"
-    );
-    assert_eq!(rt; take_one(&core, &mut hand, 0), Err(PlacesOut));
-    assert_eq!(rt; take_kept(&core, &mut hand), Some(1));
+    // The inline place is linked from the start.
+    hold(&rt, !inline_is_free(&core, &mut hand), 0);
+    same(&rt, take_one(&core, &mut hand, 0), Err(PlacesOut), 1);
+    same(&rt, take_kept(&core, &mut hand), Some(1), 2);
     Ok(())
 }
 
@@ -161,7 +149,12 @@ fn fill_twice(core: &Core<AnyState>, hand: &mut Hand<AnyState>) -> Result<u32, F
 fn a_held_place_is_filled_with_a_value_and_a_deletion(rt: HostRuntime) -> Result<(), Fail> {
     let (core, mut hand) = first_seat(rt.alloc(), 1, 1, 2)?;
     let place = fill_twice(&core, &mut hand)?;
-    assert_eq!(rt; take_one(&core, &mut hand, 0), Ok((place, Kind::Pool)));
+    same(
+        &rt,
+        take_one(&core, &mut hand, 0),
+        Ok((place, Kind::Pool)),
+        0,
+    );
     Ok(())
 }
 
@@ -183,19 +176,34 @@ fn take_four(
     Ok(places)
 }
 
-#[test]
-fn two_threads_take_different_places(rt: HostRuntime) -> Result<(), Fail> {
-    let (core, hand, other) = two_seats(rt.alloc(), 1, 9)?;
-    let alloc = rt.alloc();
-    let shared = &core;
+// The places that two hands take, each in its own thread, in order.
+fn take_in_threads<R: Threads>(
+    rt: &R,
+    alloc: Global,
+    core: &Core<AnyState>,
+    hand: Hand<AnyState>,
+    other: Hand<AnyState>,
+) -> Result<Vec<u32>, AllocError>
+    requires hand_ready { IsReady core.now hand }
+    requires other_ready { IsReady core.now other }
+    requires has_record { 0 < core.now.size.records }
+{
     let (first, second) = join(
-        &rt,
-        move || take_four(alloc, shared, hand),
-        move || take_four(alloc, shared, other),
+        rt,
+        move || take_four(alloc, core, hand),
+        move || take_four(alloc, core, other),
     );
     let mut places = first?;
     places.extend_from_slice(second?.as_slice())?;
     places.sort()?;
-    assert_eq!(rt; places.as_slice(), [1, 2, 3, 4, 5, 6, 7, 8].as_slice());
+    Ok(places)
+}
+
+#[test]
+fn two_threads_take_different_places(rt: HostRuntime) -> Result<(), Fail> {
+    let (core, hand, other) = two_seats(rt.alloc(), 1, 9)?;
+    let places = take_in_threads(&rt, rt.alloc(), &core, hand, other)?;
+    let due = [1, 2, 3, 4, 5, 6, 7, 8];
+    same(&rt, places.as_slice(), due.as_slice(), 0);
     Ok(())
 }

@@ -10,6 +10,7 @@ ghost use Rattle.core_rule.specs.Hands.{IsHandOf, IsReady, IsRetired};
 ghost use Rattle.core_rule.specs.Searching.{Ends};
 ghost use Rattle.core_rule.specs.Versions.{read_version};
 
+use crate::due::{hold, same};
 use crate::tables::{first_seat, two_seats};
 use core_rule::{AnyState, Core, Hand, ReadVersion};
 use stamp_base::Stamp;
@@ -87,17 +88,19 @@ fn raise_reads(core: &Core<AnyState>, hand: &mut Hand<AnyState>) -> [u64; 2]
 #[test]
 fn one_seat_makes_each_step(rt: HostRuntime) -> Result<(), Fail> {
     let (core, mut hand) = first_seat(rt.alloc(), 1, 1, 1)?;
-    assert_eq!(rt; (hand.number(), hand.clock()), (0, 0));
-    assert_eq!(rt; (hand.published_write(), hand.published_read()), (1, 0));
-    assert_eq!(rt; core.layout().words(), 79);
+    same(&rt, (hand.number(), hand.clock()), (0, 0), 0);
+    let published = (hand.published_write(), hand.published_read());
+    same(&rt, published, (1, 0), 1);
+    same(&rt, core.layout().words(), 79, 2);
     let stamp = publish(&core, &mut hand);
     let looks = look_and_rest(&core, &mut hand, stamp);
     let writes = raise_writes(&core, &mut hand);
     let reads = raise_reads(&core, &mut hand);
-    assert_eq!(rt; stamp.number(), 5120);
-    assert_eq!(rt; looks, [5120, 5120, 5184]);
-    assert_eq!(rt; (writes, reads), ([5184, 1, 5183], [0, 5183]));
-    assert_eq!(rt; hand.clock(), 20);
+    same(&rt, stamp.number(), 5120, 3);
+    same(&rt, looks, [5120, 5120, 5184], 4);
+    same(&rt, writes, [5184, 1, 5183], 5);
+    same(&rt, reads, [0, 5183], 6);
+    same(&rt, hand.clock(), 20, 7);
     Ok(())
 }
 
@@ -126,8 +129,8 @@ fn finish_without_reads(core: &Core<AnyState>, hand: &mut Hand<AnyState>) -> [u6
 #[test]
 fn entries_without_reads_and_writes(rt: HostRuntime) -> Result<(), Fail> {
     let (core, mut hand) = first_seat(rt.alloc(), 1, 1, 1)?;
-    assert_eq!(rt; decide_without_reads(&core, &mut hand), 5120);
-    assert_eq!(rt; finish_without_reads(&core, &mut hand), [5184, 0]);
+    same(&rt, decide_without_reads(&core, &mut hand), 5120, 0);
+    same(&rt, finish_without_reads(&core, &mut hand), [5184, 0], 1);
     Ok(())
 }
 
@@ -190,11 +193,12 @@ fn read_again(
 fn a_read_is_searched_again_and_decides(rt: HostRuntime) -> Result<(), Fail> {
     let (core, mut hand) = first_seat(rt.alloc(), 1, 1, 1)?;
     let stamp = publish(&core, &mut hand);
-    assert_eq!(rt; stamp.number(), 5120);
+    same(&rt, stamp.number(), 5120, 0);
     let Some(version) = find_absent(&core, &mut hand, stamp) else {
         return Err("the version from the start is deleted, and has stamp 0".into());
     };
-    assert_eq!(rt; read_again(&core, &mut hand, version, stamp), Some(5184));
+    let bound = read_again(&core, &mut hand, version, stamp);
+    same(&rt, bound, Some(5184), 1);
     Ok(())
 }
 
@@ -218,8 +222,8 @@ fn free_places_are_taken_once(rt: HostRuntime) -> Result<(), Fail> {
         take_at(&core, &mut hand, 4),
         take_at(&core, &mut hand, 3),
     ];
-    assert_eq!(rt; taken, [false, true, true, true, false]);
-    assert_eq!(rt; hand.last_pool(), Some(3));
+    same(&rt, taken, [false, true, true, true, false], 0);
+    same(&rt, hand.last_pool(), Some(3), 1);
     Ok(())
 }
 
@@ -243,17 +247,15 @@ fn a_place_is_filled_and_taken_again(rt: HostRuntime) -> Result<(), Fail> {
     if take_at(&core, &mut hand, 1) {
         fill_and_give(&core, &mut hand, 1, stamp);
     }
-    assert!(rt; take_at(&core, &mut hand, 1), "it was given back");
+    hold(&rt, take_at(&core, &mut hand, 1), 0);
     Ok(())
 }
 
 #[test]
 fn two_hands_step_in_two_threads(rt: HostRuntime) -> Result<(), Fail> {
     let (core, hand, other) = two_seats(rt.alloc(), 1, 1)?;
-    assert_eq!(rt;
-        (other.number(), other.clock(), other.published_write()),
-        (1, 0, 1)
-    );
+    let words = (other.number(), other.clock(), other.published_write());
+    same(&rt, words, (1, 0, 1), 0);
     let shared = &core;
     let (mut first, second) = join(
         &rt,
@@ -261,20 +263,15 @@ fn two_hands_step_in_two_threads(rt: HostRuntime) -> Result<(), Fail> {
         move || draw_and_retire(shared, other, 20),
     );
     core.join(&mut first, second);
-    assert_eq!(rt; first.clock(), 20);
+    same(&rt, first.clock(), 20, 1);
     Ok(())
 }
 
 #[test]
 fn the_greatest_run_starts(rt: HostRuntime) -> Result<(), Fail> {
     let (core, mut hand) = first_seat(rt.alloc(), 64, 135_168, 143_361)?;
-    assert!(rt;
-        !take_at(&core, &mut hand, 135_167),
-        "the last inline place is linked"
-    );
-    assert!(rt;
-        take_at(&core, &mut hand, 278_528),
-        "the kept place is free"
-    );
+    // The last inline place is linked, and the kept place is free.
+    hold(&rt, !take_at(&core, &mut hand, 135_167), 0);
+    hold(&rt, take_at(&core, &mut hand, 278_528), 1);
     Ok(())
 }

@@ -1,4 +1,5 @@
 //! Stamps and their numbers.
+use crate::due::{hold, same};
 use stamp_base::{
     END, GREATEST_ADOPTED_CLOCK, GREATEST_CLOCK, SEATS, Stamp, adopted_clock, is_clock, is_end,
     is_seat,
@@ -24,38 +25,34 @@ fn stamps_give_their_numbers(rt: HostRuntime) {
         (36_028_797_018_963_968, 0, 9_223_372_036_854_775_808),
         (72_057_594_037_927_934, 63, 18_446_744_073_709_551_167),
     ];
-    for (clock, seat, number) in table {
-        assert!(rt; is_stamp_of(clock, seat, number), "at {clock} {seat}");
+    for (i, (clock, seat, number)) in table.iter().enumerate() {
+        hold(&rt, is_stamp_of(*clock, *seat, *number), i);
     }
 }
 
 #[test]
 fn stamps_are_ordered_by_clock_then_seat(rt: HostRuntime) {
-    assert!(rt; Stamp::make(10, 63) < Stamp::make(11, 0));
-    assert!(rt; Stamp::make(10, 1) > Stamp::make(10, 0));
-    assert_eq!(rt; Stamp::make(7, 3).max(Stamp::make(7, 2)), Stamp::make(7, 3));
+    hold(&rt, Stamp::make(10, 63) < Stamp::make(11, 0), 0);
+    hold(&rt, Stamp::make(10, 1) > Stamp::make(10, 0), 1);
+    let greater = Stamp::make(7, 3).max(Stamp::make(7, 2));
+    same(&rt, greater, Stamp::make(7, 3), 2);
 }
 
 #[test]
 fn limits_of_stamps_have_their_values(rt: HostRuntime) {
-    assert_eq!(rt;
-        [GREATEST_CLOCK, GREATEST_ADOPTED_CLOCK, END],
-        [
-            72_057_594_037_927_934,
-            36_028_797_018_963_968,
-            18_446_744_073_709_551_615
-        ]
-    );
-    assert_eq!(rt; SEATS, 64);
+    same(&rt, GREATEST_CLOCK, 72_057_594_037_927_934, 0);
+    same(&rt, GREATEST_ADOPTED_CLOCK, 36_028_797_018_963_968, 1);
+    same(&rt, END, 18_446_744_073_709_551_615, 2);
+    same(&rt, SEATS, 64, 3);
     let inside = [
         is_seat(63),
         is_clock(72_057_594_037_927_934),
         !is_end(18_446_744_073_709_551_614),
     ];
     let outside = [is_seat(64), is_clock(72_057_594_037_927_935), !is_end(END)];
-    assert_eq!(rt; (inside, outside), ([true; 3], [false; 3]));
-    assert_eq!(rt;
-        [adopted_clock(36_028_797_018_963_969), adopted_clock(7)],
-        [36_028_797_018_963_968, 7]
-    );
+    same(&rt, inside, [true; 3], 4);
+    same(&rt, outside, [false; 3], 5);
+    let adopted = adopted_clock(36_028_797_018_963_969);
+    same(&rt, adopted, 36_028_797_018_963_968, 6);
+    same(&rt, adopted_clock(7), 7, 7);
 }

@@ -7,12 +7,14 @@ ghost use Rattle.core_rule.specs.Hands.{IsReady};
 ghost use Rattle.core_rule.specs.Searching.{Ends};
 ghost use Rattle.validate_core.specs.Installing.{IsBegun, SameSets};
 
+use crate::due::same;
 use crate::tables::{first_seat, two_seats};
 use clock_stamps::draw;
 use core_rule::{AnyState, Core, Hand};
 use plain_data::Cells;
 use stamp_base::Stamp;
 use std::alloc::Global;
+use std::process::Abort;
 use std::sync::{Condvar, Mutex, Wait};
 use std::test::*;
 use std::thread::{Threads, join};
@@ -308,45 +310,100 @@ fn begin_and_read(
     Ok(stamp.number())
 }
 
+// Draws the stamp of the writer and the later one of the reader, and runs both.
+fn begin_both<R: Abort + Threads + Wait + Sync>(
+    rt: &R,
+    alloc: Global,
+    core: &Core<AnyState>,
+    mut first: Hand<AnyState>,
+    mut second: Hand<AnyState>,
+) -> Result<
+    (
+        Option<(Hand<AnyState>, Result<(), Conflict>)>,
+        Option<Result<(), Conflict>>,
+    ),
+    Fail,
+>
+    requires record { 5 < core.now.size.records }
+    requires first_ready { IsReady core.now first }
+    requires first_ends { Ends first.view.work }
+    requires second_ready { IsReady core.now second }
+    requires second_ends { Ends second.view.work }
+    ensures ready { IfOk result (λ both. IfSome both.0 (λ ran. IsReady core.now ran.0)) }
+    ensures ends { IfOk result (λ both. IfSome both.0 (λ ran. Ends ran.0.view.work)) }
+{
+    let (writes, early) = begin_with_room(alloc, core, &mut first, 10, 0, 1)?;
+    let (reads, late) = begin_with_room(alloc, core, &mut second, 20, 1, 0)?;
+    same(rt, (early.number(), late.number()), (2_560, 5_121), 0);
+    Ok(read_and_write(rt, core, (first, writes), (second, reads), late))
+}
+
 #[test]
 fn a_read_at_a_later_stamp_stops_an_earlier_writer_in_another_thread(
     rt: HostRuntime,
 ) -> Result<(), Fail> {
-    let (core, mut first, mut second) = two_seats(rt.alloc(), 6, 4)?;
-    let (writes, early) = begin_with_room(rt.alloc(), &core, &mut first, 10, 0, 1)?;
-    let (reads, late) = begin_with_room(rt.alloc(), &core, &mut second, 20, 1, 0)?;
-    assert_eq!(rt; (early.number(), late.number()), (2_560, 5_121));
-    let (read, written) = read_and_write(&rt, &core, (first, writes), (second, reads), late);
+    let (core, first, second) = two_seats(rt.alloc(), 6, 4)?;
+    let (read, written) = begin_both(&rt, rt.alloc(), &core, first, second)?;
     let Some((mut second, answer)) = read else {
         return Err("it is absent from the start".into());
     };
-    assert_eq!(rt; answer, Ok(()));
+    same(&rt, answer, Ok(()), 1);
     let stopped = Conflict::ReadLater {
         rid: 5,
         wts: 0,
         rts: 5_121,
     };
-    assert_eq!(rt; written, Some(Err(stopped)));
-    assert_eq!(rt; begin_and_read(rt.alloc(), &core, &mut second)?, 5_377);
+    same(&rt, written, Some(Err(stopped)), 2);
+    let number = begin_and_read(rt.alloc(), &core, &mut second)?;
+    same(&rt, number, 5_377, 3);
     Ok(())
+}
+
+// Runs a transaction that reads record 5, which has to be absent from the start, and writes it.
+fn change_absent(
+    alloc: Global,
+    core: &Core<AnyState>,
+    hand: &mut Hand<AnyState>,
+) -> Result<Result<(), Conflict>, Fail>
+    requires ready { IsReady core.now hand.old }
+    requires ends { Ends hand.old.view.work }
+    requires record { 5 < core.now.size.records }
+{
+    let (mut sets, stamp) = begin(alloc, core, hand, 10)?;
+    read_absent(core, hand, &mut sets, stamp)?;
+    write_one(core, hand, sets, 5)
 }
 
 #[test]
 fn a_seat_that_is_alone_reads_and_writes_a_record(rt: HostRuntime) -> Result<(), Fail> {
     let (core, mut hand) = first_seat(rt.alloc(), 1, 6, 4)?;
-    let (mut sets, stamp) = begin(rt.alloc(), &core, &mut hand, 10)?;
-    read_absent(&core, &mut hand, &mut sets, stamp)?;
-    assert_eq!(rt; write_one(&core, &mut hand, sets, 5)?, Ok(()));
+    let changed = change_absent(rt.alloc(), &core, &mut hand)?;
+    same(&rt, changed, Ok(()), 0);
     Ok(())
+}
+
+// Begins a transaction that writes records 0 and 1, and runs it: the number of its stamp, and what it comes to.
+fn begin_and_write_two(
+    alloc: Global,
+    core: &Core<AnyState>,
+    hand: &mut Hand<AnyState>,
+) -> Result<(u64, PlacesOut), Fail>
+    requires ready { IsReady core.now hand.old }
+    requires ends { Ends hand.old.view.work }
+    requires records { 1 < core.now.size.records }
+    ensures ready { IsReady core.now hand.new }
+{
+    let (sets, stamp) = begin(alloc, core, hand, 1)?;
+    Ok((stamp.number(), write_two(core, hand, sets)?))
 }
 
 #[test]
 fn without_a_place_for_a_write_nothing_stays_installed(rt: HostRuntime) -> Result<(), Fail> {
     let (core, mut hand) = first_seat(rt.alloc(), 1, 2, 2)?;
-    let (sets, stamp) = begin(rt.alloc(), &core, &mut hand, 1)?;
-    assert_eq!(rt; stamp.number(), 256);
-    assert_eq!(rt; write_two(&core, &mut hand, sets)?, PlacesOut);
-    assert_eq!(rt; take(&core, &mut hand, 0), Err(PlacesOut));
-    assert_eq!(rt; take_kept(&core, &mut hand), Some(3));
+    let (number, fault) = begin_and_write_two(rt.alloc(), &core, &mut hand)?;
+    same(&rt, number, 256, 0);
+    same(&rt, fault, PlacesOut, 1);
+    same(&rt, take(&core, &mut hand, 0), Err(PlacesOut), 2);
+    same(&rt, take_kept(&core, &mut hand), Some(3), 3);
     Ok(())
 }

@@ -2,6 +2,7 @@
 ghost use Rattle.std.specs.Prelude.{◌<◌};
 ghost use Rattle.word_layout.specs.Size.{places};
 
+use crate::due::{hold, same};
 use std::alloc::{AllocError, Global};
 use std::test::*;
 use word_layout::{CELLS, Layout, Limit};
@@ -26,11 +27,8 @@ fn sizes_give_their_words(rt: HostRuntime) {
         (64, 135_168, 143_361, 10_432_678),
         (64, 200_000, 262_144, 17_237_314),
     ];
-    for (seats, records, spare, words) in table {
-        assert!(rt;
-            has_words(seats, records, spare, words),
-            "at {seats} {records} {spare}"
-        );
+    for (i, (seats, records, spare, words)) in table.iter().enumerate() {
+        hold(&rt, has_words(*seats, *records, *spare, *words), i);
     }
 }
 
@@ -44,9 +42,9 @@ fn numbers_out_of_range_are_refused(rt: HostRuntime) {
         (1, 1, 0),
         (1, 1, 262_145),
     ];
-    for (seats, records, spare) in table {
-        let refused = matches!(Layout::new(seats, records, spare), Err(Limit));
-        assert!(rt; refused, "at {seats} {records} {spare}");
+    for (i, (seats, records, spare)) in table.iter().enumerate() {
+        let made = Layout::new(*seats, *records, *spare);
+        hold(&rt, matches!(made, Err(Limit)), i);
     }
 }
 
@@ -97,20 +95,30 @@ fn words_of(alloc: Global, layout: &Layout) -> Result<Vec<u32>, AllocError> {
     Ok(words)
 }
 
+// Whether each of these words stands at its own number.
+fn count_up(words: &[u32]) -> bool {
+    let mut numbered = words.iter().enumerate();
+    numbered.all(|(number, word)| *word as usize == number)
+}
+
 #[test]
 fn each_number_names_one_word(rt: HostRuntime) -> Result<(), Fail> {
     let layout = Layout::new(2, 6, 4)?;
     let words = words_of(rt.alloc(), &layout)?;
-    assert_eq!(rt; words.len(), 384);
-    for (number, word) in words.iter().enumerate() {
-        assert_eq!(rt; *word as usize, number);
-    }
+    same(&rt, words.len(), 384, 0);
+    hold(&rt, count_up(words.as_slice()), 1);
     Ok(())
+}
+
+// Whether a limit is shown by these words.
+fn is_shown(alloc: Global, words: &str) -> Result<bool, AllocError> {
+    let text = format!(in alloc; "{Limit}")?;
+    Ok(text.as_str() == words)
 }
 
 #[test]
 fn splitting_a_seat_steps_on_word_0(rt: HostRuntime) -> Result<(), Fail> {
-    assert_eq!(rt; Layout::new(2, 6, 4)?.published_write(0), 0);
-    assert_eq!(rt; format!(in rt.alloc(); "{Limit}")?.as_str(), "limit");
+    same(&rt, Layout::new(2, 6, 4)?.published_write(0), 0, 0);
+    hold(&rt, is_shown(rt.alloc(), "limit")?, 1);
     Ok(())
 }

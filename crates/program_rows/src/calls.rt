@@ -2,6 +2,7 @@
 
 ghost use Rattle.std.specs.Prelude.{◌≡◌, length};
 
+use crate::due::same;
 use cicada_top::{Finish, Status, run};
 use outside_io::{CleanSink, CleanSource, Clock, CountClock, Gate, OpenGate, Sink, Source};
 use replay_model::Placed;
@@ -88,7 +89,7 @@ impl Answer {
         output: &str,
     ) -> Result<(), AllocError> {
         let due = bytes_of(alloc, output)?;
-        assert_eq!(rt; self.written.as_slice(), due.as_slice());
+        same(rt, self.written.as_slice(), due.as_slice(), 0);
         Ok(())
     }
 }

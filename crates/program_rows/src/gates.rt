@@ -1,6 +1,7 @@
 //! Runs on several threads, held up by gates: only so many threads pass them.
 
 use crate::calls::{answered, answered_through, append, bytes_of};
+use crate::due::{hold, same};
 use cicada_top::Status;
 use outside_io::Gate;
 use std::alloc::{AllocError, Global};
@@ -30,9 +31,9 @@ fn is_report<R: Threads + Wait + Sync + Abort>(
     last: &str,
 ) -> Result<(), AllocError> {
     let last = bytes_of(alloc, last)?;
-    assert!(rt; written.ends_with(&last));
+    hold(rt, written.ends_with(&last), 0);
     let checked = answered(rt, alloc, "--check", joined(alloc, text, written)?)?;
-    assert_eq!(rt; checked.status, Status::Done);
+    same(rt, checked.status, Status::Done, 1);
     Ok(())
 }
 
@@ -47,13 +48,9 @@ fn lanes_through<R: Threads + Wait + Sync + Abort, G: Gate>(
     last: &str,
 ) -> Result<Vec<u32>, AllocError> {
     let answer = answered_through(rt, alloc, words, Vec::from_slice(alloc, text)?, gate)?;
-    assert_eq!(rt; answer.status, Status::Done);
+    same(rt, answer.status, Status::Done, 2);
     is_report(rt, alloc, text, &answer.written, last)?;
     Ok(answer.lanes)
-}
-
-fn are_lanes<R: Abort>(rt: &R, lanes: &[u32], due: &[u32]) {
-    assert_eq!(rt; lanes, due);
 }
 
 /// A gate that holds up the first block of the first lane until that of the second lane has its outcome.
@@ -113,8 +110,8 @@ fn two_workers_run_two_lanes_at_once(rt: HostRuntime) -> Result<(), Fail> {
     )?;
     let last = " 1.1 ok/table a/1 10/2 20/done/";
     let lanes = lanes_through(&rt, alloc, "--workers|2", &text, &gate, last)?;
-    are_lanes(&rt, &lanes, &[2, 1]);
-    assert_eq!(rt; gate.counts(), (1, 0));
+    same(&rt, lanes.as_slice(), [2, 1].as_slice(), 3);
+    same(&rt, gate.counts(), (1, 0), 4);
     Ok(())
 }
 
@@ -246,10 +243,10 @@ fn four_workers_run_four_lanes_at_once(rt: HostRuntime) -> Result<(), Fail> {
     let text = four_lanes(rt.alloc())?;
     let last = "table a/1 50/2 50/3 50/4 50/done/";
     let lanes = lanes_through(&rt, rt.alloc(), "--workers|4", &text, &gate, last)?;
-    assert_eq!(rt; lanes.len(), 200);
-    assert!(rt; !gate.is_overdue());
-    assert!(rt; gate.before.are_each_once());
-    assert!(rt; gate.after.are_each_once());
+    same(&rt, lanes.len(), 200, 3);
+    hold(&rt, !gate.is_overdue(), 4);
+    hold(&rt, gate.before.are_each_once(), 5);
+    hold(&rt, gate.after.are_each_once(), 6);
     Ok(())
 }
 
@@ -294,7 +291,7 @@ fn one_worker_passes_the_gate_once_a_block(rt: HostRuntime) -> Result<(), Fail> 
         "cicada 1/table a/row a 1 6/lane/txn/get a 1/end/snap/get a 1/end/lane/txn/sub a 1 9/end/done/",
     )?;
     let lanes = lanes_through(&rt, alloc, "--workers|1", &text, &gate, "table a/1 6/done/")?;
-    are_lanes(&rt, &lanes, &[1, 1, 2]);
-    assert_eq!(rt; gate.counts(), (2, 3));
+    same(&rt, lanes.as_slice(), [1, 1, 2].as_slice(), 3);
+    same(&rt, gate.counts(), (2, 3), 4);
     Ok(())
 }

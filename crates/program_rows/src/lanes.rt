@@ -3,6 +3,7 @@ ghost use Rattle.std.specs.Prelude.{◌≡◌, [], ◌∷◌, true, length, IfOk
 ghost use Rattle.std.specs.List.{AllByRecursion};
 ghost use Rattle.lane_queue.specs.Passes.{AreAll, HasEnded, IsSamePass};
 
+use crate::due::same;
 use lane_queue::{LanePass, LaneQueue};
 use replay_model::{Block, Blocks, Commands, Lanes, NoMemory};
 use std::alloc::Global;
@@ -117,7 +118,7 @@ fn lanes_are_handed_out_in_order(rt: HostRuntime) -> Result<(), Fail> {
     let (queue, passes) = LaneQueue::fill(&rt, rt.alloc(), lanes, 2)?;
     let (first, second) = both(passes);
     let taken = take_in_turn(&rt, rt.alloc(), queue, first, second)?;
-    assert_eq!(rt; taken, Some([Some(1), Some(2), Some(3)]));
+    same(&rt, taken, Some([Some(1), Some(2), Some(3)]), 0);
     Ok(())
 }
 
@@ -146,7 +147,12 @@ fn no_lane_is_handed_out_of_an_empty_list(rt: HostRuntime) -> Result<(), Fail> {
     let (queue, passes) = LaneQueue::fill(&rt, rt.alloc(), Lanes::new(rt.alloc()), 2)?;
     let (first, second) = both(passes);
     let taken = take_by_the_second(&rt, rt.alloc(), queue, first, second)?;
-    assert_eq!(rt; taken, Some(([None, None, None], [None, None, None])));
+    same(
+        &rt,
+        taken,
+        Some(([None, None, None], [None, None, None])),
+        0,
+    );
     Ok(())
 }
 
@@ -157,7 +163,12 @@ fn a_pass_ends_at_once_where_there_are_more_passes_than_lanes(rt: HostRuntime) -
     let (queue, passes) = LaneQueue::fill(&rt, rt.alloc(), lanes, 2)?;
     let (first, second) = both(passes);
     let taken = take_by_the_second(&rt, rt.alloc(), queue, first, second)?;
-    assert_eq!(rt; taken, Some(([None, None, None], [Some(1), None, None])));
+    same(
+        &rt,
+        taken,
+        Some(([None, None, None], [Some(1), None, None])),
+        0,
+    );
     Ok(())
 }
 
@@ -167,7 +178,7 @@ fn sixty_four_workers_get_a_pass_each(rt: HostRuntime) -> Result<(), Fail> {
     let (queue, mut passes) = LaneQueue::fill(&rt, rt.alloc(), lanes, 64)?;
     assert_eq!(rt; passes.len(), 64);
     let last = run(&rt, &queue, passes.remove(63));
-    assert_eq!(rt; last.taken, Some([Some(1), Some(2), Some(3)]));
+    same(&rt, last.taken, Some([Some(1), Some(2), Some(3)]), 1);
     Ok(())
 }
 
@@ -228,6 +239,6 @@ fn two_threads_take_each_lane_once(rt: HostRuntime) -> Result<(), Fail> {
     numbers.extend_from_slice(&theirs)?;
     numbers.sort()?;
     let each_once = [None, None, None, Some(1), Some(2), Some(3)];
-    assert_eq!(rt; numbers.as_slice(), each_once.as_slice());
+    same(&rt, numbers.as_slice(), each_once.as_slice(), 0);
     Ok(())
 }

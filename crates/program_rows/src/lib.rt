@@ -9,6 +9,8 @@ mod calls;
 #[cfg(test)]
 mod clocks;
 #[cfg(test)]
+mod due;
+#[cfg(test)]
 mod gates;
 #[cfg(test)]
 mod lanes;

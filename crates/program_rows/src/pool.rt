@@ -4,6 +4,7 @@ ghost use Rattle.std.specs.Prelude.{◌≡◌, false, All, IfOk, length};
 ghost use Rattle.lane_runner.specs.Lanes.{MayRun};
 ghost use Rattle.program_rows.specs.Seats.{IsSeat};
 
+use crate::due::same;
 use lane_queue::Lane;
 use lane_runner::run_lane;
 use outside_io::{CountClock, OpenGate};
@@ -89,6 +90,6 @@ fn a_block_that_finds_no_place_remains(rt: HostRuntime) -> Result<(), Fail> {
     assert_eq!(rt; passes.len(), 1);
     let mut pass = passes.remove(0);
     let left = after_three_tries(rt.alloc(), &engine, &mut pass)?;
-    assert_eq!(rt; left, (0, 1, 3, 262400));
+    same(&rt, left, (0, 1, 3, 262400), 0);
     Ok(())
 }

@@ -3,6 +3,7 @@
 ghost use Rattle.std.specs.Prelude.{◌<◌};
 
 use crate::calls::{Answer, answered, bytes_of, run_with};
+use crate::due::{hold, same};
 use cicada_top::Status;
 use outside_io::{MemSink, MemSource};
 use std::alloc::{AllocError, Global};
@@ -88,10 +89,11 @@ fn play<R: Threads + Wait + Sync + Abort>(
     let (words, text, status, output, blocks) = *row;
     let bytes = Vec::from_slice(alloc, text.as_bytes())?;
     let answer = answered(rt, alloc, words, bytes)?;
-    assert_eq!(rt; (answer.status, answer.lanes.len()), (status, blocks));
-    assert_eq!(rt; answer.has_usage, status == Status::Usage);
-    assert_eq!(rt; answer.fault.is_some(), status == Status::Input);
-    assert_eq!(rt; answer.written.as_slice(), output.as_bytes());
+    same(rt, answer.status, status, 0);
+    same(rt, answer.lanes.len(), blocks, 1);
+    hold(rt, answer.has_usage == (status == Status::Usage), 2);
+    hold(rt, answer.fault.is_some() == (status == Status::Input), 3);
+    same(rt, answer.written.as_slice(), output.as_bytes(), 4);
     Ok(())
 }
 
@@ -130,11 +132,34 @@ fn with_faults<R: Threads + Wait + Sync>(
     answer.with_written(alloc, sink.taken())
 }
 
+/// The same over the block and its row, by one worker.
+fn one_with_faults<R: Threads + Wait + Sync>(
+    rt: &R,
+    alloc: Global,
+    per_call: usize,
+    reads: &[u64],
+    writes: &[u64],
+) -> Result<Answer, AllocError>
+    requires { 0 < per_call }
+{
+    with_faults(rt, alloc, ONE, TEXT, per_call, reads, writes)
+}
+
+/// The report of the block.
+fn report() -> &'static [u8] {
+    REPORT.as_bytes()
+}
+
 #[test]
 fn each_read_that_fails_ends_the_run(rt: HostRuntime) -> Result<(), Fail> {
     for call in 1..=75 {
-        let answer = with_faults(&rt, rt.alloc(), ONE, TEXT, 1, &[call], &[])?;
-        assert_eq!(rt; answer.sizes(), (Status::ReadFault, 0, 0));
+        let answer = one_with_faults(&rt, rt.alloc(), 1, &[call], &[])?;
+        same(
+            &rt,
+            answer.sizes(),
+            (Status::ReadFault, 0, 0),
+            call as usize,
+        );
     }
     Ok(())
 }
@@ -142,29 +167,32 @@ fn each_read_that_fails_ends_the_run(rt: HostRuntime) -> Result<(), Fail> {
 #[test]
 fn each_write_that_fails_ends_the_run(rt: HostRuntime) -> Result<(), Fail> {
     for call in 1..=40 {
-        let answer = with_faults(&rt, rt.alloc(), ONE, TEXT, 1, &[], &[call])?;
-        assert_eq!(rt;
+        let answer = one_with_faults(&rt, rt.alloc(), 1, &[], &[call])?;
+        let written = (call - 1) as usize;
+        same(
+            &rt,
             answer.sizes(),
-            (Status::WriteFault, 1, (call - 1) as usize)
+            (Status::WriteFault, 1, written),
+            written,
         );
-        assert!(rt; REPORT.as_bytes().starts_with(&answer.written));
+        hold(&rt, report().starts_with(&answer.written), written);
     }
     Ok(())
 }
 
 #[test]
 fn a_byte_at_a_time_is_enough(rt: HostRuntime) -> Result<(), Fail> {
-    let answer = with_faults(&rt, rt.alloc(), ONE, TEXT, 1, &[], &[])?;
-    assert_eq!(rt; answer.status, Status::Done);
-    assert_eq!(rt; answer.written.as_slice(), REPORT.as_bytes());
+    let answer = one_with_faults(&rt, rt.alloc(), 1, &[], &[])?;
+    same(&rt, answer.status, Status::Done, 0);
+    same(&rt, answer.written.as_slice(), report(), 1);
     Ok(())
 }
 
 #[test]
 fn a_part_is_written_before_a_fault(rt: HostRuntime) -> Result<(), Fail> {
-    let answer = with_faults(&rt, rt.alloc(), ONE, TEXT, 8, &[], &[2])?;
-    assert_eq!(rt; answer.status, Status::WriteFault);
-    assert_eq!(rt; answer.written.as_slice(), b"512 1.1 ".as_slice());
+    let answer = one_with_faults(&rt, rt.alloc(), 8, &[], &[2])?;
+    same(&rt, answer.status, Status::WriteFault, 0);
+    same(&rt, answer.written.as_slice(), b"512 1.1 ".as_slice(), 1);
     Ok(())
 }
 
@@ -178,10 +206,10 @@ fn no_order_is_answered_with_other_texts(rt: HostRuntime) -> Result<(), Fail> {
         ),
         ("--check", "cicada 1\nlane\nsnap\nend\ndone\ndone\n"),
     ];
-    for (words, text) in rows {
+    for (i, (words, text)) in rows.iter().enumerate() {
         let answer = with_faults(&rt, rt.alloc(), words, text, 1, &[], &[1])?;
-        assert_eq!(rt; answer.sizes(), (Status::WriteFault, 0, 0));
-        assert!(rt; answer.fault.is_none());
+        same(&rt, answer.sizes(), (Status::WriteFault, 0, 0), i);
+        hold(&rt, answer.fault.is_none(), i);
     }
     Ok(())
 }
@@ -190,6 +218,6 @@ fn no_order_is_answered_with_other_texts(rt: HostRuntime) -> Result<(), Fail> {
 fn the_first_faulty_line_is_answered(rt: HostRuntime) -> Result<(), Fail> {
     let bytes = bytes_of(rt.alloc(), "cicada 1/table a/row b 1 1/done/")?;
     let answer = answered(&rt, rt.alloc(), "", bytes)?;
-    assert_eq!(rt; answer.fault, Some((3, 3)));
+    same(&rt, answer.fault, Some((3, 3)), 0);
     Ok(())
 }

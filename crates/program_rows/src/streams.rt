@@ -2,6 +2,7 @@
 
 ghost use Rattle.std.specs.Prelude.{◌≤◌, IfOk, length};
 
+use crate::due::same;
 use outside_io::{
     CleanSink, CleanSource, Clock, CountClock, Failed, Gate, MemSink, MemSource, OpenGate,
     ReaderSource, Sink, SinkFault, Source, StdSink, StdSource, WriterSink,
@@ -93,8 +94,8 @@ fn a_clean_source_gives_its_bytes(rt: HostRuntime) -> Result<(), Fail> {
     let mut source = CleanSource::new(TEXT.to_vec(alloc)?);
     let mut seen = Vec::new(alloc);
     let text = read_whole(alloc, &mut source, &mut seen)?;
-    assert_eq!(rt; text.as_slice(), TEXT.as_slice());
-    assert_eq!(rt; seen.as_slice(), [Some(4), Some(1)].as_slice());
+    same(&rt, text.as_slice(), TEXT.as_slice(), 0);
+    same(&rt, seen.as_slice(), [Some(4), Some(1)].as_slice(), 1);
     Ok(())
 }
 
@@ -104,8 +105,8 @@ fn a_clean_sink_takes_all(rt: HostRuntime) -> Result<(), Fail> {
     let mut sink = CleanSink::new(alloc);
     let mut seen = Vec::new(alloc);
     write_whole(&mut sink, TEXT, &mut seen)?;
-    assert_eq!(rt; sink.taken(), TEXT.as_slice());
-    assert_eq!(rt; seen.as_slice(), [Some(5)].as_slice());
+    same(&rt, sink.taken(), TEXT.as_slice(), 0);
+    same(&rt, seen.as_slice(), [Some(5)].as_slice(), 1);
     Ok(())
 }
 
@@ -145,8 +146,8 @@ fn read_row<R: Abort>(rt: &R, alloc: Global, row: &Row) -> Result<(), AllocError
     let mut source = MemSource::new(TEXT.to_vec(alloc)?, per_call, fails.to_vec(alloc)?);
     let mut seen = Vec::new(alloc);
     let text = read_whole(alloc, &mut source, &mut seen)?;
-    assert_eq!(rt; text.as_slice(), TEXT.as_slice());
-    assert_eq!(rt; seen.as_slice(), want);
+    same(rt, text.as_slice(), TEXT.as_slice(), 0);
+    same(rt, seen.as_slice(), want, 1);
     Ok(())
 }
 
@@ -156,8 +157,8 @@ fn write_row<R: Abort>(rt: &R, alloc: Global, row: &Row) -> Result<(), AllocErro
     let mut sink = MemSink::new(alloc, per_call, fails.to_vec(alloc)?);
     let mut seen = Vec::new(alloc);
     write_whole(&mut sink, TEXT, &mut seen)?;
-    assert_eq!(rt; sink.taken(), TEXT.as_slice());
-    assert_eq!(rt; seen.as_slice(), want);
+    same(rt, sink.taken(), TEXT.as_slice(), 0);
+    same(rt, seen.as_slice(), want, 1);
     Ok(())
 }
 
@@ -182,11 +183,11 @@ fn the_standard_streams_are_there(rt: HostRuntime) -> Result<(), Fail> {
     let alloc = rt.alloc();
     // With no room, so that it waits for nobody.
     let mut source = StdSource::new(rt.stdin());
-    assert_eq!(rt; source.read(&mut []), Ok(0));
+    same(&rt, source.read(&mut []), Ok(0), 0);
     let mut sink = StdSink::new(rt.stdout());
     let mut seen = Vec::new(alloc);
     write_whole(&mut sink, b"written\n", &mut seen)?;
-    assert_eq!(rt; seen.as_slice(), [Some(8)].as_slice());
+    same(&rt, seen.as_slice(), [Some(8)].as_slice(), 1);
     Ok(())
 }
 
@@ -232,12 +233,12 @@ impl Write for Flaky {
 fn errors_of_a_stream_are_faults(rt: HostRuntime) {
     let mut source = ReaderSource::new(Flaky { calls: 0 });
     let mut buf = [0; 3];
-    assert_eq!(rt; source.read(&mut buf), Err(Failed));
-    assert_eq!(rt; source.read(&mut buf), Ok(1));
-    assert_eq!(rt; buf[0], b'x');
+    same(&rt, source.read(&mut buf), Err(Failed), 0);
+    same(&rt, source.read(&mut buf), Ok(1), 1);
+    same(&rt, buf[0], b'x', 2);
     let mut sink = WriterSink::new(Flaky { calls: 0 });
-    assert_eq!(rt; sink.write(b"abc"), Err(SinkFault::Failed));
-    assert_eq!(rt; sink.write(b"abc"), Ok(3));
+    same(&rt, sink.write(b"abc"), Err(SinkFault::Failed), 3);
+    same(&rt, sink.write(b"abc"), Ok(3), 4);
 }
 
 fn reading<C: Clock>(clock: &mut C) -> u64 {
@@ -251,6 +252,6 @@ fn pass<G: Gate>(gate: &G) {
 
 #[test]
 fn the_count_clock_reads_0_and_the_open_gate_is_open(rt: HostRuntime) {
-    assert_eq!(rt; reading(&mut CountClock), 0);
+    same(&rt, reading(&mut CountClock), 0, 0);
     pass(&OpenGate);
 }

@@ -1,6 +1,6 @@
 -- Which records of a pass have one version, or one at most outside their inline places, and will once what is queued is collected.
 use Rattle.std.proofs.Common.{◌≡◌, ℕ, suc, ◌≤◌, true, false, Bool, cond, List, [], ◌∷◌, Option, None, Some, refl, sym, ap, ◌∙◌, subst, inl, inr, ◌⊎◌, arith, take_all, length}
-use Rattle.std.specs.Prelude.{Result, Ok, Err, OnErr, IsSome}
+use Rattle.std.specs.Prelude.{IsSome}
 use Rattle.std.proofs.lemmas.Bool.Decides.{eqb_tells}
 use Rattle.core_rule.specs.View.{Bound}
 use Rattle.core_rule.specs.Views.{Among}
@@ -18,11 +18,6 @@ use Rattle.core_rule.proofs.Among.{Among-left, Among-right}
 -- all of them are some
 pub all_linked : (writes : List (ℕ × Option (List ℕ))) (stamp : ℕ) (before after' : Known) → AreLinked writes stamp before after' → AreSomeLinked writes stamp before after'
 all_linked writes stamp before after' are = record { count = length writes; linked = subst (λ ws. AreLinked ws stamp before after') (sym (take_all (length writes) writes (omega arith))) are }
-
--- what holds whatever is answered holds of a refusal
-pub on_err : {A E P : Type 0} (r : Result A E) → P → OnErr r P
-on_err (Ok a) p = tt
-on_err (Err e) p = p
 
 -- ---- what is queued
 

@@ -1,6 +1,6 @@
-use Rattle.std.proofs.Common.{rules, ◌≡◌, ℕ, [], ◌∷◌, Result, Ok, Err, refl, sym, ap, subst, ◌∙◌, arith}
-use Rattle.std.specs.Prelude.{OnErr}
+use Rattle.std.proofs.Common.{rules, ◌≡◌, ℕ, [], ◌∷◌, refl, sym, ap, subst, ◌∙◌, arith}
 use Rattle.seat_post.specs.Logs.{IsAbove}
+use Rattle.seat_post.proofs.Answered.{on_err}
 use Rattle.txn_engine.specs.Pass.{EngineView, PassView, next_clock}
 use Rattle.txn_engine.specs.Snapshot.{GlanceRest, unread}
 use Rattle.seat_post.specs.Glance.{entry_of_glance}
@@ -35,11 +35,6 @@ returns-clause-committed c =
     commits_seen p c.tick.new.self s q (next_clock p c.args.reading) c.in-Ok.ensures.ok c.snapshot-snapshot.ensures.begins rest c.finish-stamp.new.self.0 _ c.finish-stamp.ensures.after (search rules) c.requires.idle (omega arith)
     c.args.block.now.commands c.in_ok-outcome.outcome _ c.fits_records.ensures (rw c.in_ok-outcome.ensures at c.exec_snap-told.ensures.outcome) c.finish-stamp.ensures.stamp refl
 
--- what holds anyway
-on_err : {T E : Type 0} (told : Result T E) (P : Type 0) → P → OnErr told P
-on_err (Ok value) P holds = tt
-on_err (Err error) P holds = holds
-
 pub returns-in_err-outcome-clause-fault : goal.returns-in_err-outcome-clause-fault
 returns-in_err-outcome-clause-fault c =
     let p = c.args.pass.now in
@@ -47,7 +42,7 @@ returns-in_err-outcome-clause-fault c =
     let q = c.exec_snap-told.new.store.pass.now in
     let rest : unread q ≡ unread s = ap (λ (x : GlanceRest). x.of_pass) c.exec_snap-told.ensures.rest in
     let seen = has_seen p c.tick.new.self s q (next_clock p c.args.reading) c.in-Ok.ensures.ok c.snapshot-snapshot.ensures.begins rest in
-    on_err c.from_residual.result _ (entry_of_glance seen.0 ∷ [], Adds-finished p c.tick.new.self s q (next_clock p c.args.reading) c.in-Ok.ensures.ok c.snapshot-snapshot.ensures.begins rest c.finish-stamp.new.self.0 _ c.finish-stamp.ensures.after (search rules) c.requires.idle (omega arith))
+    on_err c.from_residual.result (entry_of_glance seen.0 ∷ [], Adds-finished p c.tick.new.self s q (next_clock p c.args.reading) c.in-Ok.ensures.ok c.snapshot-snapshot.ensures.begins rest c.finish-stamp.new.self.0 _ c.finish-stamp.ensures.after (search rules) c.requires.idle (omega arith))
 
 pub returns-clause-ready : goal.returns-clause-ready
 returns-clause-ready c = λ ready.

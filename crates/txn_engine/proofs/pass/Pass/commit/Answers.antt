@@ -2,11 +2,12 @@ use Rattle.std.proofs.Common.{◌≡◌, length, sym, subst, ap, ◌∙◌}
 use Rattle.plain_data.specs.State.{Fits}
 use Rattle.seat_post.specs.Seats.{Known}
 use Rattle.seat_post.specs.Lists.{known_before, AreKnown, count_raised, AreSomeLinked}
+use Rattle.seat_post.proofs.Answered.{on_err}
 use Rattle.txn_engine.specs.Lists.{IsTidyOnceCollected, IsRoomyOnceCollected}
 use Rattle.txn_engine.specs.Pass.{PassView, entry_of, decided, published}
 use Rattle.txn_engine.specs.Leaves.{HoldsAbsent}
 use Rattle.txn_engine.proofs.Accounting.{absent_committed}
-use Rattle.txn_engine.proofs.Tidying.{all_linked, on_err, tidy_committed, roomy_committed}
+use Rattle.txn_engine.proofs.Tidying.{all_linked, tidy_committed, roomy_committed}
 use Rattle.txn_engine.proofs.pass.Pass.commit.Goals as goal
 
 pub check-requires-clause-fits : goal.check-requires-clause-fits

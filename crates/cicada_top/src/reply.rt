@@ -37,22 +37,22 @@ pub(crate) fn reply_to<R: Threads + Wait + Sync, C: Clock, G: Gate>(
     rt: &R,
     alloc: Global,
     settings: Settings,
-    bytes: &[u8],
+    bytes: Vec<u8>,
     clocks: Vec<C>,
     gate: &G,
 ) -> Result<Reply, NoMemory>
     requires settings { AreInRange settings }
     requires clocks { length clocks.items ≡ 64 }
     ensures due { IfOk result (λ reply.
-        IsDueAt reply.status settings.mode bytes.now reply.order.items reply.fault reply.text.items) }
+        IsDueAt reply.status settings.mode bytes.items reply.order.items reply.fault reply.text.items) }
     ensures alone { IfOk result (λ reply.
-        (status : Status) → Causes settings.mode bytes.now status → status ≡ reply.status) }
-    ensures end { IfOk result (λ reply. HasEnd reply.status settings.mode bytes.now reply.order.items reply.end) }
+        (status : Status) → Causes settings.mode bytes.items status → status ≡ reply.status) }
+    ensures end { IfOk result (λ reply. HasEnd reply.status settings.mode bytes.items reply.order.items reply.end) }
 {
     match settings.mode {
-        Mode::Run => reply_to_input(rt, alloc, settings, bytes, clocks, gate),
+        Mode::Run => reply_to_input(rt, alloc, settings, &bytes, clocks, gate),
         Mode::Generate(seed) => reply_to_seed(rt, alloc, settings, seed, clocks, gate),
-        Mode::Check => reply_to_report(alloc, bytes),
+        Mode::Check => reply_to_report(alloc, &bytes),
     }
 }
 

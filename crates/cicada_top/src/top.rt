@@ -127,7 +127,7 @@ fn run_as<R: Threads + Wait + Sync, S: Source, K: Sink, C: Clock, G: Gate>(
     ensures reads { ReadsAtMostFor settings.mode (S.left source.old) (S.left source.new) }
 {
     match receive(alloc, settings.mode, source) {
-        Ok(bytes) => match reply_to(rt, alloc, settings, &bytes, clocks, gate) {
+        Ok(bytes) => match reply_to(rt, alloc, settings, bytes, clocks, gate) {
             Ok(reply) => deliver(alloc, settings.mode, reply, sink),
             Err(_) => Finish::bare(alloc, Status::NoMemory),
         },

@@ -8,7 +8,7 @@ use Rattle.cicada_top.proofs.top.run_as.Goals as goal
 
 pub returns-in-Ok-reply_to-clause-complete : goal.returns-in-Ok-reply_to-clause-complete
 returns-in-Ok-reply_to-clause-complete g c unread unwritten bytes told status cause =
-    let reply = rw c.deref.ensures.value at c.in-Ok-reply_to.ensures in
+    let reply = c.in-Ok-reply_to.ensures in
     let is = reply.alone status (received_cause c.args.settings.mode _ _ bytes c.in-Ok.bytes.items c.in-Ok.ensures.received told status cause) in
     elim c.deliver.ensures.status [
       | inl same ↦ inl (same ∙ sym is)
@@ -20,5 +20,5 @@ returns-in-Ok-reply_to-clause-complete g c unread unwritten bytes told status ca
 
 pub returns-in-Ok-reply_to-clause-history : goal.returns-in-Ok-reply_to-clause-history
 returns-in-Ok-reply_to-clause-history g c bytes told =
-    let reply = rw c.deref.ensures.value at c.in-Ok-reply_to.ensures in
+    let reply = c.in-Ok-reply_to.ensures in
     some_weaker c.deliver.result.end (λ (e : AloneView). (input : Input) → IsInputFor c.args.settings.mode c.in-Ok.bytes.items input → IsHistoryOf input c.deliver.result.order.items e.pass) (λ (e : AloneView). (input : Input) → IsInputFor c.args.settings.mode bytes input → IsHistoryOf input c.deliver.result.order.items e.pass) (λ e history input is. history input (received_input c.args.settings.mode _ _ bytes c.in-Ok.bytes.items input c.in-Ok.ensures.received told is)) (c.deliver.ensures.end c.in-Ok.bytes.items reply.due reply.end).history

@@ -1,5 +1,5 @@
 -- What a run of an input on the engine gives: its report, its summary and its history.
-use Rattle.std.proofs.Common.{◌≡◌, ◌∙◌, ℕ, List, ◌++◌, All, length, map, codes, Option, None, Some, sym, ap, subst}
+use Rattle.std.proofs.Common.{◌≡◌, ◌∙◌, ℕ, List, ◌++◌, All, length, codes, Option, None, Some, sym, ap, subst}
 use Rattle.std.proofs.lemmas.List.FromFn.{length-map-range_with_len}
 use Rattle.std.specs.Prelude.{IfSome}
 use Rattle.replay_model.specs.declared.input.Input.{Input}
@@ -7,7 +7,7 @@ use Rattle.replay_model.specs.declared.outcome.Outcome.{Outcome}
 use Rattle.replay_model.specs.declared.outcome.Placed.{Placed}
 use Rattle.replay_model.specs.Answered.{AllAnswered}
 use Rattle.replay_model.specs.Order.{IsOrder}
-use Rattle.replay_model.specs.Replay.{NamesBlock, replay_outcomes, last_tables}
+use Rattle.replay_model.specs.Replay.{NamesBlock, last_tables}
 use Rattle.replay_model.specs.Report.{report, blocks_text, tables_text, line}
 use Rattle.replay_model.specs.TableMap.{TableMap, Row}
 use Rattle.replay_model.proofs.AnswerLaws.{all_answered}

@@ -1,4 +1,4 @@
-use Rattle.std.proofs.Common.{◌≡◌, ℕ, ◌∙◌, List, ◌++◌, All, length, codes, sym, ap, subst}
+use Rattle.std.proofs.Common.{ℕ, ◌∙◌, List, ◌++◌, All, length, codes, sym, ap, subst}
 use Rattle.replay_model.specs.declared.outcome.Outcome.{Outcome}
 use Rattle.replay_model.specs.declared.outcome.Placed.{Placed}
 use Rattle.replay_model.specs.Answered.{AllAnswered}
@@ -7,7 +7,7 @@ use Rattle.replay_model.specs.Report.{report, blocks_text, tables_text, line}
 use Rattle.replay_model.specs.TableMap.{Row}
 use Rattle.input_runner.specs.Listing.{AreRows}
 use Rattle.input_runner.specs.Ran.{order_of, outcomes_of}
-use Rattle.cicada_top.proofs.RunLaws.{all_named, answers_are, rows_each, is_report, is_history, ordered}
+use Rattle.cicada_top.proofs.RunLaws.{all_named, answers_are, rows_each, is_report, is_history}
 use Rattle.cicada_top.proofs.running.report_run.Goals as goal
 
 pub report_of-requires-clause-named : goal.report_of-requires-clause-named

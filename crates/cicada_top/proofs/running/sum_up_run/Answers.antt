@@ -1,4 +1,4 @@
-use Rattle.std.proofs.Common.{◌≡◌, ℕ, ◌∙◌, List, length, sym, ap, subst}
+use Rattle.std.proofs.Common.{ℕ, ◌∙◌, List, length, sym, ap, subst}
 use Rattle.load_gen.specs.Load.{spelled}
 use Rattle.load_gen.specs.Summary.{summary_lines}
 use Rattle.replay_model.specs.declared.outcome.Placed.{Placed}

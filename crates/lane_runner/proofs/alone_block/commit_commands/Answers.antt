@@ -5,9 +5,10 @@ use Rattle.replay_model.specs.Running.{tables_after}
 use Rattle.replay_model.specs.TableMap.{TableMap}
 use Rattle.stored_tables.specs.Weight.{all_add}
 use Rattle.stored_tables.specs.Tables.{StandsFor}
+use Rattle.seat_post.specs.declared.phase.Phase.TheVariants.{Open}
 use Rattle.txn_engine.specs.declared.faults.AloneFault.TheVariants as fault
 use Rattle.txn_engine.specs.Alone.{AloneView, AloneRest}
-use Rattle.txn_engine.specs.Pass.{EngineView, next_clock, entry_of}
+use Rattle.txn_engine.specs.Pass.{EngineView, PassView, frame, meaning_of_pass, next_clock, entry_of}
 use Rattle.lane_runner.specs.Holding.{Enters}
 use Rattle.lane_runner.proofs.Asked.{few_writes, leads_run, by_an_ask, known_written}
 use Rattle.lane_runner.proofs.Begun.{kept_frame, is_open, none_written, same_records, run_at, fits_at, torn_at, undone_writes}
@@ -19,14 +20,46 @@ use Rattle.lane_runner.specs.Weighs.{LeadsTo}
 use Rattle.lane_runner.proofs.alone_block.commit_commands.Goals as goal
 use Rattle.lane_runner.proofs.alone_block.commit_commands.Goals.{After-exec_txn, In-Ok-exec_txn, After-number}
 
+pub begin-requires-clause-engine : goal.begin-requires-clause-engine
+begin-requires-clause-engine c = c.requires.engine
+
+pub begin-requires-clause-idle : goal.begin-requires-clause-idle
+begin-requires-clause-idle c = c.requires.holds.idle
+
 pub unreachable-requires : goal.unreachable-requires
 unreachable-requires c = clock_left c.args.alone.now.pass 0 c.requires.room (c.in-Err-ClockOut.ensures.clock_out c.in-Err-ClockOut.field-0-is)
+
+pub exec_txn-requires-clause-commands : goal.exec_txn-requires-clause-commands
+exec_txn-requires-clause-commands c = c.requires.commands
+
+pub exec_txn-requires-clause-short : goal.exec_txn-requires-clause-short
+exec_txn-requires-clause-short c = c.requires.short
+
+pub exec_txn-requires-clause-fixed : goal.exec_txn-requires-clause-fixed
+exec_txn-requires-clause-fixed c =
+    subst (λ (n : ℕ). 4112 ≤ n) (sym (ap (λ (a : AloneView). (meaning_of_pass a.pass).fixed) c.in-Ok.ensures.ok ∙ ap (λ (e : EngineView). e.fixed) c.requires.engine)) c.requires.fixed
 
 way : (c : After-exec_txn) → Opened c.args.alone.now.pass c.in-Ok.txn.alone.now.pass c.exec_txn.new.store.alone.now.pass
 way c =
     let p = c.args.alone.now.pass in
     opened p c.in-Ok.txn.alone.now.pass c.exec_txn.new.store.alone.now.pass (next_clock p 0) (clock_later p 0) (clock_drawn p 0) (ap (λ (a : AloneView). a.pass) c.in-Ok.ensures.ok)
     (ap (λ (x : AloneRest). x.of_pass) c.exec_txn.ensures.rest) c.in-Ok.ensures.above c.shared.ensures.alone (ap (λ (x : AloneRest). x.accounts) c.exec_txn.ensures.rest) (c.in-Ok.ensures.absent c.requires.holds.absent) c.requires.holds.roomy
+
+-- as long as its frame stays, the transaction is open
+still_open : (c : After-exec_txn) (r : PassView) → frame r ≡ frame c.exec_txn.new.store.alone.now.pass → r.desk.phase ≡ Open
+still_open c r same = let o = way c in is_open c.args.alone.now.pass c.in-Ok.txn.alone.now.pass r o.clock o.began (same ∙ o.rest)
+
+pub commit-requires-clause-open : goal.commit-requires-clause-open
+commit-requires-clause-open c = still_open (goal.at.commit-requires-clause-open c).After-exec_txn c.undo.new.self.alone.now.pass (ap (λ (x : AloneRest). x.of_pass) c.undo.ensures.rest)
+
+pub commit-requires-in-Err-Store-RecordsOut-clause-open : goal.commit-requires-in-Err-Store-RecordsOut-clause-open
+commit-requires-in-Err-Store-RecordsOut-clause-open c = still_open (goal.at.commit-requires-in-Err-Store-RecordsOut-clause-open c).After-exec_txn c.undo-in-Err-Store-RecordsOut.new.self.alone.now.pass (ap (λ (x : AloneRest). x.of_pass) c.undo-in-Err-Store-RecordsOut.ensures.rest)
+
+pub abort-requires : goal.abort-requires
+abort-requires c = still_open (goal.at.abort-requires c).After-exec_txn c.exec_txn.new.store.alone.now.pass refl
+
+pub commit-requires-2-clause-open : goal.commit-requires-2-clause-open
+commit-requires-2-clause-open c = still_open (goal.at.commit-requires-2-clause-open c).After-exec_txn c.exec_txn.new.store.alone.now.pass refl
 
 pub commit-requires-clause-fits : goal.commit-requires-clause-fits
 commit-requires-clause-fits c =

@@ -23,3 +23,30 @@ returns-clause-leaves c = λ tables most within.
 
 pub returns-clause-clock : goal.returns-clause-clock
 returns-clause-clock c = subst (λ (n : ℕ). n ≤ clock_after c.args.alone.now.pass.clock 1) (sym c.close.ensures.clock) c.in_ok-done.ensures.enters.clock
+
+pub commit_commands-requires-clause-engine : goal.commit_commands-requires-clause-engine
+commit_commands-requires-clause-engine c = c.requires.engine
+
+pub commit_commands-requires-clause-holds : goal.commit_commands-requires-clause-holds
+commit_commands-requires-clause-holds c = c.requires.holds
+
+pub commit_commands-requires-clause-commands : goal.commit_commands-requires-clause-commands
+commit_commands-requires-clause-commands c = c.requires.commands
+
+pub commit_commands-requires-clause-short : goal.commit_commands-requires-clause-short
+commit_commands-requires-clause-short c = c.requires.short
+
+pub commit_commands-requires-clause-few : goal.commit_commands-requires-clause-few
+commit_commands-requires-clause-few c = c.requires.few
+
+pub commit_commands-requires-clause-fixed : goal.commit_commands-requires-clause-fixed
+commit_commands-requires-clause-fixed c = c.requires.fixed
+
+pub commit_commands-requires-clause-places : goal.commit_commands-requires-clause-places
+commit_commands-requires-clause-places c = c.requires.places
+
+pub commit_commands-requires-clause-records : goal.commit_commands-requires-clause-records
+commit_commands-requires-clause-records c = c.requires.records
+
+pub commit_commands-requires-clause-room : goal.commit_commands-requires-clause-room
+commit_commands-requires-clause-room c = c.requires.room

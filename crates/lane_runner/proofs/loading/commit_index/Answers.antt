@@ -1,11 +1,12 @@
-use Rattle.std.proofs.Common.{rules, ◌≡◌, ℕ, ◌≤◌, [], ◌∷◌, sym, ap, subst, ◌∙◌}
+use Rattle.std.proofs.Common.{rules, ◌≡◌, ℕ, ◌≤◌, [], ◌∷◌, refl, sym, ap, subst, ◌∙◌}
 use Rattle.plain_data.specs.State.{Agrees, Fits}
 use Rattle.record_store.specs.Limits.{record_limit}
 use Rattle.stored_tables.specs.Declare.{with_index}
 use Rattle.stored_tables.specs.Tables.{StandsFor}
+use Rattle.seat_post.specs.declared.phase.Phase.TheVariants.{Open}
 use Rattle.txn_engine.specs.declared.faults.AloneFault.TheVariants as fault
 use Rattle.txn_engine.specs.Alone.{AloneView, AloneRest}
-use Rattle.txn_engine.specs.Pass.{EngineView, next_clock, entry_of}
+use Rattle.txn_engine.specs.Pass.{EngineView, PassView, frame, meaning_of_pass, next_clock, entry_of}
 use Rattle.replay_model.specs.TableMap.{TableMap}
 use Rattle.lane_runner.specs.Loading.{EntersIndex}
 use Rattle.lane_runner.proofs.Asked.{by_an_ask, one_write}
@@ -19,14 +20,46 @@ use Rattle.lane_runner.specs.Weighs.{LeadsTo}
 use Rattle.lane_runner.proofs.loading.commit_index.Goals as goal
 use Rattle.lane_runner.proofs.loading.commit_index.Goals.{After-declare_index, In-Ok-true, In-Ok-commit}
 
+pub begin-requires-clause-engine : goal.begin-requires-clause-engine
+begin-requires-clause-engine c = c.requires.engine
+
+pub begin-requires-clause-idle : goal.begin-requires-clause-idle
+begin-requires-clause-idle c = c.requires.lacks.holds.idle
+
 pub unreachable-requires : goal.unreachable-requires
 unreachable-requires c = clock_left c.args.alone.now.pass 0 c.requires.room (c.in-Err-ClockOut.ensures.clock_out c.in-Err-ClockOut.field-0-is)
+
+pub declare_index-requires-clause-table : goal.declare_index-requires-clause-table
+declare_index-requires-clause-table c = c.requires.table
+
+pub declare_index-requires-clause-column : goal.declare_index-requires-clause-column
+declare_index-requires-clause-column c = c.requires.column
+
+pub declare_index-requires-clause-fixed : goal.declare_index-requires-clause-fixed
+declare_index-requires-clause-fixed c =
+    subst (λ (n : ℕ). 4112 ≤ n) (sym (ap (λ (a : AloneView). (meaning_of_pass a.pass).fixed) c.in-Ok.ensures.ok ∙ ap (λ (e : EngineView). e.fixed) c.requires.engine)) c.requires.fixed
 
 way : (c : After-declare_index) → Opened c.args.alone.now.pass c.in-Ok.txn.alone.now.pass c.declare_index.new.store.alone.now.pass
 way c =
     let p = c.args.alone.now.pass in
     opened p c.in-Ok.txn.alone.now.pass c.declare_index.new.store.alone.now.pass (next_clock p 0) (clock_later p 0) (clock_drawn p 0) (ap (λ (a : AloneView). a.pass) c.in-Ok.ensures.ok)
     (ap (λ (x : AloneRest). x.of_pass) c.declare_index.ensures.rest) c.in-Ok.ensures.above c.shared.ensures.alone (ap (λ (x : AloneRest). x.accounts) c.declare_index.ensures.rest) (c.in-Ok.ensures.absent c.requires.lacks.holds.absent) c.requires.lacks.holds.roomy
+
+-- as long as its frame stays, the transaction is open
+still_open : (c : After-declare_index) (r : PassView) → frame r ≡ frame c.declare_index.new.store.alone.now.pass → r.desk.phase ≡ Open
+still_open c r same = let o = way c in is_open c.args.alone.now.pass c.in-Ok.txn.alone.now.pass r o.clock o.began (same ∙ o.rest)
+
+pub commit-requires-clause-open : goal.commit-requires-clause-open
+commit-requires-clause-open c = still_open (goal.at.commit-requires-clause-open c).After-declare_index c.undo.new.self.alone.now.pass (ap (λ (x : AloneRest). x.of_pass) c.undo.ensures.rest)
+
+pub commit-requires-in-Err-Torn-clause-open : goal.commit-requires-in-Err-Torn-clause-open
+commit-requires-in-Err-Torn-clause-open c = still_open (goal.at.commit-requires-in-Err-Torn-clause-open c).After-declare_index c.undo-in-Err-Torn.new.self.alone.now.pass (ap (λ (x : AloneRest). x.of_pass) c.undo-in-Err-Torn.ensures.rest)
+
+pub abort-requires : goal.abort-requires
+abort-requires c = still_open (goal.at.abort-requires c).After-declare_index c.declare_index.new.store.alone.now.pass refl
+
+pub commit-requires-2-clause-open : goal.commit-requires-2-clause-open
+commit-requires-2-clause-open c = still_open (goal.at.commit-requires-2-clause-open c).After-declare_index c.declare_index.new.store.alone.now.pass refl
 
 pub commit-requires-clause-fits : goal.commit-requires-clause-fits
 commit-requires-clause-fits c =

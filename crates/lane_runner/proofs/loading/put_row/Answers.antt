@@ -1,4 +1,4 @@
-use Rattle.std.proofs.Common.{◌≡◌, false, List, [], ◌∷◌, ◌++◌, refl, sym, ap, subst, ◌∙◌, All}
+use Rattle.std.proofs.Common.{◌≡◌, false, List, [], ◌∷◌, ◌++◌, refl, sym, ap, subst, ◌∙◌, All, length, ◌≤◌, arith}
 use Rattle.replay_model.specs.declared.command.Command.{Command}
 use Rattle.replay_model.specs.declared.command.Command.TheVariants.{Put}
 use Rattle.replay_model.specs.Input.{AreCommands}
@@ -30,3 +30,33 @@ returns-clause-puts c = λ tables most first so_far.
     let leaves = subst (λ (xs : List Command). LeavesAfter xs c.args.alone.now.pass c.run_commands.new.alone.pass) commands c.in_ok-run_commands.ensures.leaves in
     HasLoaded-put first c.args.alone.now.pass c.run_commands.new.alone.pass tables most c.args.table c.args.key c.args.values so_far c.in_ok-run_commands.ensures.holds
     (c.in_ok-run_commands.ensures.committed (record { stamp = c.in_ok-run_commands.field-0.0; snap = false; lane = 0; number = 0 }) refl refl).adds leaves
+
+pub run_commands-requires-clause-engine : goal.run_commands-requires-clause-engine
+run_commands-requires-clause-engine c = c.requires.engine
+
+pub run_commands-requires-clause-holds : goal.run_commands-requires-clause-holds
+run_commands-requires-clause-holds c = c.requires.holds
+
+pub run_commands-requires-clause-few : goal.run_commands-requires-clause-few
+run_commands-requires-clause-few c = subst (λ (xs : List Command). length xs ≤ 64) (sym (commands_are (goal.at.run_commands-requires-clause-few c).In_ok-push)) (omega arith)
+
+pub run_commands-requires-clause-fixed : goal.run_commands-requires-clause-fixed
+run_commands-requires-clause-fixed c = c.requires.fixed
+
+pub run_commands-requires-clause-places : goal.run_commands-requires-clause-places
+run_commands-requires-clause-places c = c.requires.places
+
+pub run_commands-requires-clause-room : goal.run_commands-requires-clause-room
+run_commands-requires-clause-room c = c.requires.room
+
+pub returns-clause-shared : goal.returns-clause-shared
+returns-clause-shared c = c.run_commands.ensures.shared
+
+pub returns-clause-clock : goal.returns-clause-clock
+returns-clause-clock c = c.in_ok-run_commands.ensures.clock
+
+pub returns-in_err-push-clause-shared : goal.returns-in_err-push-clause-shared
+returns-in_err-push-clause-shared c = refl
+
+pub returns-in_err-run_commands-clause-shared : goal.returns-in_err-run_commands-clause-shared
+returns-in_err-run_commands-clause-shared c = c.run_commands.ensures.shared

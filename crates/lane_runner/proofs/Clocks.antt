@@ -31,3 +31,14 @@ room_behind first now some more so_far room = omega arith
 
 pub clock_still : (clock : ℕ) → clock ≤ clock_after clock 0
 clock_still clock = omega arith
+
+-- room for one more among so many
+pub room_among : (first now draws count : ℕ) → now ≤ clock_after first draws → draws < count → HasRoom first count → HasRoom now 1
+room_among first now draws count so_far fewer room = omega arith
+
+-- not all draws need have come
+pub drawn_most : (first now draws most : ℕ) → now ≤ clock_after first draws → draws ≤ most → now ≤ clock_after first most
+drawn_most first now draws most so_far fewer = omega arith
+
+pub room_part : (clock some more : ℕ) → HasRoom clock (some + more) → HasRoom clock more
+room_part clock some more room = omega arith

@@ -1,3 +1,4 @@
+mod Answered
 pub mod Entries
 pub mod Adding
 pub mod Begun

@@ -1,7 +1,9 @@
-use Rattle.std.proofs.Common.{◌≡◌, ◌≤◌, true, false, refl}
+use Rattle.std.proofs.Common.{◌≡◌, ◌≤◌, true, false, refl, ap, arith}
+use Rattle.txn_engine.specs.Pass.{EngineView}
 use Rattle.lane_runner.specs.Blocks.{Commits}
 use Rattle.lane_runner.specs.Holding.{Holds, LeavesAfter, IsBehind}
 use Rattle.lane_runner.specs.Room.{clock_after}
+use Rattle.lane_runner.proofs.Answered.{not_ok, no_value}
 use Rattle.lane_runner.proofs.alone_block.run_block.Goals as goal
 use Rattle.lane_runner.proofs.alone_block.run_block.Goals.{then-block+in_ok-look_up, else-block+in_ok-stamp}
 
@@ -38,3 +40,90 @@ returns-clause-clock c = elim c.if-block.branch as (λ _. c.if-block.alone.pass.
   | then-block+in_ok-look_up w ↦ rw w.alone-is w.in_ok-look_up.ensures.clock
   | else-block+in_ok-stamp w ↦ rw w.alone-is w.in_ok-stamp.ensures.clock
 ]
+
+pub look_up-requires-clause-engine : goal.look_up-requires-clause-engine
+look_up-requires-clause-engine c = c.requires.engine
+
+pub run_commands-requires-clause-engine : goal.run_commands-requires-clause-engine
+run_commands-requires-clause-engine c = c.requires.engine
+
+pub look_up-requires-clause-holds : goal.look_up-requires-clause-holds
+look_up-requires-clause-holds c = c.requires.holds
+
+pub run_commands-requires-clause-holds : goal.run_commands-requires-clause-holds
+run_commands-requires-clause-holds c = c.requires.holds
+
+pub run_commands-requires-clause-fixed : goal.run_commands-requires-clause-fixed
+run_commands-requires-clause-fixed c = c.requires.fixed
+
+pub run_commands-requires-clause-places : goal.run_commands-requires-clause-places
+run_commands-requires-clause-places c = c.requires.places
+
+pub run_commands-requires-clause-records : goal.run_commands-requires-clause-records
+run_commands-requires-clause-records c = c.requires.records
+
+pub look_up-requires-clause-room : goal.look_up-requires-clause-room
+look_up-requires-clause-room c = c.requires.room
+
+pub run_commands-requires-clause-room : goal.run_commands-requires-clause-room
+run_commands-requires-clause-room c = c.requires.room
+
+pub look_up-requires-clause-commands : goal.look_up-requires-clause-commands
+look_up-requires-clause-commands c = c.requires.block.may.commands
+
+pub look_up-requires-clause-short : goal.look_up-requires-clause-short
+look_up-requires-clause-short c = c.requires.block.may.short
+
+pub run_commands-requires-clause-commands : goal.run_commands-requires-clause-commands
+run_commands-requires-clause-commands c = c.requires.block.may.commands
+
+pub run_commands-requires-clause-short : goal.run_commands-requires-clause-short
+run_commands-requires-clause-short c = c.requires.block.may.short
+
+pub run_commands-requires-clause-few : goal.run_commands-requires-clause-few
+run_commands-requires-clause-few c = c.requires.block.few
+
+pub look_up-requires-clause-size : goal.look_up-requires-clause-size
+look_up-requires-clause-size c =
+    let fixed = ap (λ (e : EngineView). e.fixed) c.requires.engine in
+    let records = ap (λ (e : EngineView). e.size.records) c.requires.engine in
+    omega (arith, c.requires.fixed, c.requires.records.room, fixed, records)
+
+pub returns-clause-placed : goal.returns-clause-placed
+returns-clause-placed c = record { snap = refl; lane = refl; number = refl }
+
+pub returns-in_err-look_up-clause-holds : goal.returns-in_err-look_up-clause-holds
+returns-in_err-look_up-clause-holds c = no_value c.from_residual.result _ c.from_residual.ensures.0
+
+pub returns-in_err-look_up-clause-leaves : goal.returns-in_err-look_up-clause-leaves
+returns-in_err-look_up-clause-leaves c = no_value c.from_residual.result _ c.from_residual.ensures.0
+
+pub returns-in_err-look_up-clause-clock : goal.returns-in_err-look_up-clause-clock
+returns-in_err-look_up-clause-clock c = no_value c.from_residual.result _ c.from_residual.ensures.0
+
+pub returns-in_err-look_up-clause-committed : goal.returns-in_err-look_up-clause-committed
+returns-in_err-look_up-clause-committed c = not_ok c.from_residual.result _ c.from_residual.ensures.0
+
+pub returns-in_err-look_up-clause-placed : goal.returns-in_err-look_up-clause-placed
+returns-in_err-look_up-clause-placed c = not_ok c.from_residual.result _ c.from_residual.ensures.0
+
+pub returns-in_err-look_up-clause-behind : goal.returns-in_err-look_up-clause-behind
+returns-in_err-look_up-clause-behind c = not_ok c.from_residual.result _ c.from_residual.ensures.0
+
+pub returns-in_err-stamp-clause-holds : goal.returns-in_err-stamp-clause-holds
+returns-in_err-stamp-clause-holds c = no_value c.from_residual-in_err-stamp.result _ c.from_residual-in_err-stamp.ensures.0
+
+pub returns-in_err-stamp-clause-leaves : goal.returns-in_err-stamp-clause-leaves
+returns-in_err-stamp-clause-leaves c = no_value c.from_residual-in_err-stamp.result _ c.from_residual-in_err-stamp.ensures.0
+
+pub returns-in_err-stamp-clause-clock : goal.returns-in_err-stamp-clause-clock
+returns-in_err-stamp-clause-clock c = no_value c.from_residual-in_err-stamp.result _ c.from_residual-in_err-stamp.ensures.0
+
+pub returns-in_err-stamp-clause-committed : goal.returns-in_err-stamp-clause-committed
+returns-in_err-stamp-clause-committed c = not_ok c.from_residual-in_err-stamp.result _ c.from_residual-in_err-stamp.ensures.0
+
+pub returns-in_err-stamp-clause-placed : goal.returns-in_err-stamp-clause-placed
+returns-in_err-stamp-clause-placed c = not_ok c.from_residual-in_err-stamp.result _ c.from_residual-in_err-stamp.ensures.0
+
+pub returns-in_err-stamp-clause-behind : goal.returns-in_err-stamp-clause-behind
+returns-in_err-stamp-clause-behind c = not_ok c.from_residual-in_err-stamp.result _ c.from_residual-in_err-stamp.ensures.0

@@ -2,7 +2,8 @@ use Rattle.std.proofs.Common.{List, ℕ, [], take, refl, subst, ◌∙◌, arith
 use Rattle.std.proofs.lemmas.List.{take_all}
 use Rattle.replay_model.specs.TableMap.{loaded}
 use Rattle.lane_runner.specs.Loading.{HasLoaded}
-use Rattle.lane_runner.proofs.Clocks.{drawn_again}
+use Rattle.lane_runner.proofs.Clocks.{drawn_again, drawn_most, room_among}
+use Rattle.lane_runner.proofs.Answered.{no_value}
 use Rattle.lane_runner.proofs.Loaded.{index_loaded, lacks_rows, HasLoaded-none, HasLoaded-as}
 use Rattle.lane_runner.proofs.loading.declare_indexes.Goals as goal
 
@@ -40,3 +41,30 @@ pub returns-clause-loaded : goal.returns-clause-loaded
 returns-clause-loaded c =
     subst (λ (indexes : List (ℕ × ℕ)). HasLoaded (loaded [] indexes) 0 c.args.alone.now.pass c.loop-table.alone.pass)
     (take_all c.loop-table.table-index c.args.indexes.now c.loop-table-test.false) c.loop-table.invariant.loaded
+
+pub declare-requires-clause-engine : goal.declare-requires-clause-engine
+declare-requires-clause-engine c = c.loop-table.invariant.engine
+
+pub declare-requires-clause-fixed : goal.declare-requires-clause-fixed
+declare-requires-clause-fixed c = c.requires.fixed
+
+pub declare-requires-clause-places : goal.declare-requires-clause-places
+declare-requires-clause-places c = c.requires.places
+
+pub declare-requires-clause-room : goal.declare-requires-clause-room
+declare-requires-clause-room c = room_among c.args.alone.now.pass.clock c.loop-table.alone.pass.clock c.loop-table.table-index _ c.loop-table.invariant.clock c.loop-table-test.true c.requires.room
+
+pub returns-clause-shared : goal.returns-clause-shared
+returns-clause-shared c = c.loop-table.invariant.shared
+
+pub returns-clause-clock : goal.returns-clause-clock
+returns-clause-clock c = drawn_most c.args.alone.now.pass.clock c.loop-table.alone.pass.clock c.loop-table.table-index _ c.loop-table.invariant.clock c.loop-table.auto.table-index-end
+
+pub returns-in_err-declare-clause-loaded : goal.returns-in_err-declare-clause-loaded
+returns-in_err-declare-clause-loaded c = no_value c.from_residual.result _ c.from_residual.ensures.0
+
+pub returns-in_err-declare-clause-clock : goal.returns-in_err-declare-clause-clock
+returns-in_err-declare-clause-clock c = no_value c.from_residual.result _ c.from_residual.ensures.0
+
+pub returns-in_err-declare-clause-shared : goal.returns-in_err-declare-clause-shared
+returns-in_err-declare-clause-shared c = c.declare.ensures.shared ∙ c.loop-table.invariant.shared

@@ -1,11 +1,12 @@
-use Rattle.std.proofs.Common.{◌≡◌, ℕ, ◌≤◌, List, [], length, sym, subst, ◌∙◌}
+use Rattle.std.proofs.Common.{◌≡◌, ℕ, ◌+◌, ◌≤◌, List, [], length, sym, subst, ◌∙◌}
 use Rattle.record_store.specs.Limits.{record_limit}
 use Rattle.replay_model.specs.Input.{RowsDiffer}
 use Rattle.replay_model.specs.TableMap.{Row, loaded}
 use Rattle.txn_engine.specs.Pass.{EngineView}
-use Rattle.lane_runner.specs.Loading.{HasLoaded, AreRowsOf, rows_add}
+use Rattle.lane_runner.specs.Loading.{HasLoaded, AreIndexesOf, AreRowsOf, rows_add}
 use Rattle.lane_runner.specs.Room.{HasRoom, clock_after}
-use Rattle.lane_runner.proofs.Clocks.{drawn_both, room_behind}
+use Rattle.lane_runner.proofs.Clocks.{drawn_both, room_behind, room_part}
+use Rattle.lane_runner.proofs.Answered.{no_value}
 use Rattle.lane_runner.proofs.Loaded.{HasLoaded-again, Loads-whole, swapped}
 use Rattle.lane_runner.proofs.loading.load_rows.Goals as goal
 
@@ -54,3 +55,61 @@ returns-clause-clock c =
     let drawn : q.clock ≤ clock_after p.clock (length input.indexes) = subst (λ (xs : List (ℕ × ℕ)). q.clock ≤ clock_after p.clock (length xs)) c.as_slice.ensures c.in_ok-declare_indexes.ensures.clock in
     let more : w.clock ≤ clock_after q.clock (length input.rows) = subst (λ (xs : List (ℕ × ℕ × Row)). w.clock ≤ clock_after q.clock (length xs)) c.as_slice-2.ensures c.in_ok-put_rows.ensures.clock in
     subst (λ (n : ℕ). w.clock ≤ clock_after p.clock n) (swapped (length input.indexes) (length input.rows)) (drawn_both p.clock q.clock w.clock (length input.indexes) (length input.rows) drawn more)
+
+pub declare_indexes-requires-clause-engine : goal.declare_indexes-requires-clause-engine
+declare_indexes-requires-clause-engine c = c.requires.engine
+
+pub declare_indexes-requires-clause-blank : goal.declare_indexes-requires-clause-blank
+declare_indexes-requires-clause-blank c = c.requires.blank
+
+pub declare_indexes-requires-clause-fixed : goal.declare_indexes-requires-clause-fixed
+declare_indexes-requires-clause-fixed c = c.requires.fixed
+
+pub declare_indexes-requires-clause-places : goal.declare_indexes-requires-clause-places
+declare_indexes-requires-clause-places c = c.requires.places
+
+pub declare_indexes-requires-clause-indexes : goal.declare_indexes-requires-clause-indexes
+declare_indexes-requires-clause-indexes c =
+    let i = c.requires.input.indexes in
+    subst (λ (xs : List (ℕ × ℕ)). AreIndexesOf xs) (sym c.as_slice.ensures) (record { low = λ at other fewer. (i.each at other fewer).low; columns = λ at other fewer. (i.each at other fewer).column; one_each = i.one_each })
+
+pub declare_indexes-requires-clause-room : goal.declare_indexes-requires-clause-room
+declare_indexes-requires-clause-room c =
+    let input = c.args.input.now in
+    subst (λ (xs : List (ℕ × ℕ)). HasRoom c.args.alone.now.pass.clock (length xs)) (sym c.as_slice.ensures) (room_part c.args.alone.now.pass.clock (length input.rows) (length input.indexes) c.requires.room)
+
+pub put_rows-requires-clause-engine : goal.put_rows-requires-clause-engine
+put_rows-requires-clause-engine c = c.in_ok-declare_indexes.ensures.loaded.adds.1.engine ∙ c.requires.engine
+
+pub put_rows-requires-clause-fixed : goal.put_rows-requires-clause-fixed
+put_rows-requires-clause-fixed c = c.requires.fixed
+
+pub put_rows-requires-clause-places : goal.put_rows-requires-clause-places
+put_rows-requires-clause-places c = c.requires.places
+
+pub put_rows-requires-clause-records : goal.put_rows-requires-clause-records
+put_rows-requires-clause-records c =
+    let e = c.args.engine.now in
+    subst (λ (xs : List (ℕ × ℕ × Row)). e.fixed + rows_add xs c.as_slice-3.result.now ≤ e.size.records) (sym c.as_slice-2.ensures)
+    (subst (λ (xs : List (ℕ × ℕ)). e.fixed + rows_add c.args.input.now.rows xs ≤ e.size.records) (sym c.as_slice-3.ensures) c.requires.records)
+
+pub returns-clause-shared : goal.returns-clause-shared
+returns-clause-shared c = c.put_rows.ensures.shared ∙ c.declare_indexes.ensures.shared
+
+pub returns-in_err-declare_indexes-clause-shared : goal.returns-in_err-declare_indexes-clause-shared
+returns-in_err-declare_indexes-clause-shared c = c.declare_indexes.ensures.shared
+
+pub returns-in_err-put_rows-clause-shared : goal.returns-in_err-put_rows-clause-shared
+returns-in_err-put_rows-clause-shared c = c.put_rows.ensures.shared ∙ c.declare_indexes.ensures.shared
+
+pub returns-in_err-declare_indexes-clause-loads : goal.returns-in_err-declare_indexes-clause-loads
+returns-in_err-declare_indexes-clause-loads c = no_value c.from_residual.result _ c.from_residual.ensures.0
+
+pub returns-in_err-declare_indexes-clause-clock : goal.returns-in_err-declare_indexes-clause-clock
+returns-in_err-declare_indexes-clause-clock c = no_value c.from_residual.result _ c.from_residual.ensures.0
+
+pub returns-in_err-put_rows-clause-loads : goal.returns-in_err-put_rows-clause-loads
+returns-in_err-put_rows-clause-loads c = no_value c.from_residual-in_err-put_rows.result _ c.from_residual-in_err-put_rows.ensures.0
+
+pub returns-in_err-put_rows-clause-clock : goal.returns-in_err-put_rows-clause-clock
+returns-in_err-put_rows-clause-clock c = no_value c.from_residual-in_err-put_rows.result _ c.from_residual-in_err-put_rows.ensures.0

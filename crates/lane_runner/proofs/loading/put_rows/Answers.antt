@@ -3,7 +3,8 @@ use Rattle.std.proofs.lemmas.List.{take_all}
 use Rattle.replay_model.specs.TableMap.{Row, loaded}
 use Rattle.txn_engine.specs.Pass.{EngineView}
 use Rattle.lane_runner.specs.Loading.{HasLoaded, rows_add}
-use Rattle.lane_runner.proofs.Clocks.{drawn_again}
+use Rattle.lane_runner.proofs.Clocks.{drawn_again, drawn_most, room_among}
+use Rattle.lane_runner.proofs.Answered.{no_value}
 use Rattle.lane_runner.proofs.Loaded.{row_loaded, weight_loaded, room_row, HasLoaded-as}
 use Rattle.lane_runner.proofs.loading.put_rows.Goals as goal
 
@@ -41,3 +42,30 @@ pub returns-clause-loaded : goal.returns-clause-loaded
 returns-clause-loaded c =
     subst (λ (rows : List (ℕ × ℕ × Row)). HasLoaded (loaded rows c.args.indexes.now) (rows_add rows c.args.indexes.now) c.args.alone.now.pass c.loop-row.alone.pass)
     (take_all c.loop-row.row-index c.args.rows.now c.loop-row-test.false) c.loop-row.invariant.loaded
+
+pub put_row-requires-clause-engine : goal.put_row-requires-clause-engine
+put_row-requires-clause-engine c = c.loop-row.invariant.engine
+
+pub put_row-requires-clause-fixed : goal.put_row-requires-clause-fixed
+put_row-requires-clause-fixed c = c.requires.fixed
+
+pub put_row-requires-clause-places : goal.put_row-requires-clause-places
+put_row-requires-clause-places c = c.requires.places
+
+pub put_row-requires-clause-room : goal.put_row-requires-clause-room
+put_row-requires-clause-room c = room_among c.args.alone.now.pass.clock c.loop-row.alone.pass.clock c.loop-row.row-index _ c.loop-row.invariant.clock c.loop-row-test.true c.requires.room
+
+pub returns-clause-shared : goal.returns-clause-shared
+returns-clause-shared c = c.loop-row.invariant.shared
+
+pub returns-clause-clock : goal.returns-clause-clock
+returns-clause-clock c = drawn_most c.args.alone.now.pass.clock c.loop-row.alone.pass.clock c.loop-row.row-index _ c.loop-row.invariant.clock c.loop-row.auto.row-index-end
+
+pub returns-in_err-put_row-clause-loaded : goal.returns-in_err-put_row-clause-loaded
+returns-in_err-put_row-clause-loaded c = no_value c.from_residual.result _ c.from_residual.ensures.0
+
+pub returns-in_err-put_row-clause-clock : goal.returns-in_err-put_row-clause-clock
+returns-in_err-put_row-clause-clock c = no_value c.from_residual.result _ c.from_residual.ensures.0
+
+pub returns-in_err-put_row-clause-shared : goal.returns-in_err-put_row-clause-shared
+returns-in_err-put_row-clause-shared c = c.put_row.ensures.shared ∙ c.loop-row.invariant.shared

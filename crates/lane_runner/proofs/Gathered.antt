@@ -11,6 +11,7 @@ use Rattle.lane_queue.specs.Passes.{Taker, IsFresh, IsSamePass, HasEnded, taken_
 use Rattle.txn_engine.specs.Pass.{PassView, EngineView}
 use Rattle.txn_engine.specs.Retired.{RetiredView, retired}
 use Rattle.txn_engine.specs.Joining.{AreOfEngine, logs_of, refusals_of, greatest_clock_of, greatest_met_of}
+use Rattle.lane_runner.specs.declared.all.Begun.{Begun}
 use Rattle.lane_runner.specs.declared.done.LaneDone.{LaneDone}
 use Rattle.lane_runner.specs.declared.workers.Worker.{Worker}
 use Rattle.lane_runner.specs.declared.workers.Worked.{Worked}
@@ -94,6 +95,12 @@ ok_then P Q (Err fault) then so = tt
 -- the same of equal values
 pub works_again : (tries tries' : ℕ) (p p' : PassView) (t t' : Taker) (left left' : Left) → tries' ≡ tries → p' ≡ p → t' ≡ t → left ≡ left' → WorksAndRetires tries' p' t' left' → WorksAndRetires tries p t left
 works_again tries tries' p p' t t' left left' of_tries of_pass of_taker of_left = subst (λ (y : ℕ × PassView × Taker × Left). WorksAndRetires y.0 y.1 y.2 y.3) (λ i. (of_tries i, of_pass i, of_taker i, sym of_left i))
+
+-- the same of what a thread was begun with
+pub works_told : (tries : ℕ) (p : PassView) (t : Taker) (told begun : Begun) (left left' : Left) → told ≡ begun → begun.tries ≡ tries → begun.pass.value ≡ p → begun.taker.value ≡ t → left ≡ left'
+    → WorksAndRetires told.tries told.pass.value told.taker.value left' → WorksAndRetires tries p t left
+works_told tries p t told begun left left' same of_tries of_pass of_taker of_left =
+    works_again tries told.tries p told.pass.value t told.taker.value left left' (ap (λ (b : Begun). b.tries) same ∙ of_tries) (ap (λ (b : Begun). b.pass.value) same ∙ of_pass) (ap (λ (b : Begun). b.taker.value) same ∙ of_taker) of_left
 
 -- its right to take lanes is the one that it began with
 fresh_same : (t u : Taker) → IsFresh t → IsSamePass t u → fresh_again u ≡ t

@@ -1,3 +1,4 @@
+mod Paired
 mod Answered
 pub mod Entries
 pub mod Adding

@@ -1,11 +1,11 @@
-use Rattle.std.proofs.Common.{◌≡◌, [], length, refl, sym, ap, ◌∙◌, rules, arith, vec_len}
+use Rattle.std.proofs.Common.{◌≡◌, [], length, refl, sym, rules, arith, vec_len}
 use Rattle.std.proofs.lemmas.Bool.{eqb-true}
 use Rattle.lane_runner.specs.declared.gathering.Gathered.{Gathered}
 use Rattle.lane_runner.specs.declared.all.Begun.{Begun}
 use Rattle.lane_runner.specs.Workers.{MayBegin, WorksAndRetires}
 use Rattle.lane_runner.specs.Gathers.{Starts, GoesOn, GathersIn}
 use Rattle.lane_runner.proofs.LaneLists.{no_items}
-use Rattle.lane_runner.proofs.Gathered.{passes_of, takers_of, ok_then, works_again, begin_last, begin_front, workers_start, workers_next}
+use Rattle.lane_runner.proofs.Gathered.{passes_of, takers_of, ok_then, works_again, works_told, begin_last, begin_front, workers_start, workers_next}
 use Rattle.lane_runner.proofs.all.+run_workers.Goals as goal
 use Rattle.lane_runner.proofs.all.+run_workers.Goals.{in-Ok, in-Err}
 
@@ -34,7 +34,7 @@ returns g t c =
     let w = c.in-Some.worker in
     let here : WorksAndRetires c.args.tries w.pass w.taker c.match-started.left =
     elim c.match-started.branch [
-      | in-Ok b ↦ (let d = b.in-Ok.ensures.ok in let p = b.in-Ok.handle.promise in works_again c.args.tries p.tries w.pass p.pass.value w.taker p.taker.value c.match-started.left b.join-left.result (ap (λ (p : Begun). p.tries) d) (ap (λ (p : Begun). p.pass.value) d ∙ c.of.ensures) (ap (λ (p : Begun). p.taker.value) d ∙ c.of-2.ensures) b.left-is b.join-left.ensures)
+      | in-Ok b ↦ (let begun : Begun = record { pass = c.of.result; taker = c.of-2.result; tries = c.args.tries } in works_told c.args.tries w.pass w.taker b.in-Ok.handle.promise begun c.match-started.left b.join-left.result b.in-Ok.ensures.ok refl c.of.ensures c.of-2.ensures b.left-is b.join-left.ensures)
       | in-Err b ↦ (let a = rw b.in-Err.ensures.err at b.spawn_with-left.ensures in works_again c.args.tries c.args.tries w.pass w.pass w.taker w.taker c.match-started.left b.spawn_with-left.result refl refl refl b.left-is a)
     ] in
     ok_then (λ (more : Gathered). GoesOn c.in_ok-gathered.field-0 more c.match-started.left) (GathersIn c.args.engine.now c.args.tries (passes_of c.args.workers.items) (takers_of c.args.workers.items)) c.gather.result

@@ -1,10 +1,12 @@
 use Rattle.std.specs.Prelude.{◌≡◌, ◌≤◌, ◌++◌, map, length}
-use Rattle.std.specs.Vec.Iter.{into_iter_items}
+use Rattle.std.specs.Vec.Iter.{into_iter_items, into_iter_len}
 use Rattle.lane_runner.proofs.all.workers_of.Given as goal
 
 abbrev pub invariant-loop-pass : goal.invariant-loop-pass
-invariant-loop-pass g l =
-    let passes = into_iter_items l.pass-iterator in let takers = into_iter_items l.takers in let clocks = into_iter_items l.clocks in
-    (length passes ≡ length takers) × (length passes ≤ length clocks)
-    × (map (λ w. w.pass) l.workers.items ++ passes ≡ into_iter_items l.initial.pass-iterator)
-    × (map (λ w. w.taker) l.workers.items ++ takers ≡ into_iter_items l.initial.takers)
+invariant-loop-pass g l = record {
+  same : length (into_iter_items l.pass-iterator) ≡ length (into_iter_items l.takers);
+  enough : length (into_iter_items l.pass-iterator) ≤ length (into_iter_items l.clocks);
+  passes : map (λ w. w.pass) l.workers.items ++ into_iter_items l.pass-iterator ≡ into_iter_items l.initial.pass-iterator;
+  takers : map (λ w. w.taker) l.workers.items ++ into_iter_items l.takers ≡ into_iter_items l.initial.takers;
+  remain : length (into_iter_items l.pass-iterator) ≡ into_iter_len l.pass-iterator;
+}

@@ -9,6 +9,7 @@ use Rattle.lane_runner.specs.Room.{HasRoom, clock_after}
 use Rattle.lane_runner.proofs.Clocks.{clock_still, drawn_again, room_for_one}
 use Rattle.lane_runner.proofs.Rests.{room_here, room_next, RunsRests-new, RunsRests-more, items_more, items_count, items_remain, one_more}
 use Rattle.lane_runner.proofs.Run.{none_kept}
+use Rattle.lane_runner.proofs.Answered.{no_value}
 use Rattle.lane_runner.proofs.finishing.run_rests.Goals as goal
 
 pub loop-block-init : goal.loop-block-init
@@ -67,3 +68,27 @@ returns-clause-clock c =
     let none : into_iter_items c.loop-block.block-iterator ≡ [] = none_kept (into_iter_items c.loop-block.block-iterator) (c.loop-block.invariant.remain ∙ c.in-None.ensures.steps.0) in
     let whole : c.loop-block.yielded ≡ c.args.blocks.items = sym (append-nil c.loop-block.yielded) ∙ ap (λ (xs : List Block). c.loop-block.yielded ++ xs) (sym none) ∙ c.loop-block.invariant.blocks ∙ start in
     subst (λ (xs : List Block). c.loop-block.alone.pass.clock ≤ clock_after c.args.alone.now.pass.clock (length xs)) whole c.loop-block.invariant.clock
+
+pub run_block-requires-clause-engine : goal.run_block-requires-clause-engine
+run_block-requires-clause-engine c = c.loop-block.invariant.engine
+
+pub run_block-requires-clause-holds : goal.run_block-requires-clause-holds
+run_block-requires-clause-holds c = c.loop-block.invariant.ran.holds
+
+pub run_block-requires-clause-fixed : goal.run_block-requires-clause-fixed
+run_block-requires-clause-fixed c = c.requires.fixed
+
+pub run_block-requires-clause-places : goal.run_block-requires-clause-places
+run_block-requires-clause-places c = c.requires.places
+
+pub returns-in_err-done-clause-ran : goal.returns-in_err-done-clause-ran
+returns-in_err-done-clause-ran c = no_value c.from_residual.result _ c.from_residual.ensures.0
+
+pub returns-in_err-done-clause-clock : goal.returns-in_err-done-clause-clock
+returns-in_err-done-clause-clock c = no_value c.from_residual.result _ c.from_residual.ensures.0
+
+pub returns-in_err-push-clause-ran : goal.returns-in_err-push-clause-ran
+returns-in_err-push-clause-ran c = no_value c.from_residual-in_err-push.result _ c.from_residual-in_err-push.ensures.0
+
+pub returns-in_err-push-clause-clock : goal.returns-in_err-push-clause-clock
+returns-in_err-push-clause-clock c = no_value c.from_residual-in_err-push.result _ c.from_residual-in_err-push.ensures.0

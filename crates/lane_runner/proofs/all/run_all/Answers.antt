@@ -1,6 +1,7 @@
 use Rattle.std.proofs.Common.{map, sym, ap, ◌∙◌}
 use Rattle.lane_queue.specs.Passes.{numbered}
 use Rattle.txn_engine.specs.Pass.{PassView}
+use Rattle.lane_runner.proofs.Answered.{not_ok}
 use Rattle.lane_runner.proofs.Gathered.{passes_of, takers_of}
 use Rattle.lane_runner.proofs.Together.{count_passes, begin_all, all_again, of_again, first_seat, other_seats, runs_all}
 use Rattle.lane_runner.proofs.all.run_all.Goals as goal
@@ -37,3 +38,18 @@ returns g c =
     let same = of_again (numbered 1 c.args.lanes) c.in_ok-queue.takers.items c.in_ok-pass.field-0.takers.items (left.takers_are ∙ c.in_ok-workers.ensures.takers) c.in_ok-queue.ensures.lanes in
     runs_all c.args.engine.now (passes_of c.in_ok-workers.workers.items) c.args.passes.items (takers_of c.in_ok-workers.workers.items) c.args.lanes c.args.tries c.in_ok-pass.field-0.pass c.in_ok-pass.field-0.retired.items c.in_ok-pass.field-0.takers.items c.in_ok-pass.field-0.done.items
     c.alone.result c.alone.result.pass.glance left c.in_ok-workers.ensures.passes first (c.close.ensures (numbered 1 c.args.lanes) same) joined.pass joined.shared joined.alone
+
+pub workers_of-requires-clause-clocks : goal.workers_of-requires-clause-clocks
+workers_of-requires-clause-clocks g c κs within = c.requires.clocks
+
+pub run_in_scope-requires-clause-fixed : goal.run_in_scope-requires-clause-fixed
+run_in_scope-requires-clause-fixed g c κs within = c.requires.fixed
+
+pub returns-in_err-queue : goal.returns-in_err-queue
+returns-in_err-queue g c = not_ok c.from_residual.result _ c.from_residual.ensures.0
+
+pub returns-in_err-workers : goal.returns-in_err-workers
+returns-in_err-workers g c = not_ok c.from_residual-in_err-workers.result _ c.from_residual-in_err-workers.ensures.0
+
+pub returns-in_err-pass : goal.returns-in_err-pass
+returns-in_err-pass g c = not_ok c.from_residual-in_err-pass.result _ c.from_residual-in_err-pass.ensures.0

@@ -2,6 +2,7 @@ use Rattle.std.proofs.Common.{List, ◌++◌, refl, sym, ◌∙◌, subst}
 use Rattle.lane_queue.specs.declared.lane.Lane.{Lane}
 use Rattle.lane_runner.specs.declared.done.LaneDone.{LaneDone}
 use Rattle.lane_runner.specs.Workers.{DoesLanes}
+use Rattle.lane_runner.proofs.Answered.{not_ok}
 use Rattle.lane_runner.proofs.Adding.{Adds-trans}
 use Rattle.lane_runner.proofs.LaneLists.{taken_may, taken_room, DoesLanes-none, DoesLanes-next}
 use Rattle.lane_runner.proofs.workers.work_lanes.Goals as goal
@@ -49,3 +50,42 @@ returns-in_err-push-clause-adds g c =
     let so_far = c.loop.invariant.does in
     let more = c.run_lane.ensures.adds in
     (so_far.entries ++ more.0, Adds-trans c.args.pass.now c.loop.pass c.run_lane.new.pass so_far.entries more.0 so_far.adds more.1)
+
+pub take-requires : goal.take-requires
+take-requires g c = c.loop.invariant.queue_is
+
+pub run_lane-requires-clause-engine : goal.run_lane-requires-clause-engine
+run_lane-requires-clause-engine g c κs within = c.loop.invariant.engine_is
+
+pub run_lane-requires-clause-idle : goal.run_lane-requires-clause-idle
+run_lane-requires-clause-idle g c κs within = c.loop.invariant.does.adds.idle
+
+pub run_lane-requires-clause-fixed : goal.run_lane-requires-clause-fixed
+run_lane-requires-clause-fixed g c κs within = c.requires.fixed
+
+pub returns-in_err-ran-clause-ended : goal.returns-in_err-ran-clause-ended
+returns-in_err-ran-clause-ended g c = not_ok c.from_residual.result _ c.from_residual.ensures.0
+
+pub returns-in_err-ran-clause-does : goal.returns-in_err-ran-clause-does
+returns-in_err-ran-clause-does g c = not_ok c.from_residual.result _ c.from_residual.ensures.0
+
+pub returns-in_err-push-clause-ended : goal.returns-in_err-push-clause-ended
+returns-in_err-push-clause-ended g c = not_ok c.from_residual-in_err-push.result _ c.from_residual-in_err-push.ensures.0
+
+pub returns-in_err-push-clause-does : goal.returns-in_err-push-clause-does
+returns-in_err-push-clause-does g c = not_ok c.from_residual-in_err-push.result _ c.from_residual-in_err-push.ensures.0
+
+pub returns-in_err-ran-clause-same : goal.returns-in_err-ran-clause-same
+returns-in_err-ran-clause-same g c =
+    let i = c.loop.invariant.same in
+    let t = c.in-Some-take.ensures.pass in
+    record { same_queue = t.same_queue ∙ i.same_queue; same_lanes = t.same_lanes ∙ i.same_lanes; same_share = t.same_share ∙ i.same_share }
+
+pub returns-in_err-push-clause-same : goal.returns-in_err-push-clause-same
+returns-in_err-push-clause-same g c =
+    let i = c.loop.invariant.same in
+    let t = c.in-Some-take.ensures.pass in
+    record { same_queue = t.same_queue ∙ i.same_queue; same_lanes = t.same_lanes ∙ i.same_lanes; same_share = t.same_share ∙ i.same_share }
+
+pub returns-clause-adds : goal.returns-clause-adds
+returns-clause-adds g c = (c.loop.invariant.does.entries, c.loop.invariant.does.adds)

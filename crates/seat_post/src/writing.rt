@@ -50,6 +50,9 @@ impl<J> Post<J> {
     }
 }
 
+// A map that has room for more gives it back.
+const MANY: usize = 1024;
+
 /// Forgets what was read and written. The room stays.
 pub(crate) fn clear(
     reads: &mut IndexMap<u32, Option<Cells>>,
@@ -63,6 +66,12 @@ pub(crate) fn clear(
 {
     reads.clear();
     writes.clear();
+    if reads.capacity() > MANY {
+        reads.shrink_to_fit();
+    }
+    if writes.capacity() > MANY {
+        writes.shrink_to_fit();
+    }
     sets.clear();
 }
 

@@ -49,6 +49,8 @@ pub mod Listed
 pub mod ScanRows
 pub mod ReadingCommands
 pub mod Once
+pub mod OneRow
+pub mod Asking
 pub mod Running
 pub mod Ending
 pub mod Declaring

@@ -1,12 +1,11 @@
 -- Parts of a run behind each other.
-use Rattle.std.proofs.Common.{◌≡◌, ℕ, ◌+◌, ◌<◌, ◌≤◌, Bool, true, false, List, Option, Result, Ok, Err, refl, zero, suc, subst, ◌∙◌, arith}
+use Rattle.std.proofs.Common.{◌≡◌, ℕ, ◌+◌, ◌<◌, ◌≤◌, Bool, true, false, List, Option, Result, Ok, Err, refl, zero, suc, subst, arith}
 use Rattle.std.specs.Prelude.{IsErrAnd, IfOk, OnOk}
 use Rattle.plain_data.specs.State.{State, Agrees}
 use Rattle.record_store.specs.Calls.{CallFault}
 use Rattle.record_store.specs.Calls.Calls.{none as no_calls}
 use Rattle.record_store.specs.Calls.Reads.{none as no_reads}
 use Rattle.record_store.specs.Meaning.{Meaning}
-use Rattle.record_store.specs.Walks.{ReadsGrow}
 use Rattle.record_store.specs.declared.walk.Walk.{Walk}
 use Rattle.record_store.specs.declared.walk.Walk.TheVariants.{Torn, NoMemory}
 use Rattle.record_store.proofs.Agreement.{agrees-extends, OnlyReads-refl, OnlyReads-trans, ReadsGrow-only, ReadsGrow-trans, writes_same}

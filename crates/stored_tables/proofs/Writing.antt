@@ -1,12 +1,11 @@
 -- One write of a record, and one ask for a new one.
-use Rattle.std.proofs.Common.{◌≡◌, ℕ, List, Option, None, Result, Ok, Err, refl, sym, ap, subst, arith}
+use Rattle.std.proofs.Common.{◌≡◌, ℕ, List, Option, None, Result, Ok, Err, refl, ap, subst, arith}
 use Rattle.std.specs.Prelude.{IsErrAnd}
 use Rattle.plain_data.specs.State.{State, Agrees, overlay}
 use Rattle.record_store.specs.Calls.Calls.{none, write, fresh}
 use Rattle.record_store.specs.Calls.CallFault.{by_write, by_fresh}
 use Rattle.record_store.specs.Meaning.{Meaning, after_write, after_fresh, after_read}
 use Rattle.record_store.specs.Store.{IsFresh}
-use Rattle.record_store.specs.Walks.{ReadsGrow}
 use Rattle.record_store.specs.declared.walk.Walk.{Walk}
 use Rattle.record_store.specs.declared.walk.Walk.TheVariants.{Store}
 use Rattle.record_store.proofs.Agreement.{known-overlay, ReadsGrow-refl, ReadsGrow-same, ReadsGrow-fresh, ReadsGrow-write}

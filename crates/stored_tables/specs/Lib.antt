@@ -15,3 +15,4 @@ pub mod Kept
 pub mod Empty
 pub mod Lists
 pub mod Weights
+pub mod OneRow

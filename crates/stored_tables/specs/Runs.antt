@@ -38,3 +38,10 @@ pub record Runs {S F T X : Type 0} (read_gives : S → ℕ → Result (Option (L
     pub given : GivesAtMost asked (meaning first) (meaning last)
     pub writes : Each Stands (meaning last) (λ state _. WritesKnown (meaning first) (meaning last) state)
     pub grow : ReadsGrow (meaning first) (meaning last)
+
+-- a part that never asks for a new record, whatever the state is
+pub record AsksNothing {S F T : Type 0} (read_gives : S → ℕ → Result (Option (List ℕ)) F → S → Type 0) (write_gives : S → ℕ → Option (List ℕ)
+    → Result (Unit {0}) F → S → Type 0) (fresh_gives : S → Result ℕ F → S → Type 0) (first last : S) (result : Result T (Walk F)) : Type 0
+  where
+    pub calls : Calls read_gives write_gives fresh_gives first 0 last
+    pub fault : IfStore result (CallFault read_gives write_gives fresh_gives (λ _. ⊥) first last)

@@ -1,18 +1,42 @@
 //! How a row leaves a table.
 
-ghost use Rattle.std.specs.Prelude.{◌≡◌, ◌≤◌, ◌<◌, IfSome};
+ghost use Rattle.std.specs.Prelude.{◌≡◌, ◌≤◌, ◌<◌, false, IfOk, IfSome};
+ghost use Rattle.record_store.specs.Walks.{OnlyReads};
 ghost use Rattle.replay_model.specs.Input.{IsColumn};
 ghost use Rattle.replay_model.specs.TableMap.{without};
-ghost use Rattle.stored_tables.specs.Answers.{Has, Becomes, MayAskFor, leave_moves};
+ghost use Rattle.replay_model.specs.declared.command.Command.TheVariants.{Del};
+ghost use Rattle.stored_tables.specs.Answers.{Has, Becomes, MayAsk, MayAskFor, Stands, leave_moves};
 ghost use Rattle.stored_tables.specs.Moved.{Midway};
 ghost use Rattle.stored_tables.specs.Plan.{leaves_index};
-ghost use Rattle.stored_tables.specs.Runs.{Runs};
+ghost use Rattle.stored_tables.specs.Runs.{AsksNothing, Runs};
+ghost use Rattle.stored_tables.specs.OneRow.{TakesRow};
 ghost use Rattle.stored_tables.specs.Tables.{row_words};
 
-use crate::reading::Found;
+use crate::head::index_of;
+use crate::reading::{Found, find_row};
 use crate::steps::{drop_row, remove_entry, remove_pair};
 use ordered_index::Key;
 use record_store::{RecordStore, Walk};
+
+/// Takes the row at a key out, and answers whether there was one.
+pub fn take_row<S: RecordStore>(store: &mut S, table: u32, key: u64) -> Result<bool, Walk<S::Fault>>
+    requires table { table < 8 }
+    requires size { 4112 ≤ (S.meaning store.old).size }
+    requires fixed { 4112 ≤ (S.meaning store.old).fixed }
+    ensures runs { Runs S.read_gives S.write_gives S.fresh_gives S.meaning (Stands (S.meaning store.old)) (MayAsk (Del table key)) (λ taken. TakesRow table key (S.meaning store.new) taken) 4 store.old store.new result }
+    ensures asks_nothing { AsksNothing S.read_gives S.write_gives S.fresh_gives store.old store.new result }
+
+    // nothing is written where there is no row
+    ensures kept { IfOk result (λ taken. taken ≡ false → OnlyReads (S.meaning store.old) (S.meaning store.new)) }
+    ensures rest { S.rest store.new ≡ S.rest store.old }
+{
+    let Some(found) = find_row(store, table, key)? else {
+        return Ok(false);
+    };
+    let index = index_of(store, table)?;
+    leave_row(store, table, key, index, &found)?;
+    Ok(true)
+}
 
 /// Takes a row out: of its table's index, of the chain, of the tree by keys, and its record.
 pub fn leave_row<S: RecordStore>(
@@ -27,6 +51,7 @@ pub fn leave_row<S: RecordStore>(
     requires rid { found.now.rid < (S.meaning store.old).size }
     requires column { IfSome index IsColumn }
     ensures runs { Runs S.read_gives S.write_gives S.fresh_gives S.meaning (Has (S.meaning store.old) table key index found.now) (MayAskFor (leave_moves table key index found.now.row)) (λ _ asked state held. Becomes (leave_moves table key index found.now.row) (without held.1 table key) (S.meaning store.new) asked state held) 4 store.old store.new result }
+    ensures asks_nothing { AsksNothing S.read_gives S.write_gives S.fresh_gives store.old store.new result }
     ensures rest { S.rest store.new ≡ S.rest store.old }
 {
     leave_index(store, table, key, index, found)?;
@@ -47,6 +72,7 @@ fn leave_index<S: RecordStore>(
     requires fixed { 4112 ≤ (S.meaning store.old).fixed }
     requires column { IfSome index IsColumn }
     ensures runs { Runs S.read_gives S.write_gives S.fresh_gives S.meaning (Has (S.meaning store.old) table key index found.now) (MayAskFor (leave_moves table key index found.now.row)) (λ _ asked state held. Midway table key found.now.rid (row_words found.now.row) (leaves_index table key index found.now.row) (S.meaning store.old) (S.meaning store.new) asked state held.0) 1 store.old store.new result }
+    ensures asks_nothing { AsksNothing S.read_gives S.write_gives S.fresh_gives store.old store.new result }
     ensures rest { S.rest store.new ≡ S.rest store.old }
 {
     let Some(column) = index else {

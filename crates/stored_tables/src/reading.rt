@@ -1,6 +1,7 @@
 //! Rows read: one by its key, and lists of them by their keys or by an index.
 
 ghost use Rattle.std.specs.Prelude.{◌≡◌, ◌⊎◌, ℕ, ◌<◌, ◌≤◌, IfOk, IfSome, All, List, [], Some};
+ghost use Rattle.record_store.specs.Walks.{IfNoMemory};
 ghost use Rattle.replay_model.specs.Effect.{scanned, found};
 ghost use Rattle.stored_tables.specs.Answers.{Stands, IsFound, IsIndexed, IsScanned, IsSearched};
 ghost use Rattle.plain_data.specs.State.{overlay};
@@ -34,6 +35,7 @@ pub fn find_row<S: RecordRead>(
     requires size { 4112 ≤ (S.meaning store.old).size }
     ensures looks { Looks S.read_gives S.meaning (Stands (S.meaning store.old)) (IsFound table key) store.old store.new result }
     ensures stored { IfOk result (λ found. IfSome found (λ found. found.rid < (S.meaning store.old).size)) }
+    ensures memory { IfNoMemory result ⊥ }
     ensures rest { S.rest store.new ≡ S.rest store.old }
 {
     let Some(rid) = hash_index::get(store, base_of(table), key)? else {
@@ -47,6 +49,7 @@ pub fn find_row<S: RecordRead>(
 fn row_at<S: RecordRead>(store: &mut S, rid: u32) -> Result<Columns, Walk<S::Fault>>
     requires { rid < (S.meaning store.old).size }
     ensures looks { Looks S.read_gives S.meaning (λ state (words : List ℕ). overlay (S.meaning store.old).writes state rid ≡ Some (row_words words)) (λ row state words. row ≡ words) store.old store.new result }
+    ensures memory { IfNoMemory result ⊥ }
     ensures rest { S.rest store.new ≡ S.rest store.old }
 {
     let Some(cells) = store.read(rid)? else {

@@ -1,73 +1,23 @@
-use Rattle.std.proofs.Common.{Some, Ok, ap, ◌∙◌, arith}
-use Rattle.replay_model.specs.declared.command.Command.TheVariants.{Del}
-use Rattle.replay_model.specs.TableMap.{without}
-use Rattle.record_store.proofs.Agreement.{size_same}
-use Rattle.stored_tables.proofs.Commands.{row_then_index, then_command, plan_leaves, del_leaves, del_missing}
-use Rattle.stored_tables.specs.Answers.{IsFound}
-use Rattle.stored_tables.specs.Plan.{moves_to}
-use Rattle.stored_tables.proofs.Runs.{looks_runs, runs_moved, runs_value}
+use Rattle.std.proofs.Common.{◌∙◌, Ok, ap, arith}
+use Rattle.stored_tables.proofs.OneRow.{taken_does, missing_does}
+use Rattle.stored_tables.proofs.Runs.{runs_moved, runs_value}
 use Rattle.stored_tables.proofs.command.delete_row.Goals as goal
 
-pub index_of-requires-clause-size : goal.index_of-requires-clause-size
-index_of-requires-clause-size g c = rw (size_same (g.S.RecordRead.meaning c.args.store.now) (g.S.RecordRead.meaning c.find_row.new.store)
-    c.find_row.ensures.looks.only) c.requires.size
+pub returns-in_err-take_row-clause-runs : goal.returns-in_err-take_row-clause-runs
+returns-in_err-take_row-clause-runs g c =
+    runs_moved _ 4 105 c.args.store.now c.take_row.new.store c.from_residual.result c.take_row.result c.in_err-take_row.field-0.0
+    c.take_row.ensures.runs c.in_err-take_row.was c.from_residual.ensures.1
 
-pub returns-in_err-found-clause-runs : goal.returns-in_err-found-clause-runs
-returns-in_err-found-clause-runs g c =
-    runs_moved _ 105 105 c.args.store.now c.find_row.new.store c.from_residual.result c.find_row.result c.in_err-found.field-0.0
-    (looks_runs _ (λ _ _ _ _. Unit {0}) 105 c.args.store.now c.find_row.new.store c.find_row.result c.find_row.ensures.looks
-    (λ v state held agrees stands found. tt)) c.in_err-found.was c.from_residual.ensures.1
+pub returns-then-branch-clause-runs : goal.returns-then-branch-clause-runs
+returns-then-branch-clause-runs g c =
+    runs_value _ 4 105 c.args.store.now c.take_row.new.store c.take_row.result _ _ (omega arith) c.take_row.ensures.runs
+    (c.in_ok-take_row.was ∙ ap (λ b. Ok b) c.if-branch.true)
+    (λ asked state held agrees stands took. taken_does c.args.table c.args.key (g.S.RecordRead.meaning c.take_row.new.store) asked state
+    held took)
 
-pub returns-in_err-index-clause-runs : goal.returns-in_err-index-clause-runs
-returns-in_err-index-clause-runs g c =
-    runs_moved _ 105 105 c.args.store.now c.index_of.new.store c.from_residual-in_err-index.result c.index_of.result
-    c.in_err-index.field-0.0
-    (looks_runs _ (λ _ _ _ _. Unit {0}) 105 c.args.store.now c.index_of.new.store c.index_of.result
-    (row_then_index {meaning = g.S.RecordRead.meaning} c.args.table c.args.key (Some c.in-Some.found) c.args.store.now
-    c.find_row.new.store c.index_of.new.store c.find_row.result c.index_of.result c.find_row.ensures.looks (c.in_ok-found.was
-    ∙ ap Ok c.in-Some.is) c.index_of.ensures.looks) (λ v state held agrees stands found. tt))
-    c.in_err-index.was c.from_residual-in_err-index.ensures.1
-
-pub returns-in_err-leave_row-clause-runs : goal.returns-in_err-leave_row-clause-runs
-returns-in_err-leave_row-clause-runs g c =
-    runs_moved _ 105 105 c.args.store.now c.leave_row.new.store c.from_residual-in_err-leave_row.result c.leave_row.result
-    c.in_err-leave_row.field-0.0
-    (then_command {meaning = g.S.RecordRead.meaning} (Del c.args.table c.args.key) _
-    (λ held. without held.1 c.args.table c.args.key) 4 105 c.args.store.now c.index_of.new.store c.leave_row.new.store
-    c.index_of.result _ c.leave_row.result (row_then_index {meaning = g.S.RecordRead.meaning} c.args.table c.args.key
-    (Some c.in-Some.found) c.args.store.now c.find_row.new.store c.index_of.new.store c.find_row.result c.index_of.result
-    c.find_row.ensures.looks (c.in_ok-found.was ∙ ap Ok c.in-Some.is) c.index_of.ensures.looks) c.in_ok-index.was
-    (omega arith) c.leave_row.ensures.runs
-    (λ state held stands known. (
-      ((stands, known.0), known.1),
-      ap (moves_to held.1 c.args.table c.args.key)
-          (del_leaves held.1 c.args.table c.args.key c.in-Some.found.row known.1.1)
-          ∙ plan_leaves held.1 c.args.table c.args.key c.in_ok-index.index c.in-Some.found.row known.0 known.1.1,
-      del_leaves held.1
-          c.args.table c.args.key c.in-Some.found.row known.1.1,
-    ))) c.in_err-leave_row.was c.from_residual-in_err-leave_row.ensures.1
-
-pub returns-clause-runs : goal.returns-clause-runs
-returns-clause-runs g c =
-    runs_value _ 105 105 c.args.store.now c.leave_row.new.store c.leave_row.result _ _ (omega arith)
-    (then_command {meaning = g.S.RecordRead.meaning} (Del c.args.table c.args.key) _
-    (λ held. without held.1 c.args.table c.args.key) 4 105 c.args.store.now c.index_of.new.store c.leave_row.new.store
-    c.index_of.result _ c.leave_row.result (row_then_index {meaning = g.S.RecordRead.meaning} c.args.table c.args.key
-    (Some c.in-Some.found) c.args.store.now c.find_row.new.store c.index_of.new.store c.find_row.result c.index_of.result
-    c.find_row.ensures.looks (c.in_ok-found.was ∙ ap Ok c.in-Some.is) c.index_of.ensures.looks) c.in_ok-index.was
-    (omega arith) c.leave_row.ensures.runs
-    (λ state held stands known. (
-      ((stands, known.0), known.1),
-      ap (moves_to held.1 c.args.table c.args.key)
-          (del_leaves held.1 c.args.table c.args.key c.in-Some.found.row known.1.1)
-          ∙ plan_leaves held.1 c.args.table c.args.key c.in_ok-index.index c.in-Some.found.row known.0 known.1.1,
-      del_leaves held.1
-          c.args.table c.args.key c.in-Some.found.row known.1.1,
-    ))) c.in_ok-leave_row.was (λ asked state held agrees stands did. did)
-
-pub returns-in_default-clause-runs : goal.returns-in_default-clause-runs
-returns-in_default-clause-runs g c =
-    runs_value _ 105 105 c.args.store.now c.find_row.new.store c.find_row.result _ _ (omega arith)
-    (looks_runs _ (λ found _ state held. IsFound c.args.table c.args.key found state held) 105 c.args.store.now c.find_row.new.store
-    c.find_row.result c.find_row.ensures.looks (λ v state held agrees stands found. found)) c.in_ok-found.was
-    (λ asked state held agrees stands found. (let f = rw c.in_default.is at found in del_missing held.1 c.args.table c.args.key f.1))
+pub returns-else-branch-clause-runs : goal.returns-else-branch-clause-runs
+returns-else-branch-clause-runs g c =
+    runs_value _ 4 105 c.args.store.now c.take_row.new.store c.take_row.result _ _ (omega arith) c.take_row.ensures.runs
+    (c.in_ok-take_row.was ∙ ap (λ b. Ok b) c.if-branch.false)
+    (λ asked state held agrees stands took. missing_does c.args.table c.args.key (g.S.RecordRead.meaning c.take_row.new.store) asked state
+    held took)

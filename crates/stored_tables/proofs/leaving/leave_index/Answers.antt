@@ -1,4 +1,5 @@
 use Rattle.stored_tables.proofs.RowLeaves.{left_none, left_index}
+use Rattle.stored_tables.proofs.Asking.{asks_none}
 use Rattle.stored_tables.proofs.leaving.leave_index.Goals as goal
 
 pub returns-in_default-clause-runs : goal.returns-in_default-clause-runs
@@ -10,3 +11,6 @@ returns-clause-runs g c =
     left_index {meaning = g.S.RecordRead.meaning} c.args.table c.args.key c.in-Some.column c.column-high.result c.args.index
     c.args.found.now c.args.store.now c.remove_entry.new.store c.remove_entry.result c.requires.table c.in-Some.is
     c.column-high.ensures c.remove_entry.ensures.runs
+
+pub returns-in_default-clause-asks_nothing : goal.returns-in_default-clause-asks_nothing
+returns-in_default-clause-asks_nothing g c = asks_none c.args.store.now _

@@ -1,6 +1,7 @@
 use Rattle.std.proofs.Common.{◌∙◌, arith}
 use Rattle.stored_tables.proofs.RowLeaves.{left_pair, left_tree, left_row}
 use Rattle.stored_tables.proofs.Runs.{runs_moved}
+use Rattle.stored_tables.proofs.Asking.{asks_moved, asks_then}
 use Rattle.stored_tables.proofs.leaving.leave_row.Goals as goal
 
 pub remove_pair-requires-clause-fixed : goal.remove_pair-requires-clause-fixed
@@ -49,3 +50,31 @@ returns-clause-runs g c =
     c.leave_index.new.store c.remove_pair.new.store c.leave_index.result c.remove_pair.result c.requires.table
     c.leave_index.ensures.runs c.in_ok-leave_index.was c.remove_pair.ensures.runs)
     c.in_ok-remove_pair.was c.remove_entry.ensures.runs) c.in_ok-remove_entry.was (c.drop_row.ensures.runs c.args.table c.args.key)
+
+pub returns-in_err-leave_index-clause-asks_nothing : goal.returns-in_err-leave_index-clause-asks_nothing
+returns-in_err-leave_index-clause-asks_nothing g c =
+    asks_moved c.args.store.now c.leave_index.new.store c.from_residual.result c.leave_index.result c.in_err-leave_index.field-0.0
+    c.in_err-leave_index.was c.from_residual.ensures.1 c.leave_index.ensures.asks_nothing
+
+pub returns-in_err-remove_pair-clause-asks_nothing : goal.returns-in_err-remove_pair-clause-asks_nothing
+returns-in_err-remove_pair-clause-asks_nothing g c =
+    asks_moved c.args.store.now c.remove_pair.new.store c.from_residual-in_err-remove_pair.result c.remove_pair.result
+    c.in_err-remove_pair.field-0.0 c.in_err-remove_pair.was c.from_residual-in_err-remove_pair.ensures.1
+    (asks_then c.args.store.now c.leave_index.new.store c.remove_pair.new.store c.leave_index.result c.remove_pair.result
+    c.leave_index.ensures.asks_nothing c.remove_pair.ensures.asks_nothing)
+
+pub returns-in_err-remove_entry-clause-asks_nothing : goal.returns-in_err-remove_entry-clause-asks_nothing
+returns-in_err-remove_entry-clause-asks_nothing g c =
+    asks_moved c.args.store.now c.remove_entry.new.store c.from_residual-in_err-remove_entry.result c.remove_entry.result
+    c.in_err-remove_entry.field-0.0 c.in_err-remove_entry.was c.from_residual-in_err-remove_entry.ensures.1
+    (asks_then c.args.store.now c.remove_pair.new.store c.remove_entry.new.store c.remove_pair.result c.remove_entry.result
+    (asks_then c.args.store.now c.leave_index.new.store c.remove_pair.new.store c.leave_index.result c.remove_pair.result
+    c.leave_index.ensures.asks_nothing c.remove_pair.ensures.asks_nothing) c.remove_entry.ensures.asks_nothing)
+
+pub returns-clause-asks_nothing : goal.returns-clause-asks_nothing
+returns-clause-asks_nothing g c =
+    asks_then c.args.store.now c.remove_entry.new.store c.drop_row.new.store c.remove_entry.result c.drop_row.result
+    (asks_then c.args.store.now c.remove_pair.new.store c.remove_entry.new.store c.remove_pair.result c.remove_entry.result
+    (asks_then c.args.store.now c.leave_index.new.store c.remove_pair.new.store c.leave_index.result c.remove_pair.result
+    c.leave_index.ensures.asks_nothing c.remove_pair.ensures.asks_nothing) c.remove_entry.ensures.asks_nothing)
+    c.drop_row.ensures.asks_nothing

@@ -3,6 +3,8 @@ use Rattle.record_store.specs.Meaning.{Meaning}
 use Rattle.stored_tables.proofs.Knowing.{row_may}
 use Rattle.stored_tables.proofs.Writing.{write_refused, write_done}
 use Rattle.stored_tables.proofs.RowSteps.{drops_row}
+use Rattle.stored_tables.proofs.Asking.{asks_write}
+use Rattle.record_store.proofs.Refusals.{store_fault}
 use Rattle.stored_tables.proofs.steps.drop_row.Goals as goal
 
 pub returns-in_err-write-clause-runs : goal.returns-in_err-write-clause-runs
@@ -24,3 +26,11 @@ returns-clause-runs g c = λ table key.
                 c.in_ok-write.ensures.ok;
           }) has,
     ))
+
+pub returns-in_err-write-clause-asks_nothing : goal.returns-in_err-write-clause-asks_nothing
+returns-in_err-write-clause-asks_nothing g c =
+    asks_write c.args.store.now c.write.new.self c.args.rid _ _ c.from_residual.result c.in_err-write.ensures.gives
+    (store_fault c.from_residual.result c.in_err-write.field-0.0 _ c.from_residual.ensures.1 refl)
+
+pub returns-clause-asks_nothing : goal.returns-clause-asks_nothing
+returns-clause-asks_nothing g c = asks_write c.args.store.now c.write.new.self c.args.rid _ _ _ c.in_ok-write.ensures.gives tt

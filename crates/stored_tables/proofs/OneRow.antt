@@ -1,0 +1,110 @@
+-- A row that is read, set or taken out by itself.
+use Rattle.std.proofs.Common.{◌≡◌, ℕ, Bool, true, false, List, Option, None, Some, Result, Ok, Err, refl, sym, ap, subst, arith}
+use Rattle.std.specs.Prelude.{IfOk, IsSome, is_some, if◌then◌else◌}
+use Rattle.plain_data.specs.State.{State}
+use Rattle.record_store.specs.Meaning.{Meaning}
+use Rattle.record_store.specs.Walks.{OnlyReads}
+use Rattle.record_store.specs.declared.walk.Walk.{Walk}
+use Rattle.replay_model.specs.declared.command.Command.TheVariants.{Put, Del}
+use Rattle.replay_model.specs.declared.outcome.Answer.{Answer}
+use Rattle.replay_model.specs.declared.outcome.Answer.TheVariants.{Nothing}
+use Rattle.replay_model.specs.declared.outcome.Cause.{Cause}
+use Rattle.replay_model.specs.declared.outcome.Cause.TheVariants.{Missing}
+use Rattle.replay_model.specs.TableMap.{TableMap, Row, value_at, with_value, without}
+use Rattle.stored_tables.specs.Answers.{Held, Stands, Becomes, Does, IsFound, MayAsk}
+use Rattle.stored_tables.specs.Plan.{plan}
+use Rattle.stored_tables.specs.Runs.{Runs}
+use Rattle.stored_tables.specs.OneRow.{IsRowAt, SetsRow, TakesRow}
+use Rattle.stored_tables.specs.declared.reading.Found.{Found}
+use Rattle.stored_tables.proofs.Commands.{del_missing}
+use Rattle.stored_tables.proofs.Runs.{runs_did}
+
+-- ---- the row alone
+
+pub found_alone : (table key : ℕ) (found : Option Found) (at : Found) (state : State) (held : Held) → found ≡ Some at
+    → IsFound table key found state held → IsRowAt table key (Some at.row) state held
+found_alone table key found at state held is there = let f = rw is at there in sym f.1
+
+pub none_alone : (table key : ℕ) (found : Option Found) (state : State) (held : Held) → found ≡ None
+    → IsFound table key found state held → IsRowAt table key None state held
+none_alone table key found state held is there = let f = rw is at there in sym f.1
+
+-- the tables of an effect that is known to be one
+abbrev tables_of : TableMap → Result (Answer × TableMap) Cause → TableMap
+tables_of other (Ok step) = step.1
+tables_of other (Err cause) = other
+
+-- ---- set
+
+becomes_these : (table key : ℕ) (row : Row) (now : Meaning) (asked : ℕ) (state : State) (held : Held) (tables : TableMap)
+    → with_value held.1 table key row ≡ tables → Becomes (plan (Put table key row) held.1) tables now asked state held
+    → SetsRow table key row now asked state held
+becomes_these table key row now asked state held tables same becomes =
+    let P : TableMap → Type 0 = λ t. Becomes (plan (Put table key row) held.1) t now asked state held in
+    subst P (sym same) becomes
+
+-- a put is answered
+pub row_set_by : (table key : ℕ) (row : Row) (now : Meaning) (ran : Result Answer Cause) (asked : ℕ) (state : State) (held : Held)
+    → Does (Put table key row) now ran asked state held → SetsRow table key row now asked state held
+row_set_by table key row now (Ok answer) asked state held did =
+    let same : with_value held.1 table key row ≡ did.0 = ap (tables_of did.0) did.1 in
+    becomes_these table key row now asked state held did.0 same did.2
+row_set_by table key row now (Err cause) asked state held did = cc
+
+-- ---- taken out
+
+-- what taking a row out comes to, by the row that is there
+abbrev taken_step : TableMap → ℕ → ℕ → Option Row → Result (Answer × TableMap) Cause
+taken_step tables table key found = if is_some found then Ok (Nothing, without tables table key) else Err Missing
+
+took : (tables after : TableMap) (table key : ℕ) (found : Option Row) → taken_step tables table key found ≡ Ok (Nothing, after)
+    → IsSome found × (without tables table key ≡ after)
+took tables after table key None is = cc
+took tables after table key (Some row) is = (refl, ap (tables_of after) is)
+
+pub row_taken_by : (table key : ℕ) (now : Meaning) (asked : ℕ) (state : State) (held : Held)
+    → Does (Del table key) now (Ok Nothing) asked state held → TakesRow table key now true asked state held
+row_taken_by table key now asked state held did =
+    let both = took held.1 did.0 table key (value_at held.1 table key) did.1 in
+    let P : TableMap → Type 0 = λ t. Becomes (plan (Del table key) held.1) t now asked state held in
+    (both.0, subst P (sym both.1) did.2)
+
+gone : (tables : TableMap) (table key : ℕ) (found : Option Row) → IsSome found
+    → taken_step tables table key found ≡ Ok (Nothing, without tables table key)
+gone tables table key None some = cc
+gone tables table key (Some row) some = refl
+
+pub taken_does : (table key : ℕ) (now : Meaning) (asked : ℕ) (state : State) (held : Held) → TakesRow table key now true asked state held
+    → Does (Del table key) now (Ok Nothing) asked state held
+taken_does table key now asked state held taken = (
+  without held.1 table key,
+  gone held.1 table key (value_at held.1 table key) taken.0,
+  taken.1,
+)
+
+pub missing_does : (table key : ℕ) (now : Meaning) (asked : ℕ) (state : State) (held : Held)
+    → TakesRow table key now false asked state held → Does (Del table key) now (Err Missing) asked state held
+missing_does table key now asked state held taken = del_missing held.1 table key taken.0
+
+module _ {S F : Type 0} {read_gives : S → ℕ → Result (Option (List ℕ)) F → S → Type 0} {write_gives : S → ℕ → Option (List ℕ)
+    → Result (Unit {0}) F → S → Type 0} {fresh_gives : S → Result ℕ F → S → Type 0} where
+  -- it was taken from one store to another, which are the first and the last
+  pub take_runs : (meaning : S → Meaning) (table key : ℕ) (first begin end last : S) (result : Result Bool (Walk F))
+      → begin ≡ first → last ≡ end → Runs read_gives write_gives fresh_gives meaning (Stands (meaning begin)) (MayAsk (Del table key))
+      (λ taken. TakesRow table key (meaning end) taken) 4 begin end result
+      → Runs read_gives write_gives fresh_gives meaning (Stands (meaning first)) (MayAsk (Del table key))
+      (λ taken. TakesRow table key (meaning last) taken) 128 first last result
+  take_runs meaning table key first begin end last result begins ends runs =
+      let P : S → S → Type 0 = λ a b. Runs read_gives write_gives fresh_gives meaning (Stands (meaning a)) (MayAsk (Del table key))
+      (λ taken. TakesRow table key (meaning b) taken) 4 a b result in
+      runs_did _ 4 128 first last result (omega arith)
+      (subst (P first) (sym ends) (subst (λ a. P a end) begins runs))
+      (λ value asked state held stands did. did)
+
+-- where none was there the last store has only more reads than the first
+pub kept_ends : {S F : Type 0} (meaning : S → Meaning) (first begin end last : S) (result : Result Bool (Walk F)) → begin ≡ first → last ≡ end
+    → IfOk result (λ taken. taken ≡ false → OnlyReads (meaning begin) (meaning end))
+    → IfOk result (λ taken. taken ≡ false → OnlyReads (meaning first) (meaning last))
+kept_ends {S} meaning first begin end last result begins ends kept =
+    let P : S → S → Type 0 = λ a b. IfOk result (λ taken. taken ≡ false → OnlyReads (meaning a) (meaning b)) in
+    subst (P first) (sym ends) (subst (λ a. P a end) begins kept)

@@ -1,0 +1,123 @@
+use Rattle.std.proofs.Common.{◌≡◌, Some, Ok, ap, ◌∙◌, refl, arith}
+use Rattle.replay_model.specs.declared.command.Command.TheVariants.{Del}
+use Rattle.replay_model.specs.TableMap.{without}
+use Rattle.record_store.proofs.Agreement.{size_same}
+use Rattle.stored_tables.proofs.Commands.{row_then_index, then_command, plan_leaves, del_leaves}
+use Rattle.stored_tables.proofs.Finding.{stands_on}
+use Rattle.stored_tables.proofs.OneRow.{row_taken_by}
+use Rattle.stored_tables.specs.Answers.{IsFound, Stands}
+use Rattle.stored_tables.specs.Plan.{moves_to}
+use Rattle.stored_tables.proofs.Runs.{looks_runs, runs_moved, runs_value}
+use Rattle.stored_tables.proofs.Asking.{asks_reads, asks_moved, asks_value, asks_then}
+use Rattle.stored_tables.proofs.leaving.take_row.Goals as goal
+
+pub index_of-requires-clause-size : goal.index_of-requires-clause-size
+index_of-requires-clause-size g c = rw (size_same (g.S.RecordRead.meaning c.args.store.now) (g.S.RecordRead.meaning c.find_row.new.store)
+    c.find_row.ensures.looks.only) c.requires.size
+
+pub returns-in_err-found-clause-runs : goal.returns-in_err-found-clause-runs
+returns-in_err-found-clause-runs g c =
+    runs_moved _ 4 4 c.args.store.now c.find_row.new.store c.from_residual.result c.find_row.result c.in_err-found.field-0.0
+    (looks_runs _ (λ _ _ _ _. Unit {0}) 4 c.args.store.now c.find_row.new.store c.find_row.result c.find_row.ensures.looks
+    (λ v state held agrees stands found. tt)) c.in_err-found.was c.from_residual.ensures.1
+
+pub returns-in_err-index-clause-runs : goal.returns-in_err-index-clause-runs
+returns-in_err-index-clause-runs g c =
+    runs_moved _ 4 4 c.args.store.now c.index_of.new.store c.from_residual-in_err-index.result c.index_of.result
+    c.in_err-index.field-0.0
+    (looks_runs _ (λ _ _ _ _. Unit {0}) 4 c.args.store.now c.index_of.new.store c.index_of.result
+    (row_then_index {meaning = g.S.RecordRead.meaning} c.args.table c.args.key (Some c.in-Some.found) c.args.store.now
+    c.find_row.new.store c.index_of.new.store c.find_row.result c.index_of.result c.find_row.ensures.looks (c.in_ok-found.was
+    ∙ ap Ok c.in-Some.is) c.index_of.ensures.looks) (λ v state held agrees stands found. tt))
+    c.in_err-index.was c.from_residual-in_err-index.ensures.1
+
+pub returns-in_err-leave_row-clause-runs : goal.returns-in_err-leave_row-clause-runs
+returns-in_err-leave_row-clause-runs g c =
+    runs_moved _ 4 4 c.args.store.now c.leave_row.new.store c.from_residual-in_err-leave_row.result c.leave_row.result
+    c.in_err-leave_row.field-0.0
+    (then_command {meaning = g.S.RecordRead.meaning} (Del c.args.table c.args.key) _
+    (λ held. without held.1 c.args.table c.args.key) 4 4 c.args.store.now c.index_of.new.store c.leave_row.new.store
+    c.index_of.result _ c.leave_row.result (row_then_index {meaning = g.S.RecordRead.meaning} c.args.table c.args.key
+    (Some c.in-Some.found) c.args.store.now c.find_row.new.store c.index_of.new.store c.find_row.result c.index_of.result
+    c.find_row.ensures.looks (c.in_ok-found.was ∙ ap Ok c.in-Some.is) c.index_of.ensures.looks) c.in_ok-index.was
+    (omega arith) c.leave_row.ensures.runs
+    (λ state held stands known. (
+      ((stands, known.0), known.1),
+      ap (moves_to held.1 c.args.table c.args.key)
+          (del_leaves held.1 c.args.table c.args.key c.in-Some.found.row known.1.1)
+          ∙ plan_leaves held.1 c.args.table c.args.key c.in_ok-index.index c.in-Some.found.row known.0 known.1.1,
+      del_leaves held.1
+          c.args.table c.args.key c.in-Some.found.row known.1.1,
+    ))) c.in_err-leave_row.was c.from_residual-in_err-leave_row.ensures.1
+
+pub returns-clause-runs : goal.returns-clause-runs
+returns-clause-runs g c =
+    runs_value _ 4 4 c.args.store.now c.leave_row.new.store c.leave_row.result _ _ (omega arith)
+    (then_command {meaning = g.S.RecordRead.meaning} (Del c.args.table c.args.key) _
+    (λ held. without held.1 c.args.table c.args.key) 4 4 c.args.store.now c.index_of.new.store c.leave_row.new.store
+    c.index_of.result _ c.leave_row.result (row_then_index {meaning = g.S.RecordRead.meaning} c.args.table c.args.key
+    (Some c.in-Some.found) c.args.store.now c.find_row.new.store c.index_of.new.store c.find_row.result c.index_of.result
+    c.find_row.ensures.looks (c.in_ok-found.was ∙ ap Ok c.in-Some.is) c.index_of.ensures.looks) c.in_ok-index.was
+    (omega arith) c.leave_row.ensures.runs
+    (λ state held stands known. (
+      ((stands, known.0), known.1),
+      ap (moves_to held.1 c.args.table c.args.key)
+          (del_leaves held.1 c.args.table c.args.key c.in-Some.found.row known.1.1)
+          ∙ plan_leaves held.1 c.args.table c.args.key c.in_ok-index.index c.in-Some.found.row known.0 known.1.1,
+      del_leaves held.1
+          c.args.table c.args.key c.in-Some.found.row known.1.1,
+    ))) c.in_ok-leave_row.was
+    (λ asked state held agrees stands did. row_taken_by c.args.table c.args.key (g.S.RecordRead.meaning c.leave_row.new.store) asked state
+    held did)
+
+pub returns-in_default-clause-runs : goal.returns-in_default-clause-runs
+returns-in_default-clause-runs g c =
+    runs_value _ 4 4 c.args.store.now c.find_row.new.store c.find_row.result _ _ (omega arith)
+    (looks_runs _ (λ found asked state held. IsFound c.args.table c.args.key found state held × (asked ≡ 0)
+    × Stands (g.S.RecordRead.meaning c.find_row.new.store) state held) 4 c.args.store.now c.find_row.new.store
+    c.find_row.result c.find_row.ensures.looks
+    (λ v state held agrees stands found. (
+      found,
+      refl,
+      stands_on (g.S.RecordRead.meaning c.args.store.now) (g.S.RecordRead.meaning c.find_row.new.store) state held
+          c.find_row.ensures.looks.only stands,
+    ))) c.in_ok-found.was
+    (λ asked state held agrees stands did. (let f = rw c.in_default.is at did.0 in (f.1, did.1, did.2)))
+
+pub returns-in_err-found-clause-asks_nothing : goal.returns-in_err-found-clause-asks_nothing
+returns-in_err-found-clause-asks_nothing g c =
+    asks_moved c.args.store.now c.find_row.new.store c.from_residual.result c.find_row.result c.in_err-found.field-0.0 c.in_err-found.was
+    c.from_residual.ensures.1 (asks_reads c.args.store.now c.find_row.new.store c.find_row.result c.find_row.ensures.looks.calls
+    c.find_row.ensures.looks.fault)
+
+pub returns-in_default-clause-asks_nothing : goal.returns-in_default-clause-asks_nothing
+returns-in_default-clause-asks_nothing g c =
+    asks_value c.args.store.now c.find_row.new.store c.find_row.result _ (asks_reads c.args.store.now c.find_row.new.store
+    c.find_row.result c.find_row.ensures.looks.calls c.find_row.ensures.looks.fault)
+
+pub returns-in_err-index-clause-asks_nothing : goal.returns-in_err-index-clause-asks_nothing
+returns-in_err-index-clause-asks_nothing g c =
+    asks_moved c.args.store.now c.index_of.new.store c.from_residual-in_err-index.result c.index_of.result c.in_err-index.field-0.0
+    c.in_err-index.was c.from_residual-in_err-index.ensures.1
+    (asks_then c.args.store.now c.find_row.new.store c.index_of.new.store c.find_row.result c.index_of.result
+    (asks_reads c.args.store.now c.find_row.new.store c.find_row.result c.find_row.ensures.looks.calls c.find_row.ensures.looks.fault)
+    (asks_reads c.find_row.new.store c.index_of.new.store c.index_of.result c.index_of.ensures.looks.calls c.index_of.ensures.looks.fault))
+
+pub returns-in_err-leave_row-clause-asks_nothing : goal.returns-in_err-leave_row-clause-asks_nothing
+returns-in_err-leave_row-clause-asks_nothing g c =
+    asks_moved c.args.store.now c.leave_row.new.store c.from_residual-in_err-leave_row.result c.leave_row.result c.in_err-leave_row.field-0.0
+    c.in_err-leave_row.was c.from_residual-in_err-leave_row.ensures.1
+    (asks_then c.args.store.now c.index_of.new.store c.leave_row.new.store c.index_of.result c.leave_row.result
+    (asks_then c.args.store.now c.find_row.new.store c.index_of.new.store c.find_row.result c.index_of.result
+    (asks_reads c.args.store.now c.find_row.new.store c.find_row.result c.find_row.ensures.looks.calls c.find_row.ensures.looks.fault)
+    (asks_reads c.find_row.new.store c.index_of.new.store c.index_of.result c.index_of.ensures.looks.calls c.index_of.ensures.looks.fault))
+    c.leave_row.ensures.asks_nothing)
+
+pub returns-clause-asks_nothing : goal.returns-clause-asks_nothing
+returns-clause-asks_nothing g c =
+    asks_value c.args.store.now c.leave_row.new.store c.leave_row.result _
+    (asks_then c.args.store.now c.index_of.new.store c.leave_row.new.store c.index_of.result c.leave_row.result
+    (asks_then c.args.store.now c.find_row.new.store c.index_of.new.store c.find_row.result c.index_of.result
+    (asks_reads c.args.store.now c.find_row.new.store c.find_row.result c.find_row.ensures.looks.calls c.find_row.ensures.looks.fault)
+    (asks_reads c.find_row.new.store c.index_of.new.store c.index_of.result c.index_of.ensures.looks.calls c.index_of.ensures.looks.fault))
+    c.leave_row.ensures.asks_nothing)

@@ -1,0 +1,122 @@
+//! Rows of a table by themselves, for callers that run no block: no call takes anything back, so what was written before stays, also
+//! where a call has no answer.
+
+ghost use Rattle.std.specs.Prelude.{◌≡◌, ◌⊎◌, ◌<◌, ◌≤◌, false, IfOk};
+ghost use Rattle.record_store.specs.Walks.{IfNoMemory, OnlyReads};
+ghost use Rattle.replay_model.specs.declared.command.Command.TheVariants.{Put, Del};
+ghost use Rattle.stored_tables.specs.Answers.{IsScanned, MayAsk, Stands};
+ghost use Rattle.stored_tables.specs.OneRow.{IsRowAt, SetsRow, TakesRow};
+ghost use Rattle.stored_tables.specs.Runs.{AsksNothing, Looks, Runs};
+
+use crate::command::run_command;
+use crate::leaving::take_row;
+use crate::reading::{find_row, scan_rows};
+use read_once::{Kept, ReadOnce};
+use record_store::{RecordRead, RecordStore, Walk};
+use replay_model::{Columns, Command, Pairs};
+use std::alloc::Global;
+
+/// The row of a table at a key, if there is one. It takes no memory.
+pub fn get_row<S: RecordRead>(
+    store: &mut S,
+    table: u32,
+    key: u64,
+) -> Result<Option<Columns>, Walk<S::Fault>>
+    requires table { table < 8 }
+    requires size { 4112 ≤ (S.meaning store.old).size }
+    ensures looks { Looks S.read_gives S.meaning (Stands (S.meaning store.old)) (IsRowAt table key) store.old store.new result }
+    ensures memory { IfNoMemory result ⊥ }
+    ensures rest { S.rest store.new ≡ S.rest store.old }
+{
+    match find_row(store, table, key)? {
+        Some(found) => Ok(Some(found.row)),
+        None => Ok(None),
+    }
+}
+
+/// The first `limit` rows of a table whose keys lie from `lo` to `hi`, by rising key. Room for so many is taken first.
+pub fn list_rows<S: RecordRead>(
+    alloc: Global,
+    store: &mut S,
+    table: u32,
+    lo: u64,
+    hi: u64,
+    limit: u32,
+) -> Result<Pairs, Walk<S::Fault>>
+    requires table { table < 8 }
+    requires size { 4112 ≤ (S.meaning store.old).size }
+    ensures looks { Looks S.read_gives S.meaning (Stands (S.meaning store.old)) (IsScanned table lo hi limit) store.old store.new result }
+    ensures nothing { (limit ≡ 0) ⊎ (hi < lo) → store.new ≡ store.old }
+    ensures rest { S.rest store.new ≡ S.rest store.old }
+{
+    scan_rows(store, alloc, table, lo, hi, limit)
+}
+
+/// Sets the row at a key, whether there is one or not. It asks for new records as the command does.
+pub fn put_row<S: RecordStore>(
+    alloc: Global,
+    store: &mut S,
+    table: u32,
+    key: u64,
+    row: &Columns,
+) -> Result<(), Walk<S::Fault>>
+    requires table { table < 8 }
+    requires fixed { 4112 ≤ (S.meaning store.old).fixed }
+    ensures runs { Runs S.read_gives S.write_gives S.fresh_gives S.meaning (Stands (S.meaning store.old)) (MayAsk (Put table key row.now)) (λ _. SetsRow table key row.now (S.meaning store.new)) 128 store.old store.new result }
+    ensures rest { S.rest store.new ≡ S.rest store.old }
+{
+    // The records that are never given out lie in the store: its size says so.
+    let _size = store.size();
+    let mut kept = Kept::new(alloc);
+    let put = Command::Put {
+        table,
+        key,
+        values: *row,
+    };
+    // A put is never refused.
+    let _ran = run_command(store, &mut kept, alloc, &put)?;
+    Ok(())
+}
+
+/// Takes the row at a key out, and answers whether there was one. Without one nothing is written. It asks for no new record.
+pub fn remove_row<S: RecordStore>(
+    alloc: Global,
+    store: &mut S,
+    table: u32,
+    key: u64,
+) -> Result<bool, Walk<S::Fault>>
+    requires table { table < 8 }
+    requires fixed { 4112 ≤ (S.meaning store.old).fixed }
+    ensures runs { Runs S.read_gives S.write_gives S.fresh_gives S.meaning (Stands (S.meaning store.old)) (MayAsk (Del table key)) (λ taken. TakesRow table key (S.meaning store.new) taken) 128 store.old store.new result }
+    ensures asks_nothing { AsksNothing S.read_gives S.write_gives S.fresh_gives store.old store.new result }
+
+    // nothing is written where there is no row
+    ensures kept { IfOk result (λ taken. taken ≡ false → OnlyReads (S.meaning store.old) (S.meaning store.new)) }
+    ensures rest { S.rest store.new ≡ S.rest store.old }
+{
+    // The records that are never given out lie in the store: its size says so.
+    let _size = store.size();
+    let mut kept = Kept::new(alloc);
+    let mut once = ReadOnce::new(store, &mut kept);
+    let taken = take_once(&mut once, table, key);
+    once.end();
+    taken
+}
+
+/// Takes a row out over a store that keeps what it reads. What is said is of the store below.
+fn take_once<S: RecordStore>(
+    once: &mut ReadOnce<'_, S>,
+    table: u32,
+    key: u64,
+) -> Result<bool, Walk<S::Fault>>
+    requires table { table < 8 }
+    requires size { 4112 ≤ (S.meaning once.old.store.now).size }
+    requires fixed { 4112 ≤ (S.meaning once.old.store.now).fixed }
+    ensures same_reference { once.new.store.ghost_name ≡ once.old.store.ghost_name }
+    ensures runs { Runs S.read_gives S.write_gives S.fresh_gives S.meaning (Stands (S.meaning once.old.store.now)) (MayAsk (Del table key)) (λ taken. TakesRow table key (S.meaning once.new.store.now) taken) 4 once.old.store.now once.new.store.now result }
+    ensures asks_nothing { AsksNothing S.read_gives S.write_gives S.fresh_gives once.old.store.now once.new.store.now result }
+    ensures kept { IfOk result (λ taken. taken ≡ false → OnlyReads (S.meaning once.old.store.now) (S.meaning once.new.store.now)) }
+    ensures rest { S.rest once.new.store.now ≡ S.rest once.old.store.now }
+{
+    take_row(once, table, key)
+}

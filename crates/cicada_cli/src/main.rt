@@ -1,8 +1,10 @@
 //! The program `cicada`: the top call over the standard streams.
 #![tactic(auto)]
 
-use cicada_top::{Status, run};
-use outside_io::{OpenGate, RealClock, StdSink, StdSource};
+ghost use Rattle.std.specs.Prelude.{None};
+
+use cicada_top::{Finish, Status, run};
+use outside_io::{OpenGate, RealClock, Sink, SinkFault, StdSink, StdSource};
 use std::alloc::Global;
 use std::env::{self, Args};
 use std::io::{self, Eprint};
@@ -13,7 +15,7 @@ use std::time::Clock;
 
 fn main(rt: HostRuntime) -> ExitCode {
     let mut source = StdSource::new(rt.stdin());
-    let mut sink = StdSink::new(rt.stdout());
+    let mut sink = HeardSink::new(StdSink::new(rt.stdout()));
     let status = match env::args(&rt) {
         Ok(args) => run_with(&rt, rt.alloc(), args, &mut source, &mut sink),
         Err(error) => refuse_words(&rt, &error),
@@ -27,11 +29,7 @@ fn main(rt: HostRuntime) -> ExitCode {
 /// What the user is told on standard error of an ending of which standard output may not say enough.
 fn sentence_on(status: Status) -> Option<&'static str> {
     match status {
-        Status::Done | Status::Usage | Status::Differs => None,
-        Status::Input => Some(
-            "the input is refused at the line and for the kind that standard output names; each line ends with a line feed alone, \
-             and the last one has one too (README.md: refusals)",
-        ),
+        Status::Done | Status::Usage | Status::Differs | Status::Input => None,
         Status::TooLong => Some(
             "the input is too long: it may have 4,194,304 bytes, and 71,303,168 with the report that is to be checked behind it",
         ),
@@ -51,7 +49,7 @@ fn run_with<R: Threads + Wait + Sync + Eprint + Clock>(
     alloc: Global,
     args: Args,
     source: &mut StdSource,
-    sink: &mut StdSink,
+    sink: &mut HeardSink,
 ) -> Status {
     let Ok(words) = args.skip(1).collect::<Vec<String>>(alloc) else {
         return Status::NoMemory;
@@ -60,10 +58,53 @@ fn run_with<R: Threads + Wait + Sync + Eprint + Clock>(
         return Status::NoMemory;
     };
     let finish = run(rt, alloc, &words, source, sink, clocks, &OpenGate);
+    tell(rt, &finish, sink);
+    finish.status
+}
+
+/// Tells the user why words are refused, what is wrong with the line at which an input is refused, and which test the order of a report
+/// failed.
+fn tell<R: Eprint>(rt: &R, finish: &Finish, sink: &HeardSink) {
     if let Some(usage) = &finish.usage {
         let _ = eprint!(rt; "{usage}");
     }
-    finish.status
+    if let Some(fault) = &finish.fault {
+        let kind = kind_sentence(fault.kind);
+        let _ = eprintln!(rt; "cicada: line {}: {kind} (docs/LANGUAGE.md: refusals)", fault.line);
+    }
+    if finish.status == Status::Differs
+        && let Some(test) = test_sentence(&sink.head)
+    {
+        let _ = eprintln!(rt; "cicada: the order of the report: {test}");
+    }
+}
+
+/// A kind of refusal by its name, and what it says.
+fn kind_sentence(kind: u32) -> &'static str {
+    match kind {
+        1 => {
+            "form: it has none of the forms of a line; each line ends with a line feed alone, and one space stands between two words"
+        }
+        2 => "place: it may not stand there",
+        3 => "unknown: no earlier line declares the table, or the index, that it names",
+        4 => "twice: the table, the index or the row is there already",
+        5 => "limit: it is one too many",
+        6 => "end: the text ends before a whole last line 'done', which has a line feed too",
+        _ => "columns: the table has another number of columns, or no such column",
+    }
+}
+
+/// The test of an order that a verdict names, by its name, and what it found; none where the verdict names a line.
+fn test_sentence(verdict: &[u8; 10]) -> Option<&'static str> {
+    match verdict {
+        b"no order 1" => Some("named: a block that it prints is none of the input, or of the other kind"),
+        b"no order 2" => Some("once: it prints a block twice"),
+        b"no order 3" => Some("complete: a block of the input is missing"),
+        b"no order 4" => Some("rising: the stamps of the transaction blocks do not rise"),
+        b"no order 5" => Some("snapshots: a snapshot block does not stand where its stamp says"),
+        b"no order 6" => Some("lanes: the blocks of a lane are out of their order"),
+        _ => None,
+    }
 }
 
 /// What comes of words that can't be had: one that is not UTF-8 is refused.
@@ -73,4 +114,46 @@ fn refuse_words<R: Eprint>(rt: &R, error: &io::Error) -> Status {
     }
     let _ = eprintln!(rt; "cicada: the words cannot be read: {error}");
     Status::Usage
+}
+
+/// Standard output, with the first bytes that it took.
+#[derive(Drop)]
+struct HeardSink {
+    sink: StdSink,
+    head: [u8; 10],
+    heard: usize,
+}
+
+impl HeardSink {
+    fn new(sink: StdSink) -> HeardSink {
+        HeardSink {
+            sink,
+            head: [0; 10],
+            heard: 0,
+        }
+    }
+
+    /// Keeps these bytes behind those that were heard, as far as there is room.
+    fn hear(&mut self, bytes: &[u8]) {
+        for byte in bytes {
+            if let Some(place) = self.head.get_mut(self.heard) {
+                *place = *byte;
+                self.heard += 1;
+            }
+        }
+    }
+}
+
+impl Sink for HeardSink {
+    ghost taken = { λ _. None };
+
+    ghost faults = { λ heard. heard.sink.faults };
+
+    fn write(&mut self, piece: &[u8]) -> Result<usize, SinkFault> {
+        let count = self.sink.write(piece)?;
+        if self.heard < self.head.len() {
+            self.hear(piece.split_at(count).0);
+        }
+        Ok(count)
+    }
 }

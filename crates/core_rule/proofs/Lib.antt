@@ -1,5 +1,6 @@
 pub mod Alone
 pub mod Among
+pub mod CellWords
 pub mod Claiming
 pub mod Collected
 pub mod CutClaims

@@ -15,7 +15,7 @@ use Rattle.core_rule.specs.Views.{At, Has, Among, SomeView}
 use Rattle.core_rule.specs.Searching.{limit_of, IsPassed, is_final, ends, moved, reads_with, more_read, read_place, read_cells, stamp_seen, shown_at}
 use Rattle.core_rule.specs.Deciding.{stamp_in, commit_of, snapshot_of}
 use Rattle.core_rule.specs.Rule.{status_words, floor_words}
-use Rattle.core_rule.specs.Kinds.{Kind, publish_stamp, publish_idle, retire_write, publish_bound, retire_read, raise_min_write, load_head, load_next, load_stamp, load_status, load_cell, mark, point, link_head, link_next, raise_read_stamp, load_read_stamp, decide_by_check, decide_by_read, decide_bare, store_status, finish, name, after, turned, changed}
+use Rattle.core_rule.specs.Kinds.{Kind, publish_stamp, publish_idle, retire_write, publish_bound, retire_read, raise_min_write, load_head, load_next, load_stamp, load_status, load_cell, mark, point, link_head, link_next, raise_read_stamp, load_read_stamp, decide_by_check, decide_bare, store_status, finish, name, after, turned, changed}
 use Rattle.core_rule.specs.Hands.{split_left, split_right, joined_view}
 use Rattle.core_rule.specs.Entries.{Wrote}
 use Rattle.core_rule.specs.Parts.Clocks.{IsDrawn}
@@ -325,13 +325,6 @@ module _ (kept : State → Type 0) (z : Size) (g : World) (m : Memory) (vs : Lis
   entered_kept (decide_by_check p u w n) s =
       decides _ s _ refl refl refl (aim_of_check kept z g m vs id v _ s p u s.allowed.can.0 s.allowed.can.1).0 s.allowed.can.5.undecided v.work.finished v.work.linked (nat_le (m (rts p.place)) (stamp_in v.flight)) refl (if_more (nat_le (m (rts p.place)) (stamp_in v.flight)) (commit_of v.flight v.work.finished v.work.linked) v.log)
       (λ e t x h. record { search = tt; reads = h.below.reads; raised = h.below.raised })
-  entered_kept (decide_by_read p d) s =
-      decides _ s _ refl refl refl (aim_of_read kept z g m vs id v _ s p d s.allowed.can.0 s.allowed.can.1).0 s.allowed.can.5.undecided (v.work.finished ++ d ∷ []) v.work.linked (is_final (m (status p.place))) refl (if_more (is_final (m (status p.place))) (commit_of v.flight (v.work.finished ++ d ∷ []) v.work.linked) v.log)
-      (λ e t x h. record {
-        search = ends_or_stays x.record_number e.stamp p (shown d.version (m (status p.place))) (subst (SearchAbove S x.record_number e.stamp) s.allowed.can.0 h.below.search) (is_final (m (status p.place)));
-        reads = h.below.reads;
-        raised = h.below.raised;
-      })
   entered_kept decide_bare s = decides _ s _ refl refl refl s.allowed.can.0 s.allowed.can.4.undecided v.work.finished v.work.linked true refl refl (λ e t x h. record { search = tt; reads = h.below.reads; raised = h.below.raised })
   entered_kept (store_status u) s = framed _ s _ refl refl refl refl refl (λ e t x h. record { search = tt; reads = h.below.reads; raised = h.below.raised })
   entered_kept (finish ds) s = others _ s _ record {

@@ -12,7 +12,7 @@ use Rattle.core_rule.specs.View.{View, Flight, resting, writing, Write, Joint, S
 use Rattle.core_rule.specs.Views.{At, Has, Among, SomeView}
 use Rattle.core_rule.specs.Searching.{HasWrite, Ends, shown_at}
 use Rattle.core_rule.specs.Rule.{status_words}
-use Rattle.core_rule.specs.Kinds.{Kind, publish_stamp, publish_idle, retire_write, publish_bound, retire_read, link_head, link_next, decide_by_check, decide_by_read, decide_bare, store_status, finish, cut, name, after, turned, changed}
+use Rattle.core_rule.specs.Kinds.{Kind, publish_stamp, publish_idle, retire_write, publish_bound, retire_read, link_head, link_next, decide_by_check, decide_bare, store_status, finish, cut, name, after, turned, changed}
 use Rattle.core_rule.specs.Hands.{split_left, split_right, joined_view}
 use Rattle.core_rule.specs.Parts.Clocks.{IsDrawn, InFlight}
 use Rattle.core_rule.specs.Parts.Places.{Shows}
@@ -377,8 +377,6 @@ module _ (kept : State → Type 0) (z : Size) (g : World) (m : Memory) (vs : Lis
       links_kept _ s p j (at_number g.lists p.record_number (behind a j.write.place (g.lists p.record_number))) (grown_behind g.lists p.record_number j.write.place a there)
       (stand_of kept z g m vs id v _ s p (stamped w) s.allowed.can.0).kept.on_record o (eqb (m (next_word a)) (suc p.place)) _ refl refl refl refl refl
   versions_kept (decide_by_check p u w n) s = framed _ s tt tt _ refl g.drawn (λ seat. omega arith) (λ r p t two h. record { in_flight = h.in_flight; write = h.write })
-      (decides _ s.allowed.can.5.unsettled (s.rule.versions.views id v s.at s.allowed.is_open))
-  versions_kept (decide_by_read p d) s = framed _ s tt tt _ refl g.drawn (λ seat. omega arith) (λ r p t two h. record { in_flight = h.in_flight; write = h.write })
       (decides _ s.allowed.can.5.unsettled (s.rule.versions.views id v s.at s.allowed.is_open))
   versions_kept decide_bare s = framed _ s tt tt _ refl g.drawn (λ seat. omega arith) (λ r p t two h. record { in_flight = h.in_flight; write = h.write })
       (decides _ s.allowed.can.4.unsettled (s.rule.versions.views id v s.at s.allowed.is_open))

@@ -27,6 +27,7 @@ pub mod Step
 pub mod Stepping
 pub mod Tables
 pub mod Tails
+pub mod Unseen
 pub mod Without
 pub mod Touched
 pub mod Working

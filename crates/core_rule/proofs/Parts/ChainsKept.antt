@@ -19,7 +19,8 @@ use Rattle.core_rule.specs.Hands.{split_left, split_right, joined_view}
 use Rattle.core_rule.specs.Parts.Lists.{Spells, Falls}
 use Rattle.core_rule.specs.Parts.Linking.{IsAbove}
 use Rattle.core_rule.specs.Parts.Minima.{Minima}
-use Rattle.core_rule.specs.Parts.Chains.{OutOfReach, SpellsBehind, Reaches, ChainOk, IsChain, InChain}
+use Rattle.core_rule.specs.Visible.{OutOfReach}
+use Rattle.core_rule.specs.Parts.Chains.{SpellsBehind, Reaches, ChainOk, IsChain, InChain}
 use Rattle.core_rule.specs.Parts.Chains as part
 use Rattle.core_rule.proofs.Among.{Among-left, Among-if}
 use Rattle.core_rule.proofs.EachView.{Each-set, Each-push, Each-join, Each-one, SomeView-set, SomeView-own, SomeView-push, SomeView-join, AllOf-Has, same_view, joined}

@@ -60,7 +60,7 @@ CommitOk-from : (drawn drawn' S S' : ℕ → ℕ) → ((seat : ℕ) → drawn se
 CommitOk-from drawn drawn' S S' rises v u e number taken flights h = record {
   positive = h.positive;
   drawn_by = rw (number, taken) h.drawn_by;
-  was_drawn = let up = rises (seat_of e.stamp) in let d = h.was_drawn in omega arith;
+  not_above_drawn = let up = rises (seat_of e.stamp) in let d = h.not_above_drawn in omega arith;
   before = λ t f. (flights t f).0;
   own = λ t f. (flights t f).1;
 }
@@ -213,7 +213,7 @@ module _ (kept : State → Type 0) (z : Size) (g : World) (m : Memory) (vs : Lis
           let last = (s.rule.clocks id v s.at s.allowed.is_open).last in let drawn = f.2 in let up = drawn_rises k s v.number in record {
             positive = f.0;
             drawn_by = inl (f.1 ∙ sym number);
-            was_drawn = subst (λ (x : ℕ). t ≤ drawn' x) (sym f.1) (omega arith);
+            not_above_drawn = subst (λ (x : ℕ). t ≤ drawn' x) (sym f.1) (omega arith);
             before = λ x e. inr (ap stamp_in (sym is_flight ∙ sym flight ∙ e), is_decided);
             own = λ x e lt. absurd (let same : t ≡ x = ap stamp_in (sym is_flight ∙ sym flight ∙ e) in omega arith);
           }
@@ -266,8 +266,8 @@ module _ (kept : State → Type 0) (z : Size) (g : World) (m : Memory) (vs : Lis
   new_above : (clock : ℕ) → Step kept z g m vs id v (publish_stamp clock) → (e : Logged) (x : ℕ) → stamp_of clock v.number ≡ x → CommitOk g.drawn S v e → e.stamp < x
   new_above clock s e x same o =
       let c = s.rule.clocks id v s.at s.allowed.is_open in
-      ⊎_elim (λ own. by_drawn v.number (subst (λ (y : ℕ). e.stamp ≤ g.drawn y) own o.was_drawn) o.positive s.allowed.can.0 same own (subst (IsDrawn v.number v.clock.clock) (sym c.last) c.carries))
-      (λ has. by_drawn (seat_of e.stamp) o.was_drawn o.positive s.allowed.can.0 same refl (AllOf-Has (λ j. IsDrawn j v.clock.clock (g.drawn j)) (seat_of e.stamp) v.clock.taken_in c.taken_in has)) o.drawn_by where
+      ⊎_elim (λ own. by_drawn v.number (subst (λ (y : ℕ). e.stamp ≤ g.drawn y) own o.not_above_drawn) o.positive s.allowed.can.0 same own (subst (IsDrawn v.number v.clock.clock) (sym c.last) c.carries))
+      (λ has. by_drawn (seat_of e.stamp) o.not_above_drawn o.positive s.allowed.can.0 same refl (AllOf-Has (λ j. IsDrawn j v.clock.clock (g.drawn j)) (seat_of e.stamp) v.clock.taken_in c.taken_in has)) o.drawn_by where
         by_drawn : (j : ℕ) → e.stamp ≤ g.drawn j → 0 < e.stamp → v.clock.clock < clock → stamp_of clock v.number ≡ x → seat_of e.stamp ≡ j → IsDrawn j v.clock.clock (g.drawn j) → e.stamp < x
         by_drawn j le pos later is seat (inl none) = omega arith
         by_drawn j le pos later is seat (inr h) = let low = h.1 in let at = h.2 in omega arith
@@ -361,7 +361,7 @@ module _ (kept : State → Type 0) (z : Size) (g : World) (m : Memory) (vs : Lis
         mine e h = record {
           positive = h.positive;
           drawn_by = ⊎_elim (λ own. inl own) (λ has. inr (Has-left (seat_of e.stamp) v.clock.taken_in (w.number ∷ w.clock.taken_in) has)) h.drawn_by;
-          was_drawn = h.was_drawn;
+          not_above_drawn = h.not_above_drawn;
           before = λ t f. absurd (cc);
           own = λ t f. absurd (cc);
         }
@@ -370,7 +370,7 @@ module _ (kept : State → Type 0) (z : Size) (g : World) (m : Memory) (vs : Lis
         theirs e h = record {
           positive = h.positive;
           drawn_by = inr (Has-right (seat_of e.stamp) v.clock.taken_in (w.number ∷ w.clock.taken_in) (⊎_elim (λ own. inl (sym own)) (λ has. inr has) h.drawn_by));
-          was_drawn = h.was_drawn;
+          not_above_drawn = h.not_above_drawn;
           before = λ t f. absurd (cc);
           own = λ t f. absurd (cc);
         }

@@ -106,9 +106,9 @@ module _ (kept : State → Type 0) (z : Size) (g : World) (m : Memory) (vs : Lis
   entry_clock k s e there commit =
       let o = (s.rule.entered id v s.at s.allowed.is_open).commits e there commit in
       let c = s.rule.clocks id v s.at s.allowed.is_open in
-      ⊎_elim (λ (own : seat_of e.stamp ≡ v.number). by_drawn v.number (subst (λ (y : ℕ). e.stamp ≤ g.drawn y) own o.was_drawn) (subst (IsDrawn v.number v.clock.clock) (sym c.last) c.carries)
+      ⊎_elim (λ (own : seat_of e.stamp ≡ v.number). by_drawn v.number (subst (λ (y : ℕ). e.stamp ≤ g.drawn y) own o.not_above_drawn) (subst (IsDrawn v.number v.clock.clock) (sym c.last) c.carries)
       (let inside = (s.rule.seats.each id v s.at s.allowed.is_open).within in let size = s.rule.sized.seats_in_range in omega arith))
-      (λ (has : Has (seat_of e.stamp) v.clock.taken_in). by_drawn (seat_of e.stamp) o.was_drawn (AllOf-Has (λ x. IsDrawn x v.clock.clock (g.drawn x)) (seat_of e.stamp) v.clock.taken_in c.taken_in has)
+      (λ (has : Has (seat_of e.stamp) v.clock.taken_in). by_drawn (seat_of e.stamp) o.not_above_drawn (AllOf-Has (λ x. IsDrawn x v.clock.clock (g.drawn x)) (seat_of e.stamp) v.clock.taken_in c.taken_in has)
       (let b = AllOf-Has (λ x. x < most_seats) (seat_of e.stamp) v.clock.taken_in (s.rule.joined id v s.at s.allowed.is_open).within has in omega arith)) o.drawn_by where
         by_drawn : (seat : ℕ) → e.stamp ≤ g.drawn seat → IsDrawn seat v.clock.clock (g.drawn seat) → seat < 256 → clock_of e.stamp ≤ v.clock.clock
         by_drawn seat was (inl zero_is) lt = omega arith

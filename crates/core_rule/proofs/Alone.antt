@@ -91,4 +91,4 @@ module _ (kept : State → Type 0) (z : Size) (g : World) (m : Memory) (vs : Lis
 
   -- so a linked version is not above it
   pub linked_low : (t : ℕ) → v.flight ≡ writing t → OthersTaken z.seats v.number v.splitting v.clock.taken_in → (r p : ℕ) → r < z.records → Has p (g.lists r) → (stored m).stamps p ≤ t
-  linked_low t f alone r p lt has = let h = rule.versions.each r p lt has in let was = h.was_drawn in let low = drawn_low t f alone (seat_of ((stored m).stamps p)) h.within in omega arith
+  linked_low t f alone r p lt has = let h = rule.versions.each r p lt has in let was = h.not_above_drawn in let low = drawn_low t f alone (seat_of ((stored m).stamps p)) h.within in omega arith

@@ -11,7 +11,7 @@ use Rattle.core_rule.specs.View.{View, Flight, resting, writing, Read, Write, Ai
 use Rattle.core_rule.specs.Views.{At, Each, Has, Among}
 use Rattle.core_rule.specs.Searching.{ends, is_final, finished_with, limit_of, moved, stamp_seen}
 use Rattle.core_rule.specs.Deciding.{stamp_in, commit_of, snapshot_of}
-use Rattle.core_rule.specs.Kinds.{Kind, publish_stamp, publish_idle, retire_write, publish_bound, retire_read, fill_stamp, load_head, load_next, load_stamp, load_status, mark, point, link_head, link_next, raise_read_stamp, load_read_stamp, decide_by_check, decide_by_read, decide_bare, store_status, finish, name, after, changed}
+use Rattle.core_rule.specs.Kinds.{Kind, publish_stamp, publish_idle, retire_write, publish_bound, retire_read, fill_stamp, load_head, load_next, load_stamp, load_status, mark, point, link_head, link_next, raise_read_stamp, load_read_stamp, decide_by_check, decide_bare, store_status, finish, name, after, changed}
 use Rattle.core_rule.specs.Hands.{split_left, split_right, joined_view}
 use Rattle.core_rule.specs.Rule.{status_words}
 use Rattle.core_rule.specs.Claims.{Claim, claim, AimClaims, SearchClaims, TxnClaims, Claims}
@@ -198,33 +198,6 @@ module _ (kept : State → Type 0) (z : Size) (g : World) (m : Memory) (vs : Lis
     finished_of : (k : Kind) (s : Step kept z g m vs id v k) → v.flight ≡ writing t → (d : Read) → Among d v.work.finished → Q (claim t d d.version)
     finished_of k s e d l = keeps (claim t d d.version) (((mine k s).in_flight t e).finished d l)
 
-    -- a second search was the last
-    read_case : (p : Stand) (d : Read) (s : Step kept z g m vs id v (decide_by_read p d)) (b : Bool) (u : View) → u.flight ≡ v.flight → u.work.raised ≡ v.work.raised
-        → u.work.finished ≡ cond b (v.work.finished ++ d ∷ []) v.work.finished → u.work.search ≡ cond b still (stands p (shown d.version (m (status p.place))))
-        → u.log ≡ v.log ++ cond b (commit_of v.flight (v.work.finished ++ d ∷ []) v.work.linked ∷ []) [] → Claims S Q u
-    read_case p d s b u flight raised finished search log =
-        let o = stand_of kept z g m vs id v _ s p (stamped d.version) s.allowed.can.0 in
-        let is_flight = (aim_of_read kept z g m vs id v _ s p d s.allowed.can.0 s.allowed.can.1).0 in
-        let one : (x : ℕ) → v.flight ≡ writing x → (c : Read) → Among c (v.work.finished ++ d ∷ []) → Q (claim x c c.version) = λ x f c k.
-        ⊎_elim (λ old. keeps (claim x c c.version) (((mine _ s).in_flight x f).finished c old))
-        (λ (new : d ≡ c). subst (λ (y : Read). Q (claim x y y.version)) new (ended p d _ s (stamped d.version) s.allowed.can.0 s.allowed.can.1 o.seen s.allowed.can.2 x f))
-        (Among-either c d v.work.finished k) in record {
-          in_flight = λ x f. let f' = sym flight ∙ f in let old = (mine _ s).in_flight x f' in record {
-            raised = λ c k. keeps (claim x c x) (old.raised c (subst (Among c) raised k));
-            searched = subst (SearchClaims S Q x) (sym search) (by_search b x old.searched);
-            finished = λ c k. by_finished b x (one x f') (λ y l. keeps (claim x y y.version) (old.finished y l)) c (subst (Among c) finished k);
-          };
-          entered = λ y l. entered_with _ s (v.work.finished ++ d ∷ []) v.work.linked (one t is_flight) b y (subst (Among y) log l);
-        } where
-          by_search : (b : Bool) (x : ℕ) → SearchClaims S P x v.work.search → SearchClaims S Q x (cond b still (stands p (shown d.version (m (status p.place)))))
-          by_search true x h = tt
-          by_search false x h = stays _ s p (stamped d.version) s.allowed.can.0 x h
-
-          by_finished : (b : Bool) (x : ℕ) → ((c : Read) → Among c (v.work.finished ++ d ∷ []) → Q (claim x c c.version)) → ((c : Read) → Among c v.work.finished → Q (claim x c c.version))
-              → (c : Read) → Among c (cond b (v.work.finished ++ d ∷ []) v.work.finished) → Q (claim x c c.version)
-          by_finished true x one old = one
-          by_finished false x one old = old
-
     new_moved : (place q : ℕ) (x : ℕ) → v.flight ≡ writing x → (p : Stand) (aim : Aim) → p.place ≡ place → NewAt Q place aim → AimClaims S Q x p (moved aim q)
     new_moved place q x e p reads at h = tt
     new_moved place q x e p (links j) at h = tt
@@ -273,7 +246,6 @@ module _ (kept : State → Type 0) (z : Size) (g : World) (m : Memory) (vs : Lis
           in_flight = λ x e. let b = base.in_flight x e in record { raised = b.raised; searched = tt; finished = b.finished };
           entered = λ y l. entered_with _ s v.work.finished v.work.linked (finished_of _ s is_flight) (nat_le (m (rts p.place)) t) y (subst (Among y) (if_more (nat_le (m (rts p.place)) (stamp_in v.flight)) (commit_of v.flight v.work.finished v.work.linked) v.log) l);
         }
-    claims_kept (decide_by_read p d) s new = others _ s _ (read_case p d s (is_final (m (status p.place))) _ refl refl refl refl (if_more (is_final (m (status p.place))) (commit_of v.flight (v.work.finished ++ d ∷ []) v.work.linked) v.log))
     claims_kept decide_bare s new =
         let base = framed _ s S (record v { work = record v.work { search = still } }) refl refl refl refl (λ x e h. tt) in
         others _ s _ record {

@@ -1,7 +1,7 @@
 -- What a hand's numbers say of its view after a step that changes its places alone.
 use Rattle.std.proofs.Common.{◌≡◌, List, ℕ, ◌<◌, [], sym, ap, ◌∙◌, subst, Option}
 use Rattle.atomic_table.specs.Seated.{TableId}
-use Rattle.word_layout.specs.Size.{Size, places}
+use Rattle.word_layout.specs.Size.{Size, IsSize, places}
 use Rattle.core_rule.specs.View.{View, Places, Work, Counted, Front, Seen, Logged, Gone}
 use Rattle.core_rule.specs.Views.{AllOf, Has}
 use Rattle.core_rule.specs.Holding.{without}
@@ -14,14 +14,22 @@ module _ (number clock published bound made : ℕ) (last_pool : Option ℕ) (v :
   pub held_in_range : (p : ℕ) → Has p v.places.held → p < places v.size
   held_in_range p has = AllOf-Has (λ q. q < places v.size) p v.places.held ok.places_in_range has
 
-  -- the same, as a call has it
-  module _ (hand : Seated) (seen : Shared) (layout : Size) (table : TableId) (seat_table : TableId) (id : ℕ)
-      (hand_is : record { table = seat_table; id = id; view = v } ≡ hand) (seen_is : record { table = table; size = layout } ≡ seen) (same_size : hand.view.size ≡ seen.size) where
-    pub held_in_table : (p : ℕ) → Has p hand.view.places.held → p < places seen.size
-    held_in_table p has =
+  -- the same, as a call has it; and the table's size
+  module _ (hand : Seated) (seen : Shared) (seat_table : TableId) (id : ℕ) (hand_is : record { table = seat_table; id = id; view = v } ≡ hand) (same_size : hand.view.size ≡ seen.size) where
+    pub held_in : (p : ℕ) → Has p hand.view.places.held → p < places seen.size
+    held_in p has =
         let here = ap (λ (h : Seated). h.view) hand_is in
         let lt = held_in_range p (subst (λ (x : View). Has p x.places.held) (sym here) has) in
         subst (λ (x : Size). p < places x) (ap (λ (x : View). x.size) here ∙ same_size) lt
+
+    pub size_in : IsSize seen.size
+    size_in = subst IsSize (ap (λ (h : Seated). h.view.size) hand_is ∙ same_size) ok.is_size
+
+  -- the same of its layout
+  module _ (hand : Seated) (seen : Shared) (layout : Size) (table : TableId) (seat_table : TableId) (id : ℕ)
+      (hand_is : record { table = seat_table; id = id; view = v } ≡ hand) (seen_is : record { table = table; size = layout } ≡ seen) (same_size : hand.view.size ≡ seen.size) where
+    pub held_in_table : (p : ℕ) → Has p hand.view.places.held → p < places seen.size
+    held_in_table = held_in hand seen seat_table id hand_is same_size
 
     pub held_in_layout : (p : ℕ) → Has p hand.view.places.held → p < places layout
     held_in_layout p has = subst (λ (x : Size). p < places x) (sym (ap (λ (x : Shared). x.size) seen_is)) (held_in_table p has)

@@ -1,5 +1,6 @@
 pub mod Alone
 pub mod Among
+pub mod CellWords
 pub mod Claiming
 pub mod Collected
 pub mod CutClaims
@@ -26,6 +27,7 @@ pub mod Step
 pub mod Stepping
 pub mod Tables
 pub mod Tails
+pub mod Unseen
 pub mod Without
 pub mod Touched
 pub mod Working

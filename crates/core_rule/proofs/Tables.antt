@@ -12,7 +12,7 @@ use Rattle.word_layout.proofs.Words.{word_of-below, word_of-injective}
 use Rattle.core_rule.specs.View.{View, first_view, spent_view}
 use Rattle.core_rule.specs.Memory.{Memory, memory, put, starts_with}
 use Rattle.core_rule.specs.World.{first_world}
-use Rattle.core_rule.specs.Ways.{Way, loads, stores, raises_to, exchanges, swaps, effect, told, written, seen_after}
+use Rattle.core_rule.specs.Ways.{Way, loads, meets, Looks, stores, raises_to, exchanges, swaps, effect, told, written, seen_after}
 use Rattle.core_rule.specs.Offers.{HasOfferedBoth, IsSettled}
 use Rattle.core_rule.specs.Searching.{Ends}
 use Rattle.core_rule.specs.Kinds.{Kind, name, way, next, after, splitting_after, turned, changed, Allowed}
@@ -53,6 +53,7 @@ memory-store z ws n word x sized named at = rw at (memory-set z ws n x sized nam
 pub memory-written : (z : Size) (ws : List ℕ) (w : Way) (n : Name) → length ws ≡ words z → IsNamed z n
     → memory z (set ws (word_of z n) (effect w (get_or ws (word_of z n) 0))) ≡ written w n (memory z ws)
 memory-written z ws loads n sized named = ap (memory z) (set-get_or ws (word_of z n) 0)
+memory-written z ws meets n sized named = ap (memory z) (set-get_or ws (word_of z n) 0)
 memory-written z ws (stores x) n sized named = memory-set z ws n x sized named
 memory-written z ws (raises_to x) n sized named = rw (memory-found z ws n x sized named) (memory-set z ws n _ sized named)
 memory-written z ws (exchanges a b) n sized named = rw (memory-found z ws n a sized named) (memory-set z ws n _ sized named)
@@ -60,6 +61,7 @@ memory-written z ws (swaps x) n sized named = memory-set z ws n x sized named
 
 told_again : (w : Way) (n : ℕ) → told w (told w n) ≡ told w n
 told_again loads n = refl
+told_again meets n = refl
 told_again (stores x) n = refl
 told_again (raises_to x) n = refl
 told_again (exchanges a b) n = refl
@@ -179,3 +181,17 @@ module _ (kept : State → Type 0) {S : Type 0} (table : TableId) (layout key : 
         omega arith,
         joins kept key id other v w is_open other_open settled other_settled retired holds_none ends other_ends,
       )
+
+-- the same for a step that stores nothing
+pub asks_look : (kept : State → Type 0) {S : Type 0} (table : TableId) (layout key : Size) (seen : Shared) (seat_table : TableId) (id : ℕ) (me : Me S View) (k : Kind) (w : Way) (word : ℕ)
+    → record { table = table; size = layout } ≡ seen → (key ≡ layout) × (table.words ≡ words layout) → seat_table ≡ seen.table → Allowed kept k me.0 → IsNamed seen.size (name k me.0) → me.1 ≡ []
+    → word ≡ word_of seen.size (name k me.0) → way k me.0 ≡ w → Looks w
+    → (seat_table ≡ table) × (word < table.words) × Allows (Holds kept key {S = S}) table.slots id me word (λ n. n) (λ n after'. (after'.1 ≡ []) × Told kept k me.0 n after'.0)
+asks_look kept table layout key seen seat_table id me k loads word view_is invariant same allowed named bare at is looks =
+    asks kept table layout key seen seat_table id me k loads word view_is invariant same allowed named bare at is
+asks_look kept table layout key seen seat_table id me k meets word view_is invariant same allowed named bare at is looks =
+    asks kept table layout key seen seat_table id me k meets word view_is invariant same allowed named bare at is
+asks_look kept table layout key seen seat_table id me k (stores x) word view_is invariant same allowed named bare at is looks = absurd looks
+asks_look kept table layout key seen seat_table id me k (raises_to x) word view_is invariant same allowed named bare at is looks = absurd looks
+asks_look kept table layout key seen seat_table id me k (exchanges a b) word view_is invariant same allowed named bare at is looks = absurd looks
+asks_look kept table layout key seen seat_table id me k (swaps x) word view_is invariant same allowed named bare at is looks = absurd looks

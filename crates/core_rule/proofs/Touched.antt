@@ -9,7 +9,7 @@ use Rattle.core_rule.specs.World.{World, Owner, free, held, marked, linked, cut_
 use Rattle.core_rule.specs.Views.{Has}
 use Rattle.core_rule.specs.View.{View}
 use Rattle.core_rule.specs.Holding.{filled_place}
-use Rattle.core_rule.specs.Kinds.{Kind, take, fill_stamp, fill_reset, fill_cell, fill_next, give, mark, point, link_head, link_next, raise_read_stamp, store_status, cut, free_place, changed}
+use Rattle.core_rule.specs.Kinds.{Kind, take, fill_stamp, fill_reset, fill_cell, give, mark, point, link_head, link_next, raise_read_stamp, store_status, cut, free_place, changed}
 use Rattle.core_rule.specs.Rule.{status_words}
 use Rattle.core_rule.specs.Parts.Places.{Shows}
 use Rattle.core_rule.proofs.EachView.{AllOf-Has}
@@ -120,12 +120,6 @@ module _ (kept : State → Type 0) (z : Size) (g : World) (m : Memory) (vs : Lis
         cells = λ r q i lt h. rw (ne_eqb (filled_place v.places.fills) q (apart _ s (filled_place v.places.fills) un r q lt h));
         statuses = λ r q lt h ne. refl;
       }
-  quiet (fill_next p n) s h = let un = held_unlinked _ s p s.allowed.can in record {
-    stamps = λ r q lt h. refl;
-    links = λ r q lt h. at_number-other (stored m).links p q n (apart _ s p un r q lt h);
-    cells = λ r q i lt h. refl;
-    statuses = λ r q lt h ne. refl;
-  }
   quiet (point p j w) s h =
       let own = (joint_of kept z g m vs id v _ s p j w s.allowed.can.0 s.allowed.can.1).mark.owned in
       let un : IsUnlinked (g.owner j.write.place) = subst IsUnlinked (sym own) tt in record {

@@ -11,12 +11,12 @@ use Rattle.core_rule.specs.View.{View, resting, writing, Scan, no_scan, Splittin
 use Rattle.core_rule.specs.Views.{Has, Among, AllIn, IsAlone}
 use Rattle.core_rule.specs.Memory.{Memory}
 use Rattle.core_rule.specs.World.{World, free, held, marked, linked, at_number, behind, up_to, from_behind, cut_from, all_but_first}
-use Rattle.core_rule.specs.Ways.{Way, loads, stores, raises_to, exchanges, swaps, told, written, seen_after}
+use Rattle.core_rule.specs.Ways.{Way, loads, meets, stores, raises_to, exchanges, swaps, told, written, seen_after}
 use Rattle.core_rule.specs.Offers.{made_of, offered_write, offered_read, MayOffer, HasOffered, IsSettled}
-use Rattle.core_rule.specs.Searching.{limit_of, IsPassed, IsLate, stamp_seen, ends, AsksStatus, moved, Rests, Ends, read_place, read_cells, more_read, IsLoading, write_of, FitsPlace, IsNotLinked, Begins, IsFinal, is_final, reads_with, finished_with, IsWhole, IsNotRead, IsWholeFill, shown_at, OthersPassed, OthersFinished, counted_more, counted_one, counted_cut}
+use Rattle.core_rule.specs.Searching.{limit_of, IsPassed, IsLate, stamp_seen, ends, AsksStatus, moved, Rests, Ends, read_place, read_cells, more_read, IsLoading, write_of, FitsPlace, IsNotLinked, Begins, IsFinal, is_final, reads_with, finished_with, IsWhole, IsNotRead, IsWholeFill, shown_at, OthersPassed, counted_more, counted_one, counted_cut}
 use Rattle.core_rule.specs.Deciding.{stamp_in, commit_of, snapshot_of, AreReads, IsFitting, IsUndecided}
 use Rattle.core_rule.specs.Collecting.{HasEntry, rests_at}
-use Rattle.core_rule.specs.Holding.{filled_place, filled_cells, reset_fill, link_fill, more_cells, without, without_fill, is_usable, IsFilling}
+use Rattle.core_rule.specs.Holding.{filled_place, filled_cells, reset_fill, more_cells, without, without_fill, is_usable, IsFilling}
 
 pub data Kind : Type 0 where
   -- seat 0 stores its own published words as those of the next seat
@@ -43,12 +43,12 @@ pub data Kind : Type 0 where
   raise_min_read : Kind
   -- take a free place, or meet it taken
   take : (place : ℕ) → Kind
-  -- fill a held place: its write stamp; its read stamp with 0 and its next cell, where the fill in work is; its link to the
-  -- next older version
+  -- fill a held place: its write stamp; its read stamp with 0 and its next cell, where the fill in work is; or meet that cell,
+  -- where it may show this word already
   fill_stamp : (place stamp : ℕ) → Kind
   fill_reset : Kind
   fill_cell : (word : ℕ) → Kind
-  fill_next : (place link : ℕ) → Kind
+  meet_cell : (word : ℕ) → Kind
   -- give a held place back
   give : (place : ℕ) → Kind
   -- a search begins at the head of a record's list; goes on from a place; loads the write stamp and the status there
@@ -67,9 +67,8 @@ pub data Kind : Type 0 where
   -- raise the read stamp of a version that was read; load that of the version that a write overwrites
   raise_read_stamp : (read : Read) → Kind
   load_read_stamp : (stand : Stand) (write : Write) (stamp status : ℕ) → Kind
-  -- decide to commit: at the last check; at the end of the last second search of a transaction without writes; without either
+  -- decide to commit: at the last check; or, where nothing is written, at a load of the own stamp
   decide_by_check : (stand : Stand) (write : Write) (stamp status : ℕ) → Kind
-  decide_by_read : (stand : Stand) (read : Read) → Kind
   decide_bare : Kind
   -- store the last status of a linked version
   store_status : (write : Write) → Kind
@@ -121,7 +120,7 @@ name (take place) v = status place
 name (fill_stamp place stamp) v = wts place
 name fill_reset v = rts (filled_place v.places.fills)
 name (fill_cell word) v = cell (filled_place v.places.fills) (filled_cells v.places.fills)
-name (fill_next place link) v = next_word place
+name (meet_cell word) v = cell (filled_place v.places.fills) (filled_cells v.places.fills)
 name (give place) v = status place
 name (load_head aim r) v = head r
 name (load_next s look) v = next_word s.place
@@ -135,7 +134,6 @@ name (link_next s j above w) v = next_word above
 name (raise_read_stamp d) v = rts d.place
 name (load_read_stamp s u w n) v = rts s.place
 name (decide_by_check s u w n) v = rts s.place
-name (decide_by_read s d) v = status s.place
 name decide_bare v = published_write v.number
 name (store_status u) v = status u.place
 name (finish ds) v = published_read v.number
@@ -169,7 +167,7 @@ way (take place) v = exchanges 0 1
 way (fill_stamp place stamp) v = stores stamp
 way fill_reset v = stores 0
 way (fill_cell word) v = stores word
-way (fill_next place link) v = stores link
+way (meet_cell word) v = meets
 way (give place) v = stores 0
 way (mark r f) v = stores 2
 way (point s j w) v = stores (suc s.place)
@@ -250,12 +248,13 @@ next (take place) v n = record v {
 }
 next (fill_stamp place stamp) v n = record v {
   places = record v.places {
-    fills = record { place = place; stamp = stamp; reset = false; link = None; cells = [] } ∷ without_fill place v.places.fills;
+    fills = record { place = place; stamp = stamp; reset = false; cells = [] } ∷ without_fill place v.places.fills;
   };
 }
 next fill_reset v n = record v { places = record v.places { fills = reset_fill v.places.fills } }
 next (fill_cell word) v n = record v { places = record v.places { fills = more_cells word v.places.fills } }
-next (fill_next place link) v n = record v { places = record v.places { fills = link_fill place link v.places.fills } }
+next (meet_cell word) v n =
+    record v { places = record v.places { fills = (if n == word then more_cells word v.places.fills else v.places.fills) } }
 next (give place) v n = record v {
   places = record v.places { held = without place v.places.held; fills = without_fill place v.places.fills };
   seen = record v.seen { since = length v.seen.lost };
@@ -308,14 +307,6 @@ next (decide_by_check s u w state) v n = record v {
     decided = nat_le n (stamp_in v.flight);
   };
   log = (if nat_le n (stamp_in v.flight) then v.log ++ commit_of v.flight v.work.finished v.work.linked ∷ [] else v.log);
-}
-next (decide_by_read s d) v n = record v {
-  work = record v.work {
-    search = (if is_final n then still else stands s (shown d.version n));
-    finished = (if is_final n then v.work.finished ++ d ∷ [] else v.work.finished);
-    decided = is_final n;
-  };
-  log = (if is_final n then v.log ++ commit_of v.flight (v.work.finished ++ d ∷ []) v.work.linked ∷ [] else v.log);
 }
 next decide_bare v n = record v {
   work = record v.work { search = still; decided = true };
@@ -414,7 +405,7 @@ Can kept (take place) v = place < places v.size
 Can kept (fill_stamp place stamp) v = Has place v.places.held
 Can kept fill_reset v = IsFilling v.places.fills
 Can kept (fill_cell word) v = IsFilling v.places.fills × (filled_cells v.places.fills < cells_of_value) × (word < 18446744073709551616)
-Can kept (fill_next place link) v = Has place v.places.held
+Can kept (meet_cell word) v = IsFilling v.places.fills × (filled_cells v.places.fills < cells_of_value)
 Can kept (give place) v = Has place v.places.held
 Can kept (load_head aim r) v = (r < v.size.records) × (v.published.read < end_of_stamps) × Begins aim r v.work
 Can kept (load_next s look) v = (v.work.search ≡ stands s look) × IsPassed (limit_of v.flight v.published.read) look × IsLate s.aim look
@@ -431,8 +422,6 @@ Can kept (raise_read_stamp d) v =
 Can kept (load_read_stamp s u w n) v = (v.work.search ≡ stands s (shown w n)) × (s.aim ≡ checks u) × IsFinal n
 Can kept (decide_by_check s u w n) v =
     (v.work.search ≡ stands s (shown w n)) × (s.aim ≡ checks u) × IsFinal n × AllIn v.work.raised v.work.finished × OthersPassed u.record_number v.work.linked v.work.passed × IsUndecided v.work × IsFitting kept v.size.records (commit_of v.flight v.work.finished v.work.linked)
-Can kept (decide_by_read s d) v =
-    (v.work.search ≡ stands s (stamped d.version)) × (s.aim ≡ again d) × (d.version < stamp_in v.flight) × OthersFinished d v.work.raised v.work.finished × (v.work.linked ≡ []) × IsUndecided v.work × IsFitting kept v.size.records (commit_of v.flight (v.work.finished ++ d ∷ []) [])
 Can kept decide_bare v =
     (v.flight ≡ writing (stamp_in v.flight)) × Rests v.work.search × AllIn v.work.raised v.work.finished × (v.work.linked ≡ []) × IsUndecided v.work × IsFitting kept v.size.records (commit_of v.flight v.work.finished [])
 Can kept (store_status u) v = Rests v.work.search × Among u v.work.linked × (Has u.record_number v.work.settled → ⊥)

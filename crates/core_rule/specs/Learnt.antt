@@ -13,7 +13,7 @@ use Rattle.core_rule.specs.Snapshots.{AreAlike, AreLeft}
 use Rattle.core_rule.specs.Reckoning.{Reckons}
 use Rattle.core_rule.specs.Spares.{KnowsFree}
 use Rattle.core_rule.specs.Left.{IsLeft, LeavesCells}
-use Rattle.core_rule.specs.Kinds.{Kind, publish_stamp, hear, scan_writes, scan_reads, load_min_write, load_min_read, raise_min_write, raise_min_read, take, load_head, load_next, load_stamp, load_status, load_cell, link_head, link_next, load_read_stamp, decide_by_check, decide_by_read, decide_bare, finish, take_lock, load_floor, seek_head, seek_stamp, seek_next, cut, follow, front_head, after}
+use Rattle.core_rule.specs.Kinds.{Kind, publish_stamp, hear, scan_writes, scan_reads, load_min_write, load_min_read, raise_min_write, raise_min_read, take, load_head, load_next, load_stamp, load_status, load_cell, link_head, link_next, load_read_stamp, decide_by_check, decide_bare, finish, take_lock, load_floor, seek_head, seek_stamp, seek_next, cut, follow, front_head, after}
 
 -- a number that a stamp at the place that is searched for is not under
 abbrev pub least_of : Aim → ℕ
@@ -89,7 +89,6 @@ Learnt kept (link_next s j above w) v n = IsLink (places v.size) n × (IsAlone v
 Learnt kept (load_read_stamp s u w state) v n = stamp_in v.flight < n → IsOfAnother v n
 Learnt kept (decide_by_check s u w state) v n =
     (stamp_in v.flight < n → IsOfAnother v n) × (n ≤ stamp_in v.flight → StoodAt kept v.size.records v.log (commit_of v.flight v.work.finished v.work.linked))
-Learnt kept (decide_by_read s d) v n = IsFinal n × StoodAt kept v.size.records v.log (commit_of v.flight (v.work.finished ++ d ∷ []) v.work.linked)
 Learnt kept decide_bare v n = StoodAt kept v.size.records v.log (commit_of v.flight v.work.finished v.work.linked)
 Learnt kept (finish ds) v n = StoodAt kept v.size.records v.log (snapshot_of v.published.read ds)
 -- a lock that is taken names another seat

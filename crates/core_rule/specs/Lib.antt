@@ -16,6 +16,7 @@ pub mod Snapshots
 pub mod Spares
 pub mod Stamps
 pub mod View
+pub mod Visible
 pub mod Versions
 pub mod Views
 pub mod World

@@ -142,9 +142,6 @@ AllPassed us rs = (u : Write) → Among u us → Has u.record_number rs
 abbrev pub OthersPassed : ℕ → List Write → List ℕ → Type 0
 OthersPassed r us rs = (u : Write) → Among u us → (u.record_number ≡ r) ⊎ Has u.record_number rs
 
-abbrev pub OthersFinished : Read → List Read → List Read → Type 0
-OthersFinished d ds es = (c : Read) → Among c ds → (c ≡ d) ⊎ Among c es
-
 -- a search begins: one that links, for a version that is marked; a second one, for a read whose read stamp is raised; a check, for
 -- a version that is linked
 abbrev pub Begins : Aim → ℕ → Work → Type 0
@@ -189,7 +186,7 @@ joint_in s = joint_of (stand_in s).aim
 
 -- the fill in work
 abbrev pub front_fill : List Fill → Fill
-front_fill [] = record { place = 0; stamp = 0; reset = false; link = None; cells = [] }
+front_fill [] = record { place = 0; stamp = 0; reset = false; cells = [] }
 front_fill (f ∷ fs) = f
 
 -- what is known of a list, after one more version was linked in place p
@@ -259,13 +256,7 @@ abbrev pub state_seen : Look → ℕ
 state_seen (shown w s) = s
 state_seen _ = 0
 
--- the read that is searched again, and the write that is checked
-abbrev pub read_of_aim : Aim → Read
-read_of_aim (again d) = d
-read_of_aim _ = no_read
-
-abbrev pub read_in : Search → Read
-read_in s = read_of_aim (stand_in s).aim
+-- the write that is checked
 
 abbrev pub write_of_aim : Aim → Write
 write_of_aim (checks u) = u

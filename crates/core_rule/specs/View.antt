@@ -46,13 +46,12 @@ pub data Splitting : Type 0 where
   -- it was made itself, and makes none
   shared : Splitting
 
--- what was stored of a version in a place: its write stamp, whether the read stamp was set to 0, the link to the next older
--- version (`None` before it is stored), and its first cells
+-- what stands of a version in a place: its write stamp, whether the read stamp was set to 0, and its first cells, each stored or
+-- met there
 pub record Fill : Type 0 where
   pub place : ℕ
   pub stamp : ℕ
   pub reset : Bool
-  pub link : Option ℕ
   pub cells : List ℕ
 
 -- the places held, what is stored in them (the fill in work first), and the last usable pool place that was taken

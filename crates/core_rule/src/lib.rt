@@ -7,6 +7,7 @@
 mod begin;
 mod collects;
 mod hand;
+mod links;
 mod looks;
 mod places;
 mod publish;
@@ -21,5 +22,6 @@ mod view;
 
 pub use hand::Hand;
 pub use histories::{AnyState, Keeps};
+pub use links::link_place;
 pub use shared::Core;
 pub use versions::{ReadVersion, WrittenVersion};

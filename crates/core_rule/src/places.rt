@@ -1,11 +1,11 @@
 //! Steps on the places for versions.
 ghost use Rattle.std.specs.Prelude.{◌≡◌, ◌<◌, ◌↔◌, IsTrue};
 ghost use Rattle.word_layout.specs.Size.{places};
-ghost use Rattle.core_rule.specs.Memory.{link_of};
+ghost use Rattle.word_layout.specs.Name.{cell, word_of};
 ghost use Rattle.core_rule.specs.Views.{Has};
 ghost use Rattle.core_rule.specs.Hands.{IsReady, Takes, Steps};
 ghost use Rattle.core_rule.specs.Holding.{filled_place, filled_cells, IsFilling};
-ghost use Rattle.core_rule.specs.Kinds.{take, fill_stamp, fill_reset, fill_next, fill_cell, give};
+ghost use Rattle.core_rule.specs.Kinds.{take, fill_stamp, fill_reset, fill_cell, meet_cell, give};
 ghost use Rattle.word_layout.specs.Limits.{cells_of_value};
 
 use crate::hand::Hand;
@@ -13,22 +13,11 @@ use crate::shared::Core;
 use histories::Keeps;
 use stamp_base::Stamp;
 use std::marker::Brand;
-use word_layout::CELLS;
 
 /// The status of a free place, and of a held one.
 const FREE: u64 = 0;
 
 const HELD: u64 = 1;
-
-/// The number that a word holds which links to this place, or to none.
-fn link_to(place: Option<u32>) -> u64
-    ensures { result ≡ link_of place }
-{
-    match place {
-        Some(place) => u64::from(place) + 1,
-        None => 0,
-    }
-}
 
 impl<J: Keeps> Core<J> {
     /// Takes a place if it is free.
@@ -77,31 +66,44 @@ impl<J: Keeps> Core<J> {
         self.store::<Brand>(seat, word, 0, 0);
     }
 
-    /// Stores the next cell of the value, in the place that is being filled.
-    pub fn fill_cell(&self, hand: &mut Hand<J>, place: u32, cell: u32, value: u64)
+    /// The word of the first cell of a held place. Its other cells stand in the words behind that one.
+    pub fn first_cell(&self, hand: &Hand<J>, place: u32) -> u32
+        requires ready { IsReady self.now hand.now }
+        requires holds { Has place hand.now.view.places.held }
+        ensures { result ≡ word_of self.now.size (cell place 0) }
+    {
+        let _number = hand.number;
+        self.layout.cell(place, 0)
+    }
+
+    /// Stores the next cell of the value, in the place that is being filled, whose first cell stands in the word `first`.
+    pub fn fill_cell(&self, hand: &mut Hand<J>, first: u32, index: u32, value: u64)
         requires ready { IsReady self.now hand.old }
         requires in_work { IsFilling hand.old.view.places.fills }
-        requires place { place ≡ filled_place hand.old.view.places.fills }
-        requires holds { Has place hand.old.view.places.held }
-        requires cell { cell ≡ filled_cells hand.old.view.places.fills }
-        requires room { cell < cells_of_value }
+        requires first { first ≡ word_of self.now.size (cell (filled_place hand.old.view.places.fills) 0) }
+        requires holds { Has (filled_place hand.old.view.places.fills) hand.old.view.places.held }
+        requires index { index ≡ filled_cells hand.old.view.places.fills }
+        requires room { index < cells_of_value }
         ensures { Steps J.kept (fill_cell value) hand.old value hand.new }
     {
         let seat = &mut hand.seat;
-        let word = self.layout.cell(place, cell);
+        let word = first + index;
         self.store::<Brand>(seat, word, value, 0);
     }
 
-    /// Stores the link to the next older version in a held place: the number of that version's place plus 1, and 0 where
-    /// there is none.
-    pub fn fill_next(&self, hand: &mut Hand<J>, place: u32, older: Option<u32>)
+    /// Loads that cell. Where it shows this value already, it counts as stored.
+    pub fn meet_cell(&self, hand: &mut Hand<J>, first: u32, index: u32, value: u64) -> u64
         requires ready { IsReady self.now hand.old }
-        requires holds { Has place hand.old.view.places.held }
-        ensures { Steps J.kept (fill_next place (link_of older)) hand.old (link_of older) hand.new }
+        requires in_work { IsFilling hand.old.view.places.fills }
+        requires first { first ≡ word_of self.now.size (cell (filled_place hand.old.view.places.fills) 0) }
+        requires holds { Has (filled_place hand.old.view.places.fills) hand.old.view.places.held }
+        requires index { index ≡ filled_cells hand.old.view.places.fills }
+        requires room { index < cells_of_value }
+        ensures { Steps J.kept (meet_cell value) hand.old result hand.new }
     {
         let seat = &mut hand.seat;
-        let word = self.layout.next(place);
-        self.store::<Brand>(seat, word, link_to(older), place.into());
+        let word = first + index;
+        self.load::<Brand>(seat, word, value)
     }
 
     /// Gives a held place back.

@@ -1,6 +1,7 @@
 //! Steps of a search, and those that link a version.
 ghost use Rattle.std.specs.Prelude.{◌≡◌, ◌≢◌, ◌+◌, ◌<◌, ◌≤◌, suc, Some, None, true, false, []};
 ghost use Rattle.word_layout.specs.Size.{places};
+ghost use Rattle.word_layout.specs.Name.{cell, word_of};
 ghost use Rattle.stamp_base.specs.Limits.{end_of_stamps};
 ghost use Rattle.core_rule.specs.View.{reads, links, blank, stamped, marks, writing, shown, at_front};
 ghost use Rattle.core_rule.specs.Searching.{IsAt, stand_in, look_in, joint_in, write_in, first_joint, stamp_seen, Rests, IsPassed, IsLate, AsksStatus, limit_of, IsLoading, read_place, read_cells, FitsPlace, IsNotLinked, front_fill, IsWholeFill};
@@ -14,7 +15,6 @@ use crate::hand::Hand;
 use crate::shared::Core;
 use histories::Keeps;
 use std::marker::Brand;
-use word_layout::CELLS;
 
 /// The status of a pending version.
 const PENDING: u64 = 2;
@@ -70,18 +70,19 @@ impl<J: Keeps> Core<J> {
         self.load::<Brand>(&mut hand.seat, word, stamp)
     }
 
-    /// Loads the next cell of the version that was found last.
-    pub fn load_cell(&self, hand: &mut Hand<J>, place: u32, cell: u32) -> u64
+    /// Loads the next cell of the version that was found last, whose first cell stands in the word `first`.
+    pub fn load_cell(&self, hand: &mut Hand<J>, first: u32, index: u32) -> u64
         requires ready { IsReady self.now hand.old }
         requires loading { IsLoading hand.old.view.work.reads }
-        requires place { place ≡ read_place hand.old.view.work.reads }
-        requires inside { place < places self.now.size }
-        requires cell { cell ≡ read_cells hand.old.view.work.reads }
-        requires room { cell < cells_of_value }
+        requires first { first ≡ word_of self.now.size (cell (read_place hand.old.view.work.reads) 0) }
+        requires inside { read_place hand.old.view.work.reads < places self.now.size }
+        requires index { index ≡ read_cells hand.old.view.work.reads }
+        requires room { index < cells_of_value }
         ensures { Steps J.kept load_cell hand.old result hand.new }
     {
-        let word = self.layout.cell(place, cell);
-        self.load::<Brand>(&mut hand.seat, word, 0)
+        let seat = &mut hand.seat;
+        let word = first + index;
+        self.load::<Brand>(seat, word, 0)
     }
 
     /// Begins the search for the place of a version that is marked.

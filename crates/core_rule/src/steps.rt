@@ -1,7 +1,7 @@
 //! The operations of the table, each for every kind of step that has this way.
 ghost use Rattle.std.specs.Prelude.{◌≡◌, []};
 ghost use Rattle.word_layout.specs.Name.{IsNamed, word_of};
-ghost use Rattle.core_rule.specs.Ways.{loads, stores, raises_to, exchanges, swaps};
+ghost use Rattle.core_rule.specs.Ways.{Looks, stores, raises_to, exchanges, swaps};
 ghost use Rattle.core_rule.specs.Kinds.{name, way, Allowed};
 ghost use Rattle.core_rule.specs.Learnt.{Told};
 
@@ -19,7 +19,7 @@ impl<J: Keeps> Core<J> {
         requires named { IsNamed self.now.size (name M.kind seat.old.me.0) }
         requires word { word ≡ word_of self.now.size (name M.kind seat.old.me.0) }
         requires allowed { Allowed J.kept M.kind seat.old.me.0 }
-        requires way { way M.kind seat.old.me.0 ≡ loads }
+        requires way { Looks (way M.kind seat.old.me.0) }
         ensures table { seat.new.table_id ≡ seat.old.table_id }
         ensures id { seat.new.id ≡ seat.old.id }
         ensures bare { seat.new.me.1 ≡ [] }
@@ -76,7 +76,7 @@ impl<J: Keeps> Core<J> {
         requires named { IsNamed self.now.size (name M.kind seat.old.me.0) }
         requires word { word ≡ word_of self.now.size (name M.kind seat.old.me.0) }
         requires allowed { Allowed J.kept M.kind seat.old.me.0 }
-        requires way { way M.kind seat.old.me.0 ≡ loads }
+        requires way { Looks (way M.kind seat.old.me.0) }
         ensures table { seat.new.table_id ≡ seat.old.table_id }
         ensures id { seat.new.id ≡ seat.old.id }
         ensures bare { seat.new.me.1 ≡ [] }

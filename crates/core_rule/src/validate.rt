@@ -4,11 +4,11 @@ ghost use Rattle.word_layout.specs.Size.{places};
 ghost use Rattle.stamp_base.specs.Limits.{end_of_stamps};
 ghost use Rattle.core_rule.specs.View.{again, checks, stamped, shown, resting, writing, no_item};
 ghost use Rattle.core_rule.specs.Views.{Among, Has, AllIn};
-ghost use Rattle.core_rule.specs.Searching.{IsAt, stand_in, look_in, stamp_seen, state_seen, read_in, checked_in, Rests, IsFinal, IsWhole, IsNotRead, Begins, OthersPassed, OthersFinished, shown_at};
+ghost use Rattle.core_rule.specs.Searching.{IsAt, stand_in, look_in, stamp_seen, state_seen, checked_in, Rests, IsFinal, IsWhole, IsNotRead, Begins, OthersPassed, shown_at};
 ghost use Rattle.core_rule.specs.Deciding.{stamp_in, commit_of, IsFitting, IsUndecided};
 ghost use Rattle.core_rule.specs.Snapshots.{firsts, AreAllWhole};
 ghost use Rattle.core_rule.specs.Hands.{IsReady, Steps};
-ghost use Rattle.core_rule.specs.Kinds.{load_head, raise_read_stamp, load_read_stamp, decide_by_check, decide_by_read, decide_bare, store_status, finish};
+ghost use Rattle.core_rule.specs.Kinds.{load_head, raise_read_stamp, load_read_stamp, decide_by_check, decide_bare, store_status, finish};
 
 use crate::hand::Hand;
 use crate::shared::Core;
@@ -91,25 +91,6 @@ impl<J: Keeps> Core<J> {
     {
         let rts = self.layout.rts(place);
         self.load::<Brand>(&mut hand.seat, rts, 0)
-    }
-
-    /// Loads the status at the end of the last second search of a transaction that writes nothing: it decides to commit.
-    pub fn decide_by_read(&self, hand: &mut Hand<J>, place: u32) -> u64
-        requires ready { IsReady self.now hand.old }
-        requires here { IsAt place hand.old.view.work.search }
-        requires place { place < places self.now.size }
-        requires aim { (stand_in hand.old.view.work.search).aim ≡ again (read_in hand.old.view.work.search) }
-        requires seen { look_in hand.old.view.work.search ≡ stamped (read_in hand.old.view.work.search).version }
-        requires early { hand.old.view.flight ≡ writing (stamp_in hand.old.view.flight) }
-        requires below { (read_in hand.old.view.work.search).version < stamp_in hand.old.view.flight }
-        requires finished { OthersFinished (read_in hand.old.view.work.search) hand.old.view.work.raised hand.old.view.work.finished }
-        requires bare { hand.old.view.work.linked ≡ [] }
-        requires undecided { IsUndecided hand.old.view.work }
-        requires fits { IsFitting J.kept self.now.size.records (commit_of hand.old.view.flight (hand.old.view.work.finished ++ read_in hand.old.view.work.search ∷ []) []) }
-        ensures { Steps J.kept (decide_by_read (stand_in hand.old.view.work.search) (read_in hand.old.view.work.search)) hand.old result hand.new }
-    {
-        let word = self.layout.status(place);
-        self.load::<Brand>(&mut hand.seat, word, 0)
     }
 
     /// Decides to commit a transaction whose reads were all searched again and that writes nothing, at a load of its

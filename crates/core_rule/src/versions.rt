@@ -57,7 +57,8 @@ impl ReadVersion {
     }
 }
 
-/// A version that a transaction links at its stamp; the value is `None` where it is a deletion.
+/// A version that a transaction links at its stamp; the value is `None` where it is a deletion. Its place and its stamp are 0 before
+/// it is linked.
 #[derive(Drop)]
 pub struct WrittenVersion {
     rid: u32,
@@ -76,8 +77,8 @@ impl Model for WrittenVersion {
 }
 
 impl WrittenVersion {
-    ghost use Rattle.std.specs.Prelude.{◌≡◌, ◌↔◌, IsTrue, []};
-    ghost use Rattle.core_rule.specs.Versions.{written_version};
+    ghost use Rattle.std.specs.Prelude.{◌≡◌, ◌↔◌, ◌⊎◌, IsTrue, [], length};
+    ghost use Rattle.core_rule.specs.Versions.{written_version, cells_of};
 
     pub fn new(rid: u32, place: u32, stamp: u64, value: Option<Cells>) -> Self
         ensures { result ≡ written_version rid place stamp value }
@@ -101,6 +102,26 @@ impl WrittenVersion {
         ensures { result ≡ self.now.place }
     {
         self.place
+    }
+
+    /// The value; `None` where it is a deletion.
+    pub fn value(&self) -> &Option<Cells>
+        ensures cells { cells_of result.now ≡ self.now.cells }
+        ensures whole { (self.now.cells ≡ []) ⊎ (length self.now.cells ≡ 32) }
+    {
+        if let Some(cells) = &self.value {
+            // Its type tells contracts how long it is.
+            let _words = cells.words();
+        }
+        &self.value
+    }
+
+    /// Notes where it is linked, and at which stamp.
+    pub fn set_place(&mut self, place: u32, stamp: u64)
+        ensures { self.new ≡ record self.old { place = place; stamp = stamp } }
+    {
+        self.place = place;
+        self.stamp = stamp;
     }
 
     /// Whether it deletes the record.

@@ -160,8 +160,8 @@ fn find_absent(core: &Core<AnyState>, hand: &mut Hand<AnyState>, stamp: Stamp) -
     Some(version)
 }
 
-// Raises the read stamp of what was found, searches for it again, decides by it and publishes a bound. It gives the bound where each
-// step finds what it found before.
+// Raises the read stamp of what was found, searches for it again, decides and publishes a bound. It gives the bound where each step
+// finds what it found before.
 fn read_again(
     core: &Core<AnyState>,
     hand: &mut Hand<AnyState>,
@@ -183,9 +183,10 @@ fn read_again(
     if core.load_stamp(hand, 0) != version {
         return None;
     }
-    if core.decide_by_read(hand, 0) != 4 {
+    if core.load_status(hand, 0, version) != 4 {
         return None;
     }
+    core.decide_bare(hand);
     Some(core.publish_idle(hand))
 }
 
@@ -227,27 +228,33 @@ fn free_places_are_taken_once(rt: HostRuntime) -> Result<(), Fail> {
     Ok(())
 }
 
-// Fills a place step by step, at a stamp, and gives it back.
-fn fill_and_give(core: &Core<AnyState>, hand: &mut Hand<AnyState>, place: u32, stamp: Stamp)
+// Fills a place step by step, at a stamp, and gives it back. It gives what its first cell showed before.
+fn fill_and_give(core: &Core<AnyState>, hand: &mut Hand<AnyState>, place: u32, stamp: Stamp) -> u64
     requires ready { IsReady core.now hand.old }
     requires held { Has place hand.old.view.places.held }
     ensures ready { IsReady core.now hand.new }
 {
     core.fill_stamp(hand, place, stamp);
     core.fill_reset(hand, place);
-    core.fill_next(hand, place, Some(0));
-    core.fill_cell(hand, place, 0, 7);
+    let first = core.first_cell(hand, place);
+    let found = core.meet_cell(hand, first, 0, 7);
+    if found != 7 {
+        core.fill_cell(hand, first, 0, 7);
+    }
     core.give(hand, place);
+    found
 }
 
 #[test]
 fn a_place_is_filled_and_taken_again(rt: HostRuntime) -> Result<(), Fail> {
     let (core, mut hand) = first_seat(rt.alloc(), 1, 1, 2)?;
     let stamp = publish(&core, &mut hand);
-    if take_at(&core, &mut hand, 1) {
-        fill_and_give(&core, &mut hand, 1, stamp);
+    // The cell shows 0 at first, and what was stored there once the place is taken again.
+    for (turn, shows) in [(0, 0), (1, 7)] {
+        hold(&rt, take_at(&core, &mut hand, 1), turn);
+        let found = fill_and_give(&core, &mut hand, 1, stamp);
+        same(&rt, found, shows, 2 + turn);
     }
-    hold(&rt, take_at(&core, &mut hand, 1), 0);
     Ok(())
 }
 

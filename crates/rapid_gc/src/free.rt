@@ -6,8 +6,7 @@ ghost use Rattle.core_rule.specs.Hands.{IsReady, StaysReady};
 ghost use Rattle.rapid_gc.specs.Views.{Comes};
 ghost use Rattle.rapid_gc.specs.Chains.{RestsAt, Frees};
 
-use crate::seek::link_place;
-use core_rule::{Core, Hand, Keeps};
+use core_rule::{Core, Hand, Keeps, link_place};
 
 /// Frees the places from this link on, and gives their number.
 pub(crate) fn free_from<J: Keeps>(core: &Core<J>, hand: &mut Hand<J>, first: u64) -> u32

@@ -1,25 +1,11 @@
 //! The search for the version to collect below, under the lock of its record.
-ghost use Rattle.std.specs.Prelude.{◌≡◌, ◌-◌, ◌<◌, List, ◌++◌};
+ghost use Rattle.std.specs.Prelude.{◌≡◌, ◌<◌, List, ◌++◌};
 ghost use Rattle.word_layout.specs.Size.{places};
 ghost use Rattle.core_rule.specs.View.{Load, above_floor, found, collects};
 ghost use Rattle.core_rule.specs.Hands.{IsReady, StaysReady};
-ghost use Rattle.core_rule.specs.Learnt.{IsLink};
 ghost use Rattle.rapid_gc.specs.Views.{Comes};
 
-use core_rule::{Core, Hand, Keeps};
-use word_layout::Layout;
-
-// The place that a link names.
-pub(crate) fn link_place(layout: &Layout, link: u64) -> u32
-    requires { IsLink (places layout.now) link }
-    ensures place { result ≡ link - 1 }
-    ensures in_range { result < places layout.now }
-{
-    let count = layout.places();
-    let place = link - 1;
-    prove!(place < u64::from(count));
-    place as u32
-}
+use core_rule::{Core, Hand, Keeps, link_place};
 
 /// Finds the version of this stamp in the list of a record, which is locked and whose floor is not above it.
 pub(crate) fn seek<J: Keeps>(core: &Core<J>, hand: &mut Hand<J>, rid: u32, stamp: u64) -> u32

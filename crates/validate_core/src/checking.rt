@@ -138,7 +138,7 @@ fn check<J: Keeps>(
     ensures stays { StaysReady core.now hand.old hand.new }
 {
     let write = sets.write_at(i);
-    let shown = find_to_check(core, hand, &write, stamp);
+    let shown = find_to_check(core, hand, write, stamp);
     if shown.status == PENDING {
         return Err(Conflict::Pending {
             rid: write.rid(),
@@ -176,7 +176,7 @@ fn check_last<J: Keeps>(
     ensures stays { StaysReady core.now hand.old hand.new }
 {
     let write = sets.write_at(i);
-    let shown = find_to_check(core, hand, &write, stamp);
+    let shown = find_to_check(core, hand, write, stamp);
     if shown.status == PENDING {
         return Err(Conflict::Pending {
             rid: write.rid(),

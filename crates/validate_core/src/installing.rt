@@ -98,7 +98,7 @@ fn install_one<J: Keeps>(
     ensures room { (sets.old.read_room ≤ sets.new.read_room) × (sets.old.write_room ≤ sets.new.write_room) }
     ensures stays { StaysReady core.now hand.old hand.new }
 {
-    let rid = sets.staged_at(i).rid();
+    let rid = sets.write_at(i).rid();
     match take(core, hand, rid) {
         Ok((place, _)) => {
             put(core, hand, sets, i, place, stamp);
@@ -131,10 +131,9 @@ fn put<J: Keeps>(
     ensures room { (sets.old.read_room ≤ sets.new.read_room) × (sets.old.write_room ≤ sets.new.write_room) }
     ensures stays { StaysReady core.now hand.old hand.new }
 {
-    let staged = sets.staged_at(i);
-    let rid = staged.rid();
-    let value = staged.value();
-    fill(core, hand, place, Stamp::from_number(stamp), &value);
+    let write = sets.write_at(i);
+    let rid = write.rid();
+    fill(core, hand, place, Stamp::from_number(stamp), write.value());
     link(core, hand, rid, place, stamp);
     sets.place_at(i, place, stamp);
 }

@@ -9,7 +9,6 @@ mod conflict;
 mod deciding;
 mod installing;
 mod sets;
-mod staged;
 mod statuses;
 
 pub use conflict::Conflict;

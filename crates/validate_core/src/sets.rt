@@ -5,7 +5,6 @@ ghost use Rattle.core_rule.specs.Views.{Among};
 ghost use Rattle.core_rule.specs.Versions.{read_version, written_version};
 ghost use Rattle.validate_core.specs.Sets.{SetsView, Turn, Once, count_below};
 
-use crate::staged::Staged;
 use core_rule::{ReadVersion, WrittenVersion};
 use plain_data::{Cells, NoMemory};
 use std::alloc::Global;
@@ -15,7 +14,7 @@ use std::marker::Model;
 #[derive(Drop)]
 pub struct Sets {
     reads: Vec<ReadVersion>,
-    writes: Vec<Staged>,
+    writes: Vec<WrittenVersion>,
 }
 
 impl Model for Sets {
@@ -79,7 +78,7 @@ impl Sets {
         ensures room { self.old.write_room ≤ self.new.write_room }
         ensures read_room { self.old.read_room ≤ self.new.read_room }
     {
-        let Ok(()) = self.writes.push(Staged::new(rid, value)) else {
+        let Ok(()) = self.writes.push(WrittenVersion::new(rid, 0, 0, value)) else {
             unreachable!();
         };
     }
@@ -126,15 +125,8 @@ impl Sets {
         &self.reads[i]
     }
 
-    // The version of the write of this number.
-    pub(crate) fn write_at(&self, i: usize) -> WrittenVersion
-        requires { i < length self.now.writes }
-        ensures { Turn i self.now.writes result }
-    {
-        self.staged_at(i).version()
-    }
-
-    pub(crate) fn staged_at(&self, i: usize) -> &Staged
+    // The write of this number; its place and its stamp are 0 before it is linked.
+    pub(crate) fn write_at(&self, i: usize) -> &WrittenVersion
         requires { i < length self.now.writes }
         ensures { Turn i self.now.writes result.now }
     {

@@ -57,6 +57,6 @@ pub(crate) fn store_first<J: Keeps>(
     ensures stays { StaysReady core.now hand.old hand.new }
 {
     for i in 0..count {
-        core.store_status(hand, &sets.write_at(i), decided);
+        core.store_status(hand, sets.write_at(i), decided);
     }
 }

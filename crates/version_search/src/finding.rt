@@ -7,8 +7,8 @@ ghost use Rattle.core_rule.specs.Searching.{Rests, Begins, limit_of};
 ghost use Rattle.core_rule.specs.Hands.{IsReady, StaysReady};
 ghost use Rattle.version_search.specs.Finding.{IfVersion, IfPending, Finds, Reads, status_of};
 
-use crate::walking::{Shown, link_place, walk};
-use core_rule::{Core, Hand, Keeps, ReadVersion, WrittenVersion};
+use crate::walking::{Shown, walk};
+use core_rule::{Core, Hand, Keeps, ReadVersion, WrittenVersion, link_place};
 
 /// What a search found.
 #[derive(Clone, Copy, Drop)]

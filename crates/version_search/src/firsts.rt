@@ -6,8 +6,7 @@ ghost use Rattle.core_rule.specs.Hands.{IsReady, StaysReady};
 ghost use Rattle.version_search.specs.Looking.{Looked};
 
 use crate::fronts::First;
-use crate::walking::link_place;
-use core_rule::{Core, Hand, Keeps};
+use core_rule::{Core, Hand, Keeps, link_place};
 
 /// Loads the first version of a record's list, while no other seat is open.
 pub fn first<J: Keeps>(core: &Core<J>, hand: &mut Hand<J>, rid: u32) -> First

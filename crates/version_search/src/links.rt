@@ -10,8 +10,7 @@ ghost use Rattle.core_rule.specs.Learnt.{IsLink};
 ghost use Rattle.version_search.specs.Growing.{Grows};
 ghost use Rattle.version_search.specs.Links.{IsLinked, joined_at};
 
-use crate::walking::link_place;
-use core_rule::{Core, Hand, Keeps};
+use core_rule::{Core, Hand, Keeps, link_place};
 
 /// Links what is filled in a place as the pending version of a record at the stamp in flight. Each lost exchange narrows
 /// the stamps between which it belongs.

@@ -22,9 +22,10 @@ pub fn load_value<J: Keeps>(core: &Core<J>, hand: &mut Hand<J>, place: u32) -> C
     ensures grows { Grows hand.old.view.seen hand.new.view.seen }
     ensures stays { StaysReady core.now hand.old hand.new }
 {
+    let first = core.layout().cell(place, 0);
     let mut words = [0; 32];
-    for i in 0..CELLS {
-        words[i as usize] = core.load_cell(hand, place, i);
+    for index in 0..CELLS {
+        words[index as usize] = core.load_cell(hand, first, index);
     }
     Cells::new(words)
 }

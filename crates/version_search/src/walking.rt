@@ -1,13 +1,11 @@
 //! Going down the list of a record to the first version that is neither too late nor aborted: loads alone.
-ghost use Rattle.std.specs.Prelude.{◌≡◌, ◌-◌, ◌<◌, ◌≤◌, IfSome, IfNone};
+ghost use Rattle.std.specs.Prelude.{◌≡◌, ◌<◌, ◌≤◌, IfSome, IfNone};
 ghost use Rattle.word_layout.specs.Size.{places};
 ghost use Rattle.core_rule.specs.Searching.{stand_in, limit_of, IsReading};
 ghost use Rattle.core_rule.specs.Hands.{IsReady, StaysReady};
-ghost use Rattle.core_rule.specs.Learnt.{IsLink};
 ghost use Rattle.version_search.specs.Finding.{StandsFor, Passes, Sees, Arrives};
 
-use core_rule::{Core, Hand, Keeps};
-use word_layout::Layout;
+use core_rule::{Core, Hand, Keeps, link_place};
 
 /// The place where a search ended, and what it showed there.
 #[derive(Clone, Copy, Drop)]
@@ -74,16 +72,4 @@ pub(crate) fn walk<J: Keeps>(
         let next = core.load_next(hand, place);
         place = link_place(&layout, next);
     }
-}
-
-/// The place that a link names.
-pub(crate) fn link_place(layout: &Layout, link: u64) -> u32
-    requires { IsLink (places layout.now) link }
-    ensures place { result ≡ link - 1 }
-    ensures in_range { result < places layout.now }
-{
-    let count = layout.places();
-    let place = link - 1;
-    prove!(place < u64::from(count));
-    place as u32
 }

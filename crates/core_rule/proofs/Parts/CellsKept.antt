@@ -1,5 +1,5 @@
 -- Cells: what steps fill and load are words.
-use Rattle.std.proofs.Common.{◌≡◌, ℕ, suc, ◌-◌, ◌<◌, Bool, true, false, cond, eqb, List, [], ◌∷◌, ◌++◌, set, refl, sym, ap, ◌∙◌, subst, inl, inr, ⊎_elim, Some, None}
+use Rattle.std.proofs.Common.{eqb-true, ◌≡◌, ℕ, suc, ◌-◌, ◌<◌, Bool, true, false, cond, eqb, List, [], ◌∷◌, ◌++◌, set, refl, sym, ap, ◌∙◌, subst, inl, inr, ⊎_elim, Some, None}
 use Rattle.plain_data.specs.State.{State}
 use Rattle.word_layout.specs.Size.{Size, IsSize}
 use Rattle.word_layout.specs.Name.{head, cell, status, next as next_word}
@@ -7,9 +7,9 @@ use Rattle.core_rule.specs.Memory.{Memory}
 use Rattle.core_rule.specs.World.{World}
 use Rattle.core_rule.specs.View.{View, Fill, Read, Write, Aim, Joint, reads, links, again, checks, Stand, Look, blank, stamped, shown, still, stands, first_view}
 use Rattle.core_rule.specs.Views.{Among}
-use Rattle.core_rule.specs.Holding.{without_fill, reset_fill, more_cells, link_fill}
+use Rattle.core_rule.specs.Holding.{without_fill, reset_fill, more_cells}
 use Rattle.core_rule.specs.Searching.{ends, is_final, moved, reads_with, finished_with, read_found, more_read, read_place, read_cells, IsLoading, Begins}
-use Rattle.core_rule.specs.Kinds.{Kind, publish_stamp, publish_idle, retire_write, publish_bound, retire_read, take, fill_stamp, fill_reset, fill_cell, fill_next, give, load_head, load_next, load_stamp, load_status, load_cell, mark, point, link_head, link_next, raise_read_stamp, load_read_stamp, decide_by_check, decide_by_read, decide_bare, store_status, finish, name, after}
+use Rattle.core_rule.specs.Kinds.{Kind, publish_stamp, publish_idle, retire_write, publish_bound, retire_read, take, fill_stamp, fill_reset, fill_cell, meet_cell, give, load_head, load_next, load_stamp, load_status, load_cell, mark, point, link_head, link_next, raise_read_stamp, load_read_stamp, decide_by_check, decide_bare, store_status, finish, name, after}
 use Rattle.core_rule.specs.Hands.{split_left, split_right, joined_view}
 use Rattle.core_rule.specs.Parts.Cells.{AreWords, AimWords, SearchWords, IsReadOnce, IsWrittenOnce, CellsOk}
 use Rattle.core_rule.specs.Parts.Cells as part
@@ -40,13 +40,9 @@ more_words word [] lt h f k = absurd k
 more_words word (x ∷ fs) lt h f (inl e) = subst (λ (y : Fill). AreWords y.cells) e (AllOf-append (λ y. y < 18446744073709551616) x.cells (word ∷ []) (h x (inl refl)) (lt, tt))
 more_words word (x ∷ fs) lt h f (inr k) = h f (inr k)
 
-link_words : (p n : ℕ) (fs : List Fill) → FillsWords fs → FillsWords (link_fill p n fs)
-link_words p n [] h f k = absurd k
-link_words p n (x ∷ fs) h f (inl e) = by_test (eqb x.place p) e where
-  by_test : (b : Bool) → cond b (record x { link = Some n }) x ≡ f → AreWords f.cells
-  by_test true e = subst (λ (y : Fill). AreWords y.cells) e (h x (inl refl))
-  by_test false e = h f (inl e)
-link_words p n (x ∷ fs) h f (inr k) = link_words p n fs (λ y l. h y (inr l)) f k
+met_words : (word : ℕ) (fs : List Fill) (b : Bool) → (b ≡ true → word < 18446744073709551616) → FillsWords fs → FillsWords (cond b (more_cells word fs) fs)
+met_words word fs true lt h = more_words word fs (lt refl) h
+met_words word fs false lt h = h
 
 pub ReadOnce-more : (d : Read) (ds : List Read) → IsReadOnce ds → ((c : Read) → Among c ds → c.record_number ≡ d.record_number → ⊥) → IsReadOnce (ds ++ d ∷ [])
 ReadOnce-more d [] h away = ((λ c k e. absurd k), tt)
@@ -148,20 +144,6 @@ module _ (kept : State → Type 0) (z : Size) (g : World) (m : Memory) (vs : Lis
         linked_once = rw linked h.linked_once;
       }
 
-  read_case : (p : Stand) (d : Read) (s : Step kept z g m vs id v (decide_by_read p d)) (b : Bool) (u : View) → u.places ≡ v.places → u.work.linked ≡ v.work.linked → u.work.reads ≡ v.work.reads → u.work.raised ≡ v.work.raised
-      → u.work.finished ≡ cond b (v.work.finished ++ d ∷ []) v.work.finished → u.work.search ≡ cond b still (stands p (shown d.version (m (status p.place)))) → CellsOk v → CellsOk u
-  read_case p d s false u places linked found raised finished search h = with_search u places linked found raised finished (subst SearchWords (sym search) (aim_at _ s p (stamped d.version) s.allowed.can.0)) h
-  read_case p d s true u places linked found raised finished search h =
-      let a = (aim_of_read kept z g m vs id v _ s p d s.allowed.can.0 s.allowed.can.1).1 in record {
-        fills = rw places h.fills;
-        marked = subst SearchWords (sym search) tt;
-        linked = λ x k. h.linked x (rw (← linked) k);
-        reads = λ c k. h.reads c (rw (← found) k);
-        raised = λ c k. h.raised c (rw (← raised) k);
-        finished_once = rw finished (ReadOnce-more d v.work.finished h.finished_once (again_apart _ s d a.0 a.3));
-        linked_once = rw linked h.linked_once;
-      }
-
   links_case : (k : Kind) (s : Step kept z g m vs id v k) (p q : Stand) (j j' : Joint) (w : ℕ) → v.work.search ≡ stands p (stamped w) → p.aim ≡ links j → q.aim ≡ links j' → j'.write ≡ j.write → (b : Bool) (u : View) → u.places ≡ v.places
       → u.work.linked ≡ cond b (v.work.linked ++ j.write ∷ []) v.work.linked → u.work.reads ≡ v.work.reads → u.work.raised ≡ v.work.raised → u.work.finished ≡ v.work.finished → u.work.search ≡ cond b still (stands q blank) → CellsOk v → CellsOk u
   links_case k s p q j j' w is aim_is aim'_is same false u places linked found raised finished search h = with_search u places linked found raised finished
@@ -194,13 +176,15 @@ module _ (kept : State → Type 0) (z : Size) (g : World) (m : Memory) (vs : Lis
   word_cells_kept publish_bound s = own _ s _ (rests v _ refl refl refl refl refl refl)
   word_cells_kept retire_read s = own _ s _ (rests v _ refl refl refl refl refl refl)
   word_cells_kept (take p) s = own _ s _ (λ h. with_fills v.places.fills _ refl refl h.fills h)
-  word_cells_kept (fill_stamp p t) s = own _ s _ (λ h. with_fills (record { place = p; stamp = t; reset = false; link = None; cells = [] } ∷ without_fill p v.places.fills) _ refl refl (begins h) h) where
-    begins : CellsOk v → FillsWords (record { place = p; stamp = t; reset = false; link = None; cells = [] } ∷ without_fill p v.places.fills)
+  word_cells_kept (fill_stamp p t) s = own _ s _ (λ h. with_fills (record { place = p; stamp = t; reset = false; cells = [] } ∷ without_fill p v.places.fills) _ refl refl (begins h) h) where
+    begins : CellsOk v → FillsWords (record { place = p; stamp = t; reset = false; cells = [] } ∷ without_fill p v.places.fills)
     begins h f (inl e) = subst (λ (y : Fill). AreWords y.cells) e tt
     begins h f (inr k) = without_words p v.places.fills h.fills f k
   word_cells_kept fill_reset s = own _ s _ (λ h. with_fills (reset_fill v.places.fills) _ refl refl (reset_words v.places.fills h.fills) h)
   word_cells_kept (fill_cell x) s = own _ s _ (λ h. with_fills (more_cells x v.places.fills) _ refl refl (more_words x v.places.fills s.allowed.can.2 h.fills) h)
-  word_cells_kept (fill_next p n) s = own _ s _ (λ h. with_fills (link_fill p n v.places.fills) _ refl refl (link_words p n v.places.fills h.fills) h)
+  word_cells_kept (meet_cell x) s = own _ s _
+      (λ h. with_fills (cond (eqb (m (name (meet_cell x) v)) x) (more_cells x v.places.fills) v.places.fills) _ refl refl
+      (met_words x v.places.fills (eqb (m (name (meet_cell x) v)) x) (λ e. subst (λ (n : ℕ). n < 18446744073709551616) (eqb-true (m (name (meet_cell x) v)) x e) s.fits) h.fills) h)
   word_cells_kept (give p) s = own _ s _ (λ h. with_fills (without_fill p v.places.fills) _ refl refl (without_words p v.places.fills h.fills) h)
   word_cells_kept (load_head aim r) s = own _ s _ (with_search _ refl refl refl refl refl (begins_words _ s aim r s.allowed.can.2))
   word_cells_kept (load_next p look) s = own _ s _ (with_search _ refl refl refl refl refl (moved_words p.aim p.place (aim_at _ s p look s.allowed.can.0)))
@@ -230,7 +214,6 @@ module _ (kept : State → Type 0) (z : Size) (g : World) (m : Memory) (vs : Lis
   })
   word_cells_kept (load_read_stamp p u w n) s = own _ s _ (with_search _ refl refl refl refl refl tt)
   word_cells_kept (decide_by_check p u w n) s = own _ s _ (with_search _ refl refl refl refl refl tt)
-  word_cells_kept (decide_by_read p d) s = own _ s _ (read_case p d s (is_final (m (status p.place))) _ refl refl refl refl refl refl)
   word_cells_kept decide_bare s = own _ s _ (with_search _ refl refl refl refl refl tt)
   word_cells_kept (store_status u) s = own _ s _ (with_search _ refl refl refl refl refl tt)
   word_cells_kept (finish ds) s = own _ s _ (rests v _ refl refl refl refl refl refl)

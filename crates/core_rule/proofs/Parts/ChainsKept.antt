@@ -14,12 +14,13 @@ use Rattle.core_rule.specs.Rule.{head_words}
 use Rattle.core_rule.specs.Searching.{is_final}
 use Rattle.core_rule.specs.Deciding.{stamp_in, commit_of}
 use Rattle.core_rule.specs.Collecting.{HasEntry, HasChain, Frees}
-use Rattle.core_rule.specs.Kinds.{Kind, publish_stamp, publish_idle, retire_write, publish_bound, retire_read, take, fill_stamp, fill_next, give, mark, point, link_head, link_next, decide_by_check, decide_by_read, decide_bare, finish, take_lock, load_floor, seek_head, seek_stamp, seek_next, raise_floor, cut, unlock, drop, follow, free_place, name, after, turned, changed}
+use Rattle.core_rule.specs.Kinds.{Kind, publish_stamp, publish_idle, retire_write, publish_bound, retire_read, take, fill_stamp, give, mark, point, link_head, link_next, decide_by_check, decide_bare, finish, take_lock, load_floor, seek_head, seek_stamp, seek_next, raise_floor, cut, unlock, drop, follow, free_place, name, after, turned, changed}
 use Rattle.core_rule.specs.Hands.{split_left, split_right, joined_view}
 use Rattle.core_rule.specs.Parts.Lists.{Spells, Falls}
 use Rattle.core_rule.specs.Parts.Linking.{IsAbove}
 use Rattle.core_rule.specs.Parts.Minima.{Minima}
-use Rattle.core_rule.specs.Parts.Chains.{OutOfReach, SpellsBehind, Reaches, ChainOk, IsChain, InChain}
+use Rattle.core_rule.specs.Visible.{OutOfReach}
+use Rattle.core_rule.specs.Parts.Chains.{SpellsBehind, Reaches, ChainOk, IsChain, InChain}
 use Rattle.core_rule.specs.Parts.Chains as part
 use Rattle.core_rule.proofs.Among.{Among-left, Among-if}
 use Rattle.core_rule.proofs.EachView.{Each-set, Each-push, Each-join, Each-one, SomeView-set, SomeView-own, SomeView-push, SomeView-join, AllOf-Has, same_view, joined}
@@ -102,7 +103,6 @@ module _ (kept : State → Type 0) (z : Size) (g : World) (m : Memory) (vs : Lis
   Lets _ q = ⊥
 
   links_at : (k : Kind) → Step kept z g m vs id v k → (q n : ℕ) → g.owner q ≡ cut_by n → L' k q ≡ L q
-  links_at (fill_next p x) s q n is = at_number-other L p q x (held_apart _ s p q n s.allowed.can is)
   links_at (point p j w) s q n is =
       at_number-other L j.write.place q _ (λ same. absurd (let e = sym (joint_of kept z g m vs id v _ s p j w s.allowed.can.0 s.allowed.can.1).mark.owned ∙ ap g.owner same ∙ is in cc))
   links_at (link_next p j a w) s q n is =
@@ -396,8 +396,6 @@ module _ (kept : State → Type 0) (z : Size) (g : World) (m : Memory) (vs : Lis
   chains_kept (finish ds) s = quiet_item _ s _ (minima_kept kept z g m vs id v _ s) tt (λ q l. l) refl (λ f. f) (none_frees v.work.item s.allowed.can.3)
   chains_kept (decide_by_check p u w n) s = framed _ s _ (minima_kept kept z g m vs id v _ s) tt (λ q l. l) refl
       (item_same _ s _ (minima_kept kept z g m vs id v _ s) id v s.at s.allowed.is_open (λ q there l. l) _ (λ e a. Among-if (nat_le (m (rts p.place)) (stamp_in v.flight)) e (commit_of v.flight v.work.finished v.work.linked) v.log a)) (λ seat q e h. record { number = h.number; frees = h.frees; there = h.there })
-  chains_kept (decide_by_read p d) s = framed _ s _ (minima_kept kept z g m vs id v _ s) tt (λ q l. l) refl
-      (item_same _ s _ (minima_kept kept z g m vs id v _ s) id v s.at s.allowed.is_open (λ q there l. l) _ (λ e a. Among-if (is_final (m (status p.place))) e (commit_of v.flight (v.work.finished ++ d ∷ []) v.work.linked) v.log a)) (λ seat q e h. record { number = h.number; frees = h.frees; there = h.there })
   chains_kept decide_bare s = framed _ s _ (minima_kept kept z g m vs id v _ s) tt (λ q l. l) refl
       (item_same _ s _ (minima_kept kept z g m vs id v _ s) id v s.at s.allowed.is_open (λ q there l. l) _ (λ e a. Among-left e v.log _ a)) (λ seat q e h. record { number = h.number; frees = h.frees; there = h.there })
   chains_kept (take_lock r c) s = quiet_item _ s _ (minima_kept kept z g m vs id v _ s) tt (λ q l. l) refl (locked_stage r c (eqb (m (lock r)) 0)) (none_frees v.work.item s.allowed.can.1)

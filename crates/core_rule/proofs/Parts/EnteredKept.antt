@@ -15,7 +15,7 @@ use Rattle.core_rule.specs.Views.{At, Has, Among, SomeView}
 use Rattle.core_rule.specs.Searching.{limit_of, IsPassed, is_final, ends, moved, reads_with, more_read, read_place, read_cells, stamp_seen, shown_at}
 use Rattle.core_rule.specs.Deciding.{stamp_in, commit_of, snapshot_of}
 use Rattle.core_rule.specs.Rule.{status_words, floor_words}
-use Rattle.core_rule.specs.Kinds.{Kind, publish_stamp, publish_idle, retire_write, publish_bound, retire_read, raise_min_write, load_head, load_next, load_stamp, load_status, load_cell, mark, point, link_head, link_next, raise_read_stamp, load_read_stamp, decide_by_check, decide_by_read, decide_bare, store_status, finish, name, after, turned, changed}
+use Rattle.core_rule.specs.Kinds.{Kind, publish_stamp, publish_idle, retire_write, publish_bound, retire_read, raise_min_write, load_head, load_next, load_stamp, load_status, load_cell, mark, point, link_head, link_next, raise_read_stamp, load_read_stamp, decide_by_check, decide_bare, store_status, finish, name, after, turned, changed}
 use Rattle.core_rule.specs.Hands.{split_left, split_right, joined_view}
 use Rattle.core_rule.specs.Entries.{Wrote}
 use Rattle.core_rule.specs.Parts.Clocks.{IsDrawn}
@@ -60,7 +60,7 @@ CommitOk-from : (drawn drawn' S S' : ℕ → ℕ) → ((seat : ℕ) → drawn se
 CommitOk-from drawn drawn' S S' rises v u e number taken flights h = record {
   positive = h.positive;
   drawn_by = rw (number, taken) h.drawn_by;
-  was_drawn = let up = rises (seat_of e.stamp) in let d = h.was_drawn in omega arith;
+  not_above_drawn = let up = rises (seat_of e.stamp) in let d = h.not_above_drawn in omega arith;
   before = λ t f. (flights t f).0;
   own = λ t f. (flights t f).1;
 }
@@ -213,7 +213,7 @@ module _ (kept : State → Type 0) (z : Size) (g : World) (m : Memory) (vs : Lis
           let last = (s.rule.clocks id v s.at s.allowed.is_open).last in let drawn = f.2 in let up = drawn_rises k s v.number in record {
             positive = f.0;
             drawn_by = inl (f.1 ∙ sym number);
-            was_drawn = subst (λ (x : ℕ). t ≤ drawn' x) (sym f.1) (omega arith);
+            not_above_drawn = subst (λ (x : ℕ). t ≤ drawn' x) (sym f.1) (omega arith);
             before = λ x e. inr (ap stamp_in (sym is_flight ∙ sym flight ∙ e), is_decided);
             own = λ x e lt. absurd (let same : t ≡ x = ap stamp_in (sym is_flight ∙ sym flight ∙ e) in omega arith);
           }
@@ -266,8 +266,8 @@ module _ (kept : State → Type 0) (z : Size) (g : World) (m : Memory) (vs : Lis
   new_above : (clock : ℕ) → Step kept z g m vs id v (publish_stamp clock) → (e : Logged) (x : ℕ) → stamp_of clock v.number ≡ x → CommitOk g.drawn S v e → e.stamp < x
   new_above clock s e x same o =
       let c = s.rule.clocks id v s.at s.allowed.is_open in
-      ⊎_elim (λ own. by_drawn v.number (subst (λ (y : ℕ). e.stamp ≤ g.drawn y) own o.was_drawn) o.positive s.allowed.can.0 same own (subst (IsDrawn v.number v.clock.clock) (sym c.last) c.carries))
-      (λ has. by_drawn (seat_of e.stamp) o.was_drawn o.positive s.allowed.can.0 same refl (AllOf-Has (λ j. IsDrawn j v.clock.clock (g.drawn j)) (seat_of e.stamp) v.clock.taken_in c.taken_in has)) o.drawn_by where
+      ⊎_elim (λ own. by_drawn v.number (subst (λ (y : ℕ). e.stamp ≤ g.drawn y) own o.not_above_drawn) o.positive s.allowed.can.0 same own (subst (IsDrawn v.number v.clock.clock) (sym c.last) c.carries))
+      (λ has. by_drawn (seat_of e.stamp) o.not_above_drawn o.positive s.allowed.can.0 same refl (AllOf-Has (λ j. IsDrawn j v.clock.clock (g.drawn j)) (seat_of e.stamp) v.clock.taken_in c.taken_in has)) o.drawn_by where
         by_drawn : (j : ℕ) → e.stamp ≤ g.drawn j → 0 < e.stamp → v.clock.clock < clock → stamp_of clock v.number ≡ x → seat_of e.stamp ≡ j → IsDrawn j v.clock.clock (g.drawn j) → e.stamp < x
         by_drawn j le pos later is seat (inl none) = omega arith
         by_drawn j le pos later is seat (inr h) = let low = h.1 in let at = h.2 in omega arith
@@ -325,13 +325,6 @@ module _ (kept : State → Type 0) (z : Size) (g : World) (m : Memory) (vs : Lis
   entered_kept (decide_by_check p u w n) s =
       decides _ s _ refl refl refl (aim_of_check kept z g m vs id v _ s p u s.allowed.can.0 s.allowed.can.1).0 s.allowed.can.5.undecided v.work.finished v.work.linked (nat_le (m (rts p.place)) (stamp_in v.flight)) refl (if_more (nat_le (m (rts p.place)) (stamp_in v.flight)) (commit_of v.flight v.work.finished v.work.linked) v.log)
       (λ e t x h. record { search = tt; reads = h.below.reads; raised = h.below.raised })
-  entered_kept (decide_by_read p d) s =
-      decides _ s _ refl refl refl (aim_of_read kept z g m vs id v _ s p d s.allowed.can.0 s.allowed.can.1).0 s.allowed.can.5.undecided (v.work.finished ++ d ∷ []) v.work.linked (is_final (m (status p.place))) refl (if_more (is_final (m (status p.place))) (commit_of v.flight (v.work.finished ++ d ∷ []) v.work.linked) v.log)
-      (λ e t x h. record {
-        search = ends_or_stays x.record_number e.stamp p (shown d.version (m (status p.place))) (subst (SearchAbove S x.record_number e.stamp) s.allowed.can.0 h.below.search) (is_final (m (status p.place)));
-        reads = h.below.reads;
-        raised = h.below.raised;
-      })
   entered_kept decide_bare s = decides _ s _ refl refl refl s.allowed.can.0 s.allowed.can.4.undecided v.work.finished v.work.linked true refl refl (λ e t x h. record { search = tt; reads = h.below.reads; raised = h.below.raised })
   entered_kept (store_status u) s = framed _ s _ refl refl refl refl refl (λ e t x h. record { search = tt; reads = h.below.reads; raised = h.below.raised })
   entered_kept (finish ds) s = others _ s _ record {
@@ -368,7 +361,7 @@ module _ (kept : State → Type 0) (z : Size) (g : World) (m : Memory) (vs : Lis
         mine e h = record {
           positive = h.positive;
           drawn_by = ⊎_elim (λ own. inl own) (λ has. inr (Has-left (seat_of e.stamp) v.clock.taken_in (w.number ∷ w.clock.taken_in) has)) h.drawn_by;
-          was_drawn = h.was_drawn;
+          not_above_drawn = h.not_above_drawn;
           before = λ t f. absurd (cc);
           own = λ t f. absurd (cc);
         }
@@ -377,7 +370,7 @@ module _ (kept : State → Type 0) (z : Size) (g : World) (m : Memory) (vs : Lis
         theirs e h = record {
           positive = h.positive;
           drawn_by = inr (Has-right (seat_of e.stamp) v.clock.taken_in (w.number ∷ w.clock.taken_in) (⊎_elim (λ own. inl (sym own)) (λ has. inr has) h.drawn_by));
-          was_drawn = h.was_drawn;
+          not_above_drawn = h.not_above_drawn;
           before = λ t f. absurd (cc);
           own = λ t f. absurd (cc);
         }

@@ -10,8 +10,8 @@ use Rattle.core_rule.specs.Hands.{split_left, split_right, joined_view}
 use Rattle.core_rule.proofs.Step.{Step, at_number-other, at_number-same}
 use Rattle.core_rule.proofs.Making.{Split, Join}
 use Rattle.word_layout.specs.Name.{status, rts}
-use Rattle.core_rule.specs.Holding.{filled_place, filled_cells, reset_fill, link_fill, more_cells, without, without_fill, IsFilling}
-use Rattle.core_rule.specs.Kinds.{Kind, take, fill_stamp, fill_reset, fill_next, fill_cell, give, mark, point, link_next, raise_read_stamp, cut, name, after, changed}
+use Rattle.core_rule.specs.Holding.{filled_place, filled_cells, reset_fill, more_cells, without, without_fill, IsFilling}
+use Rattle.core_rule.specs.Kinds.{Kind, take, fill_stamp, fill_reset, fill_cell, meet_cell, give, mark, point, link_next, raise_read_stamp, cut, name, after, changed}
 use Rattle.core_rule.specs.Parts.Filled.{CellsAre, Stands, Others, FillsOk, FilledOk, Filled}
 use Rattle.core_rule.proofs.EachView.{Each-set, Each-own, Each-push, Each-join, Each-one, AllOf-Has, joined}
 use Rattle.core_rule.proofs.Without.{ne_from_test, Has-without, Others-without, FillsOk-without}
@@ -57,7 +57,6 @@ CellsAre-more c d x i (y ∷ ys) same new h =
 record DiffersAt (p : ℕ) (w w' : Stored) : Type 0 where
   stamps : (q : ℕ) → q ≢ p → w'.stamps q ≡ w.stamps q
   reads : (q : ℕ) → q ≢ p → w'.reads q ≡ w.reads q
-  links : (q : ℕ) → q ≢ p → w'.links q ≡ w.links q
   cells : (q i : ℕ) → q ≢ p → w'.cells q i ≡ w.cells q i
 
 module _ (w : Stored) (p : ℕ) where
@@ -67,33 +66,26 @@ module _ (w : Stored) (p : ℕ) where
   abbrev with_reset : Stored
   with_reset = record w { reads = at_number w.reads p 0 }
 
-  abbrev with_link : ℕ → Stored
-  with_link n = record w { links = at_number w.links p n }
-
   abbrev with_cell : ℕ → ℕ → Stored
   with_cell i x = record w { cells = at_cell w.cells p i x }
 
   same : DiffersAt p w w
-  same = record { stamps = λ q ne. refl; reads = λ q ne. refl; links = λ q ne. refl; cells = λ q i ne. refl }
+  same = record { stamps = λ q ne. refl; reads = λ q ne. refl; cells = λ q i ne. refl }
 
   stamp_differs : (t : ℕ) → DiffersAt p w (with_stamp t)
-  stamp_differs t = record { stamps = λ q ne. at_number-other w.stamps p q t (λ e. ne (sym e)); reads = λ q ne. refl; links = λ q ne. refl; cells = λ q i ne. refl }
+  stamp_differs t = record { stamps = λ q ne. at_number-other w.stamps p q t (λ e. ne (sym e)); reads = λ q ne. refl; cells = λ q i ne. refl }
 
   reset_differs : DiffersAt p w with_reset
-  reset_differs = record { stamps = λ q ne. refl; reads = λ q ne. at_number-other w.reads p q 0 (λ e. ne (sym e)); links = λ q ne. refl; cells = λ q i ne. refl }
-
-  link_differs : (n : ℕ) → DiffersAt p w (with_link n)
-  link_differs n = record { stamps = λ q ne. refl; reads = λ q ne. refl; links = λ q ne. at_number-other w.links p q n (λ e. ne (sym e)); cells = λ q i ne. refl }
+  reset_differs = record { stamps = λ q ne. refl; reads = λ q ne. at_number-other w.reads p q 0 (λ e. ne (sym e)); cells = λ q i ne. refl }
 
   cell_differs : (i x : ℕ) → DiffersAt p w (with_cell i x)
-  cell_differs i x = record { stamps = λ q ne. refl; reads = λ q ne. refl; links = λ q ne. refl; cells = λ q j ne. at_cell-elsewhere w.cells p i x q j (λ e. ne (sym e)) }
+  cell_differs i x = record { stamps = λ q ne. refl; reads = λ q ne. refl; cells = λ q j ne. at_cell-elsewhere w.cells p i x q j (λ e. ne (sym e)) }
 
 module _ (p : ℕ) (w w' : Stored) (differs : DiffersAt p w w') where
   Stands-elsewhere : (f : Fill) → f.place ≢ p → Stands w f → Stands w' f
   Stands-elsewhere f ne h = record {
     stamp = differs.stamps f.place ne ∙ h.stamp;
     reset = rw (differs.reads f.place ne) h.reset;
-    link = rw (differs.links f.place ne) h.link;
     cells = CellsAre-same (w.cells f.place) (w'.cells f.place) 0 f.cells (λ i. differs.cells f.place i ne) h.cells;
   }
 
@@ -112,6 +104,10 @@ FillsOk-held : (w : Stored) (xs ys : List ℕ) → ((q : ℕ) → Has q xs → H
 FillsOk-held w xs ys more [] h = tt
 FillsOk-held w xs ys more (f ∷ fs) h = (more f.place h.0, h.1, h.2, FillsOk-held w xs ys more fs h.3)
 
+relinked : (w : Stored) (l : ℕ → ℕ) (xs : List ℕ) (fs : List Fill) → FillsOk w xs fs → FillsOk (record w { links = l }) xs fs
+relinked w l xs [] h = tt
+relinked w l xs (f ∷ fs) h = (h.0, record { stamp = h.1.stamp; reset = h.1.reset; cells = h.1.cells }, h.2, relinked w l xs fs h.3)
+
 module _ (w : Stored) (xs : List ℕ) where
   -- the place of the fill in work is held
   pub front_has : (fs : List Fill) → IsFilling fs → FillsOk w xs fs → Has (filled_place fs) xs
@@ -120,10 +116,10 @@ module _ (w : Stored) (xs : List ℕ) where
 
   -- a fill begins in the place p
   begins : (p t : ℕ) (fs : List Fill) → Has p xs → FillsOk w xs fs
-      → FillsOk (with_stamp w p t) xs (record { place = p; stamp = t; reset = false; link = None; cells = [] } ∷ without_fill p fs)
+      → FillsOk (with_stamp w p t) xs (record { place = p; stamp = t; reset = false; cells = [] } ∷ without_fill p fs)
   begins p t fs has h = (
     has,
-    record { stamp = at_number-same w.stamps p t; reset = tt; link = tt; cells = tt },
+    record { stamp = at_number-same w.stamps p t; reset = tt; cells = tt },
     Others-without p fs,
     FillsOk-elsewhere p w (with_stamp w p t) (stamp_differs w p t) xs xs (λ q ne has. has) (without_fill p fs) (Others-without p fs) (FillsOk-without p w xs fs h),
   )
@@ -133,7 +129,7 @@ module _ (w : Stored) (xs : List ℕ) where
   resets [] in_work h = absurd in_work
   resets (f ∷ fs) in_work h = (
     h.0,
-    record { stamp = h.1.stamp; reset = at_number-same w.reads f.place 0; link = h.1.link; cells = h.1.cells },
+    record { stamp = h.1.stamp; reset = at_number-same w.reads f.place 0; cells = h.1.cells },
     h.2,
     FillsOk-elsewhere f.place w (with_reset w f.place) (reset_differs w f.place) xs xs (λ q ne has. has) fs h.2 h.3,
   )
@@ -145,7 +141,6 @@ module _ (w : Stored) (xs : List ℕ) where
     record {
       stamp = h.1.stamp;
       reset = h.1.reset;
-      link = h.1.link;
       cells = CellsAre-more (w.cells f.place) (at_cell w.cells f.place (length f.cells) x f.place) x 0 f.cells
           (λ j lt. at_cell-other w.cells f.place (length f.cells) x j (λ e. absurd (omega arith))) (new f.place f.cells) h.1.cells;
     },
@@ -155,32 +150,23 @@ module _ (w : Stored) (xs : List ℕ) where
     new : (p : ℕ) (cs : List ℕ) → at_cell w.cells p (length cs) x p (0 + length cs) ≡ x
     new p cs = subst (λ (k : ℕ). at_cell w.cells p (length cs) x p k ≡ x) (sym (zero-add (length cs))) (at_cell-same w.cells p (length cs) x)
 
-  -- the link of a place is stored, whether something is filled there or not
-  link_place : (n : ℕ) (f : Fill) (b : Bool) → (cond b (record f { link = Some n }) f).place ≡ f.place
-  link_place n f true = refl
-  link_place n f false = refl
-
-  link_stands : (p n : ℕ) (f : Fill) (b : Bool) → eqb f.place p ≡ b → Stands w f → Stands (with_link w p n) (cond b (record f { link = Some n }) f)
-  link_stands p n f true e h = record {
-    stamp = h.stamp;
-    reset = h.reset;
-    link = subst (λ (q : ℕ). at_number w.links p n q ≡ n) (sym (eqb-true f.place p e)) (at_number-same w.links p n);
-    cells = h.cells;
-  }
-  link_stands p n f false e h = Stands-elsewhere p w (with_link w p n) (link_differs w p n) f (ne_from_test f.place p e) h
-
-  Others-link : (p n q : ℕ) (fs : List Fill) → Others q fs → Others q (link_fill p n fs)
-  Others-link p n q [] o = tt
-  Others-link p n q (f ∷ fs) o = (rw (link_place n f (eqb f.place p)) o.0, Others-link p n q fs o.1)
-
-  links : (p n : ℕ) (fs : List Fill) → FillsOk w xs fs → FillsOk (with_link w p n) xs (link_fill p n fs)
-  links p n [] h = tt
-  links p n (f ∷ fs) h = (
-    rw (link_place n f (eqb f.place p)) h.0,
-    link_stands p n f (eqb f.place p) refl h.1,
-    rw (link_place n f (eqb f.place p)) (Others-link p n f.place fs h.2),
-    links p n fs h.3,
+  -- the next cell shows this word already
+  cells_met : (x : ℕ) (fs : List Fill) → IsFilling fs → w.cells (filled_place fs) (filled_cells fs) ≡ x → FillsOk w xs fs → FillsOk w xs (more_cells x fs)
+  cells_met x [] in_work shows h = absurd in_work
+  cells_met x (f ∷ fs) in_work shows h = (
+    h.0,
+    record {
+      stamp = h.1.stamp;
+      reset = h.1.reset;
+      cells = CellsAre-more (w.cells f.place) (w.cells f.place) x 0 f.cells (λ j lt. refl) (subst (λ (k : ℕ). w.cells f.place k ≡ x) (sym (zero-add (length f.cells))) shows) h.1.cells;
+    },
+    h.2,
+    h.3,
   )
+
+  cells_shown : (x : ℕ) (fs : List Fill) (b : Bool) → eqb (w.cells (filled_place fs) (filled_cells fs)) x ≡ b → IsFilling fs → FillsOk w xs fs → FillsOk w xs (cond b (more_cells x fs) fs)
+  cells_shown x fs true e in_work h = cells_met x fs in_work (eqb-true (w.cells (filled_place fs) (filled_cells fs)) x e) h
+  cells_shown x fs false e in_work h = h
 
 -- ---- the part
 
@@ -204,6 +190,12 @@ module _ (kept : State → Type 0) (z : Size) (g : World) (m : Memory) (vs : Lis
       Each-set (FilledOk (stored m)) (FilledOk w) vs u id (λ i x ne at live h. still x (free i x at live) h)
       (λ live. subst (λ (y : Places). FillsOk w y.held y.fills) (sym same_places) (still v (free id v s.at s.allowed.is_open) (s.rule.filled id v s.at s.allowed.is_open))) s.rule.filled
 
+  -- links alone have changed
+  relinks : (k : Kind) → Step kept z g m vs id v k → (l : ℕ → ℕ) → (u : View) → u.places ≡ v.places → Filled (record (stored m) { links = l }) (set vs id u)
+  relinks k s l u same_places = Each-set (FilledOk (stored m)) (FilledOk (record (stored m) { links = l })) vs u id
+      (λ i x ne at live h. relinked (stored m) l x.places.held x.places.fills h)
+      (λ live. subst (λ (y : Places). FillsOk (record (stored m) { links = l }) y.held y.fills) (sym same_places) (relinked (stored m) l v.places.held v.places.fills (s.rule.filled id v s.at s.allowed.is_open))) s.rule.filled
+
   more_held : (p : ℕ) (b : Bool) (xs : List ℕ) (q : ℕ) → Has q xs → Has q (cond b (p ∷ xs) xs)
   more_held p true xs q h = inr h
   more_held p false xs q h = h
@@ -219,33 +211,23 @@ module _ (kept : State → Type 0) (z : Size) (g : World) (m : Memory) (vs : Lis
   filled_kept (fill_cell x) s =
       let p = filled_place v.places.fills in let i = filled_cells v.places.fills in
       in_front _ s s.allowed.can.0 (with_cell (stored m) p i x) (cell_differs (stored m) p i x) _ (cells_more (stored m) v.places.held x v.places.fills s.allowed.can.0 (s.rule.filled id v s.at s.allowed.is_open))
-  filled_kept (fill_next p n) s = own _ s p s.allowed.can (with_link (stored m) p n) (link_differs (stored m) p n) _
-      (links (stored m) v.places.held p n v.places.fills (s.rule.filled id v s.at s.allowed.is_open))
+  filled_kept (meet_cell x) s = Each-own (FilledOk (stored m)) vs id v _ s.rule.filled s.at s.allowed.is_open
+      (cells_shown (stored m) v.places.held x v.places.fills (eqb (m (name (meet_cell x) v)) x) refl s.allowed.can.0)
   filled_kept (give p) s = Each-own (FilledOk (stored m)) vs id v _ s.rule.filled s.at s.allowed.is_open
       (λ h. FillsOk-elsewhere p (stored m) (stored m) (same (stored m) p) v.places.held (without p v.places.held) (λ q ne has. Has-without p q v.places.held ne has) (without_fill p v.places.fills)
       (Others-without p v.places.fills) (FillsOk-without p (stored m) v.places.held v.places.fills h))
   filled_kept (mark r f) s = Each-own (FilledOk (stored m)) vs id v _ s.rule.filled s.at s.allowed.is_open
       (λ h. FillsOk-elsewhere f.place (stored m) (stored m) (same (stored m) f.place) v.places.held (without f.place v.places.held) (λ q ne has. Has-without f.place q v.places.held ne has) (without_fill f.place v.places.fills)
       (Others-without f.place v.places.fills) (FillsOk-without f.place (stored m) v.places.held v.places.fills h))
-  filled_kept (point p j w) s =
-      unheld _ s j.write.place (not_held kept z g m vs id v _ s j.write.place (marked v.number) (joint_of kept z g m vs id v _ s p j w s.allowed.can.0 s.allowed.can.1).mark.owned (λ seat e. cc))
-      (with_link (stored m) j.write.place (suc p.place)) (link_differs (stored m) j.write.place (suc p.place)) _ refl refl
-  filled_kept (link_next p j a w) s =
-      let h = joint_of kept z g m vs id v _ s p j w s.allowed.can.0 s.allowed.can.1 in
-      let x = either (eqb (m (next_word a)) (suc p.place)) (suc j.write.place) (m (next_word a)) in
-      let there = (subst (IsAbove (g.lists p.record_number) (stored m).stamps j.write.stamp p.under) s.allowed.can.3 h.above).0 in
-      let is = (s.rule.lists.each p.record_number (stand_of kept z g m vs id v _ s p (stamped w) s.allowed.can.0).kept.on_record).owned a there in
-      unheld _ s a (not_held kept z g m vs id v _ s a (linked p.record_number) is.1 (λ seat e. cc)) (with_link (stored m) a x) (link_differs (stored m) a x) _ refl refl
+  filled_kept (point p j w) s = relinks _ s (at_number (stored m).links j.write.place (suc p.place)) _ refl
+  filled_kept (link_next p j a w) s = relinks _ s (at_number (stored m).links a (either (eqb (m (next_word a)) (suc p.place)) (suc j.write.place) (m (next_word a)))) _ refl
   filled_kept (raise_read_stamp d) s =
       let o = raised_of kept z g m vs id v d s in
       let is = (s.rule.lists.each d.record_number o.kept.on_record).owned d.place o.kept.there in
       let x = max (m (rts d.place)) (stamp_in v.flight) in
       unheld _ s d.place (not_held kept z g m vs id v _ s d.place (linked d.record_number) is.1 (λ seat e. cc)) (record (stored m) { reads = at_number (stored m).reads d.place x })
-      (record { stamps = λ q ne. refl; reads = λ q ne. at_number-other (stored m).reads d.place q x (λ e. ne (sym e)); links = λ q ne. refl; cells = λ q i ne. refl }) _ refl refl
-  filled_kept (cut r c p) s =
-      let o = work_of kept z g m vs s.rule id v s.at s.allowed.is_open r c (floored p) s.allowed.can in
-      let is = (s.rule.lists.each r o.on_record).owned p o.at.1.there in
-      unheld _ s p (not_held kept z g m vs id v _ s p (linked r) is.1 (λ seat e. cc)) (with_link (stored m) p 0) (link_differs (stored m) p 0) _ refl refl
+      (record { stamps = λ q ne. refl; reads = λ q ne. at_number-other (stored m).reads d.place q x (λ e. ne (sym e)); cells = λ q i ne. refl }) _ refl refl
+  filled_kept (cut r c p) s = relinks _ s (at_number (stored m).links p 0) _ refl
   filled_kept k s = Each-own (FilledOk (stored m)) vs id v _ s.rule.filled s.at s.allowed.is_open (λ p. p)
 
 module _ (kept : State → Type 0) (z : Size) (g : World) (m : Memory) (vs : List View) (id : ℕ) (v : View) (s : Split kept z g m vs id v) where

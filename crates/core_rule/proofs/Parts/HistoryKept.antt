@@ -11,7 +11,7 @@ use Rattle.core_rule.specs.World.{World}
 use Rattle.core_rule.specs.View.{View, Flight, resting, writing, Read, Write, Aim, again, checks, Stand, Look, stamped, shown, stands, Logged, first_view, spent_view}
 use Rattle.core_rule.specs.Views.{At, Has, Among, SomeView}
 use Rattle.core_rule.specs.Rule.{status_words, floor_words}
-use Rattle.core_rule.specs.Kinds.{Kind, decide_by_check, decide_by_read, decide_bare, finish, name, after}
+use Rattle.core_rule.specs.Kinds.{Kind, decide_by_check, decide_bare, finish, name, after}
 use Rattle.core_rule.specs.Hands.{split_left, split_right, joined_view}
 use Rattle.core_rule.specs.Searching.{limit_of, is_final, IsWhole, shown_at}
 use Rattle.core_rule.specs.Deciding.{entry_of, stamp_in, commit_of, snapshot_of, AreReads, IsFitting, IsUndecided}
@@ -166,23 +166,8 @@ module _ (kept : State → Type 0) (z : Size) (g : World) (m : Memory) (vs : Lis
           one_more y (inl e) = inl (sym e)
           one_more y (inr k) = inr k
 
-  -- the last second search
-  module _ (p : Stand) (d : Read) (s : Step kept z g m vs id v (decide_by_read p d)) where
-    by_read : (b : Bool) (u : View) → u.spent ≡ false → u.flight ≡ v.flight → u.log ≡ v.log ++ cond b (commit_of v.flight (v.work.finished ++ d ∷ []) v.work.linked ∷ []) []
-        → reaching.Reach g.lists S T (set vs id u) → part.History kept z (set vs id u)
-    by_read false u alive flight grows reach = still kept z vs id v u s.at s.allowed.is_open alive (grows ∙ append-nil v.log) s.rule.history
-    by_read true u alive flight grows reach =
-        let txn = s.rule.txns id v s.at s.allowed.is_open in
-        let fits = aim_fits _ s p (stamped d.version) (again d) s.allowed.can.0 s.allowed.can.1 in
-        commits _ s u alive flight (v.work.finished ++ d ∷ []) grows reach (txn.raised d fits.0).0 s.allowed.can.5
-        (λ c k. ⊎_elim (λ (a : Among c v.work.finished). txn.finished c a) (λ (e : d ≡ c). subst (λ (y : Read). Among y v.work.raised) e fits.0) (Among-either c d v.work.finished k))
-        (once_more v.work.finished d (s.rule.word_cells id v s.at s.allowed.is_open).finished_once (λ c k e. fits.3 (subst (λ (y : Read). Among y v.work.finished) (txn.raised_once c d (txn.finished c k) fits.0 e) k)))
-        (λ y k. absurd (subst (Among y) s.allowed.can.4 k))
-        (subst (λ (us : List Write). IsFitting kept v.size.records (commit_of v.flight (v.work.finished ++ d ∷ []) us)) (sym s.allowed.can.4) s.allowed.can.6)
-
   pub history_kept : (k : Kind) → Step kept z g m vs id v k → part.History kept z (set vs id (after k v (m (name k v))))
   history_kept (decide_by_check p w x n) s = by_check p w x n s (nat_le (m (rts p.place)) t) _ s.allowed.is_open refl (if_more (nat_le (m (rts p.place)) (stamp_in v.flight)) (commit_of v.flight v.work.finished v.work.linked) v.log) refl (reach_kept kept z g m vs id v _ s)
-  history_kept (decide_by_read p d) s = by_read p d s (is_final (m (status p.place))) _ s.allowed.is_open refl (if_more (is_final (m (status p.place))) (commit_of v.flight (v.work.finished ++ d ∷ []) v.work.linked) v.log) (reach_kept kept z g m vs id v _ s)
   history_kept decide_bare s =
       let txn = s.rule.txns id v s.at s.allowed.is_open in
       commits _ s _ s.allowed.is_open refl v.work.finished refl (reach_kept kept z g m vs id v _ s) s.allowed.can.0 s.allowed.can.4 txn.finished (s.rule.word_cells id v s.at s.allowed.is_open).finished_once

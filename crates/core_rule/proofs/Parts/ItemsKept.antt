@@ -13,7 +13,7 @@ use Rattle.core_rule.specs.Rule.{status_words, floor_words, lock_words}
 use Rattle.core_rule.specs.Searching.{IsFinal, is_final}
 use Rattle.core_rule.specs.Deciding.{stamp_in, commit_of}
 use Rattle.core_rule.specs.Collecting.{HasEntry, HasLock}
-use Rattle.core_rule.specs.Kinds.{Kind, publish_stamp, publish_idle, retire_write, publish_bound, retire_read, raise_min_read, link_head, link_next, decide_by_check, decide_by_read, decide_bare, finish, take_lock, load_floor, seek_head, seek_stamp, seek_next, raise_floor, cut, unlock, drop, follow, free_place, name, after, turned, changed}
+use Rattle.core_rule.specs.Kinds.{Kind, publish_stamp, publish_idle, retire_write, publish_bound, retire_read, raise_min_read, link_head, link_next, decide_by_check, decide_bare, finish, take_lock, load_floor, seek_head, seek_stamp, seek_next, raise_floor, cut, unlock, drop, follow, free_place, name, after, turned, changed}
 use Rattle.core_rule.specs.Hands.{split_left, split_right, joined_view}
 use Rattle.core_rule.specs.Parts.Linking.{JointOk, IsAbove}
 use Rattle.core_rule.specs.Parts.Items.{IsLast, IsVersion, IsAt, InWork, IsItem, ItemOk}
@@ -226,7 +226,6 @@ module _ (kept : State → Type 0) (z : Size) (g : World) (m : Memory) (vs : Lis
   items_kept retire_read s = framed _ s tt _ (resting_ok _ s _ refl refl)
   items_kept (finish ds) s = framed _ s tt _ (resting_ok _ s _ refl refl)
   items_kept (decide_by_check p u w n) s = framed _ s tt _ (still _ refl refl (λ e a. Among-if (nat_le (m (rts p.place)) (stamp_in v.flight)) e (commit_of v.flight v.work.finished v.work.linked) v.log a) (same _ s tt v (mine_ok _ s)))
-  items_kept (decide_by_read p d) s = framed _ s tt _ (still _ refl refl (λ e a. Among-if (is_final (m (status p.place))) e (commit_of v.flight (v.work.finished ++ d ∷ []) v.work.linked) v.log a) (same _ s tt v (mine_ok _ s)))
   items_kept decide_bare s = framed _ s tt _ (still _ refl refl (λ e a. Among-left e v.log _ a) (same _ s tt v (mine_ok _ s)))
   items_kept raise_min_read s =
       let least' = max (m min_read) v.raises.reads.least in

@@ -21,7 +21,7 @@ use Rattle.core_rule.specs.Claims.{AimClaims, SearchClaims}
 use Rattle.core_rule.specs.Collecting.{Locking, Frees}
 use Rattle.core_rule.specs.Ways.{told}
 use Rattle.core_rule.specs.Rule.{write_words, read_words, status_words, head_words, lock_words}
-use Rattle.core_rule.specs.Kinds.{Kind, publish_stamp, hear, scan_writes, scan_reads, load_min_write, load_min_read, raise_min_write, raise_min_read, name, way, take, load_head, load_next, load_stamp, load_status, load_cell, link_head, link_next, load_read_stamp, decide_by_check, decide_by_read, decide_bare, finish, take_lock, load_floor, seek_head, seek_stamp, seek_next, cut, follow, front_head, after, turned, changed}
+use Rattle.core_rule.specs.Kinds.{Kind, publish_stamp, hear, scan_writes, scan_reads, load_min_write, load_min_read, raise_min_write, raise_min_read, name, way, take, load_head, load_next, load_stamp, load_status, load_cell, link_head, link_next, load_read_stamp, decide_by_check, decide_bare, finish, take_lock, load_floor, seek_head, seek_stamp, seek_next, cut, follow, front_head, after, turned, changed}
 use Rattle.core_rule.specs.Learnt.{Learnt, IsOvertaken, IsOfAnother, least_of, IsLink}
 use Rattle.core_rule.specs.Parts.Closed.{OffersNot, ClosedAt}
 use Rattle.core_rule.specs.Parts.Splitting.{Makes}
@@ -53,9 +53,6 @@ use Rattle.core_rule.proofs.Parts.EnteredKept.{entered_kept}
 use Rattle.core_rule.proofs.Parts.TopsKept.{top_of}
 use Rattle.core_rule.proofs.RuleKept.{rule_kept}
 use Rattle.core_rule.proofs.Reckoning.{reckons}
-
-is_final_from : (n : ℕ) → IsFinal n → is_final n ≡ true
-is_final_from n h = rw (le-leb 3 n h.0, le-leb n 4 h.1) refl
 
 -- the words of a seat among those made are not being stored
 OffersNot-below : (k : ℕ) (s : Splitting) → ((made : ℕ) → Makes s made → k < made) → OffersNot k s
@@ -109,9 +106,9 @@ module _ (kept : State → Type 0) (z : Size) (g : World) (m : Memory) (vs : Lis
   entry_clock k s e there commit =
       let o = (s.rule.entered id v s.at s.allowed.is_open).commits e there commit in
       let c = s.rule.clocks id v s.at s.allowed.is_open in
-      ⊎_elim (λ (own : seat_of e.stamp ≡ v.number). by_drawn v.number (subst (λ (y : ℕ). e.stamp ≤ g.drawn y) own o.was_drawn) (subst (IsDrawn v.number v.clock.clock) (sym c.last) c.carries)
+      ⊎_elim (λ (own : seat_of e.stamp ≡ v.number). by_drawn v.number (subst (λ (y : ℕ). e.stamp ≤ g.drawn y) own o.not_above_drawn) (subst (IsDrawn v.number v.clock.clock) (sym c.last) c.carries)
       (let inside = (s.rule.seats.each id v s.at s.allowed.is_open).within in let size = s.rule.sized.seats_in_range in omega arith))
-      (λ (has : Has (seat_of e.stamp) v.clock.taken_in). by_drawn (seat_of e.stamp) o.was_drawn (AllOf-Has (λ x. IsDrawn x v.clock.clock (g.drawn x)) (seat_of e.stamp) v.clock.taken_in c.taken_in has)
+      (λ (has : Has (seat_of e.stamp) v.clock.taken_in). by_drawn (seat_of e.stamp) o.not_above_drawn (AllOf-Has (λ x. IsDrawn x v.clock.clock (g.drawn x)) (seat_of e.stamp) v.clock.taken_in c.taken_in has)
       (let b = AllOf-Has (λ x. x < most_seats) (seat_of e.stamp) v.clock.taken_in (s.rule.joined id v s.at s.allowed.is_open).within has in omega arith)) o.drawn_by where
         by_drawn : (seat : ℕ) → e.stamp ≤ g.drawn seat → IsDrawn seat v.clock.clock (g.drawn seat) → seat < 256 → clock_of e.stamp ≤ v.clock.clock
         by_drawn seat was (inl zero_is) lt = omega arith
@@ -189,14 +186,6 @@ module _ (kept : State → Type 0) (z : Size) (g : World) (m : Memory) (vs : Lis
         }
 
   -- where a second search stands at the version read, that is final
-  final_read : (p : Stand) (d : Read) → Step kept z g m vs id v (decide_by_read p d) → IsFinal (m (status p.place))
-  final_read p d s =
-      let h = stand_of kept z g m vs id v _ s p (stamped d.version) s.allowed.can.0 in
-      let a = aim_of_read kept z g m vs id v _ s p d s.allowed.can.0 s.allowed.can.1 in
-      let r = (s.rule.reads id v s.at s.allowed.is_open).raised_ok d a.1.0 in
-      let there : Has d.place (g.lists p.record_number) = subst (λ (x : ℕ). Has d.place (g.lists x)) (sym a.1.1) r.kept.there in
-      let same : p.place ≡ d.place = one_place (stored m).stamps (g.lists p.record_number) p.place d.place (s.rule.lists.each p.record_number h.kept.on_record).falls h.kept.there there (h.seen ∙ sym r.version) in
-      subst IsFinal (sym (ap (status_words m) same ∙ r.status)) r.final
 
   -- an entry that the step makes stands at the end of the log
   stood_at : (k : Kind) (s : Step kept z g m vs id v k) (e : Logged) → (after k v (m (name k v))).log ≡ v.log ++ e ∷ [] → (after k v (m (name k v))).spent ≡ false → StoodAt kept v.size.records v.log e
@@ -323,9 +312,6 @@ module _ (kept : State → Type 0) (z : Size) (g : World) (m : Memory) (vs : Lis
     read_later _ s p u (shown w n) s.allowed.can.0 s.allowed.can.1,
     λ le. stood_at _ s (commit_of v.flight v.work.finished v.work.linked) (entered_if (nat_le (m (rts p.place)) (stamp_in v.flight)) _ (le-leb (m (rts p.place)) (stamp_in v.flight) le)) s.allowed.is_open,
   )
-  learnt (decide_by_read p d) s =
-      let final = final_read p d s in
-      (final, stood_at _ s (commit_of v.flight (v.work.finished ++ d ∷ []) v.work.linked) (entered_if (is_final (m (status p.place))) _ (is_final_from (m (status p.place)) final)) s.allowed.is_open)
   learnt decide_bare s = stood_at _ s (commit_of v.flight v.work.finished v.work.linked) refl s.allowed.is_open
   learnt (finish ds) s = stood_at _ s (snapshot_of v.published.read ds) refl s.allowed.is_open
   learnt (take_lock r c) s =

@@ -12,7 +12,7 @@ use Rattle.core_rule.specs.Views.{At, Has}
 use Rattle.core_rule.specs.Holding.{filled_place}
 use Rattle.core_rule.specs.Searching.{limit_of, IsPassed, IsLate, stamp_seen, ends, is_final, moved, Begins, IsNotLinked, HasWrite, FitsPlace}
 use Rattle.core_rule.specs.Rule.{status_words}
-use Rattle.core_rule.specs.Kinds.{Kind, publish_stamp, publish_idle, retire_write, publish_bound, retire_read, take, fill_stamp, fill_reset, fill_cell, fill_next, give, load_head, load_next, load_stamp, load_status, mark, point, link_head, link_next, raise_read_stamp, load_read_stamp, decide_by_check, decide_by_read, decide_bare, store_status, finish, cut, free_place, name, after, turned, changed}
+use Rattle.core_rule.specs.Kinds.{Kind, publish_stamp, publish_idle, retire_write, publish_bound, retire_read, take, fill_stamp, fill_reset, fill_cell, give, load_head, load_next, load_stamp, load_status, mark, point, link_head, link_next, raise_read_stamp, load_read_stamp, decide_by_check, decide_bare, store_status, finish, cut, free_place, name, after, turned, changed}
 use Rattle.core_rule.specs.Hands.{split_left, split_right, joined_view}
 use Rattle.core_rule.specs.Parts.Filled.{IsReset}
 use Rattle.core_rule.specs.Parts.Searches.{SearchOk}
@@ -121,7 +121,6 @@ module _ (kept : State → Type 0) (z : Size) (g : World) (m : Memory) (vs : Lis
   same_at (fill_cell x) s q n is not =
       let has = front_has (stored m) v.places.held v.places.fills s.allowed.can.0 (s.rule.filled id v s.at s.allowed.is_open) in
       record { stamp = refl; read = refl; link = refl; cell = λ i. rw (ne_eqb (filled_place v.places.fills) q (marked_apart _ s (filled_place v.places.fills) q n has is)) }
-  same_at (fill_next p x) s q n is not = record { stamp = refl; read = refl; link = at_number-other (stored m).links p q x (marked_apart _ s p q n s.allowed.can is); cell = λ i. refl }
   same_at (point p j w) s q n is not = record { stamp = refl; read = refl; link = at_number-other (stored m).links j.write.place q _ not; cell = λ i. refl }
   same_at (link_next p j a w) s q n is not =
       let o = joint_of kept z g m vs id v _ s p j w s.allowed.can.0 s.allowed.can.1 in
@@ -388,10 +387,6 @@ module _ (kept : State → Type 0) (z : Size) (g : World) (m : Memory) (vs : Lis
       (λ ne. loses_ok _ s links' p j w n s.allowed.can.0 s.allowed.can.1 s.allowed.can.2 ne t.positive t.there t.over q refl refl refl))
   linking_kept (load_read_stamp p u w n) s = framed _ s tt _ tt
   linking_kept (decide_by_check p u w n) s = framed _ s tt _ tt
-  linking_kept (decide_by_read p d) s = framed _ s tt _ (by_test (is_final (m (status p.place)))) where
-    by_test : (b : Bool) → IsLinking z g.owner g.lists (stored m) v.number v.flight v.work.linked (cond b still (stands p (shown d.version (m (status p.place)))))
-    by_test true = tt
-    by_test false = aim_of kept z g m vs id v _ s p (stamped d.version) s.allowed.can.0
   linking_kept decide_bare s = framed _ s tt _ tt
   linking_kept (store_status u) s = framed _ s tt _ tt
   linking_kept (finish ds) s = framed _ s tt _ tt

@@ -9,7 +9,7 @@ use Rattle.core_rule.specs.World.{World, Owner, free, held, marked, linked, cut_
 use Rattle.core_rule.specs.View.{View, Flight, resting, Write, Work, Aim, reads, links, again, checks, Joint, Stand, Look, blank, stamped, shown, Search, still, marks, stands, first_view}
 use Rattle.core_rule.specs.Views.{SomeView}
 use Rattle.core_rule.specs.Searching.{AsksStatus, moved, Begins, Rests}
-use Rattle.core_rule.specs.Kinds.{Kind, publish_stamp, publish_idle, retire_write, publish_bound, retire_read, take, give, load_head, load_next, load_stamp, load_status, mark, point, link_head, link_next, load_read_stamp, decide_by_check, decide_by_read, decide_bare, store_status, finish, cut, free_place, name, after, turned}
+use Rattle.core_rule.specs.Kinds.{Kind, publish_stamp, publish_idle, retire_write, publish_bound, retire_read, take, give, load_head, load_next, load_stamp, load_status, mark, point, link_head, link_next, load_read_stamp, decide_by_check, decide_bare, store_status, finish, cut, free_place, name, after, turned}
 use Rattle.core_rule.specs.Hands.{split_left, split_right, joined_view}
 use Rattle.core_rule.specs.Parts.Marked.{AimMarks, SearchMarks, MarksPlace}
 use Rattle.core_rule.specs.Parts.Marked as part
@@ -123,7 +123,6 @@ module _ (kept : State → Type 0) (z : Size) (g : World) (m : Memory) (vs : Lis
       (eqb (m (next_word a)) (suc p.place)) _ refl refl refl
   marked_kept (load_read_stamp p u w n) s = moves s p (shown w n) s.allowed.can.0 _ refl refl (λ q h. absurd (subst (AimMarks q) s.allowed.can.1 h))
   marked_kept (decide_by_check p u w n) s = moves s p (shown w n) s.allowed.can.0 _ refl refl (λ q h. absurd (subst (AimMarks q) s.allowed.can.1 h))
-  marked_kept (decide_by_read p d) s = moves s p (stamped d.version) s.allowed.can.0 _ refl refl (λ q h. absurd (subst (AimMarks q) s.allowed.can.1 h))
   marked_kept decide_bare s = rested s _ refl refl s.allowed.can.1
   marked_kept (store_status u) s = rested s _ refl refl s.allowed.can.0
   marked_kept (finish ds) s = framed _ s g.owner _ refl refl (λ q n is. is)

@@ -16,7 +16,7 @@ use Rattle.core_rule.specs.Searching.{limit_of, IsPassed, IsFinal, Begins, stamp
 use Rattle.core_rule.specs.Deciding.{stamp_in}
 use Rattle.core_rule.specs.Claims.{Claim, claim, AimClaims, SearchClaims}
 use Rattle.core_rule.specs.Rule.{status_words}
-use Rattle.core_rule.specs.Kinds.{Kind, publish_stamp, publish_idle, retire_write, publish_bound, retire_read, load_head, load_next, load_stamp, load_status, mark, point, link_head, link_next, raise_read_stamp, load_read_stamp, decide_by_check, decide_by_read, decide_bare, store_status, finish, cut, name, after, turned, changed}
+use Rattle.core_rule.specs.Kinds.{Kind, publish_stamp, publish_idle, retire_write, publish_bound, retire_read, load_head, load_next, load_stamp, load_status, mark, point, link_head, link_next, raise_read_stamp, load_read_stamp, decide_by_check, decide_bare, store_status, finish, cut, name, after, turned, changed}
 use Rattle.core_rule.specs.Hands.{split_left, split_right, joined_view}
 use Rattle.core_rule.specs.Parts.Places.{Shows}
 use Rattle.core_rule.specs.Parts.Searches.{StandOk, SearchOk}
@@ -450,7 +450,6 @@ module _ (kept : State → Type 0) (z : Size) (g : World) (m : Memory) (vs : Lis
       (λ r version. tt)
   keeps_all (load_read_stamp p u w n) s adds = check_case _ s p u w n s.allowed.can.0 s.allowed.can.1 s.allowed.can.2 (nat_le (R p.place) t) refl _ refl refl refl
   keeps_all (decide_by_check p u w n) s adds = check_case _ s p u w n s.allowed.can.0 s.allowed.can.1 s.allowed.can.2 (nat_le (R p.place) t) refl _ refl refl refl
-  keeps_all (decide_by_read p d) s adds = looks_on _ s tt _ refl refl (λ r version h. ended p (stamped d.version) (shown d.version (m (status p.place))) s.allowed.can.0 r version h (is_final (m (status p.place))))
   keeps_all decide_bare s adds = looks_on _ s tt _ refl refl (λ r version h. tt)
   keeps_all (store_status u) s adds = stores u s _ refl refl refl
   keeps_all (finish ds) s adds = rests _ s tt _ refl

@@ -15,7 +15,7 @@ use Rattle.core_rule.specs.Holding.{filled_place}
 use Rattle.core_rule.specs.Deciding.{stamp_in}
 use Rattle.core_rule.specs.Kinds.{Kind, publish_stamp, fill_reset, raise_read_stamp, link_head, link_next, name, turned, changed}
 use Rattle.core_rule.specs.Parts.Linking.{JointOk, IsAbove}
-use Rattle.core_rule.specs.Parts.ReadStamps.{WasDrawn}
+use Rattle.core_rule.specs.Parts.ReadStamps.{IsNotAboveDrawn}
 use Rattle.core_rule.specs.Parts.ReadStamps as part
 use Rattle.core_rule.proofs.Step.{Step, at_number-other, at_cases}
 use Rattle.core_rule.proofs.Making.{Split, Join}
@@ -27,15 +27,15 @@ use Rattle.core_rule.proofs.Working.{joint_of}
 use Rattle.core_rule.proofs.Parts.FilledKept.{front_has}
 use Rattle.core_rule.proofs.Parts.VersionsKept.{flight_seat, draws_later}
 
-WasDrawn-later : (seats : ℕ) (drawn drawn' : ℕ → ℕ) (t : ℕ) → ((seat : ℕ) → drawn seat ≤ drawn' seat) → WasDrawn seats drawn t → WasDrawn seats drawn' t
-WasDrawn-later seats drawn drawn' t rises (inl e) = inl e
-WasDrawn-later seats drawn drawn' t rises (inr h) = inr (h.0, let up = rises (seat_of t) in let d = h.1 in omega arith)
+IsNotAboveDrawn-later : (seats : ℕ) (drawn drawn' : ℕ → ℕ) (t : ℕ) → ((seat : ℕ) → drawn seat ≤ drawn' seat) → IsNotAboveDrawn seats drawn t → IsNotAboveDrawn seats drawn' t
+IsNotAboveDrawn-later seats drawn drawn' t rises (inl e) = inl e
+IsNotAboveDrawn-later seats drawn drawn' t rises (inr h) = inr (h.0, let up = rises (seat_of t) in let d = h.1 in omega arith)
 
 -- the greater of two
-WasDrawn-max : (seats : ℕ) (drawn : ℕ → ℕ) (a b : ℕ) → WasDrawn seats drawn a → WasDrawn seats drawn b → WasDrawn seats drawn (max a b)
-WasDrawn-max seats drawn a b h k = dite (dec_lt a b)
-    (λ lt. subst (WasDrawn seats drawn) (let e : b ≡ max a b = omega arith in e) k)
-    (λ ge. subst (WasDrawn seats drawn) (let e : a ≡ max a b = omega arith in e) h)
+IsNotAboveDrawn-max : (seats : ℕ) (drawn : ℕ → ℕ) (a b : ℕ) → IsNotAboveDrawn seats drawn a → IsNotAboveDrawn seats drawn b → IsNotAboveDrawn seats drawn (max a b)
+IsNotAboveDrawn-max seats drawn a b h k = dite (dec_lt a b)
+    (λ lt. subst (IsNotAboveDrawn seats drawn) (let e : b ≡ max a b = omega arith in e) k)
+    (λ ge. subst (IsNotAboveDrawn seats drawn) (let e : a ≡ max a b = omega arith in e) h)
 
 module _ (kept : State → Type 0) (z : Size) (g : World) (m : Memory) (vs : List View) (id : ℕ) (v : View) where
   abbrev R : ℕ → ℕ
@@ -46,19 +46,19 @@ module _ (kept : State → Type 0) (z : Size) (g : World) (m : Memory) (vs : Lis
       → (b : Bool) → part.ReadStamps z g.drawn (cond b lists' g.lists) R
   links_kept k s p j lists' grew o false r q lt has = s.rule.read_stamps r q lt has
   links_kept k s p j lists' grew o true r q lt has = by_case (grew.only r q has) where
-    by_case : ((p.record_number ≡ r) × (j.write.place ≡ q)) ⊎ Has q (g.lists r) → WasDrawn z.seats g.drawn (R q)
+    by_case : ((p.record_number ≡ r) × (j.write.place ≡ q)) ⊎ Has q (g.lists r) → IsNotAboveDrawn z.seats g.drawn (R q)
     by_case (inl e) = inl (ap R (sym e.1) ∙ o.mark.reset)
     by_case (inr old) = s.rule.read_stamps r q lt old
 
   pub read_stamps_kept : (k : Kind) → Step kept z g m vs id v k → part.ReadStamps z (turned k v (m (name k v)) g).drawn (turned k v (m (name k v)) g).lists (stored (changed k v m)).reads
   read_stamps_kept (publish_stamp clock) s r q lt has =
-      WasDrawn-later z.seats g.drawn (at_number g.drawn v.number (stamp_of clock v.number)) (R q) (draws_later kept z g m vs id v clock s) (s.rule.read_stamps r q lt has)
+      IsNotAboveDrawn-later z.seats g.drawn (at_number g.drawn v.number (stamp_of clock v.number)) (R q) (draws_later kept z g m vs id v clock s) (s.rule.read_stamps r q lt has)
   read_stamps_kept fill_reset s r q lt has =
       let held = front_has (stored m) v.places.held v.places.fills s.allowed.can (s.rule.filled id v s.at s.allowed.is_open) in
-      subst (WasDrawn z.seats g.drawn) (sym (at_number-other R (filled_place v.places.fills) q 0 (apart kept z g m vs id v _ s (filled_place v.places.fills) (held_unlinked kept z g m vs id v _ s (filled_place v.places.fills) held) r q lt has)))
+      subst (IsNotAboveDrawn z.seats g.drawn) (sym (at_number-other R (filled_place v.places.fills) q 0 (apart kept z g m vs id v _ s (filled_place v.places.fills) (held_unlinked kept z g m vs id v _ s (filled_place v.places.fills) held) r q lt has)))
       (s.rule.read_stamps r q lt has)
-  read_stamps_kept (raise_read_stamp d) s r q lt has = at_cases R d.place (max (m (rts d.place)) (stamp_in v.flight)) q (WasDrawn z.seats g.drawn)
-      (λ e. WasDrawn-max z.seats g.drawn (m (rts d.place)) (stamp_in v.flight) (subst (λ (y : ℕ). WasDrawn z.seats g.drawn (m (rts y))) (sym e) (s.rule.read_stamps r q lt has))
+  read_stamps_kept (raise_read_stamp d) s r q lt has = at_cases R d.place (max (m (rts d.place)) (stamp_in v.flight)) q (IsNotAboveDrawn z.seats g.drawn)
+      (λ e. IsNotAboveDrawn-max z.seats g.drawn (m (rts d.place)) (stamp_in v.flight) (subst (λ (y : ℕ). IsNotAboveDrawn z.seats g.drawn (m (rts y))) (sym e) (s.rule.read_stamps r q lt has))
       (let f = flight_seat kept z g m vs id v _ s id v s.at s.allowed.is_open (stamp_in v.flight) s.allowed.can.0 in
       let inside = (s.rule.seats.each id v s.at s.allowed.is_open).within in let last = (s.rule.clocks id v s.at s.allowed.is_open).last in let drawn = f.2 in
       inr (subst (λ (x : ℕ). (x < z.seats) × (stamp_in v.flight ≤ g.drawn x)) (sym f.1) (inside, omega arith))))

@@ -12,7 +12,7 @@ use Rattle.core_rule.specs.View.{View, links, Flight, Stand, Joint, Look, blank,
 use Rattle.core_rule.specs.Views.{At, Has}
 use Rattle.core_rule.specs.Searching.{limit_of, IsPassed, stamp_seen, ends, is_final, moved}
 use Rattle.core_rule.specs.Rule.{status_words}
-use Rattle.core_rule.specs.Kinds.{Kind, publish_stamp, publish_idle, retire_write, publish_bound, retire_read, load_head, load_next, load_stamp, load_status, mark, point, link_head, link_next, load_read_stamp, decide_by_check, decide_by_read, decide_bare, store_status, finish, cut, name, after, turned, changed}
+use Rattle.core_rule.specs.Kinds.{Kind, publish_stamp, publish_idle, retire_write, publish_bound, retire_read, load_head, load_next, load_stamp, load_status, mark, point, link_head, link_next, load_read_stamp, decide_by_check, decide_bare, store_status, finish, cut, name, after, turned, changed}
 use Rattle.core_rule.specs.Hands.{split_left, split_right, joined_view}
 use Rattle.core_rule.specs.Parts.Linking.{JointOk, IsAbove}
 use Rattle.core_rule.specs.Parts.Searches.{IsKept, IsSeen, StandOk, SearchOk, SearchesOk}
@@ -249,12 +249,6 @@ module _ (kept : State → Type 0) (z : Size) (g : World) (m : Memory) (vs : Lis
       links_kept _ s p j lists' (grown_behind g.lists p.record_number j.write.place a there) o (eqb n (suc p.place)) _ (won_or_lost _ s lists' _ lost (eqb n (suc p.place)))
   searches_kept (load_read_stamp p u w n) s = framed _ s tt _ tt
   searches_kept (decide_by_check p u w n) s = framed _ s tt _ tt
-  searches_kept (decide_by_read p d) s = framed _ s tt _ (by_test (is_final (m (status p.place)))) where
-    by_test : (b : Bool) → SearchOk z g.lists S T (limit_of v.flight v.published.read) v.published.read (cond b still (stands p (shown d.version (m (status p.place)))))
-    by_test true = tt
-    by_test false = let h = stand_of kept z g m vs id v _ s p (stamped d.version) s.allowed.can.0 in
-        let in_flight = (aim_of_read kept z g m vs id v _ s p d s.allowed.can.0 s.allowed.can.1).0 in
-        record { kept = h.kept; under = h.under; seen = (h.seen, subst (λ (f : Flight). d.version < limit_of f v.published.read) (sym in_flight) s.allowed.can.2, λ le. refl) }
   searches_kept decide_bare s = framed _ s tt _ tt
   searches_kept (store_status u) s = framed _ s tt _ tt
   searches_kept (finish ds) s = framed _ s tt _ tt

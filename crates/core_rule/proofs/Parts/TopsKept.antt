@@ -12,7 +12,7 @@ use Rattle.core_rule.specs.Views.{At, OthersTaken}
 use Rattle.core_rule.specs.Offers.{MayOffer, HasOffered, offered_write, offered_read}
 use Rattle.core_rule.specs.Searching.{ends, moved, is_final, stamp_seen}
 use Rattle.core_rule.specs.Rule.{Rule, head_words}
-use Rattle.core_rule.specs.Kinds.{Kind, offer_write_word, offer_read_word, publish_stamp, publish_idle, retire_write, publish_bound, retire_read, load_head, load_next, load_stamp, load_status, mark, point, link_head, link_next, load_read_stamp, decide_by_check, decide_by_read, decide_bare, store_status, finish, name, after, changed}
+use Rattle.core_rule.specs.Kinds.{Kind, offer_write_word, offer_read_word, publish_stamp, publish_idle, retire_write, publish_bound, retire_read, load_head, load_next, load_stamp, load_status, mark, point, link_head, link_next, load_read_stamp, decide_by_check, decide_bare, store_status, finish, name, after, changed}
 use Rattle.core_rule.specs.Hands.{split_left, split_right, joined_view}
 use Rattle.core_rule.specs.Parts.Tops.{AimAtTop, IsAtTop, TopOk}
 use Rattle.core_rule.specs.Parts.Tops as part
@@ -127,10 +127,6 @@ module _ (kept : State → Type 0) (z : Size) (g : World) (m : Memory) (vs : Lis
     links_it false = framed _ s H _ (λ alone first. absurd (let e = sym s.allowed.can.3 ∙ first in cc))
   tops_kept (load_read_stamp p u w n) s = framed _ s H _ (λ alone. tt)
   tops_kept (decide_by_check p u w n) s = framed _ s H _ (λ alone. tt)
-  tops_kept (decide_by_read p d) s = framed _ s H _ (λ alone. by_test (is_final (m (status p.place))) (stays_at s p (stamped d.version) s.allowed.can.0 alone)) where
-    by_test : (b : Bool) → AimAtTop H p p.aim → IsAtTop H (cond b still (stands p (shown d.version (m (status p.place)))))
-    by_test true h = tt
-    by_test false h = h
   tops_kept decide_bare s = framed _ s H _ (λ alone. tt)
   tops_kept (store_status u) s = framed _ s H _ (λ alone. tt)
   tops_kept (finish ds) s = framed _ s H _ (λ alone. tt)

@@ -11,7 +11,7 @@ use Rattle.core_rule.specs.View.{View, writing, Read, Write, Aim, Joint, reads, 
 use Rattle.core_rule.specs.Views.{Has, Among, AllIn}
 use Rattle.core_rule.specs.Searching.{ends, is_final, moved, stamp_seen, finished_with, IsWhole, AllPassed, OthersPassed, Begins}
 use Rattle.core_rule.specs.Deciding.{stamp_in, commit_of}
-use Rattle.core_rule.specs.Kinds.{Kind, publish_stamp, publish_idle, retire_write, publish_bound, retire_read, load_head, load_next, load_stamp, load_status, mark, point, link_head, link_next, raise_read_stamp, load_read_stamp, decide_by_check, decide_by_read, decide_bare, store_status, finish, name, after}
+use Rattle.core_rule.specs.Kinds.{Kind, publish_stamp, publish_idle, retire_write, publish_bound, retire_read, load_head, load_next, load_stamp, load_status, mark, point, link_head, link_next, raise_read_stamp, load_read_stamp, decide_by_check, decide_bare, store_status, finish, name, after}
 use Rattle.core_rule.specs.Hands.{split_left, split_right, joined_view}
 use Rattle.core_rule.specs.Parts.Txns.{HasWriteOf, AimFits, SearchFits, IsDecided, TxnOk}
 use Rattle.core_rule.specs.Parts.Txns as part
@@ -186,39 +186,6 @@ module _ (kept : State → Type 0) (z : Size) (g : World) (m : Memory) (vs : Lis
     entered = rw (flight, finished, linked, log) (Among-last (commit_of v.flight v.work.finished v.work.linked) v.log);
   }
 
-  -- the last second search of a transaction without writes
-  read_case : (p : Stand) (d : Read) (s : Step kept z g m vs id v (decide_by_read p d)) (b : Bool) (u : View) → u.work.raised ≡ v.work.raised → u.flight ≡ v.flight → u.work.finished ≡ cond b (v.work.finished ++ d ∷ []) v.work.finished → u.work.passed ≡ v.work.passed
-      → u.work.settled ≡ v.work.settled → u.work.linked ≡ v.work.linked → u.work.decided ≡ b → u.work.search ≡ cond b still (stands p (shown d.version (m (status p.place))))
-      → u.log ≡ v.log ++ cond b (commit_of v.flight (v.work.finished ++ d ∷ []) v.work.linked ∷ []) [] → TxnOk v → TxnOk u
-  read_case p d s b u raised flight finished passed settled linked decided search log h =
-      let a = aim_of_read kept z g m vs id v _ s p d s.allowed.can.0 s.allowed.can.1 in record {
-        raised = λ c k. rw flight (h.raised c (rw (← raised) k));
-        raised_once = λ c e k l. h.raised_once c e (rw (← raised) k) (rw (← raised) l);
-        finished = λ c k. rw raised (in_raised b a.1.0 c (rw (← finished) k));
-        passed = λ r k. rw linked (h.passed r (rw (← passed) k));
-        settled = λ r k. rw linked (h.settled r (rw (← settled) k));
-        search = subst (SearchFits u.work) (sym search) (at b finished decided a.1);
-        decided = λ e. (rw flight a.0, is_decided b (sym decided ∙ e) finished log);
-      } where
-        in_raised : (b : Bool) → Among d v.work.raised → (c : Read) → Among c (cond b (v.work.finished ++ d ∷ []) v.work.finished) → Among c v.work.raised
-        in_raised false there c k = h.finished c k
-        in_raised true there c k = ⊎_elim (λ old. h.finished c old) (λ (e : d ≡ c). subst (λ (x : Read). Among x v.work.raised) e there) (Among-either c d v.work.finished k)
-
-        at : (b : Bool) → u.work.finished ≡ cond b (v.work.finished ++ d ∷ []) v.work.finished → u.work.decided ≡ b → AimFits v.work p (again d) → SearchFits u.work (cond b still (stands p (shown d.version (m (status p.place)))))
-        at true finished decided fits = tt
-        at false finished decided fits = subst (AimFits u.work p) (sym s.allowed.can.1) (rw raised fits.0, fits.1, decided, rw finished fits.3)
-
-        all_finished : AllIn v.work.raised (v.work.finished ++ d ∷ [])
-        all_finished c k = ⊎_elim (λ (e : c ≡ d). subst (λ (x : Read). Among x (v.work.finished ++ d ∷ [])) (sym e) (Among-last d v.work.finished)) (λ old. Among-left c v.work.finished (d ∷ []) old) (s.allowed.can.3 c k)
-
-        is_decided : (b : Bool) → b ≡ true → u.work.finished ≡ cond b (v.work.finished ++ d ∷ []) v.work.finished → u.log ≡ v.log ++ cond b (commit_of v.flight (v.work.finished ++ d ∷ []) v.work.linked ∷ []) [] → IsDecided u
-        is_decided false e finished log = absurd (let f : false ≡ true = e in cc)
-        is_decided true e finished log = record {
-          passed = λ x k. absurd (subst (Among x) (linked ∙ s.allowed.can.4) k);
-          finished = rw (raised, finished) all_finished;
-          entered = rw (flight, finished, linked, log) (Among-last (commit_of v.flight (v.work.finished ++ d ∷ []) v.work.linked) v.log);
-        }
-
   still_fits : (k : Kind) → Step kept z g m vs id v k → (search : Search) → SearchFits v.work search → SearchFits v.work search
   still_fits k s search h = h
 
@@ -245,7 +212,6 @@ module _ (kept : State → Type 0) (z : Size) (g : World) (m : Memory) (vs : Lis
       (λ e. absurd (let no = (aim_of_check kept z g m vs id v _ s p u s.allowed.can.0 s.allowed.can.1).1.2 in let f : true ≡ false = sym e ∙ no in cc)))
   txns_kept (decide_by_check p u w n) s = own _ s _ (checks_case _ s p u (shown w n) s.allowed.can.0 s.allowed.can.1 (nat_le (m (rts p.place)) (stamp_in v.flight)) _ refl refl refl refl refl refl refl
       (by_check p u w n s (nat_le (m (rts p.place)) (stamp_in v.flight)) _ refl refl refl refl refl (if_more (nat_le (m (rts p.place)) (stamp_in v.flight)) (commit_of v.flight v.work.finished v.work.linked) v.log)))
-  txns_kept (decide_by_read p d) s = own _ s _ (read_case p d s (is_final (m (status p.place))) _ refl refl refl refl refl refl refl refl (if_more (is_final (m (status p.place))) (commit_of v.flight (v.work.finished ++ d ∷ []) v.work.linked) v.log))
   txns_kept decide_bare s = own _ s _ (λ h. record {
     raised = h.raised;
     raised_once = h.raised_once;

@@ -15,7 +15,7 @@ use Rattle.core_rule.specs.Rule.{status_words, floor_words}
 use Rattle.core_rule.specs.Searching.{IsFinal, is_final, shown_at, Ends}
 use Rattle.core_rule.specs.Deciding.{stamp_in, commit_of, snapshot_of, IsUndecided}
 use Rattle.core_rule.specs.Entries.{InLog, Wrote}
-use Rattle.core_rule.specs.Kinds.{Kind, publish_stamp, publish_idle, retire_write, publish_bound, retire_read, link_head, link_next, decide_by_check, decide_by_read, decide_bare, store_status, finish, name, after, turned, changed}
+use Rattle.core_rule.specs.Kinds.{Kind, publish_stamp, publish_idle, retire_write, publish_bound, retire_read, link_head, link_next, decide_by_check, decide_bare, store_status, finish, name, after, turned, changed}
 use Rattle.core_rule.specs.Hands.{split_left, split_right, joined_view}
 use Rattle.core_rule.specs.Parts.Places.{Shows}
 use Rattle.core_rule.specs.Parts.Linking.{JointOk, IsAbove}
@@ -410,7 +410,6 @@ module _ (kept : State → Type 0) (z : Size) (g : World) (m : Memory) (vs : Lis
       links_kept _ s p j (at_number g.lists p.record_number (behind a j.write.place (g.lists p.record_number))) (grown_behind g.lists p.record_number j.write.place a there) o (eqb (m (next_word a)) (suc p.place)) _ refl refl
       (still_links (eqb (m (next_word a)) (suc p.place)) j _ refl refl refl refl)
   values_kept (decide_by_check p u w n) s = decides _ s v.work.finished s.allowed.can.5 tt tt (nat_le (m (rts p.place)) (stamp_in v.flight)) _ refl refl refl refl refl (if_more (nat_le (m (rts p.place)) (stamp_in v.flight)) (commit_of v.flight v.work.finished v.work.linked) v.log)
-  values_kept (decide_by_read p d) s = decides _ s (v.work.finished ++ d ∷ []) s.allowed.can.5 tt tt (is_final (m (status p.place))) _ refl refl refl refl refl (if_more (is_final (m (status p.place))) (commit_of v.flight (v.work.finished ++ d ∷ []) v.work.linked) v.log)
   values_kept decide_bare s = decides _ s v.work.finished s.allowed.can.4 tt tt true _ refl refl refl refl refl refl
   values_kept (store_status u) s = stores_kept u s _ refl refl refl refl refl refl
   values_kept (finish ds) s = framed _ s tt tt _ refl (λ e a. Among-left e v.log (snapshot_of v.published.read ds ∷ []) a)

@@ -12,7 +12,7 @@ use Rattle.core_rule.specs.View.{View, Flight, resting, writing, Write, Joint, S
 use Rattle.core_rule.specs.Views.{At, Has, Among, SomeView}
 use Rattle.core_rule.specs.Searching.{HasWrite, Ends, shown_at}
 use Rattle.core_rule.specs.Rule.{status_words}
-use Rattle.core_rule.specs.Kinds.{Kind, publish_stamp, publish_idle, retire_write, publish_bound, retire_read, link_head, link_next, decide_by_check, decide_by_read, decide_bare, store_status, finish, cut, name, after, turned, changed}
+use Rattle.core_rule.specs.Kinds.{Kind, publish_stamp, publish_idle, retire_write, publish_bound, retire_read, link_head, link_next, decide_by_check, decide_bare, store_status, finish, cut, name, after, turned, changed}
 use Rattle.core_rule.specs.Hands.{split_left, split_right, joined_view}
 use Rattle.core_rule.specs.Parts.Clocks.{IsDrawn, InFlight}
 use Rattle.core_rule.specs.Parts.Places.{Shows}
@@ -77,7 +77,7 @@ module _ (kept : State → Type 0) (z : Size) (g : World) (m : Memory) (vs : Lis
             let o = s.rule.versions.each r p lt has in let a = t.stamps r p lt has in let b = steady_at r p lt has in let known = o.known in let early = o.early in record {
               early = omega arith;
               within = subst (λ (x : ℕ). seat_of x < z.seats) (sym a) o.within;
-              was_drawn = subst (λ (x : ℕ). x ≤ drawn (seat_of x)) (sym a) (let d = o.was_drawn in let up = rises (seat_of (S p)) in omega arith);
+              not_above_drawn = subst (λ (x : ℕ). x ≤ drawn (seat_of x)) (sym a) (let d = o.not_above_drawn in let up = rises (seat_of (S p)) in omega arith);
               known = (omega arith, omega arith);
               base = λ e. b ∙ o.base (sym a ∙ e);
               pending = λ e. subst (λ (x : ℕ). SomeView (HasLinked r p x) (set vs id u)) (sym a)
@@ -124,7 +124,7 @@ module _ (kept : State → Type 0) (z : Size) (g : World) (m : Memory) (vs : Lis
   new_stamp clock s r p lt has same =
       let c = s.rule.clocks id v s.at s.allowed.is_open in
       let inside = (s.rule.seats.each id v s.at s.allowed.is_open).within in let size = s.rule.sized.seats_in_range in
-      let d = (s.rule.versions.each r p lt has).was_drawn in
+      let d = (s.rule.versions.each r p lt has).not_above_drawn in
       let seat : seat_of (S p) ≡ v.number = omega arith in
       let d' : S p ≤ g.drawn v.number = subst (λ (x : ℕ). S p ≤ g.drawn x) seat d in
       let last = c.last in let later = s.allowed.can.0 in
@@ -157,7 +157,7 @@ module _ (kept : State → Type 0) (z : Size) (g : World) (m : Memory) (vs : Lis
         let last = (s.rule.clocks id v s.at s.allowed.is_open).last in let drawn = f.2 in record {
           early = omega arith;
           within = subst (λ (x : ℕ). seat_of x < z.seats) (sym st) (subst (λ (x : ℕ). x < z.seats) (sym f.1) (s.rule.seats.each id v s.at s.allowed.is_open).within);
-          was_drawn = subst (λ (x : ℕ). x ≤ g.drawn (seat_of x)) (sym st) (subst (λ (x : ℕ). t ≤ g.drawn x) (sym f.1) (omega arith));
+          not_above_drawn = subst (λ (x : ℕ). x ≤ g.drawn (seat_of x)) (sym st) (subst (λ (x : ℕ). t ≤ g.drawn x) (sym f.1) (omega arith));
           known = (let n = new_pending in omega arith, let n = new_pending in omega arith);
           base = λ e. absurd (omega arith);
           pending = λ e. SomeView-own (HasLinked p.record_number new (S new)) vs id v u s.at (spent ∙ s.allowed.is_open)
@@ -168,7 +168,7 @@ module _ (kept : State → Type 0) (z : Size) (g : World) (m : Memory) (vs : Lis
     old_version u spent flight done r q h = record {
       early = h.early;
       within = h.within;
-      was_drawn = h.was_drawn;
+      not_above_drawn = h.not_above_drawn;
       known = h.known;
       base = h.base;
       pending = λ e. SomeView-set (HasLinked r q (S q)) (HasLinked r q (S q)) vs id v u s.at (spent ∙ s.allowed.is_open) (λ x. record { in_flight = flight ∙ x.in_flight; write = rw done (HasWrite-more r q j.write v.work.linked x.write) }) (λ y x. x) (h.pending e);
@@ -238,7 +238,7 @@ module _ (kept : State → Type 0) (z : Size) (g : World) (m : Memory) (vs : Lis
       each = λ r q lt has. let h = s.rule.versions.each r q lt has in record {
         early = h.early;
         within = h.within;
-        was_drawn = h.was_drawn;
+        not_above_drawn = h.not_above_drawn;
         known = h.known;
         base = h.base;
         pending = λ e. SomeView-set (HasLinked r q (S q)) (HasLinked r q (S q)) vs id v u s.at (spent ∙ s.allowed.is_open) (λ x. record { in_flight = flight ∙ x.in_flight; write = rw done x.write }) (λ y x. x) (h.pending e);
@@ -328,7 +328,7 @@ module _ (kept : State → Type 0) (z : Size) (g : World) (m : Memory) (vs : Lis
       each = λ r p lt has. let h = s.rule.versions.each r p lt has in record {
         early = h.early;
         within = h.within;
-        was_drawn = h.was_drawn;
+        not_above_drawn = h.not_above_drawn;
         known = at_cases T u.place last p (λ n. (2 ≤ n) × (n ≤ 5)) (λ e. let l = shown_at-last v.work.decided u.cells in (omega arith, omega arith)) (λ ne. h.known);
         base = λ zero_is. at_cases T u.place last p (λ n. n ≡ 4)
             (λ e. absurd (let f = flight_seat (store_status u) s id v s.at s.allowed.is_open u.stamp o.in_flight in let pos = f.0 in let st = o.stamp in let same : S u.place ≡ S p = ap S e in omega arith)) (λ ne. h.base zero_is);
@@ -378,8 +378,6 @@ module _ (kept : State → Type 0) (z : Size) (g : World) (m : Memory) (vs : Lis
       (stand_of kept z g m vs id v _ s p (stamped w) s.allowed.can.0).kept.on_record o (eqb (m (next_word a)) (suc p.place)) _ refl refl refl refl refl
   versions_kept (decide_by_check p u w n) s = framed _ s tt tt _ refl g.drawn (λ seat. omega arith) (λ r p t two h. record { in_flight = h.in_flight; write = h.write })
       (decides _ s.allowed.can.5.unsettled (s.rule.versions.views id v s.at s.allowed.is_open))
-  versions_kept (decide_by_read p d) s = framed _ s tt tt _ refl g.drawn (λ seat. omega arith) (λ r p t two h. record { in_flight = h.in_flight; write = h.write })
-      (decides _ s.allowed.can.5.unsettled (s.rule.versions.views id v s.at s.allowed.is_open))
   versions_kept decide_bare s = framed _ s tt tt _ refl g.drawn (λ seat. omega arith) (λ r p t two h. record { in_flight = h.in_flight; write = h.write })
       (decides _ s.allowed.can.4.unsettled (s.rule.versions.views id v s.at s.allowed.is_open))
   versions_kept (store_status u) s = settles u s _ refl refl refl refl refl
@@ -389,7 +387,7 @@ module _ (kept : State → Type 0) (z : Size) (g : World) (m : Memory) (vs : Lis
     each = λ q x lt has. let h = s.rule.versions.each q x lt ((shrunk kept z g m vs id v r c p s).fewer q x has) in record {
       early = h.early;
       within = h.within;
-      was_drawn = h.was_drawn;
+      not_above_drawn = h.not_above_drawn;
       known = h.known;
       base = h.base;
       pending = λ e. SomeView-set (HasLinked q x (S x)) (HasLinked q x (S x)) vs id v _ s.at s.allowed.is_open (λ y. record { in_flight = y.in_flight; write = y.write }) (λ y k. k) (h.pending e);
@@ -405,7 +403,7 @@ module _ (kept : State → Type 0) (z : Size) (g : World) (m : Memory) (vs : Lis
     each = λ r p lt has. let h = s.rule.versions.each r p lt has in record {
       early = h.early;
       within = h.within;
-      was_drawn = h.was_drawn;
+      not_above_drawn = h.not_above_drawn;
       known = h.known;
       base = h.base;
       pending = λ e. SomeView-push (HasLinked r p (m (wts p))) (set vs id (split_left v)) (split_right v)
@@ -421,7 +419,7 @@ module _ (kept : State → Type 0) (z : Size) (g : World) (m : Memory) (vs : Lis
     each = λ r p lt has. let h = s.rule.versions.each r p lt has in record {
       early = h.early;
       within = h.within;
-      was_drawn = h.was_drawn;
+      not_above_drawn = h.not_above_drawn;
       known = h.known;
       base = h.base;
       pending = λ e. SomeView-join (HasLinked r p (m (wts p))) vs id other v w (joined_view v w) s.at s.at_other s.apart s.is_open (λ x. absurd (ended kept z g m vs id v id v (s.rule.versions.views id v s.at s.is_open) s.ends r p (m (wts p)) e x))
@@ -446,7 +444,7 @@ versions_start z h = record {
       let deleted : status_words (start z) r ≡ 4 = rw (ltb-true_from r (places z) (omega arith), ltb-true_from r z.records lt) in record {
         early = omega arith;
         within = let some_seat = h.has_seat in omega arith;
-        was_drawn = omega arith;
+        not_above_drawn = omega arith;
         known = (omega arith, omega arith);
         base = λ e. deleted;
         pending = λ e. absurd (omega arith);

@@ -4,16 +4,9 @@ use Rattle.word_layout.specs.Size.{Size, places}
 use Rattle.core_rule.specs.World.{Owner, cut_by}
 use Rattle.core_rule.specs.View.{View, Logged, Stage, cut_off, freeing, Item, no_item, collects}
 use Rattle.core_rule.specs.Views.{Each, Has, SomeView}
-use Rattle.core_rule.specs.Collecting.{HasEntry, HasChain, Frees}
+use Rattle.core_rule.specs.Collecting.{HasChain, Frees}
+use Rattle.core_rule.specs.Visible.{OutOfReach}
 use Rattle.core_rule.specs.Parts.Lists.{Spells, Falls}
-
--- a version of record r in place p is out of reach: a commit entry writes r at a stamp c above it, which is at or below every
--- published read word and below every published write word
-pub record OutOfReach (stamps : ℕ → ℕ) (vs : List View) (log : List Logged) (r c p : ℕ) : Type 0 where
-  pub entered : HasEntry r c log
-  pub below : stamps p < c
-  pub reads : Each (λ u. c ≤ u.published.read) vs
-  pub writes : Each (λ u. c < u.published.write) vs
 
 -- the first place is p, and the rest is spelled from this link on
 abbrev pub SpellsBehind : (ℕ → ℕ) → (to p : ℕ) → List ℕ → Type 0

@@ -1,4 +1,5 @@
--- Entered: the stamps of a log were drawn by its seat or one taken in, and no search or read of the seat stands below its own entries.
+-- Entered: the stamps of a log name its seat or one taken in, and are not above the last stamp which that one drew; and no search or
+-- read of the seat stands below its own entries.
 use Rattle.std.specs.Prelude.{◌≡◌, ◌⊎◌, ℕ, ◌<◌, ◌≤◌, true, false, List}
 use Rattle.stamp_base.specs.Stamp.{seat_of}
 use Rattle.core_rule.specs.View.{View, writing, Read, Write, Aim, links, Stand, Search, stands, Logged}
@@ -22,7 +23,7 @@ pub record Below (stamps : ℕ → ℕ) (v : View) (r w : ℕ) : Type 0 where
 pub record CommitOk (drawn stamps : ℕ → ℕ) (v : View) (e : Logged) : Type 0 where
   pub positive : 0 < e.stamp
   pub drawn_by : (seat_of e.stamp ≡ v.number) ⊎ Has (seat_of e.stamp) v.clock.taken_in
-  pub was_drawn : e.stamp ≤ drawn (seat_of e.stamp)
+  pub not_above_drawn : e.stamp ≤ drawn (seat_of e.stamp)
   pub before : (t : ℕ) → v.flight ≡ writing t → (e.stamp < t) ⊎ ((e.stamp ≡ t) × (v.work.decided ≡ true))
   pub own : (t : ℕ) → v.flight ≡ writing t → e.stamp < t → (u : Write) → Among u e.writes → Below stamps v u.record_number e.stamp
 

@@ -1,5 +1,5 @@
--- Versions: a linked version's stamp was drawn by the seat that it names; the version 0 is deleted; a pending one belongs to the
--- transaction in flight at its stamp, which stores its last status.
+-- Versions: a linked version's stamp is not above the last one that the seat drew which it names; the version 0 is deleted; a pending
+-- one belongs to the transaction in flight at its stamp, which stores its last status.
 use Rattle.std.specs.Prelude.{◌≡◌, ◌⊎◌, ℕ, ◌<◌, ◌≤◌, Bool, List, [], length}
 use Rattle.word_layout.specs.Limits.{cells_of_value}
 use Rattle.stamp_base.specs.Limits.{end_of_stamps}
@@ -18,7 +18,7 @@ pub record HasLinked (r p t : ℕ) (v : View) : Type 0 where
 pub record VersionOk (z : Size) (drawn : ℕ → ℕ) (stamps statuses : ℕ → ℕ) (vs : List View) (r p : ℕ) : Type 0 where
   pub early : stamps p < end_of_stamps
   pub within : seat_of (stamps p) < z.seats
-  pub was_drawn : stamps p ≤ drawn (seat_of (stamps p))
+  pub not_above_drawn : stamps p ≤ drawn (seat_of (stamps p))
   pub known : (2 ≤ statuses p) × (statuses p ≤ 5)
   pub base : stamps p ≡ 0 → statuses p ≡ 4
   pub pending : statuses p ≡ 2 → SomeView (HasLinked r p (stamps p)) vs

@@ -14,7 +14,7 @@ pub returns-in-Ok-clause-ok : goal.returns-in-Ok-clause-ok
 returns-in-Ok-clause-ok g c =
     let puts = c.put.ensures.puts in let before = c.args.hand.now.view in
     let same : c.rid-rid.result ≡ puts.write.record_number =
-    c.rid-rid.ensures ∙ ap (λ (u : Write). u.record_number) (turn_same c.args.i c.args.sets.now.writes c.staged_at.result.now puts.write c.staged_at.ensures puts.turn) in
+    c.rid-rid.ensures ∙ ap (λ (u : Write). u.record_number) (turn_same c.args.i c.args.sets.now.writes c.write_at.result.now puts.write c.write_at.ensures puts.turn) in
     record {
       place = c.in-Ok.place;
       taken = c.take.new.hand.view;

@@ -6,4 +6,4 @@ use Rattle.validate_core.proofs.installing.put.Goals as goal
 pub link-requires-clause-only : goal.link-requires-clause-only
 link-requires-clause-only g c = λ u h same.
     let linked = ap (λ (v : View). v.work.linked) c.fill.ensures.view in
-    c.requires.only c.staged_at-staged.result.now c.staged_at-staged.ensures u (subst (Among u) linked h) (same ∙ c.rid-rid.ensures)
+    c.requires.only c.write_at-write.result.now c.write_at-write.ensures u (subst (Among u) linked h) (same ∙ c.rid-rid.ensures)

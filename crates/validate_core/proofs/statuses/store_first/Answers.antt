@@ -7,21 +7,21 @@ loop-i-init g c = let r = c.requires in starts c.args.core.now c.args.hand.now c
 
 pub store_status-requires-clause-inside : goal.store_status-requires-clause-inside
 store_status-requires-clause-inside g c =
-    let u = c.write_at.result in let lt : c.loop-i.i < c.args.count = omega arith in
+    let u = c.write_at.result.now in let lt : c.loop-i.i < c.args.count = omega arith in
     c.requires.inside u (is_first c.args.core.now c.args.hand.now c.args.sets.now c.args.count c.args.decided c.loop-i.i c.loop-i.hand u c.write_at.ensures c.loop-i.invariant lt)
 
 pub store_status-requires-clause-linked : goal.store_status-requires-clause-linked
 store_status-requires-clause-linked g c =
-    let u = c.write_at.result in let lt : c.loop-i.i < c.args.count = omega arith in
+    let u = c.write_at.result.now in let lt : c.loop-i.i < c.args.count = omega arith in
     is_linked c.args.core.now c.args.hand.now c.args.sets.now c.args.count c.args.decided c.loop-i.i c.loop-i.hand u c.write_at.ensures c.loop-i.invariant lt
 
 pub store_status-requires-clause-once : goal.store_status-requires-clause-once
 store_status-requires-clause-once g c =
-    not_settled c.args.core.now c.args.hand.now c.args.sets.now c.args.count c.args.decided c.loop-i.i c.loop-i.hand c.write_at.result c.write_at.ensures c.loop-i.invariant c.requires.once
+    not_settled c.args.core.now c.args.hand.now c.args.sets.now c.args.count c.args.decided c.loop-i.i c.loop-i.hand c.write_at.result.now c.write_at.ensures c.loop-i.invariant c.requires.once
 
 pub loop-i-preserved : goal.loop-i-preserved
 loop-i-preserved g c =
-    stores c.args.core.now c.args.hand.now c.args.sets.now c.args.count c.args.decided c.loop-i.i c.loop-i.hand c.write_at.result c.write_at.ensures c.loop-i.invariant _ c.store_status.new.hand c.store_status.ensures
+    stores c.args.core.now c.args.hand.now c.args.sets.now c.args.count c.args.decided c.loop-i.i c.loop-i.hand c.write_at.result.now c.write_at.ensures c.loop-i.invariant _ c.store_status.new.hand c.store_status.ensures
 
 pub returns-clause-settled : goal.returns-clause-settled
 returns-clause-settled g c = let same : c.loop-i.i ≡ c.args.count = omega arith in settled_all c.args.core.now c.args.hand.now c.args.sets.now c.args.count c.args.decided c.loop-i.i c.loop-i.hand same c.loop-i.invariant

@@ -70,10 +70,13 @@ fn tell<R: Eprint>(rt: &R, finish: &Finish, sink: &HeardSink) {
     }
     if let Some(fault) = &finish.fault {
         let kind = kind_sentence(fault.kind);
-        let _ = eprintln!(rt; "cicada: line {}: {kind} (docs/LANGUAGE.md: refusals)", fault.line);
+        let _ = eprintln!(rt;
+            "cicada: line {}: {kind} (docs/LANGUAGE.md: refusals)",
+            fault.line
+        );
     }
     if finish.status == Status::Differs
-        && let Some(test) = test_sentence(&sink.head)
+        && let Some(test) = test_sentence(&sink.head.bytes)
     {
         let _ = eprintln!(rt; "cicada: the order of the report: {test}");
     }
@@ -97,7 +100,9 @@ fn kind_sentence(kind: u32) -> &'static str {
 /// The test of an order that a verdict names, by its name, and what it found; none where the verdict names a line.
 fn test_sentence(verdict: &[u8; 10]) -> Option<&'static str> {
     match verdict {
-        b"no order 1" => Some("named: a block that it prints is none of the input, or of the other kind"),
+        b"no order 1" => Some(
+            "named: a block that it prints is none of the input, or of the other kind",
+        ),
         b"no order 2" => Some("once: it prints a block twice"),
         b"no order 3" => Some("complete: a block of the input is missing"),
         b"no order 4" => Some("rising: the stamps of the transaction blocks do not rise"),
@@ -120,26 +125,17 @@ fn refuse_words<R: Eprint>(rt: &R, error: &io::Error) -> Status {
 #[derive(Drop)]
 struct HeardSink {
     sink: StdSink,
-    head: [u8; 10],
-    heard: usize,
+    head: Head,
 }
 
 impl HeardSink {
     fn new(sink: StdSink) -> HeardSink {
         HeardSink {
             sink,
-            head: [0; 10],
-            heard: 0,
-        }
-    }
-
-    /// Keeps these bytes behind those that were heard, as far as there is room.
-    fn hear(&mut self, bytes: &[u8]) {
-        for byte in bytes {
-            if let Some(place) = self.head.get_mut(self.heard) {
-                *place = *byte;
-                self.heard += 1;
-            }
+            head: Head {
+                bytes: [0; 10],
+                heard: 0,
+            },
         }
     }
 }
@@ -151,9 +147,27 @@ impl Sink for HeardSink {
 
     fn write(&mut self, piece: &[u8]) -> Result<usize, SinkFault> {
         let count = self.sink.write(piece)?;
-        if self.heard < self.head.len() {
-            self.hear(piece.split_at(count).0);
-        }
+        self.head.hear(piece.split_at(count).0);
         Ok(count)
+    }
+}
+
+/// The first bytes of a text.
+#[derive(Drop)]
+struct Head {
+    bytes: [u8; 10],
+    heard: usize,
+}
+
+impl Head {
+    /// Keeps these bytes behind those that were heard, as far as there is room.
+    fn hear(&mut self, bytes: &[u8]) {
+        for byte in bytes {
+            let Some(place) = self.bytes.get_mut(self.heard) else {
+                return;
+            };
+            *place = *byte;
+            self.heard += 1;
+        }
     }
 }

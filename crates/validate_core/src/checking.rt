@@ -1,15 +1,17 @@
 //! The checks of a transaction: its read stamps, its reads once more, and the versions that it overwrites.
-ghost use Rattle.std.specs.Prelude.{◌≡◌, ◌<◌, ◌+◌, ◌∷◌, [], take, length, OnOk, OnErr, IfErr, IfSome, IfNone};
-ghost use Rattle.core_rule.specs.View.{writing};
+ghost use Rattle.std.specs.Prelude.{◌≡◌, ◌≢◌, ◌<◌, ◌+◌, [], take, length, OnOk, OnErr, IfOk, IfErr};
+ghost use Rattle.word_layout.specs.Size.{places};
+ghost use Rattle.core_rule.specs.View.{Write, checks, writing};
 ghost use Rattle.core_rule.specs.Deciding.{commit_of, IsFitting};
 ghost use Rattle.core_rule.specs.Hands.{IsReady, StaysReady};
-ghost use Rattle.validate_core.specs.Sets.{IsInside};
+ghost use Rattle.version_search.specs.Finding.{Finds};
+ghost use Rattle.validate_core.specs.Sets.{IsInside, Turn};
 ghost use Rattle.validate_core.specs.Validating.{Works, Stage, Stopped, Decides, IsShown};
 
 use crate::conflict::Conflict;
 use crate::sets::Sets;
 use core_rule::{Core, Hand, Keeps};
-use version_search::{find_again, find_to_check};
+use version_search::{Shown, find_again, find_to_check};
 
 /// The status of a pending version.
 const PENDING: u64 = 2;
@@ -119,6 +121,37 @@ fn check_writes<J: Keeps>(
     check_last(core, hand, sets, count - 1, stamp)
 }
 
+// Searches for the version that the write of this number overwrites. A pending one stops the transaction.
+fn find_overwritten<J: Keeps>(
+    core: &Core<J>,
+    hand: &mut Hand<J>,
+    sets: &Sets,
+    i: usize,
+    stamp: u64,
+) -> Result<Shown, Conflict>
+    requires ready { IsReady core.now hand.old }
+    requires inside { IsInside core.now.size sets.now }
+    requires number { i < length sets.now.writes }
+    requires stage { Stage stamp sets.now sets.now.reads sets.now.reads (take i sets.now.writes) hand.old.view }
+    ensures finds { IfOk result (λ shown. (u : Write) → Turn i sets.now.writes u → Finds (checks u) stamp u.record_number shown.place shown.wts shown.status hand.old.view hand.new.view) }
+    ensures not_pending { IfOk result (λ shown. shown.status ≢ 2) }
+    ensures place { IfOk result (λ shown. shown.place < places core.now.size) }
+    ensures works { OnErr result (Works hand.old.view hand.new.view) }
+    ensures stopped { OnErr result (Stopped sets.now hand.new.view) }
+    ensures conflict { IfErr result (IsShown stamp sets.now hand.old.view hand.new.view) }
+    ensures stays { StaysReady core.now hand.old hand.new }
+{
+    let write = sets.write_at(i);
+    let shown = find_to_check(core, hand, write, stamp);
+    if shown.status == PENDING {
+        return Err(Conflict::Pending {
+            rid: write.rid(),
+            wts: shown.wts,
+        });
+    }
+    Ok(shown)
+}
+
 // Checks the write of this number.
 fn check<J: Keeps>(
     core: &Core<J>,
@@ -138,13 +171,10 @@ fn check<J: Keeps>(
     ensures stays { StaysReady core.now hand.old hand.new }
 {
     let write = sets.write_at(i);
-    let shown = find_to_check(core, hand, write, stamp);
-    if shown.status == PENDING {
-        return Err(Conflict::Pending {
-            rid: write.rid(),
-            wts: shown.wts,
-        });
-    }
+    let shown = match find_overwritten(core, hand, sets, i, stamp) {
+        Ok(shown) => shown,
+        Err(conflict) => return Err(conflict),
+    };
     let rts = core.load_read_stamp(hand, shown.place);
     if rts > stamp {
         return Err(Conflict::ReadLater {
@@ -176,13 +206,10 @@ fn check_last<J: Keeps>(
     ensures stays { StaysReady core.now hand.old hand.new }
 {
     let write = sets.write_at(i);
-    let shown = find_to_check(core, hand, write, stamp);
-    if shown.status == PENDING {
-        return Err(Conflict::Pending {
-            rid: write.rid(),
-            wts: shown.wts,
-        });
-    }
+    let shown = match find_overwritten(core, hand, sets, i, stamp) {
+        Ok(shown) => shown,
+        Err(conflict) => return Err(conflict),
+    };
     let rts = core.decide_by_check(hand, shown.place);
     if rts > stamp {
         return Err(Conflict::ReadLater {

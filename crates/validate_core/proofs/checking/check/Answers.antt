@@ -9,89 +9,62 @@ use Rattle.validate_core.proofs.Staging.{pending_shown, found_stops, found_works
 use Rattle.validate_core.proofs.Works.{among_turn, works_step, ready_both, ready_over}
 use Rattle.validate_core.proofs.checking.check.Goals as goal
 
-pub find_to_check-shown-requires-clause-rid : goal.find_to_check-shown-requires-clause-rid
-find_to_check-shown-requires-clause-rid g c = (c.requires.inside.writes c.write_at-write.result.now (among_turn c.args.i c.args.sets.now.writes c.write_at-write.result.now c.write_at-write.ensures)).0
-
-pub find_to_check-shown-requires-clause-begins : goal.find_to_check-shown-requires-clause-begins
-find_to_check-shown-requires-clause-begins g c = check_begins c.args.stamp c.args.sets.now _ _ _ c.args.i c.write_at-write.result.now c.args.hand.now.view c.write_at-write.ensures c.requires.stage
-
-pub returns-then-shown-eq-PENDING-clause-conflict : goal.returns-then-shown-eq-PENDING-clause-conflict
-returns-then-shown-eq-PENDING-clause-conflict g c =
-    let u = c.write_at-write.result.now in let f = c.find_to_check-shown.result in
-    let t = pending_shown c.args.stamp c.args.sets.now (checks u) u.record_number f.place f.wts f.status c.args.hand.now.view c.find_to_check-shown.new.hand.view c.if-shown-eq-PENDING.true c.find_to_check-shown.ensures.finds in
-    subst (λ (r : ℕ). IsShown c.args.stamp c.args.sets.now c.args.hand.now.view c.find_to_check-shown.new.hand.view (Pending r f.wts)) (sym c.rid.ensures)
-    (t.0, t.1, inr record { write = u; among = among_turn c.args.i c.args.sets.now.writes u c.write_at-write.ensures; of_record = refl }, t.2)
-
 pub returns-then-rts-stamp-clause-works : goal.returns-then-rts-stamp-clause-works
 returns-then-rts-stamp-clause-works g c =
-    let u = c.write_at-write.result.now in let f = c.find_to_check-shown.result in let x = c.find_to_check-shown.new.hand in
-    passes_works c.args.stamp c.args.sets.now c.args.i u f.place f.wts f.status c.args.hand.now.view x.view c.find_to_check-shown.ensures.finds g.J.Keeps.kept x c.load_read_stamp-rts.new.hand c.load_read_stamp-rts.result refl c.load_read_stamp-rts.ensures
+    let u = c.write_at-write.result.now in let f = c.in-Ok.shown in let x = c.find_overwritten.new.hand in
+    passes_works c.args.stamp c.args.sets.now c.args.i u f.place f.wts f.status c.args.hand.now.view x.view (c.in-Ok.ensures.finds c.write_at-write.result.now c.write_at-write.ensures) g.J.Keeps.kept x c.load_read_stamp-rts.new.hand c.load_read_stamp-rts.result refl c.load_read_stamp-rts.ensures
 
 pub returns-then-rts-stamp-clause-conflict : goal.returns-then-rts-stamp-clause-conflict
 returns-then-rts-stamp-clause-conflict g c =
-    let u = c.write_at-write.result.now in let f = c.find_to_check-shown.result in let x = c.find_to_check-shown.new.hand in let y = c.load_read_stamp-rts.new.hand in let r = c.load_read_stamp-rts.result in
-    let e = c.load_read_stamp-rts.ensures.view in let found = c.find_to_check-shown.ensures.finds in
+    let u = c.write_at-write.result.now in let f = c.in-Ok.shown in let x = c.find_overwritten.new.hand in let y = c.load_read_stamp-rts.new.hand in let r = c.load_read_stamp-rts.result in
+    let e = c.load_read_stamp-rts.ensures.view in let found = (c.in-Ok.ensures.finds c.write_at-write.result.now c.write_at-write.ensures) in
     let sx = found_stage c.args.stamp c.args.sets.now c.args.i u f.place f.wts f.status c.args.hand.now.view x.view found c.requires.stage in
     let in_flight : stamp_in x.view.flight ≡ c.args.stamp = ap stamp_in sx.in_flight in
     let later = c.if-rts-stamp.true in
     let loads = ap (λ (v : View). v.seen.loads) e in
     let works = works_step x.view y.view _ _ _ e refl refl in
-    subst (λ (n : ℕ). IsShown c.args.stamp c.args.sets.now c.args.hand.now.view y.view (ReadLater n f.wts r)) (sym c.rid-then-rts-stamp.ensures)
-    (later_shown c.args.stamp c.args.sets.now c.args.i u f.place f.wts f.status r c.args.hand.now.view x.view y.view c.write_at-write.ensures found c.if-shown-eq-PENDING.false later works loads (c.load_read_stamp-rts.ensures.learnt (omega arith)))
+    subst (λ (n : ℕ). IsShown c.args.stamp c.args.sets.now c.args.hand.now.view y.view (ReadLater n f.wts r)) (sym c.rid.ensures)
+    (later_shown c.args.stamp c.args.sets.now c.args.i u f.place f.wts f.status r c.args.hand.now.view x.view y.view c.write_at-write.ensures found c.in-Ok.ensures.not_pending later works loads (c.load_read_stamp-rts.ensures.learnt (omega arith)))
 
 pub returns-clause-stage : goal.returns-clause-stage
 returns-clause-stage g c =
-    let u = c.write_at-write.result.now in let f = c.find_to_check-shown.result in let x = c.find_to_check-shown.new.hand in
+    let u = c.write_at-write.result.now in let f = c.in-Ok.shown in let x = c.find_overwritten.new.hand in
     let le : c.load_read_stamp-rts.result ≤ c.args.stamp = omega arith in
-    passes_stage c.args.stamp c.args.sets.now c.args.i u f.place f.wts f.status c.args.hand.now.view x.view c.find_to_check-shown.ensures.finds g.J.Keeps.kept x c.load_read_stamp-rts.new.hand c.load_read_stamp-rts.result refl c.load_read_stamp-rts.ensures
+    passes_stage c.args.stamp c.args.sets.now c.args.i u f.place f.wts f.status c.args.hand.now.view x.view (c.in-Ok.ensures.finds c.write_at-write.result.now c.write_at-write.ensures) g.J.Keeps.kept x c.load_read_stamp-rts.new.hand c.load_read_stamp-rts.result refl c.load_read_stamp-rts.ensures
     c.write_at-write.ensures c.requires.stage le
-
--- ---- the search ended at a version
-
-pub returns-then-shown-eq-PENDING-clause-works : goal.returns-then-shown-eq-PENDING-clause-works
-returns-then-shown-eq-PENDING-clause-works g c =
-    let u = c.write_at-write.result.now in let f = c.find_to_check-shown.result in
-    found_works (checks u) c.args.stamp u.record_number f.place f.wts f.status c.args.hand.now.view c.find_to_check-shown.new.hand.view c.find_to_check-shown.ensures.finds
-
-pub returns-then-shown-eq-PENDING-clause-stopped : goal.returns-then-shown-eq-PENDING-clause-stopped
-returns-then-shown-eq-PENDING-clause-stopped g c =
-    let u = c.write_at-write.result.now in let f = c.find_to_check-shown.result in
-    found_stops c.args.stamp c.args.sets.now _ _ _ (checks u) c.args.stamp u.record_number f.place f.wts f.status c.args.hand.now.view c.find_to_check-shown.new.hand.view tt c.requires.stage c.find_to_check-shown.ensures.finds
 
 pub load_read_stamp-rts-requires-clause-here : goal.load_read_stamp-rts-requires-clause-here
 load_read_stamp-rts-requires-clause-here g c =
-    let f = c.find_to_check-shown.result in
-    found_at c.args.stamp c.args.sets.now c.args.i c.write_at-write.result.now f.place f.wts f.status c.args.hand.now.view c.find_to_check-shown.new.hand.view c.find_to_check-shown.ensures.finds
+    let f = c.in-Ok.shown in
+    found_at c.args.stamp c.args.sets.now c.args.i c.write_at-write.result.now f.place f.wts f.status c.args.hand.now.view c.find_overwritten.new.hand.view (c.in-Ok.ensures.finds c.write_at-write.result.now c.write_at-write.ensures)
 
 pub load_read_stamp-rts-requires-clause-seen : goal.load_read_stamp-rts-requires-clause-seen
 load_read_stamp-rts-requires-clause-seen g c =
-    let f = c.find_to_check-shown.result in
-    found_look c.args.stamp c.args.sets.now c.args.i c.write_at-write.result.now f.place f.wts f.status c.args.hand.now.view c.find_to_check-shown.new.hand.view c.find_to_check-shown.ensures.finds
+    let f = c.in-Ok.shown in
+    found_look c.args.stamp c.args.sets.now c.args.i c.write_at-write.result.now f.place f.wts f.status c.args.hand.now.view c.find_overwritten.new.hand.view (c.in-Ok.ensures.finds c.write_at-write.result.now c.write_at-write.ensures)
 
 pub load_read_stamp-rts-requires-clause-last : goal.load_read_stamp-rts-requires-clause-last
 load_read_stamp-rts-requires-clause-last g c =
-    let f = c.find_to_check-shown.result in
-    found_final c.args.stamp c.args.sets.now c.args.i c.write_at-write.result.now f.place f.wts f.status c.args.hand.now.view c.find_to_check-shown.new.hand.view c.find_to_check-shown.ensures.finds c.if-shown-eq-PENDING.false
+    let f = c.in-Ok.shown in
+    found_final c.args.stamp c.args.sets.now c.args.i c.write_at-write.result.now f.place f.wts f.status c.args.hand.now.view c.find_overwritten.new.hand.view (c.in-Ok.ensures.finds c.write_at-write.result.now c.write_at-write.ensures) c.in-Ok.ensures.not_pending
 
 pub load_read_stamp-rts-requires-clause-aim : goal.load_read_stamp-rts-requires-clause-aim
 load_read_stamp-rts-requires-clause-aim g c =
-    let f = c.find_to_check-shown.result in
-    found_aim c.args.stamp c.args.sets.now c.args.i c.write_at-write.result.now f.place f.wts f.status c.args.hand.now.view c.find_to_check-shown.new.hand.view c.find_to_check-shown.ensures.finds
-
--- ---- its read stamp was loaded
+    let f = c.in-Ok.shown in
+    found_aim c.args.stamp c.args.sets.now c.args.i c.write_at-write.result.now f.place f.wts f.status c.args.hand.now.view c.find_overwritten.new.hand.view (c.in-Ok.ensures.finds c.write_at-write.result.now c.write_at-write.ensures)
 
 pub returns-then-rts-stamp-clause-stopped : goal.returns-then-rts-stamp-clause-stopped
 returns-then-rts-stamp-clause-stopped g c =
-    let u = c.write_at-write.result.now in let f = c.find_to_check-shown.result in let x = c.find_to_check-shown.new.hand in
+    let u = c.write_at-write.result.now in let f = c.in-Ok.shown in let x = c.find_overwritten.new.hand in
     load_stops g.J.Keeps.kept c.args.stamp c.args.sets.now _ x c.load_read_stamp-rts.new.hand c.load_read_stamp-rts.result
-    (found_stage c.args.stamp c.args.sets.now c.args.i u f.place f.wts f.status c.args.hand.now.view x.view c.find_to_check-shown.ensures.finds c.requires.stage) _ _ _ _ c.load_read_stamp-rts.ensures
+    (found_stage c.args.stamp c.args.sets.now c.args.i u f.place f.wts f.status c.args.hand.now.view x.view (c.in-Ok.ensures.finds c.write_at-write.result.now c.write_at-write.ensures) c.requires.stage) _ _ _ _ c.load_read_stamp-rts.ensures
 
 pub returns-then-rts-stamp-clause-stays : goal.returns-then-rts-stamp-clause-stays
 returns-then-rts-stamp-clause-stays g c =
-    let x = c.find_to_check-shown.new.hand in let stays = c.find_to_check-shown.ensures.stays in let step = c.load_read_stamp-rts.ensures in
+    let x = c.find_overwritten.new.hand in let stays = c.find_overwritten.ensures.stays in let step = c.load_read_stamp-rts.ensures in
     ready_both c.args.core.now c.args.hand.now x c.load_read_stamp-rts.new.hand stays (ready_over c.args.core.now x c.load_read_stamp-rts.new.hand _ step.view refl refl refl stays.ready step.seat)
 
 pub returns-clause-stays : goal.returns-clause-stays
 returns-clause-stays g c =
-    let x = c.find_to_check-shown.new.hand in let stays = c.find_to_check-shown.ensures.stays in let step = c.load_read_stamp-rts.ensures in
+    let x = c.find_overwritten.new.hand in let stays = c.find_overwritten.ensures.stays in let step = c.load_read_stamp-rts.ensures in
     ready_both c.args.core.now c.args.hand.now x c.load_read_stamp-rts.new.hand stays (ready_over c.args.core.now x c.load_read_stamp-rts.new.hand _ step.view refl refl refl stays.ready step.seat)

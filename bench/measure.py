@@ -74,8 +74,8 @@ def transfers(draw):
 
 
 def contended(draw):
-    """64 rows; 16,384 transfers in 4 lanes."""
-    return text(rows(64), dealt([transfer(draw, 64) for _ in range(16384)], 4))
+    """64 rows; 16,384 transfers in 4 lanes, of which some are refused."""
+    return text(rows(64, 10_000), dealt([transfer(draw, 64) for _ in range(16384)], 4))
 
 
 def gets(draw):
@@ -283,6 +283,17 @@ def count(them, path, folder):
             print(line, flush=True)
 
 
+def example(turns, callgrind):
+    """The example of a caller of the engine, where it is built: 800 transfers by four threads. Most of its time is its start."""
+    path = os.path.join(top, "crates/ledger_example/out/ledger_example")
+    if not os.access(path, os.X_OK):
+        say("The example of a caller is left out: `rt run` in crates/ledger_example proves and builds it.")
+        return
+    walls, cpus, _ = zip(*(run([path], os.devnull) for _ in range(turns)))
+    line = f"\nledger_example: {spread(walls)} ms of wall time, {spread(cpus)} ms of processor time"
+    print(line + (f", {instructions([path], os.devnull) / 800:.0f} instructions a transfer" if callgrind else ""))
+
+
 def arguments():
     names = ", ".join(workload.__name__ for workload in workloads)
     words = argparse.ArgumentParser(description="Measures the built program beside SQLite, LMDB and a mutex round ordered maps.")
@@ -318,6 +329,8 @@ def main():
             if callgrind:
                 aside(lambda: count(them, path, folder))
             sys.stdout.flush()
+        if not asked.only:
+            example(asked.repeat, callgrind)
         print(f"\nload average at the end {os.getloadavg()[0]:.2f}")
 
 

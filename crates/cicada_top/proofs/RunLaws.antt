@@ -12,7 +12,7 @@ use Rattle.replay_model.specs.Report.{report, blocks_text, tables_text, line}
 use Rattle.replay_model.specs.TableMap.{TableMap, Row}
 use Rattle.replay_model.proofs.AnswerLaws.{all_answered}
 use Rattle.txn_engine.specs.Pass.{PassView}
-use Rattle.input_runner.specs.Listing.{AreRows}
+use Rattle.typed_tables.specs.Listing.{AreRows}
 use Rattle.input_runner.specs.Ran.{IsRunOf, order_of, outcomes_of}
 use Rattle.cicada_top.specs.Ending.{IsHistoryOf}
 

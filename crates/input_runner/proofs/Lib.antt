@@ -1,6 +1,3 @@
-pub mod Rising
-pub mod Pages
-pub mod Looked
 pub mod Texts
 pub mod Sought
 mod Counts

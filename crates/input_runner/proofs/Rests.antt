@@ -24,7 +24,7 @@ use Rattle.lane_runner.specs.Room.{HasRoom, clock_after}
 use Rattle.lane_runner.specs.Loading.{rows_add}
 use Rattle.lane_runner.specs.Weighs.{blocks_add}
 use Rattle.lane_runner.specs.Whole.{blocks_of, loaded_rows, AreShared, HasRun, CanFinish, RunsCanFinish, RunsBecomeWhole, RunsWhole, ComesBehind}
-use Rattle.input_runner.specs.Listing.{AreRows}
+use Rattle.typed_tables.specs.Listing.{AreRows}
 use Rattle.input_runner.specs.Reading.{AddsSnapshot}
 use Rattle.input_runner.specs.Running.{IsFor, HasRunLanes, HasRunAll, loading_draws, lanes_draws}
 use Rattle.input_runner.specs.Sizes.{SizesAreEnough, records_of_run, spare_of_run, fixed_of_run, rows_of_run, entries_of_run}

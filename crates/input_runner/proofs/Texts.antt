@@ -16,7 +16,7 @@ use Rattle.replay_model.specs.Answered.{HasAnswers, AllAnswered}
 use Rattle.replay_model.specs.Replay.{block_named}
 use Rattle.replay_model.specs.Report.{block_text, blocks_text, columns_of, table_text, tables_text}
 use Rattle.replay_model.specs.TableMap.{TableMap, Row, pairs_of}
-use Rattle.input_runner.specs.Listing.{AreRows}
+use Rattle.typed_tables.specs.Listing.{AreRows}
 use Rattle.input_runner.specs.Printing.{results_text, listed_text}
 
 abbrev Results : Type 0

@@ -1,4 +1,3 @@
-pub mod Listing
 pub mod Printing
 pub mod Reading
 pub mod Sizes

@@ -9,7 +9,7 @@ use Rattle.histories.specs.History.{Lawful}
 use Rattle.history_replay.specs.Results.{StandsForSome, IsReplayed}
 use Rattle.txn_engine.specs.Pass.{PassView}
 use Rattle.lane_runner.specs.Rows.{stands}
-use Rattle.input_runner.specs.Listing.{AreRows}
+use Rattle.typed_tables.specs.Listing.{AreRows}
 
 -- the order of results, and their outcomes
 abbrev pub order_of : List (Placed × Outcome) → List Placed

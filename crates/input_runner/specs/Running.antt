@@ -17,7 +17,7 @@ use Rattle.lane_runner.specs.Rows.{stands}
 use Rattle.lane_runner.specs.Loading.{Loads}
 use Rattle.lane_runner.specs.All.{all_draws}
 use Rattle.lane_runner.specs.Whole.{HasRun, RunsWhole}
-use Rattle.input_runner.specs.Listing.{AreRows}
+use Rattle.typed_tables.specs.Listing.{AreRows}
 use Rattle.input_runner.specs.Sizes.{records_of_run, spare_of_run, fixed_of_run}
 
 -- an engine has the sizes of a run of the input

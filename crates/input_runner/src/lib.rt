@@ -3,14 +3,12 @@
 #![tactic(auto)]
 
 mod copying;
-mod listing;
 mod printing;
 mod reading;
 mod running;
 mod sizes;
 
 pub use copying::copy_lanes;
-pub use listing::list_tables;
 pub use printing::{report_of, summary_of};
 pub use reading::read_tables;
 pub use running::{Ran, run_input};

@@ -8,7 +8,7 @@ ghost use Rattle.replay_model.specs.Report.{blocks_text, tables_text, line};
 ghost use Rattle.replay_model.specs.TableMap.{TableMap};
 ghost use Rattle.load_gen.specs.Load.{spelled};
 ghost use Rattle.load_gen.specs.Summary.{summary_lines};
-ghost use Rattle.input_runner.specs.Listing.{AreRows};
+ghost use Rattle.typed_tables.specs.Listing.{AreRows};
 ghost use Rattle.input_runner.specs.Printing.{results_text, listed_text};
 
 use load_gen::summary_of_rows;

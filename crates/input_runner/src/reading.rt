@@ -7,16 +7,16 @@ ghost use Rattle.record_store.specs.Walks.{IfTorn};
 ghost use Rattle.replay_model.specs.TableMap.{TableMap};
 ghost use Rattle.stamp_base.specs.Limits.{greatest_clock};
 ghost use Rattle.txn_engine.specs.Pass.{IsIdle};
-ghost use Rattle.input_runner.specs.Listing.{AreRows};
+ghost use Rattle.typed_tables.specs.Listing.{AreRows};
 ghost use Rattle.input_runner.specs.Reading.{AddsSnapshot, clock_read};
 ghost use Rattle.lane_runner.specs.Rows.{stands};
 
-use crate::listing::list_tables;
 use histories::lawful_has_states;
 use replay_model::{NoMemory, Pairs};
 use std::alloc::Global;
 use stored_tables::{RowsLawful, Walk, fits_records, keeps_tables};
 use txn_engine::{Alone, Engine, NoFault};
+use typed_tables::list_tables;
 
 /// Reads the rows of the first tables, so many of them, as the log leaves them: by one snapshot behind all transactions. The log is
 /// told to be lawful with it. Want of memory leaves the entry of the snapshot too.
@@ -44,7 +44,7 @@ pub fn read_tables(
         unreachable!();
     };
     let mut snapshot = alone.snapshot(engine);
-    let told = list_tables(&mut snapshot, alloc, count);
+    let told = list_tables(alloc, &mut snapshot, count);
     snapshot.finish();
     alone.tell(engine);
     // A kept state agrees with what was read, so the tables are not torn.

@@ -1,85 +1,96 @@
-//! Accounts in the records of a store: the first cell of a record is the balance of the account of its number.
-ghost use Rattle.std.specs.Prelude.{◌≡◌};
+//! Accounts as rows of one table: at the key of an account stand its owner and its balance.
+ghost use Rattle.std.specs.Prelude.{◌≡◌, ◌≤◌};
 
-use plain_data::Cells;
 use record_store::{RecordRead, RecordStore};
+use std::alloc::Global;
+use typed_tables::{Account, TypedFault, typed_get, typed_put, typed_scan};
 
-// The balance of an account; none where the store has no such record or refuses to read it.
-fn balance<F: Drop, S: RecordRead<Fault = F>>(store: &mut S, account: u32) -> Option<u64>
-    ensures { S.rest store.new ≡ S.rest store.old }
-{
-    if account >= store.size() {
-        return None;
-    }
-    match store.read(account) {
-        Ok(Some(cells)) => Some(cells.words()[0]),
-        Ok(None) => Some(0),
-        Err(_) => None,
-    }
-}
+// The table that has the accounts.
+const ACCOUNTS: u32 = 0;
 
-// Sets it; whether the store has such a record and did not refuse.
-fn set_balance<F: Drop, S: RecordStore<Fault = F>>(store: &mut S, account: u32, sum: u64) -> bool
-    ensures { S.rest store.new ≡ S.rest store.old }
-{
-    if account >= store.size() {
-        return false;
-    }
-    let mut words = [0; 32];
-    words[0] = sum;
-    store.write(account, Some(Cells::new(words))).is_ok()
-}
-
-/// From which account how much goes to which.
+/// From which account how much goes to which, each by its key.
 #[derive(Clone, Copy, Drop)]
 pub struct Transfer {
-    pub from: u32,
-    pub to: u32,
+    pub from: u64,
+    pub to: u64,
     pub amount: u64,
 }
 
-/// Moves the amount, or what the account has where that is less. Whether it did: no read or write was refused, and the other account can
-/// hold the sum.
-pub fn make_transfer<F: Drop, S: RecordStore<Fault = F>>(store: &mut S, transfer: Transfer) -> bool
+/// Moves the amount, or what the account has where that is less. Whether it did: both accounts are there, and the other one can hold the
+/// sum.
+pub fn make_transfer<S: RecordStore>(
+    alloc: Global,
+    store: &mut S,
+    transfer: Transfer,
+) -> Result<bool, TypedFault<S::Fault>>
+    requires size { 4112 ≤ (S.meaning store.old).size }
+    requires fixed { 4112 ≤ (S.meaning store.old).fixed }
     ensures { S.rest store.new ≡ S.rest store.old }
 {
     let Transfer { from, to, amount } = transfer;
-    let Some(has) = balance(store, from) else {
-        return false;
+    let Some(payer) = typed_get::<Account, S>(store, ACCOUNTS, from)? else {
+        return Ok(false);
     };
-    let Some(other) = balance(store, to) else {
-        return false;
+    let Some(payee) = typed_get::<Account, S>(store, ACCOUNTS, to)? else {
+        return Ok(false);
     };
-    let moved = amount.min(has);
-    let Some(sum) = other.checked_add(moved) else {
-        return false;
+    let moved = amount.min(payer.balance);
+    let Some(sum) = payee.balance.checked_add(moved) else {
+        return Ok(false);
     };
-    from == to || set_balance(store, from, has - moved) && set_balance(store, to, sum)
+    if from != to {
+        set_balance(alloc, store, from, payer, payer.balance - moved)?;
+        set_balance(alloc, store, to, payee, sum)?;
+    }
+    Ok(true)
 }
 
-/// Gives each account this balance; whether the store did not refuse.
-pub fn open_all<F: Drop, S: RecordStore<Fault = F>>(
+// Sets the balance of an account, whose owner stays.
+fn set_balance<S: RecordStore>(
+    alloc: Global,
+    store: &mut S,
+    key: u64,
+    account: Account,
+    balance: u64,
+) -> Result<(), TypedFault<S::Fault>>
+    requires { 4112 ≤ (S.meaning store.old).fixed }
+    ensures fixed { (S.meaning store.new).fixed ≡ (S.meaning store.old).fixed }
+    ensures rest { S.rest store.new ≡ S.rest store.old }
+{
+    typed_put(alloc, store, ACCOUNTS, key, &Account { balance, ..account })
+}
+
+/// Opens an account with this balance for each of the first owners, so many of them; an owner's number is the key.
+pub fn open_all<S: RecordStore>(
+    alloc: Global,
+    store: &mut S,
+    owners: u32,
+    balance: u64,
+) -> Result<(), TypedFault<S::Fault>>
+    requires { 4112 ≤ (S.meaning store.old).fixed }
+    ensures { S.rest store.new ≡ S.rest store.old }
+{
+    for owner in 0..owners {
+        let account = Account { owner, balance };
+        set_balance(alloc, store, u64::from(owner), account, balance)?;
+    }
+    Ok(())
+}
+
+/// What the first accounts have together, so many of them, modulo 2^64.
+pub fn add_up<S: RecordRead>(
+    alloc: Global,
     store: &mut S,
     accounts: u32,
-    first: u64,
-) -> bool
+) -> Result<u64, TypedFault<S::Fault>>
+    requires { 4112 ≤ (S.meaning store.old).size }
     ensures { S.rest store.new ≡ S.rest store.old }
 {
-    for account in 0..accounts {
-        if !set_balance(store, account, first) {
-            return false;
-        }
-    }
-    true
-}
-
-/// What all accounts have together, modulo 2^64; none where one is not read.
-pub fn add_up<F: Drop, S: RecordRead<Fault = F>>(store: &mut S, accounts: u32) -> Option<u64>
-    ensures { S.rest store.new ≡ S.rest store.old }
-{
+    let mut rows: Vec<(u64, Account)> = Vec::new(alloc);
+    typed_scan(alloc, store, ACCOUNTS, 0, u64::MAX, accounts, &mut rows)?;
     let mut sum = 0u64;
-    for account in 0..accounts {
-        sum = sum.wrapping_add(balance(store, account)?);
+    for (_, account) in rows.as_slice() {
+        sum = sum.wrapping_add(account.balance);
     }
-    Some(sum)
+    Ok(sum)
 }

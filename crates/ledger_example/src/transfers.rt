@@ -1,10 +1,12 @@
 //! Transactions of a ledger.
 ghost use Rattle.std.specs.Prelude.{◌≡◌, All};
+ghost use Rattle.ledger_example.specs.Tables.{HoldsTables};
 ghost use Rattle.txn_engine.specs.Pass.{IsIdleOf};
 
 use crate::accounts::{Transfer, add_up, make_transfer, open_all};
 use crate::{ACCOUNTS, FIRST};
 use histories::AnyState;
+use std::alloc::Global;
 use std::thread::{Threads, for_each_mut};
 use txn_engine::{Alone, Engine, Pass};
 
@@ -14,56 +16,59 @@ const TRANSFERS: u32 = 200;
 const MOST_TRIES: u32 = 1_000;
 
 /// Opens all accounts in one transaction of the seat that is alone; whether it committed.
-pub fn fill(engine: &Engine<AnyState>, alone: &mut Alone<AnyState>) -> bool
-    requires { IsIdleOf engine.now alone.old.pass }
+pub fn fill(alloc: Global, engine: &Engine<AnyState>, alone: &mut Alone<AnyState>) -> bool
+    requires seat { IsIdleOf engine.now alone.old.pass }
+    requires tables { HoldsTables engine.now }
     ensures seat { IsIdleOf engine.now alone.new.pass }
     ensures shared { alone.new.shared ≡ alone.old.shared }
 {
     let Ok(mut txn) = alone.begin(engine, 0) else {
         return false;
     };
-    if open_all(&mut txn, ACCOUNTS, FIRST) {
-        txn.commit().is_ok()
-    } else {
+    if open_all(alloc, &mut txn, ACCOUNTS, FIRST).is_err() {
         txn.abort();
-        false
+        return false;
     }
+    txn.commit().is_ok()
 }
 
 // Makes a transfer in one transaction; whether it committed.
 fn try_once(
+    alloc: Global,
     engine: &Engine<AnyState>,
     pass: &mut Pass<AnyState>,
     moved: Transfer,
     reading: u64,
 ) -> bool
-    requires { IsIdleOf engine.now pass.old }
+    requires seat { IsIdleOf engine.now pass.old }
+    requires tables { HoldsTables engine.now }
     ensures { IsIdleOf engine.now pass.new }
 {
     let Ok(mut txn) = pass.begin(engine, reading) else {
         return false;
     };
-    if make_transfer(&mut txn, moved) {
-        txn.commit().is_ok()
-    } else {
-        txn.abort();
-        false
+    if let Ok(true) = make_transfer(alloc, &mut txn, moved) {
+        return txn.commit().is_ok();
     }
+    txn.abort();
+    false
 }
 
 // Tries a transfer again until it commits, so often at most: after a conflict, and where no place is left, nothing has changed. Whether
 // it committed.
 fn try_until(
+    alloc: Global,
     engine: &Engine<AnyState>,
     pass: &mut Pass<AnyState>,
     moved: Transfer,
     reading: u64,
 ) -> bool
-    requires { IsIdleOf engine.now pass.old }
+    requires seat { IsIdleOf engine.now pass.old }
+    requires tables { HoldsTables engine.now }
     ensures { IsIdleOf engine.now pass.new }
 {
     for _ in 0..MOST_TRIES {
-        if try_once(engine, pass, moved, reading) {
+        if try_once(alloc, engine, pass, moved, reading) {
             return true;
         }
         pass.collect(engine);
@@ -72,18 +77,19 @@ fn try_until(
 }
 
 // The transfers of one thread. Each takes back the versions that no reader can reach any more.
-fn work(engine: &Engine<AnyState>, pass: &mut Pass<AnyState>)
-    requires { IsIdleOf engine.now pass.old }
+fn work(alloc: Global, engine: &Engine<AnyState>, pass: &mut Pass<AnyState>)
+    requires seat { IsIdleOf engine.now pass.old }
+    requires tables { HoldsTables engine.now }
     ensures { IsIdleOf engine.now pass.new }
 {
     let first = pass.seat();
     for turn in 0..TRANSFERS {
         let moved = Transfer {
-            from: first.wrapping_add(turn) % ACCOUNTS,
-            to: first.wrapping_mul(3).wrapping_add(turn / 2) % ACCOUNTS,
+            from: u64::from(first.wrapping_add(turn) % ACCOUNTS),
+            to: u64::from(first.wrapping_mul(3).wrapping_add(turn / 2) % ACCOUNTS),
             amount: 1 + u64::from(turn % 7),
         };
-        try_until(engine, pass, moved, u64::from(turn));
+        try_until(alloc, engine, pass, moved, u64::from(turn));
         pass.collect(engine);
     }
 }
@@ -91,10 +97,12 @@ fn work(engine: &Engine<AnyState>, pass: &mut Pass<AnyState>)
 /// Each pass makes its transfers in a thread of its own.
 pub fn run_all<R: Threads + Sync>(
     rt: &R,
+    alloc: Global,
     engine: &Engine<AnyState>,
     passes: &mut Vec<Pass<AnyState>>,
 )
-    requires { All (IsIdleOf engine.now) passes.old.items }
+    requires seats { All (IsIdleOf engine.now) passes.old.items }
+    requires tables { HoldsTables engine.now }
     ensures { All (IsIdleOf engine.now) passes.new.items }
 {
     for_each_mut(
@@ -102,22 +110,28 @@ pub fn run_all<R: Threads + Sync>(
         passes.as_mut_slice(),
         4,
         &|_i: usize, pass: &mut Pass<AnyState>|
-            requires { IsIdleOf engine.now pass.old }
+            requires seat { IsIdleOf engine.now pass.old }
+            requires tables { HoldsTables engine.now }
             ensures { IsIdleOf engine.entry.now pass.new }
         {
-            work(engine, pass);
+            work(alloc, engine, pass);
         },
     );
 }
 
 /// What all accounts have, by a snapshot of the last pass, which is taken off the list; none where there is no pass. Whatever the stamp of
 /// the snapshot, each state that it may see has all of a transfer or nothing.
-pub fn sum(engine: &Engine<AnyState>, passes: &mut Vec<Pass<AnyState>>) -> Option<u64>
-    requires { All (IsIdleOf engine.now) passes.old.items }
+pub fn sum(
+    alloc: Global,
+    engine: &Engine<AnyState>,
+    passes: &mut Vec<Pass<AnyState>>,
+) -> Option<u64>
+    requires seats { All (IsIdleOf engine.now) passes.old.items }
+    requires tables { HoldsTables engine.now }
 {
     let mut pass = passes.pop()?;
     let mut snapshot = pass.snapshot(engine);
-    let sum = add_up(&mut snapshot, ACCOUNTS);
+    let sum = add_up(alloc, &mut snapshot, ACCOUNTS);
     snapshot.finish();
-    sum
+    sum.ok()
 }

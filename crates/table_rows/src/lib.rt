@@ -29,6 +29,8 @@ mod store;
 #[cfg(test)]
 mod tree;
 #[cfg(test)]
+mod typed;
+#[cfg(test)]
 mod words;
 #[cfg(test)]
 mod worked;

@@ -1,12 +1,12 @@
 -- What typed calls hand on of the walks under them, told in other words.
-use Rattle.std.proofs.Common.{◌≡◌, ℕ, Bool, true, false, List, ◌++◌, map, Option, None, Some, Result, Ok, Err, refl, sym, ap, subst, ◌∙◌}
+use Rattle.std.proofs.Common.{◌≡◌, ℕ, Bool, true, false, List, ◌++◌, map, Option, Some, Result, Ok, Err, sym, ap, subst, ◌∙◌}
 use Rattle.std.specs.Prelude.{IsErrAnd, OnOk}
 use Rattle.plain_data.specs.State.{State, Agrees}
 use Rattle.record_store.specs.Meaning.{Meaning}
 use Rattle.record_store.specs.Walks.{IfTorn, IfStore}
 use Rattle.record_store.specs.declared.walk.Walk.{Walk as Walked}
 use Rattle.record_store.proofs.Refusals.{IfTorn-map, IfStore-map, torn_moved}
-use Rattle.replay_model.specs.TableMap.{TableMap, Row, with_value}
+use Rattle.replay_model.specs.TableMap.{Row}
 use Rattle.stored_tables.specs.Answers.{Held, IsScanned, Stands}
 use Rattle.stored_tables.specs.OneRow.{SetsRow, TakesRow}
 use Rattle.stored_tables.specs.Runs.{Each}

@@ -1,5 +1,5 @@
 -- Typed tables: the rows of a table as values of a type of one's own.
-use Rattle.std.specs.Prelude.{◌≡◌, ℕ, Bool, true, false, List, [], ◌∷◌, ◌++◌, map, filter, take, All, Option, None, Some, IsSome, Result, Ok, Err, ⊤}
+use Rattle.std.specs.Prelude.{◌≡◌, ℕ, Bool, true, false, List, ◌∷◌, ◌++◌, map, filter, take, All, Option, None, Some, IsSome, Result, Ok, Err, ⊤}
 use Rattle.std.specs.Ordering.{nat_cmp}
 use Rattle.std.specs.FinMap.{FinMap, entries, from_entries, insert}
 use Rattle.plain_data.specs.State.{State, overlay}

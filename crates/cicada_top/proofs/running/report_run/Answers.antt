@@ -5,7 +5,7 @@ use Rattle.replay_model.specs.Answered.{AllAnswered}
 use Rattle.replay_model.specs.Replay.{NamesBlock}
 use Rattle.replay_model.specs.Report.{report, blocks_text, tables_text, line}
 use Rattle.replay_model.specs.TableMap.{Row}
-use Rattle.input_runner.specs.Listing.{AreRows}
+use Rattle.typed_tables.specs.Listing.{AreRows}
 use Rattle.input_runner.specs.Ran.{order_of, outcomes_of}
 use Rattle.cicada_top.proofs.RunLaws.{all_named, answers_are, rows_each, is_report, is_history}
 use Rattle.cicada_top.proofs.running.report_run.Goals as goal

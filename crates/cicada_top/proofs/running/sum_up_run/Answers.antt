@@ -4,7 +4,7 @@ use Rattle.load_gen.specs.Summary.{summary_lines}
 use Rattle.replay_model.specs.declared.outcome.Placed.{Placed}
 use Rattle.replay_model.specs.Replay.{last_tables}
 use Rattle.replay_model.specs.TableMap.{Row}
-use Rattle.input_runner.specs.Listing.{AreRows}
+use Rattle.typed_tables.specs.Listing.{AreRows}
 use Rattle.input_runner.specs.Ran.{order_of}
 use Rattle.cicada_top.proofs.RunLaws.{is_history}
 use Rattle.cicada_top.proofs.running.sum_up_run.Goals as goal

@@ -9,7 +9,7 @@ use Rattle.stored_tables.proofs.Runs.{IfOk-map, ok_of}
 use Rattle.txn_engine.specs.Alone.{AloneView, AloneGlanceRest}
 use Rattle.txn_engine.specs.Pass.{next_clock}
 use Rattle.txn_engine.specs.Snapshot.{meaning_of_glance}
-use Rattle.input_runner.specs.Listing.{AreRows}
+use Rattle.typed_tables.specs.Listing.{AreRows}
 use Rattle.lane_runner.specs.Rows.{stands}
 use Rattle.input_runner.proofs.Sought.{Sought, sought, finished_pass, told_of, not_torn, never_torn, each_told, left_agrees, clock_later, clock_drawn}
 use Rattle.input_runner.proofs.reading.read_tables.Goals as goal

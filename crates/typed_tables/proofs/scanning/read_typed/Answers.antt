@@ -2,7 +2,7 @@ use Rattle.std.proofs.Common.{◌≡◌, ◌<◌, ℕ, List, length, get_or, ap,
 use Rattle.std.proofs.lemmas.List.{take_all}
 use Rattle.replay_model.specs.TableMap.{Row}
 use Rattle.typed_tables.specs.Typed.{AllTyped}
-use Rattle.typed_tables.proofs.Scans.{typed_more, first_foreign}
+use Rattle.typed_tables.proofs.Scans.{first_foreign}
 use Rattle.typed_tables.proofs.scanning.read_typed.Goals as goal
 
 pub returns-in_default-clause-foreign : goal.returns-in_default-clause-foreign

@@ -1,54 +1,51 @@
 //! The rows of tables in a store, read page by page.
 
-ghost use Rattle.std.specs.Prelude.{◌≡◌, ◌⊎◌, ℕ, ◌+◌, ◌-◌, ◌^◌, ◌<◌, ◌≤◌, List, [], ◌∷◌, length, IfOk, IsNone, IfSome, Some};
-ghost use Rattle.plain_data.specs.State.{State};
+ghost use Rattle.std.specs.Prelude.{◌≡◌, ◌⊎◌, ◌+◌, ◌-◌, ◌^◌, ◌<◌, ◌≤◌, length, IfOk, IsNone, IfSome};
 ghost use Rattle.record_store.specs.Calls.{Reads, ReadFault};
 ghost use Rattle.record_store.specs.Walks.{IfTorn, IfStore, OnlyReads};
-ghost use Rattle.replay_model.specs.TableMap.{Row};
-ghost use Rattle.replay_model.specs.declared.outcome.Answer.TheVariants.{Pairs};
-ghost use Rattle.replay_model.specs.declared.outcome.Outcome.TheVariants.{Done};
 ghost use Rattle.stored_tables.specs.Answers.{IsScanned, Stands};
 ghost use Rattle.stored_tables.specs.Runs.{Looks};
 ghost use Rattle.stored_tables.specs.Tables.{EachTables};
-ghost use Rattle.input_runner.specs.Listing.{AreRows, AreListed, IsListed, last_key};
+ghost use Rattle.typed_tables.specs.Listing.{AreListed, AreRows, IsListed, last_key};
 
-use record_store::RecordRead;
-use replay_model::{Answer, Command, Commands, Outcome, Pairs, Sequence};
+use crate::fault::TypedFault;
+use crate::scanning::typed_scan;
+use record_store::{RecordRead, Walk};
+use replay_model::{Columns, Pairs, Sequence};
 use std::alloc::Global;
-use stored_tables::{Walk, exec_snap};
 
-/// The most rows that one command lists.
+/// How many rows a page has, but the last of a table, which has fewer.
 const PAGE: usize = 256;
 
-/// The rows of each of the first tables, so many of them, by rising key. What was read may have grown after a fault.
-///
-/// `NoMemory` comes of the room for rows alone.
+/// The rows of each of the first tables, so many of them, by rising key. Nothing is written. What was read may have grown after a fault.
 pub fn list_tables<S: RecordRead>(
-    store: &mut S,
     alloc: Global,
+    store: &mut S,
     count: u32,
 ) -> Result<Vec<Pairs>, Walk<S::Fault>>
     requires count { count ≤ 8 }
     requires size { 4112 ≤ (S.meaning store.old).size }
     ensures rows { IfOk result (λ rows. EachTables (S.meaning store.old) (S.meaning store.new) (λ _ _ tables. AreRows count tables rows.items)) }
+    ensures count { IfOk result (λ rows. length rows.items ≡ count) }
     ensures torn { IfTorn result (λ _. EachTables (S.meaning store.old) (S.meaning store.new) (λ _ _ _. ⊥)) }
     ensures fault { IfStore result (ReadFault S.read_gives store.old store.new) }
     ensures calls { Reads S.read_gives store.old store.new }
     ensures after { OnlyReads (S.meaning store.old) (S.meaning store.new) }
     ensures rest { S.rest store.new ≡ S.rest store.old }
 {
-    list_first(store, alloc, count)
+    list_first(alloc, store, count)
 }
 
 /// The rows of each of the first tables.
 fn list_first<S: RecordRead>(
-    store: &mut S,
     alloc: Global,
+    store: &mut S,
     count: u32,
 ) -> Result<Vec<Pairs>, Walk<S::Fault>>
     requires count { count ≤ 8 }
     requires size { 4112 ≤ (S.meaning store.old).size }
     ensures looks { Looks S.read_gives S.meaning (Stands (S.meaning store.old)) (λ rows. AreListed count rows.items) store.old store.new result }
+    ensures count { IfOk result (λ rows. length rows.items ≡ count) }
     ensures rest { S.rest store.new ≡ S.rest store.old }
 {
     let mut rows = Vec::new(alloc);
@@ -56,7 +53,7 @@ fn list_first<S: RecordRead>(
         return Err(Walk::NoMemory);
     }
     for table in 0..count {
-        let pairs = list_table(store, alloc, table)?;
+        let pairs = list_table(alloc, store, table)?;
         if rows.push(pairs).is_err() {
             return Err(Walk::NoMemory);
         }
@@ -66,8 +63,8 @@ fn list_first<S: RecordRead>(
 
 /// All rows of a table, by rising key.
 fn list_table<S: RecordRead>(
-    store: &mut S,
     alloc: Global,
+    store: &mut S,
     table: u32,
 ) -> Result<Pairs, Walk<S::Fault>>
     requires table { table < 8 }
@@ -78,7 +75,7 @@ fn list_table<S: RecordRead>(
     let mut pairs = Vec::new(alloc);
     let mut from = 0;
     loop {
-        let page = read_page(store, alloc, table, from)?;
+        let page = read_page(alloc, store, table, from)?;
         if pairs.extend_from_slice(page.as_slice()).is_err() {
             return Err(Walk::NoMemory);
         }
@@ -101,8 +98,8 @@ fn tree_of(table: u32) -> u32
 
 /// The first rows of a table from a key on, a page of them.
 fn read_page<S: RecordRead>(
-    store: &mut S,
     alloc: Global,
+    store: &mut S,
     table: u32,
     from: u64,
 ) -> Result<Pairs, Walk<S::Fault>>
@@ -111,34 +108,11 @@ fn read_page<S: RecordRead>(
     ensures looks { Looks S.read_gives S.meaning (Stands (S.meaning store.old)) (IsScanned table from (2 ^ 64 - 1) 256) store.old store.new result }
     ensures rest { S.rest store.new ≡ S.rest store.old }
 {
-    let mut commands = Commands::new(alloc);
-    let scan = Command::Scan {
-        table,
-        lo: from,
-        hi: u64::MAX,
-        limit: PAGE as u64,
-    };
-    if commands.push(scan).is_err() {
-        return Err(Walk::NoMemory);
-    }
-    let outcome = exec_snap(store, alloc, &commands)?;
-    match pairs_in(outcome) {
-        Some(pairs) => Ok(pairs),
-        None => Err(Walk::Torn(tree_of(table))),
-    }
-}
-
-/// The rows that one scan has answered.
-fn pairs_in(outcome: Outcome) -> Option<Pairs>
-    ensures { (pairs : List (ℕ × Row)) → outcome ≡ Done (Pairs pairs ∷ []) → result ≡ Some pairs }
-{
-    let Outcome::Done(answers) = outcome else {
-        return None;
-    };
-    let mut answers = answers.into_vec();
-    match answers.pop() {
-        Some(Answer::Pairs(pairs)) => Some(pairs),
-        _ => None,
+    let mut page = Vec::new(alloc);
+    match typed_scan::<Columns, S>(alloc, store, table, from, u64::MAX, PAGE as u32, &mut page) {
+        Ok(()) => Ok(Sequence::from_vec(page)),
+        Err(TypedFault::Walk(walk)) => Err(walk),
+        Err(TypedFault::Foreign { .. }) => unreachable!(),
     }
 }
 

@@ -1,24 +1,18 @@
 -- What pages and tables found, told of each state that stands for tables.
-use Rattle.std.proofs.Common.{◌≡◌, ◌⊎◌, ℕ, ◌+◌, ◌-◌, ◌^◌, ◌<◌, ◌≤◌, Bool, false, cond, not, List, [], ◌∷◌, ◌++◌, length, map, Option, Result, Ok, Err, refl, sym, ap, ◌∙◌, arith}
-use Rattle.std.specs.Prelude.{IsErrAnd}
+use Rattle.std.proofs.Common.{◌≡◌, ◌⊎◌, ℕ, ◌+◌, ◌-◌, ◌^◌, ◌<◌, ◌≤◌, Bool, false, cond, not, List, [], ◌∷◌, ◌++◌, length, map, Option, Result, Ok, refl, sym, ap, ◌∙◌, arith}
 use Rattle.std.specs.List.{range_with_len}
-use Rattle.std.proofs.lemmas.List.{append_assoc}
+use Rattle.std.proofs.lemmas.List.{append_assoc, length-append}
 use Rattle.std.proofs.lemmas.List.FromFn.{map-range_with_len_more}
 use Rattle.plain_data.specs.State.{State}
-use Rattle.record_store.specs.Calls.{Reads, ReadFault}
 use Rattle.record_store.specs.Meaning.{Meaning}
-use Rattle.record_store.specs.Walks.{IfTorn, IfStore, OnlyReads}
 use Rattle.record_store.specs.declared.walk.Walk.{Walk}
-use Rattle.record_store.proofs.Refusals.{IfTorn-map, fault_moved, torn_moved}
-use Rattle.replay_model.specs.declared.outcome.Outcome.{Outcome}
 use Rattle.replay_model.specs.TableMap.{TableMap, Row, pairs_of}
 use Rattle.stored_tables.specs.Answers.{Held, IsScanned, Stands}
 use Rattle.stored_tables.specs.Runs.{Looks}
-use Rattle.stored_tables.specs.Tables.{EachTables}
 use Rattle.stored_tables.proofs.Finding.{stands_on}
-use Rattle.stored_tables.proofs.Runs.{looks_then, no_ok}
-use Rattle.input_runner.specs.Listing.{AreListed, ComeBefore, IsListed, rows_from, last_key}
-use Rattle.input_runner.proofs.Pages.{full_page, last_page}
+use Rattle.stored_tables.proofs.Runs.{looks_then}
+use Rattle.typed_tables.specs.Listing.{AreListed, ComeBefore, IsListed, rows_from, last_key}
+use Rattle.typed_tables.proofs.Pages.{full_page, last_page}
 
 -- ---- pages
 
@@ -39,22 +33,19 @@ next_page table lo next pairs page whole state held is full grown =
 pub grown : {T : Type 0} (old now more : List T) (ok failed : Bool) → now ≡ cond ok (old ++ more) old → ok ≡ not failed → failed ≡ false → now ≡ old ++ more
 grown old now more ok failed is negated went = is ∙ ap (λ b. cond b (old ++ more) old) (negated ∙ ap not went)
 
+-- one list more
+pub counted : {T : Type 0} (count : ℕ) (old now : List T) (one : T) → length old ≡ count → now ≡ old ++ one ∷ [] → length now ≡ count + 1
+counted count old now one is grown =
+    let longer = ap length grown in
+    let sum = length-append old (one ∷ []) in
+    omega (arith, is, longer, sum)
+
 -- ---- tables
 
 one_more : (table : ℕ) (rows : List (List (ℕ × Row))) (pairs : List (ℕ × Row)) (tables : TableMap) → rows ≡ map (λ (n : ℕ). pairs_of n tables) (range_with_len 0 table) → pairs ≡ pairs_of table tables → rows ++ pairs ∷ [] ≡ map (λ (n : ℕ). pairs_of n tables) (range_with_len 0 (table + 1))
 one_more table rows pairs tables before is = (λ j. before j ++ is j ∷ []) ∙ sym (map-range_with_len_more (λ (n : ℕ). pairs_of n tables) 0 table table (omega arith))
 
 module _ {S F : Type 0} {read_gives : S → ℕ → Result (Option (List ℕ)) F → S → Type 0} {meaning : S → Meaning} where
-  -- a refusal of commands, handed on
-  pub refused_looks : {T : Type 0} (Other : T → State → Held → Type 0) (first last : S) (result : Result T (Walk F)) (other : Result Outcome (Walk F)) (walk : Walk F) → IfTorn other (λ _. EachTables (meaning first) (meaning last) (λ _ _ _. ⊥)) → IfStore other (ReadFault read_gives first last) → Reads read_gives first last → OnlyReads (meaning first) (meaning last) → other ≡ Err walk → IsErrAnd result (λ w. w ≡ walk) → Looks read_gives meaning (Stands (meaning first)) Other first last result
-  refused_looks Other first last result other walk torn fault calls only was is = record {
-    calls = calls;
-    found = no_ok result walk _ is;
-    torn = torn_moved result other walk _ was is (IfTorn-map other (λ rid none state held agrees stands. none state held.0 held.1 agrees stands) torn);
-    fault = fault_moved result other walk _ was is fault;
-    only = only;
-  }
-
   -- a page more
   pub page_looks : (table lo : ℕ) (pairs : List (ℕ × Row)) (first middle last : S) (result : Result (List (ℕ × Row)) (Walk F)) → Looks {F = F} read_gives meaning (Stands (meaning first)) (λ (_ : Unit {0}). ComeBefore table lo pairs) first middle (Ok (tt {0})) → Looks read_gives meaning (Stands (meaning middle)) (IsScanned table lo (2 ^ 64 - 1) 256) middle last result → Looks read_gives meaning (Stands (meaning first)) (IsPage table lo pairs) first last result
   page_looks table lo pairs first middle last result acc page =

@@ -1,9 +1,11 @@
 -- Lanes one behind another: which of them may run, how many stamps they may draw, and the entries of what they come to.
-use Rattle.std.proofs.Common.{◌≡◌, ◌≢◌, ℕ, suc, ◌+◌, ◌≤◌, List, [], ◌∷◌, ◌++◌, inl, inr, refl, sym, ap, subst, length, append-nil, append_assoc, arith}
+use Rattle.std.proofs.Common.{◌≡◌, ◌≢◌, ℕ, suc, ◌+◌, ◌≤◌, List, [], ◌∷◌, ◌++◌, inl, inr, ⊎_elim, refl, sym, ap, subst, length, arith}
 use Rattle.std.specs.Prelude.{All}
 use Rattle.std.proofs.lemmas.List.Elements.{All-nil, All-cons, All-head, All-tail}
 use Rattle.std.proofs.lemmas.List.Sums.{sum_by-cons, sum_by_push, sum_by-append}
 use Rattle.plain_data.specs.declared.entry.Entry.{Entry}
+use Rattle.core_rule.specs.Views.{Among}
+use Rattle.core_rule.proofs.Among.{Among-split}
 use Rattle.replay_model.specs.declared.input.Block.{Block}
 use Rattle.lane_queue.specs.declared.lane.Lane.{Lane}
 use Rattle.lane_queue.specs.Subsequences.{IsSubsequence}
@@ -12,11 +14,13 @@ use Rattle.txn_engine.specs.Pass.{PassView, EngineView, IsIdle}
 use Rattle.lane_runner.specs.declared.done.LaneDone.{LaneDone}
 use Rattle.lane_runner.specs.Room.{HasRoom, clock_after}
 use Rattle.lane_runner.specs.Lanes.{MayRun, lane_draws}
+use Rattle.lane_runner.specs.Weighs.{LeavesTables}
 use Rattle.lane_runner.specs.Done.{DoesLane}
 use Rattle.lane_runner.specs.All.{AreOfLane, AreOfLanes, tries_of_rest, tries_of_rests, all_draws}
 use Rattle.lane_runner.specs.All.AreOfLanes.{none, next}
 use Rattle.lane_runner.specs.Workers.{MayRunLane, draws_of, DoesLanes}
 use Rattle.lane_runner.proofs.Adding.{Adds-none, Adds-trans}
+use Rattle.lane_runner.proofs.Merging.{merge_first, merge_before_second, merge_behind_second}
 
 -- ---- how many stamps they may draw
 
@@ -85,14 +89,20 @@ pub AreOfLane-run : (lane : Lane) (done : LaneDone) (p q : PassView) → (does :
 AreOfLane-run lane done p q does = record { lane_is = does.lane_is; first = does.runs.done; blocks_are = does.runs.blocks_are; are_entries = does.runs.are_entries; order = does.order }
 
 pub AreOfLanes-one : (records : ℕ) (entries : List Entry) (lane : Lane) (done : LaneDone) → AreOfLane records entries lane done → AreOfLanes records entries (lane ∷ []) (done ∷ [])
-AreOfLanes-one records entries lane done is = subst (λ (xs : List Entry). AreOfLanes records xs (lane ∷ []) (done ∷ [])) (append-nil entries) (next entries [] lane [] done [] is none)
+AreOfLanes-one records entries lane done is = next entries [] entries lane [] done [] (merge_first entries) is (none [] (λ entry among. absurd among))
+
+-- other entries before them
+AreOfLanes-before : (records : ℕ) (entries more : List Entry) (lanes : List Lane) (dones : List LaneDone)
+    → ((entry : Entry) → Among entry entries → LeavesTables records entry) → AreOfLanes records more lanes dones → AreOfLanes records (entries ++ more) lanes dones
+AreOfLanes-before records entries more lanes dones keeps (none es others) = none (entries ++ es) (λ entry among. ⊎_elim (λ h. keeps entry h) (λ h. others entry h) (Among-split entry entries es among))
+AreOfLanes-before records entries more lanes dones keeps (next es fs all l ls d ds merged is rest) =
+    next es (entries ++ fs) (entries ++ all) l ls d ds (merge_before_second es fs all entries merged) is (AreOfLanes-before records entries fs ls ds keeps rest)
 
 pub AreOfLanes-append : (records : ℕ) (entries more : List Entry) (lanes lanes' : List Lane) (dones dones' : List LaneDone)
     → AreOfLanes records entries lanes dones → AreOfLanes records more lanes' dones' → AreOfLanes records (entries ++ more) (lanes ++ lanes') (dones ++ dones')
-AreOfLanes-append records entries more lanes lanes' dones dones' none second = second
-AreOfLanes-append records entries more lanes lanes' dones dones' (next es fs l ls d ds is first) second =
-    subst (λ (xs : List Entry). AreOfLanes records xs (l ∷ (ls ++ lanes')) (d ∷ (ds ++ dones'))) (sym (append_assoc es fs more))
-    (next es (fs ++ more) l (ls ++ lanes') d (ds ++ dones') is (AreOfLanes-append records fs more ls lanes' ds dones' first second))
+AreOfLanes-append records entries more lanes lanes' dones dones' (none es keeps) second = AreOfLanes-before records es more lanes' dones' keeps second
+AreOfLanes-append records entries more lanes lanes' dones dones' (next es fs all l ls d ds merged is first) second =
+    next es (fs ++ more) (all ++ more) l (ls ++ lanes') d (ds ++ dones') (merge_behind_second es fs all more merged) is (AreOfLanes-append records fs more ls lanes' ds dones' first second)
 
 -- ---- refusals
 
@@ -110,27 +120,38 @@ pub DoesLanes-none : (tries : ℕ) (p : PassView) → IsIdle p → DoesLanes tri
 DoesLanes-none tries p idle = record {
   entries = [];
   adds = Adds-none p idle;
-  are_of_lanes = none;
+  are_of_lanes = none [] (λ entry among. absurd among);
   refusals = omega arith;
   clock = omega arith;
+}
+
+-- the work on more lanes behind that on others
+pub DoesLanes-append : (tries : ℕ) (p q r : PassView) (lanes more : List Lane) (dones dones' : List LaneDone) → DoesLanes tries p q lanes dones → DoesLanes tries q r more dones' → DoesLanes tries p r (lanes ++ more) (dones ++ dones')
+DoesLanes-append tries p q r lanes more dones dones' first second = record {
+  entries = first.entries ++ second.entries;
+  adds = Adds-trans p q r first.entries second.entries first.adds second.adds;
+  are_of_lanes = AreOfLanes-append p.engine.size.records first.entries second.entries lanes more dones dones' first.are_of_lanes
+      (subst (λ (e : EngineView). AreOfLanes e.size.records second.entries more dones') first.adds.engine second.are_of_lanes);
+  refusals = omega (arith, first.refusals, second.refusals, rests_append tries dones dones');
+  clock = omega (arith, first.clock, second.clock, draws_append tries lanes more);
 }
 
 pub DoesLanes-next : (tries : ℕ) (p q r : PassView) (lanes lanes' : List Lane) (lane : Lane) (dones dones' : List LaneDone) (done : LaneDone) → lanes' ≡ lanes ++ lane ∷ [] → dones' ≡ dones ++ done ∷ []
     → DoesLanes tries p q lanes dones → DoesLane lane done q r → (done.rest ≢ [] → q.refusals + tries ≤ r.refusals) → r.clock ≤ clock_after q.clock (lane_draws lane.blocks tries)
     → DoesLanes tries p r lanes' dones'
 DoesLanes-next tries p q r lanes lanes' lane dones dones' done taken pushed so_far does rest clock =
-    subst (λ (y : List Lane × List LaneDone). DoesLanes tries p r y.0 y.1) (λ i. (sym taken i, sym pushed i)) (record {
-      entries = so_far.entries ++ does.runs.entries;
-      adds = Adds-trans p q r so_far.entries does.runs.entries so_far.adds does.runs.adds;
-      are_of_lanes = AreOfLanes-append p.engine.size.records so_far.entries does.runs.entries lanes (lane ∷ []) dones (done ∷ []) so_far.are_of_lanes here;
+    subst (λ (y : List Lane × List LaneDone). DoesLanes tries p r y.0 y.1) (λ i. (sym taken i, sym pushed i)) (DoesLanes-append tries p q r lanes (lane ∷ []) dones (done ∷ []) so_far here)
+  where
+    here : DoesLanes tries q r (lane ∷ []) (done ∷ [])
+    here = record {
+      entries = does.runs.entries;
+      adds = does.runs.adds;
+      are_of_lanes = AreOfLanes-one q.engine.size.records does.runs.entries lane done (AreOfLane-run lane done q r does);
       refusals =
           let counted : q.refusals + tries_of_rest tries done.rest ≤ r.refusals = rest_counted tries done.rest q.refusals r.refusals rest does.runs.adds.refusals in
-          omega (arith, so_far.refusals, rests_append tries dones (done ∷ []));
-      clock = omega (arith, so_far.clock, clock, draws_push tries lanes lane);
-    }) where
-      here : AreOfLanes p.engine.size.records does.runs.entries (lane ∷ []) (done ∷ [])
-      here = AreOfLanes-one p.engine.size.records does.runs.entries lane done
-          (subst (λ (e : EngineView). AreOfLane e.size.records does.runs.entries lane done) so_far.adds.engine (AreOfLane-run lane done q r does))
+          omega (arith, counted);
+      clock = omega (arith, clock, draws_cons tries lane []);
+    }
 
 pub no_items : {X : Type 0} (xs : List X) → length xs ≡ 0 → xs ≡ []
 no_items [] is = refl

@@ -3,6 +3,7 @@ mod Answered
 pub mod Entries
 pub mod Adding
 pub mod Begun
+mod Counted
 pub mod Seen
 pub mod Promoted
 pub mod Tried
@@ -18,9 +19,13 @@ mod Settled
 mod Clocks
 mod Ran
 mod Again
+pub mod Merging
+pub mod Attempted
+mod NextBlock
 pub mod LaneLists
 pub mod Gathered
 pub mod Together
+mod ReadBeside
 pub mod Shared
 pub mod WholeRun
 pub mod Weighing

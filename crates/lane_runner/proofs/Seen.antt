@@ -23,7 +23,7 @@ use Rattle.seat_post.specs.Logs.{AreBelow}
 use Rattle.txn_engine.specs.Snapshot.{Begins, looking, finished, meaning_of_glance, unread}
 use Rattle.seat_post.specs.Glance.{entry_of_glance}
 use Rattle.lane_runner.specs.Adds.{IsNext, Adds}
-use Rattle.lane_runner.specs.Blocks.{Commits}
+use Rattle.lane_runner.specs.Blocks.{Commits, CountsOnce}
 use Rattle.lane_runner.proofs.Adding.{Adds-one}
 use Rattle.lane_runner.proofs.Entries.{never_stood}
 
@@ -125,6 +125,9 @@ module _ (p t s q : PassView) (clock : ℕ) (ticks : t ≡ ticked p clock) (begi
         (omega (arith, at_clock))
         (let is : f.met ≡ has_seen.0.stamp + 1 = ap (λ (x : PassView). x.met) ends in omega (arith, has_seen.1.met))
         (let is : f.refusals ≡ p.refusals = ap (λ (x : PassView). x.refusals) ends in omega arith)
+
+    pub none_refused : CountsOnce p f
+    none_refused = record { once = let is : f.refusals ≡ p.refusals = ap (λ (x : PassView). x.refusals) ends in omega arith }
 
     -- the block has its entry
     pub commits_seen : (commands : List Command) (outcome : Outcome) (placed : Placed) → FitsRecords → EachTables (meaning_of_glance s) (meaning_of_glance q) (λ _ _ tables. outcome ≡ outcome_of commands tables)

@@ -1,5 +1,5 @@
 -- What the run of a block leaves of a pass.
-use Rattle.std.specs.Prelude.{◌≡◌, ℕ, ◌+◌, false, List, [], ◌∷◌}
+use Rattle.std.specs.Prelude.{◌≡◌, ℕ, ◌+◌, ◌≤◌, false, List, [], ◌∷◌}
 use Rattle.plain_data.specs.declared.entry.Entry.{Entry}
 use Rattle.core_rule.specs.Views.{Among}
 use Rattle.replay_model.specs.declared.command.Command.{Command}
@@ -29,6 +29,10 @@ pub record Commits (commands : List Command) (before after' : PassView) (placed 
 pub record IsRefused (times : ℕ) (before after' : PassView) : Type 0 where
   pub adds : Adds before after' []
   pub refusals : after'.refusals ≡ before.refusals + times
+
+-- one refusal was counted at most
+pub record CountsOnce (before after' : PassView) : Type 0 where
+  pub once : after'.refusals ≤ before.refusals + 1
 
 -- some entries were added, and each leaves the tables and their weight as they were
 pub record AddsOthers (before after' : PassView) : Type 0 where

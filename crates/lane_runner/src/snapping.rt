@@ -6,13 +6,13 @@ ghost use Rattle.replay_model.specs.Input.{AreCommands};
 ghost use Rattle.stored_tables.specs.Answers.{IsShort, ReadsAlone};
 ghost use Rattle.txn_engine.specs.Pass.{IsIdle, IsAlone};
 ghost use Rattle.lane_runner.specs.Room.{HasRoom, clock_after};
-ghost use Rattle.lane_runner.specs.Blocks.{IsPlaceOf, Commits};
+ghost use Rattle.lane_runner.specs.Blocks.{IsPlaceOf, Commits, CountsOnce};
 ghost use Rattle.lane_runner.specs.Lanes.{AddsSome};
 ghost use Rattle.lane_runner.specs.Ready.{IsReady, IsReadyOnceCollected};
 
 use crate::collecting::collect;
 use crate::done::BlockDone;
-use outside_io::Gate;
+use outside_io::Meets;
 use replay_model::{Block, NoMemory, Outcome, Placed};
 use std::alloc::Global;
 use stored_tables::{RowsLawful, Walk, exec_snap, fits_more, fits_records, keeps_tables};
@@ -51,6 +51,7 @@ fn read_block(
     ensures committed { IfOk result (λ done. Commits block.now.commands pass.old pass.new done.placed done.outcome) }
     ensures placed { IfOk result (λ done. IsPlaceOf block.now done.placed) }
     ensures first { IfOk result (λ done. done.first_read ≡ None) }
+    ensures once { IfOk result (λ _. CountsOnce pass.old pass.new) }
     ensures fault { OnErr result (AddsSome pass.old pass.new) }
     ensures clock { pass.new.clock ≤ clock_after pass.old.clock 1 }
     ensures ready { OnOk result (IsReady pass.old → IsReadyOnceCollected pass.new) }
@@ -83,7 +84,7 @@ fn read_block(
 }
 
 /// Runs a snapshot block, and collects.
-pub(crate) fn run_snap<G: Gate>(
+pub(crate) fn run_snap<G: Meets>(
     alloc: Global,
     engine: &Engine<RowsLawful>,
     pass: &mut Pass<RowsLawful>,
@@ -102,13 +103,14 @@ pub(crate) fn run_snap<G: Gate>(
     ensures committed { IfOk result (λ done. Commits block.now.commands pass.old pass.new done.placed done.outcome) }
     ensures placed { IfOk result (λ done. IsPlaceOf block.now done.placed) }
     ensures first { IfOk result (λ done. done.first_read ≡ None) }
+    ensures once { IfOk result (λ _. CountsOnce pass.old pass.new) }
     ensures fault { OnErr result (AddsSome pass.old pass.new) }
     ensures clock { pass.new.clock ≤ clock_after pass.old.clock 1 }
     ensures queue { OnOk result (IsAlone pass.old → pass.new.queue ≡ []) }
     ensures ready { OnOk result (IsReady pass.old → IsReady pass.new) }
 {
     let done = read_block(alloc, engine, pass, block, reading)?;
-    gate.after_outcome(block.lane, block.number);
+    gate.after(block.lane, block.number);
     collect(engine, pass);
     Ok(done)
 }

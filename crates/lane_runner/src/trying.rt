@@ -10,12 +10,12 @@ ghost use Rattle.txn_engine.specs.Pass.{IsIdle, IsAlone};
 ghost use Rattle.lane_runner.specs.Rows.{stands};
 ghost use Rattle.lane_runner.specs.Room.{HasRoom, clock_after};
 ghost use Rattle.lane_runner.specs.Adds.{Adds};
-ghost use Rattle.lane_runner.specs.Blocks.{IsPlaceOf, Commits, IsRefused};
+ghost use Rattle.lane_runner.specs.Blocks.{IsPlaceOf, Commits, IsRefused, CountsOnce};
 ghost use Rattle.lane_runner.specs.Ready.{IsAmple, IsReady, IsReadyOnceCollected};
 
 use crate::collecting::collect;
 use crate::done::BlockDone;
-use outside_io::Gate;
+use outside_io::Meets;
 use record_store::RecordStore;
 use replay_model::{Block, NoMemory, Outcome, Placed};
 use std::alloc::Global;
@@ -27,7 +27,7 @@ use txn_engine::{BeginFault, Engine, Pass, TxnFault};
 ///
 /// A block that a command refuses has an entry without writes. The clock's reading may be any number. A seat that is alone
 /// is granted each block for which it has room.
-fn try_txn<G: Gate>(
+fn try_txn<G: Meets>(
     alloc: Global,
     engine: &Engine<RowsLawful>,
     pass: &mut Pass<RowsLawful>,
@@ -46,6 +46,7 @@ fn try_txn<G: Gate>(
     ensures placed { IfOk result (λ answer. IfSome answer (λ done. IsPlaceOf block.now done.placed)) }
     ensures first { IfOk result (λ answer. IfSome answer (λ done. IfSome done.first_read (λ rid. rid < engine.now.size.records))) }
     ensures refused { IfOk result (λ answer. IfNone answer (IsRefused 1 pass.old pass.new)) }
+    ensures once { IfOk result (λ answer. IfSome answer (λ _. CountsOnce pass.old pass.new)) }
     ensures fault { OnErr result (Adds pass.old pass.new []) }
     ensures clock { pass.new.clock ≤ clock_after pass.old.clock 1 }
     ensures granted { Lawful (StandsForSome stands) pass.old.engine.size.records pass.old.log → (more : List Block) → IsAmple pass.old (block.now ∷ more) → IfOk result IsSome }
@@ -66,7 +67,7 @@ fn try_txn<G: Gate>(
         Err(Walk::Torn(_)) => {
             // No kept state agrees with what was read, so the reads do not commit.
             txn.undo();
-            gate.before_commit(block.lane, block.number);
+            gate.before(block.lane, block.number);
             match txn.commit() {
                 Ok(_) => unreachable!(),
                 Err(_) => return Ok(None),
@@ -85,13 +86,13 @@ fn try_txn<G: Gate>(
             return Err(NoMemory);
         }
     };
-    gate.before_commit(block.lane, block.number);
+    gate.before(block.lane, block.number);
     let first_read = txn.first_read();
     let committed = match txn.commit() {
         Ok(committed) => committed,
         Err(_) => return Ok(None),
     };
-    gate.after_outcome(block.lane, block.number);
+    gate.after(block.lane, block.number);
     let placed = Placed {
         stamp: committed.stamp.number(),
         snap: false,
@@ -106,7 +107,7 @@ fn try_txn<G: Gate>(
 }
 
 /// Tries a transaction block once, and collects.
-pub(crate) fn try_once<G: Gate>(
+pub(crate) fn try_once<G: Meets>(
     alloc: Global,
     engine: &Engine<RowsLawful>,
     pass: &mut Pass<RowsLawful>,
@@ -125,6 +126,7 @@ pub(crate) fn try_once<G: Gate>(
     ensures placed { IfOk result (λ answer. IfSome answer (λ done. IsPlaceOf block.now done.placed)) }
     ensures first { IfOk result (λ answer. IfSome answer (λ done. IfSome done.first_read (λ rid. rid < engine.now.size.records))) }
     ensures refused { IfOk result (λ answer. IfNone answer (IsRefused 1 pass.old pass.new)) }
+    ensures once { IfOk result (λ answer. IfSome answer (λ _. CountsOnce pass.old pass.new)) }
     ensures fault { OnErr result (Adds pass.old pass.new []) }
     ensures clock { pass.new.clock ≤ clock_after pass.old.clock 1 }
     ensures queue { OnOk result (IsAlone pass.old → pass.new.queue ≡ []) }

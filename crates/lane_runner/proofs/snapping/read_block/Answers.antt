@@ -7,7 +7,7 @@ use Rattle.seat_post.specs.Glance.{entry_of_glance}
 use Rattle.lane_runner.proofs.Clocks.{clock_later, clock_drawn}
 use Rattle.lane_runner.proofs.Granted.{ready_seen}
 use Rattle.lane_runner.proofs.Looked.{sought}
-use Rattle.lane_runner.proofs.Seen.{has_seen, sees_all, never_torn, not_torn, Adds-finished, commits_seen}
+use Rattle.lane_runner.proofs.Seen.{has_seen, sees_all, never_torn, not_torn, Adds-finished, none_refused, commits_seen}
 use Rattle.lane_runner.proofs.snapping.read_block.Goals as goal
 
 pub exec_snap-told-requires-clause-size : goal.exec_snap-told-requires-clause-size
@@ -34,6 +34,14 @@ returns-clause-committed c =
     let rest : unread q ≡ unread s = ap (λ (x : GlanceRest). x.of_pass) c.exec_snap-told.ensures.rest in
     commits_seen p c.tick.new.self s q (next_clock p c.args.reading) c.in-Ok.ensures.ok c.snapshot-snapshot.ensures.begins rest c.finish-stamp.new.self.0 _ c.finish-stamp.ensures.after (search rules) c.requires.idle (omega arith)
     c.args.block.now.commands c.in_ok-outcome.outcome _ c.fits_records.ensures (rw c.in_ok-outcome.ensures at c.exec_snap-told.ensures.outcome) c.finish-stamp.ensures.stamp refl
+
+pub returns-clause-once : goal.returns-clause-once
+returns-clause-once c =
+    let p = c.args.pass.now in
+    let s = c.snapshot-snapshot.result.pass.now in
+    let q = c.exec_snap-told.new.store.pass.now in
+    let rest : unread q ≡ unread s = ap (λ (x : GlanceRest). x.of_pass) c.exec_snap-told.ensures.rest in
+    none_refused p c.tick.new.self s q (next_clock p c.args.reading) c.in-Ok.ensures.ok c.snapshot-snapshot.ensures.begins rest c.finish-stamp.new.self.0 _ c.finish-stamp.ensures.after (search rules) c.requires.idle (omega arith)
 
 pub returns-in_err-outcome-clause-fault : goal.returns-in_err-outcome-clause-fault
 returns-in_err-outcome-clause-fault c =

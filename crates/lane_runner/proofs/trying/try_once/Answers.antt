@@ -1,5 +1,9 @@
 use Rattle.lane_runner.proofs.Granted.{granted_once}
+use Rattle.lane_runner.proofs.Counted.{some_once}
 use Rattle.lane_runner.proofs.trying.try_once.Goals as goal
+
+pub returns-clause-once : goal.returns-clause-once
+returns-clause-once g c = some_once c.in_ok-answer.answer c.args.pass.now c.try_txn.new.pass _ c.in_ok-answer.ensures.once c.collect.ensures.none
 
 pub returns-clause-granted : goal.returns-clause-granted
 returns-clause-granted g c = λ more ample.

@@ -1,21 +1,22 @@
 -- How often a try counts among the refusals: once at most.
-use Rattle.std.proofs.Common.{◌≡◌, ℕ, ◌+◌, ◌≤◌, Bool, true, false, if◌then◌else◌, Option, Some, None, Result, Ok, Err, ap, ◌∙◌, arith}
+use Rattle.std.proofs.Common.{◌≡◌, ℕ, ◌+◌, ◌≤◌, Bool, true, false, Option, Some, None, Result, Ok, Err, ap, ◌∙◌, lit≤, arith}
 use Rattle.std.specs.Prelude.{IfOk, IfSome}
 use Rattle.seat_post.specs.Seats.{Known}
-use Rattle.txn_engine.specs.Pass.{PassView, Frame, frame, begun, committed, knowing}
+use Rattle.txn_engine.specs.Pass.{PassView, Frame, frame, begun, committed, knowing, one_if}
 use Rattle.lane_runner.specs.declared.done.BlockDone.{BlockDone}
 use Rattle.lane_runner.specs.Blocks.{IsRefused, CountsOnce}
 
-counted_before : (counted : Bool) (refusals n : ℕ) → (if counted then refusals else refusals + 1) ≡ n + 1 → refusals ≤ n + 1
-counted_before true refusals n is = omega arith
-counted_before false refusals n is = omega arith
+one_at_most : (counted : Bool) → one_if counted ≤ 1
+one_at_most true = lit≤ tt
+one_at_most false = lit≤ tt
 
 -- a transaction that was begun at p and has committed
 pub counted_once : (p q r r' : PassView) (clock : ℕ) (known : Known) → frame q ≡ frame (begun p clock) → r ≡ committed (knowing q known) → r' ≡ r → CountsOnce p r'
 counted_once p q r r' clock known kept ends same = record {
   once =
-      let is : r'.refusals ≡ q.refusals = ap (λ (x : PassView). x.refusals) same ∙ ap (λ (x : PassView). x.refusals) ends in
-      let most : q.refusals ≤ p.refusals + 1 = counted_before q.desk.counted q.refusals p.refusals (ap (λ (f : Frame). f.tally) kept) in
+      let is : r'.refusals ≡ q.refusals + one_if q.desk.counted = ap (λ (x : PassView). x.refusals) same ∙ ap (λ (x : PassView). x.refusals) ends in
+      let before : q.refusals ≡ p.refusals = ap (λ (f : Frame). f.refusals) kept in
+      let most : one_if q.desk.counted ≤ 1 = one_at_most q.desk.counted in
       omega arith;
 }
 

@@ -23,8 +23,8 @@ use std::alloc::Global;
 ///
 /// Room is taken for the answers and for each list.
 pub fn exec_txn<S: RecordStore>(
-    store: &mut S,
     alloc: Global,
+    store: &mut S,
     commands: &Commands,
 ) -> Result<Outcome, Walk<S::Fault>>
     requires commands { AreCommands 8 commands.now }
@@ -93,8 +93,8 @@ fn run_commands<S: RecordStore>(
 ///
 /// Room is taken for the answers and for each list.
 pub fn exec_snap<S: RecordRead>(
-    store: &mut S,
     alloc: Global,
+    store: &mut S,
     commands: &Commands,
 ) -> Result<Outcome, Walk<S::Fault>>
     requires commands { AreCommands 8 commands.now }

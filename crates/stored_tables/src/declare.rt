@@ -19,8 +19,8 @@ use std::alloc::Global;
 /// Declares an index of a table on a column, where the table has no row and no index, and answers whether it did. After `false`
 /// or a refusal nothing was written. It never asks for a new record. Room is taken for one entry.
 pub fn declare_index<S: RecordStore>(
-    store: &mut S,
     alloc: Global,
+    store: &mut S,
     table: u32,
     column: u32,
 ) -> Result<bool, Walk<S::Fault>>

@@ -6,7 +6,6 @@ use Rattle.plain_data.specs.State.{State, overlay}
 use Rattle.record_store.specs.Meaning.{Meaning, with_value, after_write}
 use Rattle.record_store.specs.Walks.{OnlyReads}
 use Rattle.record_store.proofs.Agreement.{overlay-with_value, written_after, given_same, writes_same}
-use Rattle.record_store.proofs.Writes.{writes-none, writes-one, writes-weaken}
 use Rattle.hash_index.specs.declared.search.Link.{Link}
 use Rattle.hash_index.specs.Node.{pairs_of, next_of, position_of, words_of}
 use Rattle.hash_index.specs.Chain.{IsChain, EachChain, row_pairs, record_of, bucket_of}
@@ -86,7 +85,6 @@ removes_pair size base key index before between after link taken pairs same only
     record {
       answer = λ state rows agrees chain. sym (ap is_some (found_in size base key index (overlay before.writes state) rows link (rw same chain) (reaches state (rw one.reads at agrees)) is));
       given = one.given;
-      few = writes-one before after link.at _ one.writes;
       removed = λ _ state rows agrees chain. removed_in size base key index before after state rows link taken same chain (reaches state (rw one.reads at agrees)) is read (one.writes ∙ ap (λ ps. with_value before.writes link.at (Some (words_of ps link.node.next link.node.position))) edit);
       unchanged = λ e. cc;
     }
@@ -95,7 +93,6 @@ pub removes_nothing : (base key : ℕ) (before after : Meaning) → OnlyReads be
 removes_nothing base key before after only absent = record {
   answer = λ state rows agrees chain. sym (ap is_some (absent state rows agrees chain));
   given = given_same before after only;
-  few = writes-weaken 0 1 before after (omega arith) (writes-none before after (writes_same before after only));
   removed = λ e. cc;
   unchanged = λ _. writes_same before after only;
 }

@@ -12,7 +12,6 @@ use Rattle.record_store.specs.Walks.{Extends, OnlyReads}
 use Rattle.record_store.proofs.Values.{value_at-append}
 use Rattle.record_store.proofs.Steps.{known_from_reads}
 use Rattle.record_store.proofs.Agreement.{overlay-unwritten, agrees-value_at, written_after, given_same, writes_same, size_same, fixed_same, agrees-extends, extends-after_read}
-use Rattle.record_store.proofs.Writes.{writes-one, writes-trans}
 use Rattle.hash_index.specs.declared.search.Link.{Link}
 use Rattle.hash_index.specs.Node.{pairs_of, next_of, position_of, words_of}
 use Rattle.hash_index.specs.Chain.{Leads, IsChain, EachChain, records_of, row_pairs, record_at, bucket_of}
@@ -152,7 +151,6 @@ puts_found size base key rid index before between after link pairs same stored o
       fresh = None;
       given = one.given ∙ sym (append-nil before.given);
       is_fresh = tt;
-      few = writes-one before after _ _ one.writes;
       put = λ state rows agrees chain. found_state base key rid index before after state rows link stored chain (rw same at (reaches state (rw one.reads at agrees))) is (one.writes ∙ ap (λ ps. with_value before.writes link.at (Some (words_of ps link.node.next link.node.position))) edit);
     }
 
@@ -163,7 +161,6 @@ puts_room size base key rid before between after link pairs same stored only in_
       fresh = None;
       given = one.given ∙ sym (append-nil before.given);
       is_fresh = tt;
-      few = writes-one before after _ _ one.writes;
       put = λ state rows agrees chain. room_state base key rid before after state rows link stored chain (rw same at (in_row state (rw one.reads at agrees))) room (one.writes ∙ ap (λ ps. with_value before.writes link.at (Some (words_of ps link.node.next link.node.position))) edit);
     }
 
@@ -174,7 +171,6 @@ puts_empty size base key rid bucket before between after words same stored only 
       fresh = None;
       given = one.given ∙ sym (append-nil before.given);
       is_fresh = tt;
-      few = writes-one before after _ _ one.writes;
       put = λ state rows agrees chain. empty_state_put base key rid before after state rows stored (omega arith) chain (absent state (rw one.reads at agrees)) (one.writes ∙ ap (λ b. with_value before.writes b (Some words)) at ∙ ap (λ ws. with_value before.writes (base + bucket_of key) (Some ws)) form);
     }
 
@@ -207,7 +203,6 @@ puts_full size base key rid before between after last same stored buckets only p
       fresh = Some adds.fresh;
       given = ap (λ (m : Meaning). m.given) adds.written ∙ ap (λ gs. gs ++ adds.fresh ∷ []) (given_same before between only);
       is_fresh = is;
-      few = writes-trans 1 1 before (record before { writes = with_value before.writes adds.fresh (Some (words_of ((key, rid) ∷ []) None (last.node.position + 1))) }) after (writes-one before _ adds.fresh _ refl) (writes-one _ after last.at _ writes);
       put = λ state rows agrees chain.
           let agrees_fresh = rw reads at agrees in
           let agrees_between = agrees-extends between.reads (after_fresh between adds.fresh).reads state (extends-after_read between adds.fresh None) agrees_fresh in

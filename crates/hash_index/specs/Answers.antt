@@ -17,25 +17,24 @@ pub record MayAsk (base key : ℕ) (before after : Meaning) (asks : ℕ) : Type 
   pub once : asks ≤ 1
   pub needs_node : EachChain base before after (λ _ rows. NeedsNode key rows)
 
--- how often `fresh` was asked: only where it may be, and where the pair is in, once for each record that was given; else at least so
--- often
+-- How often `fresh` was asked: only where it may be, and where the pair is in, once for each record that was given; else at least so
+-- often. Whatever is answered, one record is written at most, and one more for each ask.
 pub record Asks {E : Type 0} (base key : ℕ) (before after : Meaning) (answer : Result (Unit {0}) E) (asked : ℕ) : Type 0 where
   pub may : 0 < asked → MayAsk base key before after asked
   pub exact : OnOk answer (length after.given ≡ length before.given + asked)
   pub given : GivesAtMost asked before after
+  pub few : WritesAtMost (1 + asked) before after
 
--- a pair is put: one record is written, and where a new node is taken one more
+-- a pair is put, and where it takes a new node, that is the record that was given
 pub record PutsPair (base key rid : ℕ) (before after : Meaning) : Type 0 where
   pub fresh : Option ℕ
   pub given : after.given ≡ before.given ++ option_to_list fresh
   pub is_fresh : IfSome fresh (IsFresh before)
-  pub few : WritesAtMost (1 + length (option_to_list fresh)) before after
   pub put : EachChain base before after (λ state rows. (rows' : ℕ → List (ℕ × List ℕ)) × IsPut base key rid fresh before after state rows rows')
 
--- a pair is removed, by writing one record, where the key was there; nothing is written where it was not
+-- a pair is removed where the key was there, and nothing is written where it was not
 pub record RemovesPair (base key : ℕ) (was_there : Bool) (before after : Meaning) : Type 0 where
   pub answer : EachChain base before after (λ state rows. was_there ≡ is_some (record_of rows key))
   pub given : after.given ≡ before.given
-  pub few : WritesAtMost 1 before after
   pub removed : was_there ≡ true → EachChain base before after (λ state rows. (rows' : ℕ → List (ℕ × List ℕ)) × IsRemoved base key before after state rows rows')
   pub unchanged : was_there ≡ false → after.writes ≡ before.writes

@@ -5,7 +5,7 @@ ghost use Rattle.record_store.specs.Calls.{Reads, ReadFault, Calls, CallFault};
 ghost use Rattle.record_store.specs.Limits.{record_limit};
 ghost use Rattle.record_store.specs.States.{EachState};
 ghost use Rattle.record_store.specs.Walks.{IfTorn, IfStore, IfNoMemory, OnlyReads, ReadsGrow};
-ghost use Rattle.record_store.specs.Writes.{WritesOnly, EachWritesKnown, GivesAtMost, GivesFewer};
+ghost use Rattle.record_store.specs.Writes.{WritesAtMost, WritesOnly, EachWritesKnown, GivesAtMost, GivesFewer};
 ghost use Rattle.record_store.specs.Meaning.{after_write};
 ghost use Rattle.hash_index.specs.Node.{words_of};
 ghost use Rattle.hash_index.specs.Chain.{EachChain, EndsWell, bucket_of, record_of};
@@ -95,6 +95,7 @@ fn add_node<S: RecordStore>(
     ensures calls { Calls S.read_gives S.write_gives S.fresh_gives store.old 1 store.new }
     ensures writes { WritesOnly (λ rid. rid ≡ last.at) (S.meaning store.old) (S.meaning store.new) }
     ensures given { GivesAtMost 1 (S.meaning store.old) (S.meaning store.new) }
+    ensures few { WritesAtMost 2 (S.meaning store.old) (S.meaning store.new) }
     ensures after { ReadsGrow (S.meaning store.old) (S.meaning store.new) }
     ensures rest { S.rest store.new ≡ S.rest store.old }
 {
@@ -135,7 +136,8 @@ pub fn remove<S: RecordStore>(store: &mut S, base: u32, key: u64) -> Result<bool
     ensures calls { Calls S.read_gives S.write_gives S.fresh_gives store.old 0 store.new }
     ensures given { GivesAtMost 0 (S.meaning store.old) (S.meaning store.new) }
 
-    // whatever it answers, no record is written but one that is present
+    // whatever it answers, one record is written at most, and it is present
+    ensures few { WritesAtMost 1 (S.meaning store.old) (S.meaning store.new) }
     ensures writes { EachWritesKnown (S.meaning store.old) (S.meaning store.new) }
     ensures after { ReadsGrow (S.meaning store.old) (S.meaning store.new) }
     ensures rest { S.rest store.new ≡ S.rest store.old }

@@ -2,11 +2,11 @@
 
 ghost use Rattle.std.specs.Prelude.{◌≡◌, ◌≢◌, ◌==◌, ℕ, ◌+◌, ◌<◌, ◌≤◌, [], slice_index, position, IfNone, IfSome, All, None, ◌∷◌};
 ghost use Rattle.record_store.specs.Limits.{record_limit};
-ghost use Rattle.record_store.specs.Links.{named_by, link_word as link_word_of};
 ghost use Rattle.hash_index.specs.Node.{IsNode, pairs_of, words_of};
 
 use arrayvec::ArrayVec;
 use plain_data::Cells;
+use record_store::{link_word, named_record};
 
 /// A node: at most 14 pairs of a key and a record number, the record of the next node, and the position in the row, from 0.
 #[derive(Drop)]
@@ -44,7 +44,7 @@ impl Node {
         if words[0] > 14 || words[30] != u64::from(position) || position >= size {
             return None;
         }
-        let next = read_next(words[1], size)?;
+        let next = named_record(words[1], size)?;
         let pairs = read_pairs(&words, size)?;
         Some(Node {
             pairs,
@@ -75,30 +75,6 @@ impl Node {
     {
         self.pairs.iter().position(|pair| pair.0 == key)
     }
-}
-
-/// The word that names a record.
-fn link_word(next: Option<u32>) -> u64
-    ensures { result ≡ link_word_of next }
-{
-    match next {
-        Some(rid) => u64::from(rid) + 1,
-        None => 0,
-    }
-}
-
-/// The record that a word names, if it lies in a store of this size.
-fn read_next(word: u64, size: u32) -> Option<Option<u32>>
-    ensures named { IfSome result (λ next. (next ≡ named_by word) × IfSome next (λ rid. rid < size)) }
-    ensures outside { IfNone result (IfSome (named_by word) (λ rid. rid < size) → ⊥) }
-{
-    if word == 0 {
-        return Some(None);
-    }
-    if word > u64::from(size) {
-        return None;
-    }
-    Some(Some((word - 1) as u32))
 }
 
 /// The pairs of a node, if their record numbers lie in a store of this size.

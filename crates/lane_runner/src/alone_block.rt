@@ -73,7 +73,7 @@ fn commit_commands(
         Err(BeginFault::ClockOut) => unreachable!(),
         Err(BeginFault::NoMemory) => return Err(NoMemory),
     };
-    let outcome = match exec_txn(&mut txn, alloc, commands) {
+    let outcome = match exec_txn(alloc, &mut txn, commands) {
         Ok(outcome) => outcome,
         Err(Walk::Torn(_)) => {
             // The reads commit, so they are what the log leaves.
@@ -151,7 +151,7 @@ fn see_commands(
         unreachable!();
     };
     let mut snapshot = alone.snapshot(engine);
-    let told = exec_snap(&mut snapshot, alloc, commands);
+    let told = exec_snap(alloc, &mut snapshot, commands);
     let stamp = snapshot.finish();
     // A kept state agrees with what was read, so the tables are not torn.
     let outcome = untorn(told)?;

@@ -100,7 +100,7 @@ fn commit_index(
         Err(BeginFault::ClockOut) => unreachable!(),
         Err(BeginFault::NoMemory) => return Err(NoMemory),
     };
-    match declare_index(&mut txn, alloc, table, column) {
+    match declare_index(alloc, &mut txn, table, column) {
         Ok(true) => {}
         Ok(false) => {
             // The reads commit, so they are what the log leaves.

@@ -66,7 +66,7 @@ fn read_block(
         unreachable!();
     };
     let mut snapshot = pass.snapshot(engine);
-    let told = exec_snap(&mut snapshot, alloc, &block.commands);
+    let told = exec_snap(alloc, &mut snapshot, &block.commands);
     let stamp = snapshot.finish();
     // A kept state agrees with what was read, so the tables are not torn.
     let outcome = untorn(told)?;

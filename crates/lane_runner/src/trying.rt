@@ -62,7 +62,7 @@ fn try_txn<G: Meets>(
         Err(BeginFault::ClockOut) => unreachable!(),
         Err(BeginFault::NoMemory) => return Err(NoMemory),
     };
-    let outcome = match exec_txn(&mut txn, alloc, &block.commands) {
+    let outcome = match exec_txn(alloc, &mut txn, &block.commands) {
         Ok(outcome) => outcome,
         Err(Walk::Torn(_)) => {
             // No kept state agrees with what was read, so the reads do not commit.

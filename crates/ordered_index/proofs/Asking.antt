@@ -1,46 +1,30 @@
 -- What an insertion asks for and writes below a node, by what its child did.
-use Rattle.std.proofs.Common.{◌≡◌, ◌≢◌, ◌⊎◌, ℕ, ◌+◌, ◌*◌, ◌<◌, ◌≤◌, Bool, true, false, cond, eqb, List, length, Option, None, Result, Ok, Err, refl, sym, ap, arith, subst, inl, inr}
+use Rattle.std.proofs.Common.{◌≡◌, ◌≢◌, ◌⊎◌, ℕ, ◌+◌, ◌*◌, ◌<◌, ◌≤◌, Bool, true, false, cond, eqb, List, length, Option, None, Some, Result, Ok, Err, refl, ap, arith, subst, inl, inr}
 use Rattle.std.specs.Prelude.{IfOk, OnOk}
 use Rattle.std.specs.Result.{IsErr}
 use Rattle.record_store.specs.declared.walk.Walk.{Walk}
-use Rattle.record_store.specs.Meaning.{Meaning, after_write, after_fresh}
+use Rattle.record_store.specs.Meaning.{Meaning, after_write}
 use Rattle.record_store.specs.States.{EachState}
-use Rattle.record_store.specs.Writes.{WritesAtMost}
 use Rattle.record_store.specs.Walks.{Extends, OnlyReads}
 use Rattle.record_store.specs.Calls.{Reads, Calls}
 use Rattle.record_store.proofs.Paths.{Calls-at, Calls-reads, Calls-trans}
 use Rattle.record_store.proofs.Agreement.{extends-refl, writes_same}
-use Rattle.record_store.proofs.Writes.{writes-none, writes-one, writes-trans, writes-weaken}
 use Rattle.ordered_index.specs.declared.key.Key.{Key}
 use Rattle.ordered_index.specs.declared.node.Kind.{Kind}
 use Rattle.ordered_index.specs.declared.node.Kind.TheVariants.{Leaf, Inner}
 use Rattle.ordered_index.specs.declared.enter.Entering.{Entering}
 use Rattle.ordered_index.specs.declared.enter.Entering.TheVariants.{There, Done, Takes}
 use Rattle.ordered_index.specs.Keys.{entry_at}
-use Rattle.ordered_index.specs.Node.{Content}
+use Rattle.ordered_index.specs.Node.{Content, words_of}
 use Rattle.ordered_index.specs.Tree.{IsAt}
 use Rattle.ordered_index.specs.Enter.{EachEntered, IfTakes, with_entry}
 use Rattle.ordered_index.specs.Asks.{EachPart, IsDue, SomeFull, AllFull, AsksBelow, AsksRoot, asks_at}
+use Rattle.ordered_index.specs.Written.{WritesNodes}
+use Rattle.ordered_index.proofs.Wrote.{nodes-none, nodes-trans, nodes-weaken, wrote_none, wrote_one, wrote_reads}
 use Rattle.ordered_index.proofs.Rows.{leaf_inner}
 use Rattle.ordered_index.proofs.Entering.{IsChild, reads_of}
 use Rattle.ordered_index.proofs.Parting.{not_full, is_full, length-with}
 use Rattle.ordered_index.proofs.Counting.{reads_part, all_due, asks_nine, asks_less, takes_due, takes_some, takes_all, child_due, child_some, AllDue}
-
--- writes so far, and one more
-pub wrote_none : (n : ℕ) (first before after : Meaning) → WritesAtMost n first before → after ≡ before → WritesAtMost n first after
-wrote_none n first before after a same = let P : Meaning → Type 0 = WritesAtMost n first in subst P (sym same) a
-
-pub wrote_fresh : (first after : Meaning) (rid : ℕ) → after ≡ after_fresh first rid → WritesAtMost 0 first after
-wrote_fresh first after rid is = writes-none first after (ap (λ (m : Meaning). m.writes) is)
-
-pub wrote_one : (n : ℕ) (first before after : Meaning) (rid : ℕ) (value : Option (List ℕ)) → WritesAtMost n first before → after ≡ after_write before rid value → WritesAtMost (n + 1) first after
-wrote_one n first before after rid value a is = writes-trans n 1 first before after a (writes-one before after rid value (ap (λ (m : Meaning). m.writes) is))
-
-pub wrote_reads : (n : ℕ) (first before after : Meaning) → OnlyReads first before → WritesAtMost n before after → WritesAtMost n first after
-wrote_reads n first before after only a = let P : ℕ → Type 0 = λ k. WritesAtMost k first after in subst P (omega arith) (writes-trans 0 n first before after (writes-none first before (writes_same first before only)) a)
-
-pub read_few : (before after : Meaning) → OnlyReads before after → WritesAtMost 1 before after
-read_few before after only = writes-weaken 0 1 before after (omega arith) (writes-none before after (writes_same before after only))
 
 -- a node that is full or not once it took an entry in
 pub asks_few : (entries : List (Key × ℕ)) (rank : ℕ) (entry : Key × ℕ) (now : List (Key × ℕ)) (full : Bool) → now ≡ with_entry entries rank entry → full ≡ eqb (length now) 10 → full ≡ false → length now ≤ 10 → asks_at entries ≡ 0
@@ -72,8 +56,8 @@ module _ {F : Type 0} (key : Key) (kind : Kind) (entries : List (Key × ℕ)) (d
     may = λ some. absurd (omega arith);
     exact = λ inner. absurd (leaf_inner kind leaf inner);
     deep = omega arith;
-    writes = writes-weaken 0 (2 * 0 + 1) m m (omega arith) (writes-none m m refl);
-    takes = all_takes answer (WritesAtMost (2 * 0) m m) (writes-none m m refl);
+    writes = nodes-weaken 0 (2 * 0 + 1) m m (omega arith) (nodes-none m m refl);
+    takes = all_takes answer (WritesNodes (2 * 0) m m) (nodes-none m m refl);
   }
 
   pub asks_reads : (m0 m1 : Meaning) (answer : Result Entering (Walk F)) → IsErr answer → depth ≤ 24 → OnlyReads m0 m1 → AsksBelow {F = F} key kind entries depth m0 m1 answer 0
@@ -82,7 +66,7 @@ module _ {F : Type 0} (key : Key) (kind : Kind) (entries : List (Key × ℕ)) (d
     may = λ some. absurd (omega arith);
     exact = λ inner. err_ok answer _ err;
     deep = omega arith;
-    writes = writes-weaken 0 (2 * 0 + 1) m0 m1 (omega arith) (writes-none m0 m1 (writes_same m0 m1 only));
+    writes = nodes-weaken 0 (2 * 0 + 1) m0 m1 (omega arith) (nodes-none m0 m1 (writes_same m0 m1 only));
     takes = err_ok answer _ err;
   }
 
@@ -93,7 +77,7 @@ module _ {F : Type 0} (m0 m1 m2 m3 : Meaning) (key : Key) (entries : List (Key �
   may_below : m3 ≡ m2 → 0 < asked → EachPart m0 m3 key entries (IsDue key asked)
   may_below same some = child_due m0 m1 m2 m3 key entries rank child node asked early late c at (not_leaf some) (λ k. reads_part m0 m1 m2 key node.entries (IsDue key asked) only (a.may some))
 
-  writes_below : WritesAtMost (2 * asked + 1) m0 m2
+  writes_below : WritesNodes (2 * asked + 1) m0 m2
   writes_below = wrote_reads (2 * asked + 1) m0 m1 m2 only a.writes
 
   -- the child refused
@@ -138,16 +122,16 @@ module _ {F : Type 0} (m0 m1 m2 m3 : Meaning) (key : Key) (entries : List (Key �
     pub put_due : (asks : ℕ) → asks ≤ asks_at node.entries → EachPart m0 m3 key entries (IsDue key (asked + asks))
     put_due asks few = takes_due m0 m1 m2 m3 key entries rank child node asked early late c at asks few (λ k. (a.leaf k, leaf k)) due_below
 
-    pub writes_takes : WritesAtMost (2 * asked) m0 m2
+    pub writes_takes : WritesNodes (2 * asked) m0 m2
     writes_takes = wrote_reads (2 * asked) m0 m1 m2 only (rw is at a.takes)
 
-    pub put_writes : WritesAtMost (2 * asks_at node.entries + 1) m2 m3 → WritesAtMost (2 * (asked + asks_at node.entries) + 1) m0 m3
-    put_writes more = let P : ℕ → Type 0 = λ k. WritesAtMost k m0 m3 in subst P (omega arith) (writes-trans (2 * asked) (2 * asks_at node.entries + 1) m0 m2 m3 writes_takes more)
+    pub put_writes : WritesNodes (2 * asks_at node.entries + 1) m2 m3 → WritesNodes (2 * (asked + asks_at node.entries) + 1) m0 m3
+    put_writes more = let P : ℕ → Type 0 = λ k. WritesNodes k m0 m3 in subst P (omega arith) (nodes-trans (2 * asked) (2 * asks_at node.entries + 1) m0 m2 m3 writes_takes more)
 
     at_most_one : asks_at node.entries ≤ 1
     at_most_one = elim (eqb (length node.entries) 9) as (λ b. cond b 1 0 ≤ 1) [ true ↦ omega arith | false ↦ omega arith ]
 
-    pub takes_err : (answer : Result Entering (Walk F)) → IsErr answer → WritesAtMost (2 * asks_at node.entries + 1) m2 m3 → AsksBelow {F = F} key kind entries depth m0 m3 answer (asked + asks_at node.entries)
+    pub takes_err : (answer : Result Entering (Walk F)) → IsErr answer → WritesNodes (2 * asks_at node.entries + 1) m2 m3 → AsksBelow {F = F} key kind entries depth m0 m3 answer (asked + asks_at node.entries)
     takes_err answer err more = record {
       leaf = λ k. absurd (leaf_inner kind k inner);
       may = λ some. put_due (asks_at node.entries) (omega arith);
@@ -157,7 +141,7 @@ module _ {F : Type 0} (m0 m1 m2 m3 : Meaning) (key : Key) (entries : List (Key �
       takes = err_ok answer _ err;
     }
 
-    pub takes_none : length node.entries ≢ 9 → WritesAtMost (2 * asks_at node.entries + 1) m2 m3 → AsksBelow {F = F} key kind entries depth m0 m3 (Ok Done) (asked + asks_at node.entries)
+    pub takes_none : length node.entries ≢ 9 → WritesNodes (2 * asks_at node.entries + 1) m2 m3 → AsksBelow {F = F} key kind entries depth m0 m3 (Ok Done) (asked + asks_at node.entries)
     takes_none room more =
         let none = asks_less node.entries room in
         let S : ℕ → Type 0 = λ n. EachPart m0 m3 key entries (SomeFull key n) in
@@ -170,18 +154,18 @@ module _ {F : Type 0} (m0 m1 m2 m3 : Meaning) (key : Key) (entries : List (Key �
           takes = tt;
         }
 
-    pub takes_more : (new : Key × ℕ) → length node.entries ≡ 9 → WritesAtMost (2 * asks_at node.entries + 1) m2 m3 → WritesAtMost (2 * asks_at node.entries) m2 m3 → AsksBelow {F = F} key kind entries depth m0 m3 (Ok (Takes new)) (asked + asks_at node.entries)
+    pub takes_more : (new : Key × ℕ) → length node.entries ≡ 9 → WritesNodes (2 * asks_at node.entries + 1) m2 m3 → WritesNodes (2 * asks_at node.entries) m2 m3 → AsksBelow {F = F} key kind entries depth m0 m3 (Ok (Takes new)) (asked + asks_at node.entries)
     takes_more new full more two =
         let one = asks_nine node.entries full in
         let S : ℕ → Type 0 = λ n. EachPart m0 m3 key entries (AllFull key n) in
-        let P : ℕ → Type 0 = λ k. WritesAtMost k m0 m3 in
+        let P : ℕ → Type 0 = λ k. WritesNodes k m0 m3 in
         record {
           leaf = λ k. absurd (leaf_inner kind k inner);
           may = λ some. put_due (asks_at node.entries) (omega arith);
           exact = λ k. subst S (omega (arith, one)) (takes_all m0 m1 m2 m3 key entries rank child node asked early late c at full (λ l. a.leaf l) full_below);
           deep = omega (arith, a.deep, at_most_one);
           writes = put_writes more;
-          takes = subst P (omega arith) (writes-trans (2 * asked) (2 * asks_at node.entries) m0 m2 m3 writes_takes two);
+          takes = subst P (omega arith) (nodes-trans (2 * asked) (2 * asks_at node.entries) m0 m2 m3 writes_takes two);
         }
 
 -- a fault of the child's calls
@@ -204,15 +188,15 @@ root_refused entries before after answer err same = record {
   may = λ some. absurd (omega arith);
   exact = err_ok answer _ err;
   few = omega arith;
-  writes = writes-weaken 0 (2 * 0 + 1) before after (omega arith) (writes-none before after (ap (λ (m : Meaning). m.writes) same));
+  writes = nodes-weaken 0 (2 * 0 + 1) before after (omega arith) (nodes-none before after (ap (λ (m : Meaning). m.writes) same));
 }
 
-pub root_whole : {F : Type 0} (entries : List (Key × ℕ)) (before after : Meaning) (rid : ℕ) (value : Option (List ℕ)) → asks_at entries ≡ 0 → after ≡ after_write before rid value → AsksRoot {F = F} entries before after (Ok tt) 0
-root_whole entries before after rid value none wrote = record {
+pub root_whole : {F : Type 0} (entries : List (Key × ℕ)) (before after : Meaning) (rid : ℕ) (node : Content) → asks_at entries ≡ 0 → after ≡ after_write before rid (Some (words_of node)) → AsksRoot {F = F} entries before after (Ok tt) 0
+root_whole entries before after rid node none wrote = record {
   may = λ some. absurd (omega arith);
   exact = omega (arith, none);
   few = omega arith;
-  writes = wrote_one 0 before before after rid value (writes-none before before refl) wrote;
+  writes = wrote_one 0 before before after rid node (nodes-none before before refl) wrote;
 }
 
 pub on_err : {T F : Type 0} (answer : Result T F) (P : Type 0) → IsErr answer → OnOk answer P
@@ -223,10 +207,10 @@ all_ok : {F : Type 0} (answer : Result (Unit {0}) F) (P Q : Type 0) → (P → Q
 all_ok (Ok value) P Q more holds = more holds
 all_ok (Err fault) P Q more holds = tt
 
-pub root_split : {F : Type 0} (entries : List (Key × ℕ)) (before after : Meaning) (answer : Result (Unit {0}) (Walk F)) (asked : ℕ) → length entries ≡ 9 → asked ≤ 2 → OnOk answer (asked ≡ 2) → 0 < asked → WritesAtMost 3 before after → AsksRoot entries before after answer asked
+pub root_split : {F : Type 0} (entries : List (Key × ℕ)) (before after : Meaning) (answer : Result (Unit {0}) (Walk F)) (asked : ℕ) → length entries ≡ 9 → asked ≤ 2 → OnOk answer (asked ≡ 2) → 0 < asked → WritesNodes 3 before after → AsksRoot entries before after answer asked
 root_split entries before after answer asked nine most two some few = record {
   may = λ _. nine;
   exact = all_ok answer (asked ≡ 2) (asked ≡ 2 * asks_at entries) (λ is. omega (arith, is, asks_nine entries nine)) two;
   few = most;
-  writes = writes-weaken 3 (2 * asked + 1) before after (omega arith) few;
+  writes = nodes-weaken 3 (2 * asked + 1) before after (omega arith) few;
 }

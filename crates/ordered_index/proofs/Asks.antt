@@ -7,16 +7,16 @@ use Rattle.plain_data.specs.State.{overlay}
 use Rattle.record_store.specs.declared.walk.Walk.{Walk}
 use Rattle.record_store.specs.Meaning.{Meaning, after_write}
 use Rattle.record_store.specs.States.{EachState}
-use Rattle.record_store.specs.Writes.{WritesAtMost}
+use Rattle.ordered_index.specs.Written.{WritesNodes}
 use Rattle.record_store.specs.Walks.{Extends, OnlyReads}
 use Rattle.record_store.proofs.Agreement.{writes_same, extends-trans}
-use Rattle.record_store.proofs.Writes.{writes-none, writes-trans, writes-weaken}
+use Rattle.ordered_index.proofs.Wrote.{nodes-none, nodes-trans, nodes-weaken, wrote_none, wrote_one}
 use Rattle.ordered_index.specs.declared.key.Key.{Key}
 use Rattle.ordered_index.specs.declared.node.Kind.TheVariants.{Leaf, Inner}
 use Rattle.ordered_index.specs.declared.enter.Entering.{Entering}
 use Rattle.ordered_index.specs.declared.enter.Entering.TheVariants.{There, Done, Takes}
 use Rattle.ordered_index.specs.Keys.{entry_at, first_key}
-use Rattle.ordered_index.specs.Node.{Content}
+use Rattle.ordered_index.specs.Node.{Content, words_of}
 use Rattle.ordered_index.specs.Tree.{IsAt, EachTree}
 use Rattle.ordered_index.specs.Enter.{EachEntered}
 use Rattle.ordered_index.specs.Asks.{EachPart, IsDue, SomeFull, AllFull, HasAsked, MayAsk, Asks, AsksBelow, AsksRoot, asks_at, records_due}
@@ -24,7 +24,7 @@ use Rattle.ordered_index.proofs.Trees.{tree_empty}
 use Rattle.ordered_index.proofs.Entering.{reads_of}
 use Rattle.ordered_index.proofs.Inserted.{root_child, present_by}
 use Rattle.ordered_index.proofs.Counting.{asks_nine, asks_less, takes_some, takes_all, due_most, due_some, due_all, tree_parts}
-use Rattle.ordered_index.proofs.Asking.{err_ok, wrote_none, wrote_one, below_err, below_there, below_done, put_due, full_below, writes_takes, due_behind}
+use Rattle.ordered_index.proofs.Asking.{err_ok, below_err, below_there, below_done, put_due, full_below, writes_takes, due_behind}
 
 abbrev top_entries : ℕ → List (Key × ℕ)
 top_entries root = (first_key, root) ∷ []
@@ -35,7 +35,7 @@ asks_first_err root key m0 m1 m2 answer err only same = record {
   may = λ some. absurd (omega arith);
   exact = err_ok answer _ err;
   few = omega arith;
-  writes = writes-weaken 0 (2 * 0 + 1) m0 m2 (omega arith) (wrote_none 0 m0 m1 m2 (writes-none m0 m1 (writes_same m0 m1 only)) same);
+  writes = nodes-weaken 0 (2 * 0 + 1) m0 m2 (omega arith) (wrote_none 0 m0 m1 m2 (nodes-none m0 m1 (writes_same m0 m1 only)) same);
 }
 
 none_due : (key : Key) (levels : List (List (ℕ × Content))) (leaves : List (ℕ × Content)) → levels ≡ [] → leaves ≡ [] → 0 ≡ records_due key levels leaves
@@ -44,15 +44,15 @@ none_due key (level ∷ levels) leaves no_levels no_leaves = cc
 none_due key [] (leaf ∷ leaves) no_levels no_leaves = cc
 
 -- the root was absent
-pub asks_first : {F : Type 0} (size root : ℕ) (key : Key) (m0 m1 m2 : Meaning) (rid : ℕ) (cells : List ℕ) → size ≡ m0.size → OnlyReads m0 m1 → EachState m0 m1 (λ state. state root ≡ None) → m2 ≡ after_write m1 rid (Some cells) → Asks {F = F} root key m0 m2 (Ok true) 0
-asks_first size root key m0 m1 m2 rid cells same only absent wrote = record {
+pub asks_first : {F : Type 0} (size root : ℕ) (key : Key) (m0 m1 m2 : Meaning) (rid : ℕ) (first : Content) → size ≡ m0.size → OnlyReads m0 m1 → EachState m0 m1 (λ state. state root ≡ None) → m2 ≡ after_write m1 rid (Some (words_of first)) → Asks {F = F} root key m0 m2 (Ok true) 0
+asks_first size root key m0 m1 m2 rid first same only absent wrote = record {
   may = λ some. absurd (omega arith);
   exact = λ state levels leaves agrees tree.
       let none = absent state (rw (ap (λ (m : Meaning). m.reads) wrote) at agrees) in
       let empty = tree_empty m0.size root (overlay m0.writes state) levels leaves tree none in
       none_due key levels leaves empty.0 empty.1;
   few = omega arith;
-  writes = wrote_one 0 m0 m1 m2 rid (Some cells) (writes-none m0 m1 (writes_same m0 m1 only)) wrote;
+  writes = wrote_one 0 m0 m1 m2 rid first (nodes-none m0 m1 (writes_same m0 m1 only)) wrote;
 }
 
 module _ {F : Type 0} (root : ℕ) (key : Key) (node : Content) (m0 m1 m2 m3 : Meaning) (asked : ℕ) (only : OnlyReads m0 m1) (early : Extends m1.reads m2.reads) (late : Extends m2.reads m3.reads) (low : node.low ≡ first_key) (at : EachState m0 m1 (λ state. IsAt m0.size state (root, node))) (below : Result Entering (Walk F)) (a : AsksBelow key node.kind node.entries 1 m1 m2 below asked) where
@@ -112,10 +112,10 @@ module _ {F : Type 0} (root : ℕ) (key : Key) (node : Content) (m0 m1 m2 m3 : M
           λ state levels leaves agrees tree. let d = due_most key (asked + 0) levels leaves (due state levels leaves agrees tree) in (d.0, omega (arith, d.1, none)))
     ]
 
-    root_writes : {G : Type 0} (answer : Result (Unit {0}) (Walk G)) (more : ℕ) → AsksRoot node.entries m2 m3 answer more → WritesAtMost (2 * (asked + more) + 1) m0 m3
+    root_writes : {G : Type 0} (answer : Result (Unit {0}) (Walk G)) (more : ℕ) → AsksRoot node.entries m2 m3 answer more → WritesNodes (2 * (asked + more) + 1) m0 m3
     root_writes answer more r =
-        let P : ℕ → Type 0 = λ k. WritesAtMost k m0 m3 in
-        subst P (omega arith) (writes-trans (2 * asked) (2 * more + 1) m0 m2 m3 (writes_takes m0 m1 m2 m3 key (top_entries root) 1 (first_key, root) node asked 0 Inner refl only early late (root_child m0.size root key node low) at below a rid child_rank entry is leaf entered) r.writes)
+        let P : ℕ → Type 0 = λ k. WritesNodes k m0 m3 in
+        subst P (omega arith) (nodes-trans (2 * asked) (2 * more + 1) m0 m2 m3 (writes_takes m0 m1 m2 m3 key (top_entries root) 1 (first_key, root) node asked 0 Inner refl only early late (root_child m0.size root key node low) at below a rid child_rank entry is leaf entered) r.writes)
 
     pub root_err : (answer : Result (Unit {0}) (Walk F)) (other : Result Bool (Walk F)) (more : ℕ) → IsErr other → AsksRoot node.entries m2 m3 answer more → Asks root key m0 m3 other (asked + more)
     root_err answer other more err r = record {
@@ -143,5 +143,5 @@ top_behind root key node m0 m1 m2 asks only early low at later =
     λ state levels leaves agrees tree. due_most key (0 + asks) levels leaves (due state levels leaves agrees tree)
 
 -- at most so many records are written in all
-pub few_of : {F : Type 0} (root : ℕ) (key : Key) (before after : Meaning) (answer : Result Bool (Walk F)) (asked : ℕ) → Asks root key before after answer asked → WritesAtMost 51 before after
-few_of root key before after answer asked a = writes-weaken (2 * asked + 1) 51 before after (omega (arith, a.few)) a.writes
+pub few_of : {F : Type 0} (root : ℕ) (key : Key) (before after : Meaning) (answer : Result Bool (Walk F)) (asked : ℕ) → Asks root key before after answer asked → WritesNodes 51 before after
+few_of root key before after answer asked a = nodes-weaken (2 * asked + 1) 51 before after (omega (arith, a.few)) a.writes

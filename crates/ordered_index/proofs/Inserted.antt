@@ -1,5 +1,5 @@
 -- The tree once an entry was inserted.
-use Rattle.std.proofs.Common.{◌≡◌, ◌⊎◌, ℕ, ◌<◌, ◌≤◌, List, [], ◌∷◌, length, None, Some, refl, sym, ap, ◌∙◌, arith, subst, inl, inr, true, false}
+use Rattle.std.proofs.Common.{◌≡◌, ◌⊎◌, ℕ, ◌<◌, ◌≤◌, List, [], ◌∷◌, ◌++◌, append_assoc, length, None, Some, refl, sym, ap, ◌∙◌, arith, subst, inl, inr, true, false}
 use Rattle.std.specs.Prelude.{IsSome}
 use Rattle.std.proofs.lemmas.List.Elements.{All-cons, All-nil}
 use Rattle.plain_data.specs.State.{State, overlay}
@@ -62,6 +62,7 @@ tree_with size fixed root key rid before after state levels leaves levels' leave
       shape = grown levels levels' leaves leaves' how;
       moved = moved_by before.size before.fixed root (overlay before.writes state) st' ((first_key, root) ∷ []) ((first_key, root) ∷ []) levels leaves levels' leaves' (record { descends = part.part.descends; once = part.part.once; grown = part.grown });
       leaves_grow = part.leaves_grow;
+      left_first = λ longer. absurd (omega (arith, longer, part.same_depth));
     }
 
 -- the entry is in, with no new level
@@ -126,6 +127,7 @@ begun root key rid before after state stored absent writes =
         known_before = λ other. in_or_not other [];
       };
       leaves_grow = omega arith;
+      left_first = λ longer. absurd (omega (arith, longer));
     }
 
 pub inserts_first : (size root : ℕ) (key : Key) (rid : ℕ) (before between after : Meaning) → size ≡ before.size → rid < before.size → OnlyReads before between → EachState before between (λ state. state root ≡ None) → after ≡ after_write between root (Some (words_of (leaf_of key rid))) → InsertsEntry root key rid true before after
@@ -181,6 +183,7 @@ root_parted m0 m1 m2 m3 root key rid node rank entry left right most room under 
         shape = w.shape;
         moved = moved_by m0.size m0.fixed root s0 s3 ((first_key, root) ∷ []) ((first_key, root) ∷ []) levels leaves w.levels' w.leaves' (record { descends = w.part.descends; once = w.part.once; grown = w.grown });
         leaves_grow = w.leaves_grow;
+        left_first = λ longer. (m2.given, ap (λ (m : Meaning). m.given) wrote ∙ append_assoc m2.given (left ∷ []) (right ∷ []) ∙ ap (λ rids. m2.given ++ rids) (sym w.below));
       },
     )
 

@@ -27,6 +27,7 @@ pub mod Between
 pub mod Scanning
 pub mod Listing
 pub mod Counting
+pub mod Wrote
 pub mod Asking
 pub mod Asks
 pub mod Reaching

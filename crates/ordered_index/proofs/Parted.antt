@@ -1,5 +1,5 @@
 -- The root's ten entries go to two new nodes below it.
-use Rattle.std.proofs.Common.{◌≡◌, ◌≢◌, ℕ, ◌+◌, ◌<◌, ◌≤◌, List, [], ◌∷◌, ◌++◌, length, take, drop, cond, Option, None, Some, refl, sym, ap, ◌∙◌, arith, subst}
+use Rattle.std.proofs.Common.{◌≡◌, ◌≢◌, ℕ, ◌+◌, ◌<◌, ◌≤◌, List, [], ◌∷◌, ◌++◌, map, length, take, drop, cond, Option, None, Some, refl, sym, ap, ◌∙◌, arith, subst}
 use Rattle.std.proofs.lemmas.List.{append-nil, take-append-drop}
 use Rattle.std.proofs.lemmas.List.Elements.{All-cons, All-nil, Contains-push}
 use Rattle.std.specs.Prelude.{Contains}
@@ -10,6 +10,7 @@ use Rattle.record_store.proofs.Agreement.{agrees-extends, extends-after_read}
 use Rattle.ordered_index.specs.declared.key.Key.{Key}
 use Rattle.ordered_index.specs.declared.node.Kind.{Kind}
 use Rattle.ordered_index.specs.declared.node.Kind.TheVariants.{Leaf, Inner}
+use Rattle.ordered_index.specs.Changes.{second_row}
 use Rattle.ordered_index.specs.Keys.{is_same, Before, NotAfter, From, entry_at, first_key}
 use Rattle.ordered_index.specs.Node.{Content, IsSound, Begins, words_of}
 use Rattle.ordered_index.specs.Tree.{Descends, row_names, tree_records, record_of_key}
@@ -66,7 +67,7 @@ rooted before after state root a b left right over agrees low first second wrote
     }
 
 -- the tree with the entry and one level more
-pub record RootWith (size fixed root : ℕ) (key : Key) (rid : ℕ) (state state' : State) (levels : List (List (ℕ × Content))) (leaves : List (ℕ × Content)) : Type 0 where
+pub record RootWith (size fixed root left right : ℕ) (key : Key) (rid : ℕ) (state state' : State) (levels : List (List (ℕ × Content))) (leaves : List (ℕ × Content)) : Type 0 where
   pub levels' : List (List (ℕ × Content))
   pub leaves' : List (ℕ × Content)
   pub part : Part size state' ((first_key, root) ∷ []) levels' leaves'
@@ -75,6 +76,7 @@ pub record RootWith (size fixed root : ℕ) (key : Key) (rid : ℕ) (state state
   pub absent : record_of_key leaves key ≡ None
   pub leaves_grow : length leaves' ≤ length leaves + 1
   pub shape : TreeTakes root key rid levels leaves levels' leaves'
+  pub below : map (λ node. node.0) (second_row levels' leaves') ≡ left ∷ right ∷ []
 
 over_sound : (size : ℕ) (low : Key) (a : ℕ) (key : Key) (b : ℕ) → Before low key → a < size → b < size → IsSound size (over_of low a key b)
 over_sound size low a key b less in_a in_b =
@@ -88,7 +90,7 @@ over_sound size low a key b less in_a in_b =
       next = tt;
     }
 
-inner_root : (size fixed root a b rid rank : ℕ) (key : Key) (entry : Key × ℕ) (node : Content) (state between state' : State) (levels : List (List (ℕ × Content))) (leaves : List (ℕ × Content)) (levels' : List (List (ℕ × Content))) (leaves' : List (ℕ × Content)) → a < size → b < size → node.low ≡ first_key → node.kind ≡ Inner → 0 < rank → entry.1 < size → length (with_entry node.entries rank entry) ≡ 10 → Part size state ((first_key, root) ∷ []) (((root, node) ∷ []) ∷ levels) leaves → PartWith size fixed key rid state between (with_entry node.entries rank entry ++ []) levels leaves levels' leaves' → PartTakes key rid levels leaves levels' leaves' (Some entry) → IsRank key node.entries rank → Rooted fixed root a b between state' (left_of node (with_entry node.entries rank entry) b) (right_of node (with_entry node.entries rank entry)) (over_of node.low a (key_at (with_entry node.entries rank entry) 5) b) → RootWith size fixed root key rid state state' (((root, node) ∷ []) ∷ levels) leaves
+inner_root : (size fixed root a b rid rank : ℕ) (key : Key) (entry : Key × ℕ) (node : Content) (state between state' : State) (levels : List (List (ℕ × Content))) (leaves : List (ℕ × Content)) (levels' : List (List (ℕ × Content))) (leaves' : List (ℕ × Content)) → a < size → b < size → node.low ≡ first_key → node.kind ≡ Inner → 0 < rank → entry.1 < size → length (with_entry node.entries rank entry) ≡ 10 → Part size state ((first_key, root) ∷ []) (((root, node) ∷ []) ∷ levels) leaves → PartWith size fixed key rid state between (with_entry node.entries rank entry ++ []) levels leaves levels' leaves' → PartTakes key rid levels leaves levels' leaves' (Some entry) → IsRank key node.entries rank → Rooted fixed root a b between state' (left_of node (with_entry node.entries rank entry) b) (right_of node (with_entry node.entries rank entry)) (over_of node.low a (key_at (with_entry node.entries rank entry) 5) b) → RootWith size fixed root a b key rid state state' (((root, node) ∷ []) ∷ levels) leaves
 inner_root size fixed root a b rid rank key entry node state between state' levels leaves levels' leaves' in_a in_b low kind some within ten part below how is r =
     let es = with_entry node.entries rank entry in
     let here = part.descends.1.0 in
@@ -115,10 +117,11 @@ inner_root size fixed root a b rid rank key entry node state between state' leve
       at_key = below.at_key;
       absent = below.absent;
       leaves_grow = below.leaves_grow;
-      shape = inner_parted node entry rank a b levels levels' leaves leaves' how is ten;
+      shape = inner_parted node entry rank a b levels levels' leaves leaves' how (record { place = is; ten = ten });
+      below = refl;
     }
 
-leaf_root : (size fixed root a b rid rank : ℕ) (key : Key) (node : Content) (state state' : State) → a < size → b < size → rid < size → node.low ≡ first_key → node.kind ≡ Leaf → IsRank key node.entries rank → entry_at node.entries key ≡ None → NotAfter node.low key → length (with_entry node.entries rank (key, rid)) ≡ 10 → Part size state ((first_key, root) ∷ []) [] ((root, node) ∷ []) → Rooted fixed root a b state state' (left_of node (with_entry node.entries rank (key, rid)) b) (right_of node (with_entry node.entries rank (key, rid))) (over_of node.low a (key_at (with_entry node.entries rank (key, rid)) 5) b) → RootWith size fixed root key rid state state' [] ((root, node) ∷ [])
+leaf_root : (size fixed root a b rid rank : ℕ) (key : Key) (node : Content) (state state' : State) → a < size → b < size → rid < size → node.low ≡ first_key → node.kind ≡ Leaf → IsRank key node.entries rank → entry_at node.entries key ≡ None → NotAfter node.low key → length (with_entry node.entries rank (key, rid)) ≡ 10 → Part size state ((first_key, root) ∷ []) [] ((root, node) ∷ []) → Rooted fixed root a b state state' (left_of node (with_entry node.entries rank (key, rid)) b) (right_of node (with_entry node.entries rank (key, rid))) (over_of node.low a (key_at (with_entry node.entries rank (key, rid)) 5) b) → RootWith size fixed root a b key rid state state' [] ((root, node) ∷ [])
 leaf_root size fixed root a b rid rank key node state state' in_a in_b stored low kind is absent not_after ten part r =
     let es = with_entry node.entries rank (key, rid) in
     let xs = take rank node.entries in
@@ -148,18 +151,19 @@ leaf_root size fixed root a b rid rank key node state state' in_a in_b stored lo
       at_key = λ other. ap (λ zs. entry_at zs other) now ∙ entry_at-put xs (key, rid) ys other f.below ∙ ap (λ zs. cond (is_same other key) (Some rid) (entry_at zs other)) (sym was);
       absent = ap (λ zs. entry_at zs key) was ∙ entry_at-absent xs ys key f.below is.above;
       leaves_grow = omega arith;
-      shape = leaf_parted node rank a b is ten;
+      shape = leaf_parted node rank a b (record { place = is; ten = ten });
+      below = refl;
     }
 
 names_nil : (row : List (ℕ × Content)) → row_names row ≡ [] → row ≡ []
 names_nil [] none = refl
 names_nil (x ∷ row) none = cc
 
-pub root_with : (size fixed root a b rid rank : ℕ) (key : Key) (entry : Key × ℕ) (node : Content) (state between state' : State) (levels : List (List (ℕ × Content))) (leaves : List (ℕ × Content)) → a < size → b < size → rid < size → entry.1 < size → node.low ≡ first_key → NotAfter node.low key → IsRank key node.entries rank → (node.kind ≡ Inner → 0 < rank) → length (with_entry node.entries rank entry) ≡ 10 → Stands size state [] (first_key, root) [] (root, node) levels leaves → (node.kind ≡ Leaf → (entry ≡ (key, rid)) × (entry_at node.entries key ≡ None) × (between ≡ state)) → (node.kind ≡ Inner → (levels : List (List (ℕ × Content))) (leaves : List (ℕ × Content)) → Part size state (node.entries ++ []) levels leaves → (levels' : List (List (ℕ × Content))) × (leaves' : List (ℕ × Content)) × PartWith size fixed key rid state between (with_entry node.entries rank entry ++ []) levels leaves levels' leaves' × PartTakes key rid levels leaves levels' leaves' (Some entry)) → Rooted fixed root a b between state' (left_of node (with_entry node.entries rank entry) b) (right_of node (with_entry node.entries rank entry)) (over_of node.low a (key_at (with_entry node.entries rank entry) 5) b) → RootWith size fixed root key rid state state' levels leaves
+pub root_with : (size fixed root a b rid rank : ℕ) (key : Key) (entry : Key × ℕ) (node : Content) (state between state' : State) (levels : List (List (ℕ × Content))) (leaves : List (ℕ × Content)) → a < size → b < size → rid < size → entry.1 < size → node.low ≡ first_key → NotAfter node.low key → IsRank key node.entries rank → (node.kind ≡ Inner → 0 < rank) → length (with_entry node.entries rank entry) ≡ 10 → Stands size state [] (first_key, root) [] (root, node) levels leaves → (node.kind ≡ Leaf → (entry ≡ (key, rid)) × (entry_at node.entries key ≡ None) × (between ≡ state)) → (node.kind ≡ Inner → (levels : List (List (ℕ × Content))) (leaves : List (ℕ × Content)) → Part size state (node.entries ++ []) levels leaves → (levels' : List (List (ℕ × Content))) × (leaves' : List (ℕ × Content)) × PartWith size fixed key rid state between (with_entry node.entries rank entry ++ []) levels leaves levels' leaves' × PartTakes key rid levels leaves levels' leaves' (Some entry)) → Rooted fixed root a b between state' (left_of node (with_entry node.entries rank entry) b) (right_of node (with_entry node.entries rank entry)) (over_of node.low a (key_at (with_entry node.entries rank entry) 5) b) → RootWith size fixed root a b key rid state state' levels leaves
 root_with size fixed root a b rid rank key entry node state between state' _ _ in_a in_b stored within low not_after is some ten (on_leaves lefts rights first last kind part) leaf inner r =
     let l = leaf kind in
     let P : List (ℕ × Content) → List (ℕ × Content) → Type 0 = λ ls rs. Part size state ((first_key, root) ∷ []) [] (ls ++ (root, node) ∷ rs) in
-    let R : List (ℕ × Content) → List (ℕ × Content) → Type 0 = λ ls rs. RootWith size fixed root key rid state state' [] (ls ++ (root, node) ∷ rs) in
+    let R : List (ℕ × Content) → List (ℕ × Content) → Type 0 = λ ls rs. RootWith size fixed root a b key rid state state' [] (ls ++ (root, node) ∷ rs) in
     let no_lefts = names_nil lefts first in
     let no_rights = names_nil rights last in
     let part' = subst (λ rs. P [] rs) no_rights (subst (λ ls. P ls rights) no_lefts part) in
@@ -169,7 +173,7 @@ root_with size fixed root a b rid rank key entry node state between state' _ _ i
     subst (λ ls. R ls rights) (sym no_lefts) (subst (λ rs. R [] rs) (sym no_rights) done)
 root_with size fixed root a b rid rank key entry node state between state' _ _ in_a in_b stored within low not_after is some ten (on_level lefts rights levels leaves first last kind part) leaf inner r =
     let P : List (ℕ × Content) → List (ℕ × Content) → Type 0 = λ ls rs. Part size state ((first_key, root) ∷ []) ((ls ++ (root, node) ∷ rs) ∷ levels) leaves in
-    let R : List (ℕ × Content) → List (ℕ × Content) → Type 0 = λ ls rs. RootWith size fixed root key rid state state' ((ls ++ (root, node) ∷ rs) ∷ levels) leaves in
+    let R : List (ℕ × Content) → List (ℕ × Content) → Type 0 = λ ls rs. RootWith size fixed root a b key rid state state' ((ls ++ (root, node) ∷ rs) ∷ levels) leaves in
     let no_lefts = names_nil lefts first in
     let no_rights = names_nil rights last in
     let part' = subst (λ rs. P [] rs) no_rights (subst (λ ls. P ls rights) no_lefts part) in

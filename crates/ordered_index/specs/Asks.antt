@@ -2,7 +2,6 @@
 use Rattle.std.specs.Prelude.{◌≡◌, ℕ, ◌+◌, ◌*◌, ◌<◌, ◌≤◌, ◌==◌, ◌&&◌, if◌then◌else◌, List, [], ◌∷◌, ◌++◌, length, Option, None, Some, Result, Bool, true, false, IfOk}
 use Rattle.plain_data.specs.State.{State, Agrees, overlay}
 use Rattle.record_store.specs.Meaning.{Meaning}
-use Rattle.record_store.specs.Writes.{WritesAtMost}
 use Rattle.record_store.specs.declared.walk.Walk.{Walk}
 use Rattle.ordered_index.specs.declared.key.Key.{Key}
 use Rattle.ordered_index.specs.declared.node.Kind.{Kind}
@@ -13,6 +12,7 @@ use Rattle.ordered_index.specs.Keys.{is_before, Above, or_else}
 use Rattle.ordered_index.specs.Node.{Content}
 use Rattle.ordered_index.specs.Tree.{EachTree, record_of_key}
 use Rattle.ordered_index.specs.Enter.{Part, IfTakes}
+use Rattle.ordered_index.specs.Written.{WritesNodes}
 
 -- the node of a row to which a key belongs: the last one whose fence is not behind it
 abbrev pub home : List (ℕ × Content) → Key → Option (ℕ × Content)
@@ -48,7 +48,7 @@ pub record Asks {F : Type 0} (root : ℕ) (key : Key) (before after : Meaning) (
   pub may : 0 < asked → MayAsk root key before after asked
   pub exact : IfOk answer (HasAsked root key before after asked)
   pub few : asked ≤ 25
-  pub writes : WritesAtMost (2 * asked + 1) before after
+  pub writes : WritesNodes (2 * asked + 1) before after
 
 -- what holds of each part of a tree below a level that has these entries, in each state that agrees
 abbrev pub EachPart : Meaning → Meaning → Key → List (Key × ℕ) → (List (List (ℕ × Content)) → List (ℕ × Content) → Type 0) → Type 0
@@ -78,8 +78,8 @@ pub record AsksBelow {F : Type 0} (key : Key) (kind : Kind) (entries : List (Key
   pub may : 0 < asked → EachPart before after key entries (IsDue key asked)
   pub exact : kind ≡ Inner → IfOk answer (HasAskedBelow before after key entries asked)
   pub deep : asked + depth ≤ 24
-  pub writes : WritesAtMost (2 * asked + 1) before after
-  pub takes : IfOk answer (λ entering. IfTakes entering (λ _. WritesAtMost (2 * asked) before after))
+  pub writes : WritesNodes (2 * asked + 1) before after
+  pub takes : IfOk answer (λ entering. IfTakes entering (λ _. WritesNodes (2 * asked) before after))
 
 -- a node with nine entries asks for one new record
 abbrev pub asks_at : List (Key × ℕ) → ℕ
@@ -90,4 +90,4 @@ pub record AsksRoot {F : Type 0} (entries : List (Key × ℕ)) (before after : M
   pub may : 0 < asked → length entries ≡ 9
   pub exact : IfOk answer (λ _. asked ≡ 2 * asks_at entries)
   pub few : asked ≤ 2
-  pub writes : WritesAtMost (2 * asked + 1) before after
+  pub writes : WritesNodes (2 * asked + 1) before after

@@ -1,5 +1,5 @@
 -- How a tree changes where an entry is inserted or removed.
-use Rattle.std.specs.Prelude.{◌≡◌, ℕ, ◌+◌, ◌≤◌, if◌then◌else◌, List, length, None, Some, is_some, IsSome, Bool, true, false}
+use Rattle.std.specs.Prelude.{◌≡◌, ℕ, ◌+◌, ◌≤◌, if◌then◌else◌, List, [], ◌∷◌, ◌++◌, map, length, None, Some, is_some, IsSome, Bool, true, false}
 use Rattle.plain_data.specs.State.{State, overlay}
 use Rattle.record_store.specs.Meaning.{Meaning}
 use Rattle.record_store.specs.Walks.{OnlyReads}
@@ -24,7 +24,14 @@ pub record RemovesEntry (root : ℕ) (key : Key) (was_there : Bool) (before afte
   pub removed : was_there ≡ true → EachTree root before after (λ state levels leaves. (leaves' : List (ℕ × Content)) × IsTakenOut root key before after state levels leaves leaves')
   pub unchanged : was_there ≡ false → after.writes ≡ before.writes
 
--- the tree after an entry was inserted: how its nodes changed, and a leaf came to be at most
+-- the nodes below the root of a tree that is more than a leaf
+abbrev pub second_row : List (List (ℕ × Content)) → List (ℕ × Content) → List (ℕ × Content)
+second_row [] leaves = []
+second_row (top ∷ []) leaves = leaves
+second_row (top ∷ level ∷ levels) leaves = level
+
+-- the tree after an entry was inserted: how its nodes changed, and a leaf came to be at most; where the root was parted, the records of
+-- the two nodes below it were given last, first that of the left one
 pub record IsInserted (root : ℕ) (key : Key) (rid : ℕ) (before after : Meaning) (state : State) (levels : List (List (ℕ × Content))) (leaves : List (ℕ × Content)) (levels' : List (List (ℕ × Content))) (leaves' : List (ℕ × Content)) : Type 0 where
   pub lawful : IsTree before.size root (overlay after.writes state) levels' leaves'
   pub at_key : (other : Key) → record_of_key leaves' other ≡ (if is_same other key then Some rid else record_of_key leaves other)
@@ -32,6 +39,7 @@ pub record IsInserted (root : ℕ) (key : Key) (rid : ℕ) (before after : Meani
   pub shape : TreeTakes root key rid levels leaves levels' leaves'
   pub moved : IsMoved before.fixed root (λ rid. In rid (tree_records levels leaves)) (λ rid. In rid (tree_records levels' leaves')) (overlay before.writes state) (overlay after.writes state)
   pub leaves_grow : length leaves' ≤ length leaves + 1
+  pub left_first : length levels' ≡ length levels + 1 → (earlier : List ℕ) × (after.given ≡ earlier ++ map (λ node. node.0) (second_row levels' leaves'))
 
 -- an entry is inserted where the key was not there, and nothing is written where it was
 pub record InsertsEntry (root : ℕ) (key : Key) (rid : ℕ) (done : Bool) (before after : Meaning) : Type 0 where

@@ -6,5 +6,6 @@ pub mod Walk
 pub mod Splits
 pub mod Changes
 pub mod Enter
+pub mod Written
 pub mod Asks
 pub mod Scan

@@ -66,7 +66,9 @@ pub record RowTakes (key : Key) (entry : Key × ℕ) (row row' : List (ℕ × Co
 pub data PartTakes (key : Key) (rid : ℕ) : List (List (ℕ × Content)) → List (ℕ × Content) → List (List (ℕ × Content)) → List (ℕ × Content) → Option (Key × ℕ) → Type 0 where
   leaf : (leaves leaves' : List (ℕ × Content)) (new : Option (Key × ℕ)) → RowTakes key (key, rid) leaves leaves' new → PartTakes key rid [] leaves [] leaves' new
   stays : (level : List (ℕ × Content)) (levels levels' : List (List (ℕ × Content))) (leaves leaves' : List (ℕ × Content)) → PartTakes key rid levels leaves levels' leaves' None → PartTakes key rid (level ∷ levels) leaves (level ∷ levels') leaves' None
-  takes : (level level' : List (ℕ × Content)) (levels levels' : List (List (ℕ × Content))) (leaves leaves' : List (ℕ × Content)) (entry : Key × ℕ) (new : Option (Key × ℕ)) → PartTakes key rid levels leaves levels' leaves' (Some entry) → RowTakes key entry level level' new → PartTakes key rid (level ∷ levels) leaves (level' ∷ levels') leaves' new
+  takes : (level level' : List (ℕ × Content)) (levels levels' : List (List (ℕ × Content))) (leaves leaves' : List (ℕ × Content)) (entry : Key × ℕ) (new : Option (Key × ℕ))
+      → PartTakes key rid levels leaves levels' leaves' (Some entry) → RowTakes key entry level level' new
+      → PartTakes key rid (level ∷ levels) leaves (level' ∷ levels') leaves' new
 
 -- the ten entries of the root go to two new nodes, and the root becomes an inner node over them
 abbrev pub root_row : ℕ → Content → List (Key × ℕ) → ℕ → ℕ → List (ℕ × Content)
@@ -75,9 +77,22 @@ root_row root node entries left right = (root, over_of node.low left (key_at ent
 abbrev pub below_root : Content → List (Key × ℕ) → ℕ → ℕ → List (ℕ × Content)
 below_root node entries left right = (left, left_of node entries right) ∷ (right, right_of node entries) ∷ []
 
+-- an entry goes to this place of a node, and is the tenth there
+pub record IsTenth (key : Key) (node : Content) (rank : ℕ) (entry : Key × ℕ) : Type 0 where
+  pub place : IsRank key node.entries rank
+  pub ten : length (with_entry node.entries rank entry) ≡ 10
+
 -- the whole tree: it begins as one leaf; or no level is added; or the root, a leaf or an inner node, is parted
 pub data TreeTakes (root : ℕ) (key : Key) (rid : ℕ) : List (List (ℕ × Content)) → List (ℕ × Content) → List (List (ℕ × Content)) → List (ℕ × Content) → Type 0 where
   begun : TreeTakes root key rid [] [] [] ((root, leaf_of key rid) ∷ [])
-  grown : (levels levels' : List (List (ℕ × Content))) (leaves leaves' : List (ℕ × Content)) → PartTakes key rid levels leaves levels' leaves' None → TreeTakes root key rid levels leaves levels' leaves'
-  leaf_parted : (node : Content) (rank left right : ℕ) → IsRank key node.entries rank → length (with_entry node.entries rank (key, rid)) ≡ 10 → TreeTakes root key rid [] ((root, node) ∷ []) (root_row root node (with_entry node.entries rank (key, rid)) left right ∷ []) (below_root node (with_entry node.entries rank (key, rid)) left right)
-  inner_parted : (node : Content) (entry : Key × ℕ) (rank left right : ℕ) (levels levels' : List (List (ℕ × Content))) (leaves leaves' : List (ℕ × Content)) → PartTakes key rid levels leaves levels' leaves' (Some entry) → IsRank key node.entries rank → length (with_entry node.entries rank entry) ≡ 10 → TreeTakes root key rid (((root, node) ∷ []) ∷ levels) leaves (root_row root node (with_entry node.entries rank entry) left right ∷ below_root node (with_entry node.entries rank entry) left right ∷ levels') leaves'
+  grown : (levels levels' : List (List (ℕ × Content))) (leaves leaves' : List (ℕ × Content)) → PartTakes key rid levels leaves levels' leaves' None
+      → TreeTakes root key rid levels leaves levels' leaves'
+  leaf_parted : (node : Content) (rank left right : ℕ) → IsTenth key node rank (key, rid)
+      → TreeTakes root key rid [] ((root, node) ∷ [])
+      (root_row root node (with_entry node.entries rank (key, rid)) left right ∷ [])
+      (below_root node (with_entry node.entries rank (key, rid)) left right)
+  inner_parted : (node : Content) (entry : Key × ℕ) (rank left right : ℕ) (levels levels' : List (List (ℕ × Content))) (leaves leaves' : List (ℕ × Content))
+      → PartTakes key rid levels leaves levels' leaves' (Some entry) → IsTenth key node rank entry
+      → TreeTakes root key rid (((root, node) ∷ []) ∷ levels) leaves
+      (root_row root node (with_entry node.entries rank entry) left right ∷ below_root node (with_entry node.entries rank entry) left right ∷ levels')
+      leaves'

@@ -4,13 +4,14 @@ ghost use Rattle.std.specs.Prelude.{◌≡◌, ℕ, ◌+◌, ◌*◌, ◌<◌, �
 ghost use Rattle.record_store.specs.Calls.{Calls, CallFault};
 ghost use Rattle.record_store.specs.Limits.{record_limit};
 ghost use Rattle.record_store.specs.Meaning.{after_write};
-ghost use Rattle.record_store.specs.Writes.{WritesAtMost, WritesOnly, EachWritesKnown, GivesAtMost, GivesFewer};
+ghost use Rattle.record_store.specs.Writes.{WritesOnly, EachWritesKnown, GivesAtMost, GivesFewer};
 ghost use Rattle.record_store.specs.Walks.{IfTorn, IfStore, IfNoMemory, OnlyReads, ReadsGrow};
 ghost use Rattle.ordered_index.specs.Asks.{EachPart, IsDue, AsksBelow, AsksRoot, asks_at};
 ghost use Rattle.ordered_index.specs.declared.node.Kind.TheVariants.{Leaf, Inner};
 ghost use Rattle.ordered_index.specs.Held.{content_of};
 ghost use Rattle.ordered_index.specs.Keys.{NotAfter};
 ghost use Rattle.ordered_index.specs.Node.{IsSound};
+ghost use Rattle.ordered_index.specs.Written.{WritesNodes};
 ghost use Rattle.record_store.specs.States.{EachState};
 ghost use Rattle.ordered_index.specs.Enter.{EachEntered, IsLeafEntered, IfTakes, IfThere, IsRank, TearsBelow, ReachesBelow, PutsEntry, PutsRoot, with_entry};
 
@@ -106,8 +107,8 @@ fn put_entry<S: RecordStore>(
     ensures calls { Calls S.read_gives S.write_gives S.fresh_gives store.old (asks_at link.node.entries.items) store.new }
     ensures given { GivesAtMost (asks_at link.node.entries.items) (S.meaning store.old) (S.meaning store.new) }
     ensures writes { WritesOnly (λ rid. rid ≡ link.at) (S.meaning store.old) (S.meaning store.new) }
-    ensures few { WritesAtMost (2 * asks_at link.node.entries.items + 1) (S.meaning store.old) (S.meaning store.new) }
-    ensures parted { IfOk result (λ new. IfSome new (λ _. WritesAtMost (2 * asks_at link.node.entries.items) (S.meaning store.old) (S.meaning store.new))) }
+    ensures few { WritesNodes (2 * asks_at link.node.entries.items + 1) (S.meaning store.old) (S.meaning store.new) }
+    ensures parted { IfOk result (λ new. IfSome new (λ _. WritesNodes (2 * asks_at link.node.entries.items) (S.meaning store.old) (S.meaning store.new))) }
     ensures rest { S.rest store.new ≡ S.rest store.old }
     ensures after { ReadsGrow (S.meaning store.old) (S.meaning store.new) }
 {
@@ -161,7 +162,7 @@ fn split_root<S: RecordStore>(store: &mut S, mut top: Link) -> Result<(), Walk<S
     ensures memory { IfNoMemory result ⊥ }
     ensures calls { (asked : ℕ) × Calls S.read_gives S.write_gives S.fresh_gives store.old asked store.new × (asked ≤ 2) × OnOk result (asked ≡ 2) × (0 < asked) × GivesAtMost asked (S.meaning store.old) (S.meaning store.new) }
     ensures writes { WritesOnly (λ rid. rid ≡ top.at) (S.meaning store.old) (S.meaning store.new) }
-    ensures few { WritesAtMost 3 (S.meaning store.old) (S.meaning store.new) }
+    ensures few { WritesNodes 3 (S.meaning store.old) (S.meaning store.new) }
     ensures rest { S.rest store.new ≡ S.rest store.old }
     ensures after { ReadsGrow (S.meaning store.old) (S.meaning store.new) }
 {

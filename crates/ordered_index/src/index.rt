@@ -6,12 +6,13 @@ ghost use Rattle.record_store.specs.Meaning.{after_write};
 ghost use Rattle.ordered_index.specs.Node.{words_of};
 ghost use Rattle.ordered_index.specs.Held.{content_of};
 ghost use Rattle.ordered_index.specs.Changes.{RemovesEntry, InsertsEntry};
-ghost use Rattle.record_store.specs.Writes.{WritesAtMost, EachWritesKnown, GivesAtMost, GivesFewer};
+ghost use Rattle.record_store.specs.Writes.{EachWritesKnown, GivesAtMost, GivesFewer};
 ghost use Rattle.ordered_index.specs.Asks.{MayAsk, Asks};
 ghost use Rattle.record_store.specs.Walks.{IfTorn, IfStore, IfNoMemory, OnlyReads, ReadsGrow};
 ghost use Rattle.ordered_index.specs.Tree.{EachTree, record_of_key};
 ghost use Rattle.record_store.specs.States.{EachState};
 ghost use Rattle.ordered_index.specs.Walk.{EndsWell, IsTorn};
+ghost use Rattle.ordered_index.specs.Written.{WritesNodes};
 
 use crate::enter::{Entering, enter, put_root};
 use crate::key::Key;
@@ -55,7 +56,7 @@ pub fn remove<S: RecordStore>(store: &mut S, root: u32, key: Key) -> Result<bool
     ensures fault { IfStore result (CallFault S.read_gives S.write_gives S.fresh_gives (λ _. ⊥) store.old store.new) }
     ensures memory { IfNoMemory result ⊥ }
 
-    ensures few { WritesAtMost 1 (S.meaning store.old) (S.meaning store.new) }
+    ensures few { WritesNodes 1 (S.meaning store.old) (S.meaning store.new) }
 
     // `fresh` is never asked
     ensures calls { Calls S.read_gives S.write_gives S.fresh_gives store.old 0 store.new }
@@ -101,7 +102,7 @@ pub fn insert<S: RecordStore>(
 
     // whatever it answers, no record is written but the root, one that is present, and one that was given
     ensures writes { EachWritesKnown (S.meaning store.old) (S.meaning store.new) }
-    ensures few { WritesAtMost 51 (S.meaning store.old) (S.meaning store.new) }
+    ensures few { WritesNodes 51 (S.meaning store.old) (S.meaning store.new) }
     ensures rest { S.rest store.new ≡ S.rest store.old }
     ensures after { ReadsGrow (S.meaning store.old) (S.meaning store.new) }
 {

@@ -4,13 +4,13 @@ ghost use Rattle.std.specs.Prelude.{◌≡◌, ℕ, ◌+◌, ◌<◌, ◌≤◌,
 ghost use Rattle.record_store.specs.Limits.{record_limit};
 ghost use Rattle.ordered_index.specs.Keys.{Rising, Above, NotAfter, last_at, entry_at, InStore};
 ghost use Rattle.ordered_index.specs.declared.node.Kind.TheVariants.{Inner};
-ghost use Rattle.record_store.specs.Links.{link_word as link_word_of};
 ghost use Rattle.ordered_index.specs.Node.{Content, Holds, IsSound, kind_word as kind_word_of, least, Begins, in_threes, words_of, next_of};
 ghost use Rattle.ordered_index.specs.Enter.{next_left as next_left_of};
 
 use crate::key::Key;
 use arrayvec::ArrayVec;
 use plain_data::Cells;
+use record_store::{link_word, named_record};
 
 /// What a node leads to.
 #[derive(Clone, Copy, PartialEq, Eq, Debug)]
@@ -234,28 +234,15 @@ fn least_of(kind: Kind) -> u64
     }
 }
 
-/// The word that names a record.
-fn link_word(next: Option<u32>) -> u64
-    ensures { result ≡ link_word_of next }
-{
-    match next {
-        Some(rid) => u64::from(rid) + 1,
-        None => 0,
-    }
-}
-
 /// The next leaf that the last word of a node names, if it lies in a store of this size.
 fn read_next(kind: Kind, word: u64, size: u32) -> Option<Option<u32>>
     ensures named { IfSome result (λ next. (next_of kind word ≡ next) × IfSome next (λ rid. rid < size)) }
     ensures outside { IfNone result (IfSome (next_of kind word) (λ rid. rid < size) → ⊥) }
 {
-    if kind == Kind::Inner || word == 0 {
-        return Some(None);
+    match kind {
+        Kind::Leaf => named_record(word, size),
+        Kind::Inner => Some(None),
     }
-    if word > u64::from(size) {
-        return None;
-    }
-    Some(Some((word - 1) as u32))
 }
 
 /// The entries of a node, if their record numbers lie in a store of this size.

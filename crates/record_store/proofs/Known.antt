@@ -7,9 +7,10 @@ use Rattle.plain_data.specs.State.{State, Agrees, overlay}
 use Rattle.record_store.specs.Meaning.{Meaning, value_at, with_value, after_write, after_fresh}
 use Rattle.record_store.specs.States.{EachState}
 use Rattle.record_store.specs.Walks.{Extends, OnlyReads}
-use Rattle.record_store.specs.Writes.{WritesOnly, EachWritesKnown, IsKnown, GivesAtMost, GivesFewer}
+use Rattle.record_store.specs.Writes.{WritesAtMost, WritesOnly, EachWritesKnown, IsKnown, GivesAtMost, GivesFewer}
 use Rattle.record_store.proofs.Agreement.{overlay-unwritten, agrees-extends, extends-refl, writes_same, given_same, fixed_same}
 use Rattle.record_store.proofs.Values.{value_at-with_value}
+use Rattle.record_store.proofs.Writes.{writes-none, writes-one, writes-trans, writes-weaken}
 
 -- ---- what is written
 
@@ -106,6 +107,7 @@ pub record Tries (rid : ℕ) (before after : Meaning) : Type 0 where
   pub same : after.given ≡ before.given
   pub given : GivesAtMost 0 before after
   pub only : WritesOnly (λ other. other ≡ rid) before after
+  pub few : WritesAtMost 1 before after
 
 pub tries : {T E : Type 0} (result : Result T E) (before after : Meaning) (rid : ℕ) (value : Option (List ℕ)) → OnOk result (after ≡ after_write before rid value) → OnErr result (after ≡ before) → Tries rid before after
 tries (Ok v) before after rid value wrote same = record {
@@ -113,15 +115,32 @@ tries (Ok v) before after rid value wrote same = record {
   same = ap (λ (m : Meaning). m.given) wrote;
   given = gives-none before after (ap (λ (m : Meaning). m.given) wrote);
   only = only-one (λ other. other ≡ rid) before after rid value (ap (λ (m : Meaning). m.writes) wrote) (inr refl);
+  few = writes-one before after rid value (ap (λ (m : Meaning). m.writes) wrote);
 }
 tries (Err e) before after rid value wrote same = record {
   reads = extends-same before.reads after.reads (ap (λ (m : Meaning). m.reads) same);
   same = ap (λ (m : Meaning). m.given) same;
   given = gives-none before after (ap (λ (m : Meaning). m.given) same);
   only = only-none (λ other. other ≡ rid) before after (ap (λ (m : Meaning). m.writes) same);
+  few = writes-weaken 0 1 before after (omega arith) (writes-none before after (ap (λ (m : Meaning). m.writes) same));
 }
 
 -- ---- behind reads alone
+
+pub few-reads : (n : ℕ) (before after : Meaning) → OnlyReads before after → WritesAtMost n before after
+few-reads n before after only = writes-weaken 0 n before after (omega arith) (writes-none before after (writes_same before after only))
+
+pub few-same : (n : ℕ) (before after : Meaning) → after ≡ before → WritesAtMost n before after
+few-same n before after same = writes-weaken 0 n before after (omega arith) (writes-none before after (ap (λ (m : Meaning). m.writes) same))
+
+pub few-fresh : (before after : Meaning) (rid : ℕ) → after ≡ after_fresh before rid → WritesAtMost 0 before after
+few-fresh before after rid is = writes-none before after (ap (λ (m : Meaning). m.writes) is)
+
+pub few-behind : (n : ℕ) (first before after : Meaning) → OnlyReads first before → WritesAtMost n before after → WritesAtMost n first after
+few-behind n first before after only a = let P : ℕ → Type 0 = λ k. WritesAtMost k first after in subst P (omega arith) (writes-trans 0 n first before after (few-reads 0 first before only) a)
+
+pub few-tried : (first before after : Meaning) (rid : ℕ) → OnlyReads first before → Tries rid before after → WritesAtMost 1 first after
+few-tried first before after rid only tried = few-behind 1 first before after only tried.few
 
 pub gives-reads : (before after : Meaning) → OnlyReads before after → GivesAtMost 0 before after
 gives-reads before after only = gives-none before after (given_same before after only)

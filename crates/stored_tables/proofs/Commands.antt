@@ -12,7 +12,7 @@ use Rattle.replay_model.specs.declared.outcome.Cause.{Cause}
 use Rattle.replay_model.specs.declared.outcome.Cause.TheVariants.{Exists, Missing, Over, Short, Unindexed}
 use Rattle.replay_model.specs.Effect.{effect, change_at, store_at, sum_of, difference_of, found}
 use Rattle.replay_model.specs.TableMap.{TableMap, Row, column_in, with_column, value_at, index_of, with_value, without}
-use Rattle.stored_tables.specs.Answers.{Held, Stands, IsIndexed, IsFound, IsSearched, Becomes, Does, MayAsk, MayAskFor, enter_moves, leave_moves}
+use Rattle.stored_tables.specs.Answers.{Held, Stands, IsIndexed, IsFound, IsSearched, Becomes, Does, MayAsk, enter_moves, leave_moves}
 use Rattle.stored_tables.specs.declared.reading.Found.{Found}
 use Rattle.stored_tables.specs.Plan.{Move, MayAskIn, plan, moves_at, moves_entry}
 use Rattle.stored_tables.specs.Runs.{Looks, Runs}
@@ -204,17 +204,17 @@ module _ {S F : Type 0} {read_gives : S → ℕ → Result (Option (List ℕ)) F
       (moves : List Move) (tables : Held → TableMap) (n most : ℕ) (first middle last : S) (early : Result T (Walk F)) (value : T)
       (result : Result (Unit {0}) (Walk F)) → Looks read_gives meaning (Stands (meaning first)) Found' first middle early
       → early ≡ Ok value → n ≤ most
-      → Runs read_gives write_gives fresh_gives meaning Inner (MayAskFor moves) (λ _ asked state held. Becomes moves (tables held)
+      → Runs read_gives write_gives fresh_gives meaning Inner (MayAsk (λ _. moves)) (λ _ asked state held. Becomes moves (tables held)
       (meaning last) asked state held) n middle last result
       → ((state : State) (held : Held) → Stands (meaning middle) state held → Found' value state held → Inner state held
       × (plan command held.1 ≡ moves) × (effect command held.1 ≡ Ok (Nothing, tables held)))
-      → Runs read_gives write_gives fresh_gives meaning (Stands (meaning first)) (MayAsk command)
+      → Runs read_gives write_gives fresh_gives meaning (Stands (meaning first)) (MayAsk (plan command))
       (λ _. Does command (meaning last) (Ok Nothing)) most first last result
   then_command {T} {Found'} {Inner} command moves tables n most first middle last early value result look was less runs facts =
       let Saw : T → ℕ → State → Held → Type 0 = λ v asked state held. (asked ≡ 0) × Found' v state held in
       runs_did (λ _. Does command (meaning last) (Ok Nothing)) (0 + n) most first last result (omega (arith, less))
       (runs_then (λ _. Does command (meaning last) (Ok Nothing)) 0 n first middle last early value result
-      (looks_runs (MayAsk command) Saw 0 first middle early look (λ v state held agrees stands found. (refl, found))) was runs
+      (looks_runs (MayAsk (plan command)) Saw 0 first middle early look (λ v state held agrees stands found. (refl, found))) was runs
       (λ before state held agrees stands saw. (
       let fact = facts state held (stands_on (meaning first) (meaning middle) state held look.only stands) saw.1 in (
         held,

@@ -7,7 +7,7 @@ use Rattle.record_store.specs.Meaning.{Meaning, after_undo}
 use Rattle.record_store.specs.Walks.{IfTorn, IfStore, ReadsGrow}
 use Rattle.record_store.specs.Writes.{GivesFewer}
 use Rattle.record_store.specs.declared.walk.Walk.{Walk}
-use Rattle.record_store.proofs.Refusals.{IfTorn-map, IfStore-map, OnOk_then, fault_moved}
+use Rattle.record_store.proofs.Refusals.{IfTorn-map, IfStore-map, fault_moved}
 use Rattle.replay_model.specs.declared.command.Command.{Command}
 use Rattle.replay_model.specs.declared.outcome.Answer.{Answer}
 use Rattle.replay_model.specs.declared.outcome.Cause.{Cause}
@@ -15,13 +15,13 @@ use Rattle.replay_model.specs.declared.outcome.Outcome.{Outcome}
 use Rattle.replay_model.specs.declared.outcome.Outcome.TheVariants.{Done, Refused}
 use Rattle.replay_model.specs.Running.{run_from, outcome_from, outcome_of, tables_from, tables_after}
 use Rattle.replay_model.specs.TableMap.{TableMap}
-use Rattle.stored_tables.specs.Answers.{Held, Stands, Becomes}
-use Rattle.stored_tables.specs.Blocks.{Called, Left, IfDone, IfRefused, LeavesTables, MayAskAll, MayAskOnce, RanTo, SawTo}
+use Rattle.stored_tables.specs.Answers.{Held, Stands, Becomes, MayAsk}
+use Rattle.stored_tables.specs.Blocks.{Called, Left, IfDone, IfRefused, LeavesTables, MayAskOnce, RanTo, SawTo}
 use Rattle.stored_tables.specs.Places.{Places}
 use Rattle.stored_tables.specs.Plan.{run_plan}
 use Rattle.stored_tables.specs.Runs.{Each, Runs}
 use Rattle.stored_tables.specs.Tables.{EachTables}
-use Rattle.stored_tables.proofs.Runs.{IfOk-map, ok_of, never_ok, fault_map}
+use Rattle.stored_tables.proofs.Runs.{IfOk-map, ok_of, fault_map}
 
 -- ---- outcomes
 
@@ -75,7 +75,7 @@ leaves commands answers now asked state places tables left =
     let P : TableMap → Type 0 = λ t. Becomes (run_plan commands tables) t now asked state (places, tables) in
     subst P (sym same) left.2
 
-may_tables : (commands : List Command) (first last : Meaning) (asks : ℕ) → Each (Stands first) last (MayAskAll commands asks)
+may_tables : (commands : List Command) (first last : Meaning) (asks : ℕ) → Each (Stands first) last (MayAsk (run_plan commands) asks)
     → MayAskOnce commands first last asks
 may_tables commands first last asks each = λ state places tables agrees stands. each state (places, tables) agrees stands
 
@@ -111,7 +111,7 @@ pub fault_tables : {S F : Type 0} (read_gives : S → ℕ → Result (Option (Li
     → Result (Unit {0}) F → S → Type 0) (fresh_gives : S → Result ℕ F → S → Type 0) (meaning : S → Meaning) (commands : List Command)
     (first last : S) (result other : Result Outcome (Walk F)) (walk : Walk F) → other ≡ Err walk → IsErrAnd result (λ w. w ≡ walk)
     → IfStore other (CallFault read_gives write_gives fresh_gives (λ asks. Each (Stands (meaning first)) (meaning last)
-    (MayAskAll commands asks) × GivesFewer asks (meaning first) (meaning last)) first last)
+    (MayAsk (run_plan commands) asks) × GivesFewer asks (meaning first) (meaning last)) first last)
     → IfStore result (CallFault read_gives write_gives fresh_gives (λ asks. MayAskOnce commands (meaning first) (meaning last) asks
     × GivesFewer asks (meaning first) (meaning last)) first last)
 fault_tables read_gives write_gives fresh_gives meaning commands first last result other walk was is fault =
@@ -123,14 +123,14 @@ module _ {S F : Type 0} {read_gives : S → ℕ → Result (Option (List ℕ)) F
     → Result (Unit {0}) F → S → Type 0} {fresh_gives : S → Result ℕ F → S → Type 0} {meaning : S → Meaning} (commands : List Command)
     (first last : S) where
   pub called_err : (result other : Result Outcome (Walk F)) (walk : Walk F) → Runs read_gives write_gives fresh_gives meaning
-      (Stands (meaning first)) (MayAskAll commands) (RanTo commands (meaning last)) (128 * length commands) first last other
+      (Stands (meaning first)) (MayAsk (run_plan commands)) (RanTo commands (meaning last)) (128 * length commands) first last other
       → IsErrAnd result (λ w. w ≡ walk) → Called read_gives write_gives fresh_gives meaning commands first last result
   called_err result other walk r is = record {
     before = last;
     asked = r.asked;
     calls = r.calls;
     may = λ some. may_tables commands (meaning first) (meaning last) r.asked (r.may some);
-    few = never_ok result walk _ is;
+    few = r.few;
     given = r.given;
     writes = λ state places tables agrees stands. r.writes state (places, tables) agrees stands;
     done = err_done result walk _ is;
@@ -139,7 +139,7 @@ module _ {S F : Type 0} {read_gives : S → ℕ → Result (Option (List ℕ)) F
   }
 
   pub called_done : (answers : List Answer) (other : Result Outcome (Walk F)) → other ≡ Ok (Done answers)
-      → Runs read_gives write_gives fresh_gives meaning (Stands (meaning first)) (MayAskAll commands) (RanTo commands (meaning last))
+      → Runs read_gives write_gives fresh_gives meaning (Stands (meaning first)) (MayAsk (run_plan commands)) (RanTo commands (meaning last))
       (128 * length commands) first last other → Called {F = F} read_gives write_gives fresh_gives meaning commands first last
       (Ok (Done answers))
   called_done answers other was r =
@@ -151,7 +151,7 @@ module _ {S F : Type 0} {read_gives : S → ℕ → Result (Option (List ℕ)) F
         asked = r.asked;
         calls = r.calls;
         may = λ some. may_tables commands (meaning first) (meaning last) r.asked (r.may some);
-        few = OnOk_then other r.few (Done answers) was;
+        few = r.few;
         given = r.given;
         writes = λ state places tables agrees stands. r.writes state (places, tables) agrees stands;
         done = (
@@ -165,7 +165,7 @@ module _ {S F : Type 0} {read_gives : S → ℕ → Result (Option (List ℕ)) F
 
   pub called_refused : (now : S) (command : ℕ) (cause : Cause) (other : Result Outcome (Walk F)) → other ≡ Ok (Refused command cause)
       → meaning now ≡ after_undo (meaning last) → Runs read_gives write_gives fresh_gives meaning (Stands (meaning first))
-      (MayAskAll commands) (RanTo commands (meaning last)) (128 * length commands) first last other
+      (MayAsk (run_plan commands)) (RanTo commands (meaning last)) (128 * length commands) first last other
       → Called {F = F} read_gives write_gives fresh_gives meaning commands first now (Ok (Refused command cause))
   called_refused now command cause other was undone r = record {
     before = last;
@@ -173,7 +173,7 @@ module _ {S F : Type 0} {read_gives : S → ℕ → Result (Option (List ℕ)) F
     calls = r.calls;
     may = λ some. may_after commands (meaning first) (meaning last) (meaning now) r.asked
         (undone_reads (meaning last) (meaning now) undone) (may_tables commands (meaning first) (meaning last) r.asked (r.may some));
-    few = OnOk_then other r.few (Refused command cause) was;
+    few = r.few;
     given = r.given;
     writes = λ state places tables agrees stands. r.writes state (places, tables)
         (let A : List (ℕ × Option (List ℕ)) → Type 0 = Agrees state in subst A (undone_reads (meaning last) (meaning now) undone) agrees)

@@ -10,6 +10,7 @@ use Rattle.replay_model.specs.declared.command.Command.{Command}
 use Rattle.replay_model.specs.declared.command.Command.TheVariants.{Get, Put, Ins, Del, Add, Sub, Scan, Find}
 use Rattle.replay_model.specs.declared.outcome.Answer.{Answer}
 use Rattle.replay_model.specs.declared.outcome.Cause.{Cause}
+use Rattle.stored_tables.specs.Plan.{plan}
 use Rattle.stored_tables.specs.Answers.{Stands, MayAsk, Does, IsIdle}
 use Rattle.stored_tables.specs.Runs.{Runs}
 use Rattle.stored_tables.proofs.Runs.{runs_did}
@@ -41,12 +42,12 @@ module _ {S F : Type 0} {read_gives : S → ℕ → Result (Option (List ℕ)) F
     → Result (Unit {0}) F → S → Type 0} {fresh_gives : S → Result ℕ F → S → Type 0} where
   -- a command ran from one store to another, which are the first and the last
   pub command_runs : (meaning : S → Meaning) (command : Command) (first begin end last : S) (result : Result (Result Answer Cause) (Walk F))
-      → begin ≡ first → last ≡ end → Runs read_gives write_gives fresh_gives meaning (Stands (meaning begin)) (MayAsk command)
+      → begin ≡ first → last ≡ end → Runs read_gives write_gives fresh_gives meaning (Stands (meaning begin)) (MayAsk (plan command))
       (Does command (meaning end)) 105 begin end result
-      → Runs read_gives write_gives fresh_gives meaning (Stands (meaning first)) (MayAsk command) (Does command (meaning last)) 128 first
+      → Runs read_gives write_gives fresh_gives meaning (Stands (meaning first)) (MayAsk (plan command)) (Does command (meaning last)) 128 first
       last result
   command_runs meaning command first begin end last result begins ends runs =
-      let P : S → S → Type 0 = λ a b. Runs read_gives write_gives fresh_gives meaning (Stands (meaning a)) (MayAsk command)
+      let P : S → S → Type 0 = λ a b. Runs read_gives write_gives fresh_gives meaning (Stands (meaning a)) (MayAsk (plan command))
       (Does command (meaning b)) 105 a b result in
       runs_did _ 105 128 first last result (omega arith)
       (subst (P first) (sym ends) (subst (λ a. P a end) begins runs))

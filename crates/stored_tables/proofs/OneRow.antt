@@ -1,5 +1,5 @@
 -- A row that is read, set or taken out by itself.
-use Rattle.std.proofs.Common.{◌≡◌, ℕ, Bool, true, false, List, Option, None, Some, Result, Ok, Err, refl, sym, ap, subst, arith}
+use Rattle.std.proofs.Common.{◌≡◌, ℕ, Bool, true, false, List, Option, None, Some, Result, Ok, Err, refl, sym, ap, subst}
 use Rattle.std.specs.Prelude.{IfOk, IsSome, is_some, if◌then◌else◌}
 use Rattle.plain_data.specs.State.{State}
 use Rattle.record_store.specs.Meaning.{Meaning}
@@ -17,7 +17,6 @@ use Rattle.stored_tables.specs.Runs.{Runs}
 use Rattle.stored_tables.specs.OneRow.{IsRowAt, SetsRow, TakesRow}
 use Rattle.stored_tables.specs.declared.reading.Found.{Found}
 use Rattle.stored_tables.proofs.Commands.{del_missing}
-use Rattle.stored_tables.proofs.Runs.{runs_did}
 
 -- ---- the row alone
 
@@ -90,16 +89,14 @@ module _ {S F : Type 0} {read_gives : S → ℕ → Result (Option (List ℕ)) F
     → Result (Unit {0}) F → S → Type 0} {fresh_gives : S → Result ℕ F → S → Type 0} where
   -- it was taken from one store to another, which are the first and the last
   pub take_runs : (meaning : S → Meaning) (table key : ℕ) (first begin end last : S) (result : Result Bool (Walk F))
-      → begin ≡ first → last ≡ end → Runs read_gives write_gives fresh_gives meaning (Stands (meaning begin)) (MayAsk (Del table key))
+      → begin ≡ first → last ≡ end → Runs read_gives write_gives fresh_gives meaning (Stands (meaning begin)) (MayAsk (plan (Del table key)))
       (λ taken. TakesRow table key (meaning end) taken) 4 begin end result
-      → Runs read_gives write_gives fresh_gives meaning (Stands (meaning first)) (MayAsk (Del table key))
-      (λ taken. TakesRow table key (meaning last) taken) 128 first last result
+      → Runs read_gives write_gives fresh_gives meaning (Stands (meaning first)) (MayAsk (plan (Del table key)))
+      (λ taken. TakesRow table key (meaning last) taken) 4 first last result
   take_runs meaning table key first begin end last result begins ends runs =
-      let P : S → S → Type 0 = λ a b. Runs read_gives write_gives fresh_gives meaning (Stands (meaning a)) (MayAsk (Del table key))
+      let P : S → S → Type 0 = λ a b. Runs read_gives write_gives fresh_gives meaning (Stands (meaning a)) (MayAsk (plan (Del table key)))
       (λ taken. TakesRow table key (meaning b) taken) 4 a b result in
-      runs_did _ 4 128 first last result (omega arith)
-      (subst (P first) (sym ends) (subst (λ a. P a end) begins runs))
-      (λ value asked state held stands did. did)
+      subst (P first) (sym ends) (subst (λ a. P a end) begins runs)
 
 -- where none was there the last store has only more reads than the first
 pub kept_ends : {S F : Type 0} (meaning : S → Meaning) (first begin end last : S) (result : Result Bool (Walk F)) → begin ≡ first → last ≡ end

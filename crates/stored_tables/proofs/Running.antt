@@ -13,7 +13,7 @@ use Rattle.replay_model.specs.Running.{run_from, step_then, answer_before}
 use Rattle.replay_model.specs.TableMap.{TableMap}
 use Rattle.replay_model.proofs.RunLaws.{run_from-take_more, run_from-refused_at}
 use Rattle.stored_tables.specs.Answers.{Held, IsIdle, Stands, Does, MayAsk, Becomes, Answers}
-use Rattle.stored_tables.specs.Blocks.{Left, MayAskAll, Saw}
+use Rattle.stored_tables.specs.Blocks.{Left, Saw}
 use Rattle.stored_tables.specs.Places.{Places}
 use Rattle.stored_tables.specs.Plan.{Move, Follows, MayAskIn, plan, plan_then, run_plan}
 use Rattle.stored_tables.specs.Plan.Follows.{stays, moves}
@@ -229,11 +229,11 @@ module _ {S F : Type 0} {read_gives : S → ℕ → Result (Option (List ℕ)) F
     → Result (Unit {0}) F → S → Type 0} {fresh_gives : S → Result ℕ F → S → Type 0} {meaning : S → Meaning} where
   pub next_runs : (commands : List Command) (command : Command) (i : ℕ) (answers : List Answer) (first middle last : S)
       (result : Result (Result Answer Cause) (Walk F)) → i < length commands → command ≡ get_or commands i command
-      → Runs read_gives write_gives fresh_gives meaning (Stands (meaning first)) (MayAskAll commands)
+      → Runs read_gives write_gives fresh_gives meaning (Stands (meaning first)) (MayAsk (run_plan commands))
       (λ _. Left (take i commands) answers (meaning middle)) (128 * i) first middle (Ok (tt {0}))
-      → Runs read_gives write_gives fresh_gives meaning (Stands (meaning middle)) (MayAsk command) (Does command (meaning last)) 128
+      → Runs read_gives write_gives fresh_gives meaning (Stands (meaning middle)) (MayAsk (plan command)) (Does command (meaning last)) 128
       middle last result
-      → Runs read_gives write_gives fresh_gives meaning (Stands (meaning first)) (MayAskAll commands)
+      → Runs read_gives write_gives fresh_gives meaning (Stands (meaning first)) (MayAsk (run_plan commands))
       (StepTo commands i answers (meaning last)) (128 * i + 128) first last result
   next_runs commands command i answers first middle last result within here acc step =
       runs_then (StepTo commands i answers (meaning last)) (128 * i) 128 first middle last (Ok (tt {0})) tt result acc refl step

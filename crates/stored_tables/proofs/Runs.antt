@@ -1,6 +1,6 @@
 -- Parts of a run behind each other.
 use Rattle.std.proofs.Common.{◌≡◌, ℕ, ◌+◌, ◌<◌, ◌≤◌, Bool, true, false, List, Option, Result, Ok, Err, refl, zero, suc, subst, arith}
-use Rattle.std.specs.Prelude.{IsErrAnd, IfOk, OnOk}
+use Rattle.std.specs.Prelude.{IsErrAnd, IfOk}
 use Rattle.plain_data.specs.State.{State, Agrees}
 use Rattle.record_store.specs.Calls.{CallFault}
 use Rattle.record_store.specs.Calls.Calls.{none as no_calls}
@@ -8,11 +8,11 @@ use Rattle.record_store.specs.Calls.Reads.{none as no_reads}
 use Rattle.record_store.specs.Meaning.{Meaning}
 use Rattle.record_store.specs.declared.walk.Walk.{Walk}
 use Rattle.record_store.specs.declared.walk.Walk.TheVariants.{Torn, NoMemory}
-use Rattle.record_store.proofs.Agreement.{agrees-extends, OnlyReads-refl, OnlyReads-trans, ReadsGrow-only, ReadsGrow-trans, writes_same}
-use Rattle.record_store.proofs.Known.{gives-reads, gives-trans, fewer-behind, known-reads}
+use Rattle.record_store.proofs.Agreement.{agrees-extends, OnlyReads-refl, OnlyReads-trans, ReadsGrow-only, ReadsGrow-trans}
+use Rattle.record_store.proofs.Known.{few-reads, gives-reads, gives-trans, fewer-behind, known-reads}
 use Rattle.record_store.proofs.Paths.{Reads-trans, ReadFault-behind, Calls-reads, Calls-trans, CallFault-read, CallFault-behind}
-use Rattle.record_store.proofs.Refusals.{fault_moved, torn_moved, IfStore-map, IfTorn-map, OnOk-map, OnOk_then}
-use Rattle.record_store.proofs.Writes.{writes-none, writes-trans, writes-weaken}
+use Rattle.record_store.proofs.Refusals.{fault_moved, torn_moved, IfStore-map, IfTorn-map}
+use Rattle.record_store.proofs.Writes.{writes-trans, writes-weaken}
 use Rattle.stored_tables.specs.Runs.{Each, Looks, Runs}
 use Rattle.stored_tables.proofs.Knowing.{known_trans}
 
@@ -27,14 +27,6 @@ pub no_ok : {T E : Type 0} (result : Result T E) (walk : E) (P : T → Type 0) �
 no_ok (Ok v) walk P is = absurd is
 no_ok (Err e) walk P is = tt
 
-pub never_ok : {T E : Type 0} (result : Result T E) (walk : E) (P : Type 0) → IsErrAnd result (λ w. w ≡ walk) → OnOk result P
-never_ok (Ok v) walk P is = absurd is
-never_ok (Err e) walk P is = tt
-
-pub always_ok : {T E P : Type 0} (result : Result T E) → P → OnOk result P
-always_ok (Ok v) holds = holds
-always_ok (Err e) holds = tt
-
 pub IfOk-map : {T E : Type 0} (result : Result T E) {P Q : T → Type 0} → ((value : T) → P value → Q value) → IfOk result P → IfOk result Q
 IfOk-map (Ok v) more holds = more v holds
 IfOk-map (Err e) more holds = tt
@@ -48,7 +40,7 @@ at_zero : (P : ℕ → Type 0) (n : ℕ) → P n → P (0 + n)
 at_zero P n holds = let same : n ≡ 0 + n = omega arith in subst P same holds
 
 -- by the number of a later part's asks
-asks_of : (n : ℕ) (P : Type 0) → (n ≡ 0 → P) → (0 < n → P) → P
+pub asks_of : (n : ℕ) (P : Type 0) → (n ≡ 0 → P) → (0 < n → P) → P
 asks_of zero P none some = none refl
 asks_of (suc n) P none some = some (omega arith)
 
@@ -146,11 +138,11 @@ module _ {S F : Type 0} {read_gives : S → ℕ → Result (Option (List ℕ)) F
     → Result (Unit {0}) F → S → Type 0} {fresh_gives : S → Result ℕ F → S → Type 0} {meaning : S → Meaning} where
   -- what was done is done in no state that stands so
   pub runs_torn : {T V X : Type 0} {Stands : State → X → Type 0} {Due : ℕ → State → X → Type 0} {Did : V → ℕ → State → X → Type 0}
-      (Other : T → ℕ → State → X → Type 0) (few most : ℕ) (first last : S) (other : Result V (Walk F)) (value : V) (rid : ℕ)
+      (Other : T → ℕ → State → X → Type 0) (few most : ℕ) (less : few ≤ most) (first last : S) (other : Result V (Walk F)) (value : V) (rid : ℕ)
       → Runs read_gives write_gives fresh_gives meaning Stands Due Did few first last other → other ≡ Ok value
       → ((asked : ℕ) (state : State) (x : X) → Agrees state (meaning last).reads → Stands state x → Did value asked state x → ⊥)
       → Runs {F = F} read_gives write_gives fresh_gives meaning Stands Due Other most first last (Err (Torn rid))
-  runs_torn Other few most first last other value rid r was never = record {
+  runs_torn Other few most less first last other value rid r was never = record {
     asked = r.asked;
     calls = r.calls;
     given = r.given;
@@ -158,17 +150,17 @@ module _ {S F : Type 0} {read_gives : S → ℕ → Result (Option (List ℕ)) F
     did = tt;
     torn = λ state x agrees stands. never r.asked state x agrees stands (ok_of other _ value was r.did state x agrees stands);
     fault = tt;
-    few = tt;
+    few = writes-weaken few most (meaning first) (meaning last) less r.few;
     writes = r.writes;
     grow = r.grow;
   }
 
   -- want of memory says nothing
   pub runs_memory : {T V X : Type 0} {Stands : State → X → Type 0} {Due : ℕ → State → X → Type 0} {Did : V → ℕ → State → X → Type 0}
-      (Other : T → ℕ → State → X → Type 0) (few most : ℕ) (first last : S) (other : Result V (Walk F))
+      (Other : T → ℕ → State → X → Type 0) (few most : ℕ) (less : few ≤ most) (first last : S) (other : Result V (Walk F))
       → Runs read_gives write_gives fresh_gives meaning Stands Due Did few first last other
       → Runs {F = F} read_gives write_gives fresh_gives meaning Stands Due Other most first last (Err NoMemory)
-  runs_memory Other few most first last other r = record {
+  runs_memory Other few most less first last other r = record {
     asked = r.asked;
     calls = r.calls;
     given = r.given;
@@ -176,7 +168,7 @@ module _ {S F : Type 0} {read_gives : S → ℕ → Result (Option (List ℕ)) F
     did = tt;
     torn = tt;
     fault = tt;
-    few = tt;
+    few = writes-weaken few most (meaning first) (meaning last) less r.few;
     writes = r.writes;
     grow = r.grow;
   }
@@ -196,8 +188,7 @@ module _ {S F : Type 0} {read_gives : S → ℕ → Result (Option (List ℕ)) F
     did = IfOk-map result (λ value each state x agrees stands. more value state x agrees stands (each state x agrees stands)) l.found;
     torn = l.torn;
     fault = IfStore-map result (λ fault. CallFault-read _ first last fault) l.fault;
-    few = always_ok result (writes-weaken 0 most (meaning first) (meaning last) (omega arith)
-        (writes-none (meaning first) (meaning last) (writes_same (meaning first) (meaning last) l.only)));
+    few = few-reads most (meaning first) (meaning last) l.only;
     grow = ReadsGrow-only (meaning first) (meaning last) l.only;
   }
 
@@ -220,7 +211,7 @@ module _ {S F : Type 0} {read_gives : S → ℕ → Result (Option (List ℕ)) F
           λ state x agrees stands. (let g = glue state x agrees stands in g.2 asks (both.0 state g.0 agrees g.1)),
           both.1,
         )) f) r.fault;
-    few = OnOk-map result (writes-weaken few most (meaning first) (meaning last) less) r.few;
+    few = writes-weaken few most (meaning first) (meaning last) less r.few;
     writes = λ state x agrees stands. (let g = glue state x agrees stands in r.writes state g.0 agrees g.1);
     grow = r.grow;
   }
@@ -254,10 +245,10 @@ module _ {S F : Type 0} {read_gives : S → ℕ → Result (Option (List ℕ)) F
       (λ state x agrees stands. (x, stands, λ asks due. due, λ value asked did. more value asked state x stands did))
 
   pub runs_moved : {T V X : Type 0} {Stands : State → X → Type 0} {Due : ℕ → State → X → Type 0} {Did : V → ℕ → State → X → Type 0}
-      (Other : T → ℕ → State → X → Type 0) (few most : ℕ) (first last : S) (result : Result T (Walk F)) (other : Result V (Walk F))
+      (Other : T → ℕ → State → X → Type 0) (few most : ℕ) (less : few ≤ most) (first last : S) (result : Result T (Walk F)) (other : Result V (Walk F))
       (walk : Walk F) → Runs read_gives write_gives fresh_gives meaning Stands Due Did few first last other → other ≡ Err walk
       → IsErrAnd result (λ w. w ≡ walk) → Runs read_gives write_gives fresh_gives meaning Stands Due Other most first last result
-  runs_moved Other few most first last result other walk r was is = record {
+  runs_moved Other few most less first last result other walk r was is = record {
     asked = r.asked;
     calls = r.calls;
     given = r.given;
@@ -265,7 +256,7 @@ module _ {S F : Type 0} {read_gives : S → ℕ → Result (Option (List ℕ)) F
     did = no_ok result walk _ is;
     torn = torn_moved result other walk _ was is r.torn;
     fault = fault_moved result other walk _ was is r.fault;
-    few = never_ok result walk _ is;
+    few = writes-weaken few most (meaning first) (meaning last) less r.few;
     writes = r.writes;
     grow = r.grow;
   }
@@ -283,7 +274,7 @@ module _ {S F : Type 0} {read_gives : S → ℕ → Result (Option (List ℕ)) F
     did = λ state x agrees stands. more r.asked state x agrees stands (ok_of other _ value was r.did state x agrees stands);
     torn = tt;
     fault = tt;
-    few = writes-weaken few most (meaning first) (meaning last) less (OnOk_then other r.few value was);
+    few = writes-weaken few most (meaning first) (meaning last) less r.few;
     writes = r.writes;
     grow = r.grow;
   }
@@ -323,7 +314,7 @@ module _ {S F : Type 0} {read_gives : S → ℕ → Result (Option (List ℕ)) F
               λ state x agrees stands. (let g = at state x agrees stands in g.2 asks (both.0 state g.0 agrees g.1)),
               fewer-behind a.asked asks (meaning first) (meaning middle) (meaning last) a.given both.1,
             )) f) b.fault;
-        few = OnOk-map result (writes-trans n m (meaning first) (meaning middle) (meaning last) (OnOk_then early a.few value was)) b.few;
+        few = writes-trans n m (meaning first) (meaning middle) (meaning last) a.few b.few;
         given = gives-trans a.asked b.asked (meaning first) (meaning middle) (meaning last) a.given b.given;
         writes = λ state x agrees stands. (let g = at state x agrees stands in known_trans b.asked (meaning first) (meaning middle)
             (meaning last) state a.grow.fixed (a.writes state x (back state agrees) stands) b.given (b.writes state g.0 agrees g.1));

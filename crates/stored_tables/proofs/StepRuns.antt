@@ -8,7 +8,7 @@ use Rattle.record_store.specs.Meaning.{Meaning}
 use Rattle.record_store.specs.Walks.{IfTorn, IfStore, ReadsGrow}
 use Rattle.record_store.specs.Writes.{WritesAtMost, EachWritesKnown, GivesAtMost, GivesFewer}
 use Rattle.record_store.specs.declared.walk.Walk.{Walk}
-use Rattle.record_store.proofs.Refusals.{IfTorn-map, IfStore-map, OnOk-map}
+use Rattle.record_store.proofs.Refusals.{IfTorn-map, IfStore-map}
 use Rattle.record_store.proofs.Writes.{writes-weaken}
 use Rattle.hash_index.specs.Answers.{IsTorn as IsTornChain, MayAsk as MayAskChain, Asks as AsksChain, PutsPair, RemovesPair}
 use Rattle.hash_index.specs.Changes.{IsPut, IsRemoved}
@@ -19,13 +19,14 @@ use Rattle.ordered_index.specs.declared.key.Key.{Key}
 use Rattle.ordered_index.specs.Node.{Content}
 use Rattle.ordered_index.specs.Tree.{IsTree}
 use Rattle.ordered_index.specs.Walk.{IsTorn}
+use Rattle.ordered_index.specs.Written.{WritesNodes}
 use Rattle.stored_tables.specs.Answers.{ChainHas, TreeHas}
 use Rattle.stored_tables.specs.Moved.{Shaped, Step}
 use Rattle.stored_tables.specs.Places.{Places, base_of, root_of, table_limit, tree_limit, fixed_records}
 use Rattle.stored_tables.specs.Plan.{IsDue}
 use Rattle.stored_tables.specs.Plan.Move.{pair_put, pair_removed, entry_inserted, entry_removed}
 use Rattle.stored_tables.specs.Runs.{Each, Runs}
-use Rattle.stored_tables.proofs.Runs.{IfOk-map, always_ok, fault_map}
+use Rattle.stored_tables.proofs.Runs.{IfOk-map, asks_of, fault_map}
 use Rattle.stored_tables.proofs.Laid.{not_some}
 use Rattle.stored_tables.proofs.Stepped.{step_put, step_removed, step_inserted, step_taken_out}
 
@@ -60,10 +61,6 @@ taken_to : (root place : ℕ) (key : Key) (before now : Meaning) (state : State)
 taken_to root place key before now state levels leaves leaves' is out = let P : ℕ
     → Type 0 = λ b. IsTakenOut b key before now state levels leaves leaves' in subst P is out
 
-few_given : (fresh : Option ℕ) → 1 + length (option_to_list fresh) ≤ 2
-few_given None = omega arith
-few_given (Some rid) = omega arith
-
 on_if : {T E : Type 0} (result : Result T E) (P : Type 0) → OnOk result P → IfOk result (λ _. P)
 on_if (Ok v) P holds = holds
 on_if (Err e) P holds = tt
@@ -80,10 +77,11 @@ asks_given base key rid asked before after puts count =
     let parts = length-append before.given (option_to_list puts.fresh) in
     omega (arith, grown, parts, count)
 
-few_removed : {F : Type 0} (base key : ℕ) (before after : Meaning) (result : Result Bool (Walk F))
-    → IfOk result (λ there. RemovesPair base key there before after) → OnOk result (WritesAtMost 1 before after)
-few_removed base key before after (Ok there) removes = removes.few
-few_removed base key before after (Err walk) removes = tt
+-- one record is written, and one more for the one ask
+few_put : {F : Type 0} (base key : ℕ) (before after : Meaning) (result : Result (Unit {0}) (Walk F)) (asked : ℕ)
+    → AsksChain base key before after result asked → WritesAtMost 2 before after
+few_put base key before after result asked asks = writes-weaken (1 + asked) 2 before after
+    (asks_of asked (1 + asked ≤ 2) (λ none. omega (arith, none)) (λ some. omega (arith, (asks.may some).once))) asks.few
 
 -- an entry that is not there is inserted, by as many asks as records are due
 inserted_did : {F : Type 0} (number root : ℕ) (key : Key) (rid : ℕ) (before after : Meaning) (result : Result Bool (Walk F)) (asked : ℕ)
@@ -144,8 +142,7 @@ module _ {S F : Type 0} {read_gives : S → ℕ → Result (Option (List ℕ)) F
         fault = IfStore-map result
             (λ f. fault_map _ _ first last f
             (λ asks may. (λ state places agrees has. due asks may.0 state places agrees has, may.1))) fault;
-        few = OnOk-map result (λ (puts : PutsPair base key rid (meaning first) (meaning last)). writes-weaken _ 2 (meaning first)
-            (meaning last) (few_given puts.fresh) puts.few) ok;
+        few = few_put base key (meaning first) (meaning last) result calls.0 calls.2;
         given = calls.2.given;
         writes = λ state places agrees has. writes state agrees;
         grow = grow;
@@ -156,12 +153,12 @@ module _ {S F : Type 0} {read_gives : S → ℕ → Result (Option (List ℕ)) F
       → IfOk result (λ there. RemovesPair base key there (meaning first) (meaning last))
       → IfTorn result (IsTornChain base key (meaning first) (meaning last))
       → IfStore result (CallFault read_gives write_gives fresh_gives (λ _. ⊥) first last)
-      → Calls read_gives write_gives fresh_gives first 0 last → GivesAtMost 0 (meaning first) (meaning last)
-      → EachWritesKnown (meaning first) (meaning last) → ReadsGrow (meaning first) (meaning last)
-      → Runs read_gives write_gives fresh_gives meaning (ChainHas (meaning first) table key (Some rid)) (λ _ _ _. ⊥)
+      → WritesAtMost 1 (meaning first) (meaning last) → Calls read_gives write_gives fresh_gives first 0 last
+      → GivesAtMost 0 (meaning first) (meaning last) → EachWritesKnown (meaning first) (meaning last)
+      → ReadsGrow (meaning first) (meaning last) → Runs read_gives write_gives fresh_gives meaning (ChainHas (meaning first) table key (Some rid)) (λ _ _ _. ⊥)
       (λ there asked state places. (there ≡ true) × Step rid (pair_removed table key) (meaning first) (meaning last) asked state
       places) 1 first last result
-  removed_runs table base key rid first last result low is enough ok torn fault calls given writes grow = record {
+  removed_runs table base key rid first last result low is enough ok torn fault few calls given writes grow = record {
     asked = 0;
     calls = calls;
     may = λ some. absurd (omega arith);
@@ -179,7 +176,7 @@ module _ {S F : Type 0} {read_gives : S → ℕ → Result (Option (List ℕ)) F
     torn = IfTorn-map result (λ r t state places agrees has. t.no_chain state (places.rows table) agrees
         (chain_at table base (meaning first) state places low is has.0)) torn;
     fault = IfStore-map result (λ f. fault_map _ _ first last f (λ asks never. absurd never)) fault;
-    few = few_removed base key (meaning first) (meaning last) result ok;
+    few = few;
     given = given;
     writes = λ state places agrees has. writes state agrees;
     grow = grow;
@@ -192,7 +189,7 @@ module _ {S F : Type 0} {read_gives : S → ℕ → Result (Option (List ℕ)) F
       → IfStore result (CallFault read_gives write_gives fresh_gives (λ asks. MayAsk root key (meaning first) (meaning last) asks
       × GivesFewer asks (meaning first) (meaning last)) first last)
       → ((asked : ℕ) × Calls read_gives write_gives fresh_gives first asked last × Asks root key (meaning first) (meaning last) result
-      asked × GivesAtMost asked (meaning first) (meaning last)) → EachWritesKnown (meaning first) (meaning last) → WritesAtMost 51 (meaning first) (meaning last) → ReadsGrow (meaning first) (meaning last)
+      asked × GivesAtMost asked (meaning first) (meaning last)) → EachWritesKnown (meaning first) (meaning last) → WritesNodes 51 (meaning first) (meaning last) → ReadsGrow (meaning first) (meaning last)
       → Runs read_gives write_gives fresh_gives meaning (TreeHas (meaning first) number key None)
       (λ asks _ places. IsDue (entry_inserted number key) places asks) (λ done asked state places. (done ≡ true)
       × Step rid (entry_inserted number key) (meaning first) (meaning last) asked state places) 51 first last result
@@ -211,7 +208,7 @@ module _ {S F : Type 0} {read_gives : S → ℕ → Result (Option (List ℕ)) F
         fault = IfStore-map result
             (λ f. fault_map _ _ first last f
             (λ asks may. (λ state places agrees has. due asks may.0 state places agrees has, may.1))) fault;
-        few = always_ok result few;
+        few = few.few;
         given = calls.3;
         writes = λ state places agrees has. writes state agrees;
         grow = grow;
@@ -222,7 +219,7 @@ module _ {S F : Type 0} {read_gives : S → ℕ → Result (Option (List ℕ)) F
       → IfOk result (λ there. RemovesEntry root key there (meaning first) (meaning last))
       → IfTorn result (IsTorn root key (meaning first) (meaning last))
       → IfStore result (CallFault read_gives write_gives fresh_gives (λ _. ⊥) first last)
-      → WritesAtMost 1 (meaning first) (meaning last) → Calls read_gives write_gives fresh_gives first 0 last
+      → WritesNodes 1 (meaning first) (meaning last) → Calls read_gives write_gives fresh_gives first 0 last
       → GivesAtMost 0 (meaning first) (meaning last) → EachWritesKnown (meaning first) (meaning last)
       → ReadsGrow (meaning first) (meaning last)
       → Runs read_gives write_gives fresh_gives meaning (TreeHas (meaning first) number key (Some rid)) (λ _ _ _. ⊥)
@@ -247,7 +244,7 @@ module _ {S F : Type 0} {read_gives : S → ℕ → Result (Option (List ℕ)) F
     torn = IfTorn-map result (λ r t state places agrees has. t.no_tree state (places.levels number) (places.leaves number) agrees
         (tree_at number root (meaning first) state places low is has.1)) torn;
     fault = IfStore-map result (λ f. fault_map _ _ first last f (λ asks never. absurd never)) fault;
-    few = always_ok result few;
+    few = few.few;
     given = given;
     writes = λ state places agrees has. writes state agrees;
     grow = grow;

@@ -211,25 +211,25 @@ tree_grows root key rid _ _ _ _ (grown levels levels' leaves leaves' part) is =
       nodes = omega (arith, g.0, some, due_less key levels leaves g.1);
       branches = inr (part_branches key rid 1 levels leaves levels' leaves' None part branches);
     }
-tree_grows root key rid _ _ _ _ (leaf_parted node rank left right place ten) is =
+tree_grows root key rid _ _ _ _ (leaf_parted node rank left right tenth) is =
     let entries = with_entry node.entries rank (key, rid) in
     let due = due_most key [] ((root, node) ∷ []) in
     record { nodes = omega (arith, due); branches = inr (refl, (omega arith, tt), refl) }
-tree_grows root key rid _ _ _ _ (inner_parted node entry rank left right levels levels' leaves leaves' part place ten) is =
+tree_grows root key rid _ _ _ _ (inner_parted node entry rank left right levels levels' leaves leaves' part tenth) is =
     let entries = with_entry node.entries rank entry in
     let branches = whole (((root, node) ∷ []) ∷ levels) leaves (part_some key rid levels leaves levels' leaves' (Some entry) part) is in
     let g = part_grows key rid levels leaves levels' leaves' (Some entry) part in
     let due = due_most key (((root, node) ∷ []) ∷ levels) leaves in
-    let more = entry_more node.entries rank entry place.within in
+    let more = entry_more node.entries rank entry tenth.place.within in
     let had = length-append node.entries [] in
     let first = length-take 5 entries in
     let second = length-drop 5 entries in
     let below = part_branches key rid (length (row_entries ((root, node) ∷ []))) levels leaves levels' leaves' (Some entry) part branches.2 in
     let same : length (row_entries ((root, node) ∷ [])) + 1 ≡ length (row_entries (below_root node entries left right)) =
-    omega (arith, ten, more, had, first, second, length-append (take 5 entries) (drop 5 entries ++ []), length-append (drop 5 entries) []) in
+    omega (arith, tenth.ten, more, had, first, second, length-append (take 5 entries) (drop 5 entries ++ []), length-append (drop 5 entries) []) in
     record {
       nodes = omega (arith, g, due, count-level ((root, node) ∷ []) levels leaves, count-level (root_row root node entries left right) (below_root node entries left right ∷ levels') leaves', count-level (below_root node entries left right) levels' leaves');
-      branches = inr (refl, (omega arith, tt), (refl, (omega (arith, ten, first), (omega (arith, ten, second), tt)), subst (λ n. Branches n levels' leaves') same below));
+      branches = inr (refl, (omega arith, tt), (refl, (omega (arith, tenth.ten, first), (omega (arith, tenth.ten, second), tt)), subst (λ n. Branches n levels' leaves') same below));
     }
 
 -- ---- another row of leaves that is as long

@@ -10,13 +10,13 @@ use Rattle.record_store.specs.declared.walk.Walk.{Walk}
 use Rattle.record_store.specs.declared.walk.Walk.TheVariants.{Store}
 use Rattle.record_store.proofs.Agreement.{known-overlay, ReadsGrow-refl, ReadsGrow-same, ReadsGrow-fresh, ReadsGrow-write}
 use Rattle.record_store.specs.Writes.{IsKnown}
-use Rattle.record_store.proofs.Known.{gives-none, gives-weaken, fewer-refused, goes-same, goes-fresh}
+use Rattle.record_store.proofs.Known.{few-same, gives-none, gives-weaken, fewer-refused, goes-same, goes-fresh}
 use Rattle.record_store.proofs.Refusals.{store_fault}
 use Rattle.record_store.proofs.Steps.{known_unwritten}
 use Rattle.record_store.proofs.Writes.{writes-none, writes-one}
 use Rattle.stored_tables.specs.Runs.{Runs}
 use Rattle.stored_tables.proofs.Knowing.{MayWrite, known_write}
-use Rattle.stored_tables.proofs.Runs.{no_ok, never_ok}
+use Rattle.stored_tables.proofs.Runs.{no_ok}
 use Rattle.stored_tables.proofs.Looking.{no_torn}
 
 -- a new record is absent in each state that agrees
@@ -39,7 +39,7 @@ module _ {S F : Type 0} {read_gives : S → ℕ → Result (Option (List ℕ)) F
     did = no_ok result (Store fault) _ is;
     torn = no_torn result fault _ is;
     fault = store_fault result fault _ is (by_write first 0 rid value (none first) gives);
-    few = never_ok result (Store fault) _ is;
+    few = few-same most (meaning first) (meaning last) same;
     given = (goes-same (λ _. ⊥) (meaning first) (meaning last) same).given;
     writes = λ state x agrees stands. (goes-same (IsKnown (meaning first).fixed state) (meaning first) (meaning last) same).only;
     grow = ReadsGrow-same (meaning first) (meaning first) (meaning last) (ReadsGrow-refl (meaning first)) same;
@@ -82,7 +82,7 @@ module _ {S F : Type 0} {read_gives : S → ℕ → Result (Option (List ℕ)) F
       fewer-refused 0 1 (meaning first) (meaning last) (omega arith)
           (goes-same (λ _. ⊥) (meaning first) (meaning last) same).given,
     ));
-    few = never_ok result (Store fault) _ is;
+    few = few-same most (meaning first) (meaning last) same;
     given = gives-weaken 0 1 (meaning first) (meaning last) (omega arith)
         (goes-same (λ _. ⊥) (meaning first) (meaning last) same).given;
     writes = λ state x agrees stands. (goes-same (IsKnown (meaning first).fixed state) (meaning first) (meaning last) same).only;

@@ -9,13 +9,13 @@ use Rattle.replay_model.specs.declared.command.Command.{Command}
 use Rattle.replay_model.specs.declared.command.Command.TheVariants.{Get, Put, Ins, Del, Add, Sub, Scan, Find}
 use Rattle.replay_model.specs.declared.outcome.Answer.{Answer}
 use Rattle.replay_model.specs.declared.outcome.Cause.{Cause}
-use Rattle.replay_model.specs.TableMap.{TableMap, Row, value_at, index_of}
+use Rattle.replay_model.specs.TableMap.{TableMap, Row, value_at, index_of, with_value, without}
 use Rattle.replay_model.specs.Effect.{effect, scanned, found}
 use Rattle.stored_tables.specs.Places.{Places, with_row, table_limit}
-use Rattle.stored_tables.specs.Tables.{StandsFor}
-use Rattle.stored_tables.specs.Plan.{Move, Follows, MayAskIn, plan, enters_index, leaves_index}
+use Rattle.stored_tables.specs.Tables.{StandsFor, row_words}
+use Rattle.stored_tables.specs.Plan.{Move, Follows, MayAskIn, plan, enters_index, leaves_index, moves_entry}
 use Rattle.stored_tables.specs.Plan.Move.{row_added, row_dropped, pair_put, pair_removed, entry_inserted, entry_removed}
-use Rattle.stored_tables.specs.Moved.{Shaped, RowsStay, OthersStay}
+use Rattle.stored_tables.specs.Moved.{Midway, Shaped, RowsStay, OthersStay}
 use Rattle.stored_tables.specs.Steps.{IsDeclared}
 use Rattle.stored_tables.specs.declared.reading.Found.{Found}
 
@@ -131,9 +131,9 @@ Does command now (Ok answer) asked state held = (tables : TableMap) × (effect c
     × Becomes (plan command held.1) tables now asked state held
 Does command now (Err cause) asked state held = effect command held.1 ≡ Err cause
 
--- and how often it may ask for a new record
-abbrev pub MayAsk : Command → ℕ → State → Held → Type 0
-MayAsk command asks state held = MayAskIn (plan command held.1) held.0 asks
+-- how often a part whose moves are planned so may ask for a new record
+abbrev pub MayAsk : (TableMap → List Move) → ℕ → State → Held → Type 0
+MayAsk planned asks state held = MayAskIn (planned held.1) held.0 asks
 
 -- ---- rows that enter, leave and change
 
@@ -157,5 +157,19 @@ leave_moves table key index row =
     leaves_index table key index row ++ pair_removed table key ∷ entry_removed table (record { high = key; low = 0 }) ∷ row_dropped table
     key ∷ []
 
-abbrev pub MayAskFor : List Move → ℕ → State → Held → Type 0
-MayAskFor planned asks state held = MayAskIn planned held.0 asks
+-- the row entered, left or changed: its moves were made, and the state stands for the tables with it, or without it
+abbrev pub Enters : ℕ → ℕ → Option ℕ → Row → Meaning → ℕ → State → Held → Type 0
+Enters table key index row now asked state held = Becomes (enter_moves table key index row) (with_value held.1 table key row) now asked state
+    held
+
+abbrev pub Leaves : ℕ → ℕ → Option ℕ → Row → Meaning → ℕ → State → Held → Type 0
+Leaves table key index row now asked state held = Becomes (leave_moves table key index row) (without held.1 table key) now asked state held
+
+abbrev pub Changes : ℕ → ℕ → Option ℕ → Row → Row → Meaning → ℕ → State → Held → Type 0
+Changes table key index row row' now asked state held = Becomes (moves_entry table key index row row') (with_value held.1 table key row') now
+    asked state held
+
+-- its entry in the index left, and nothing else yet
+abbrev pub IndexLeft : ℕ → ℕ → Option ℕ → Found → Meaning → Meaning → ℕ → State → Held → Type 0
+IndexLeft table key index found before now asked state held = Midway table key found.rid (row_words found.row)
+    (leaves_index table key index found.row) before now asked state held.0

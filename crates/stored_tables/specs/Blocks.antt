@@ -1,5 +1,5 @@
 -- What a run of a block promises.
-use Rattle.std.specs.Prelude.{◌≡◌, ℕ, ◌*◌, ◌<◌, List, length, Option, Result, Ok, Err, OnOk, OnErr, ⊤}
+use Rattle.std.specs.Prelude.{◌≡◌, ℕ, ◌*◌, ◌<◌, List, length, Option, Result, Ok, Err, OnErr, ⊤}
 use Rattle.plain_data.specs.State.{State}
 use Rattle.record_store.specs.Calls.{Calls}
 use Rattle.record_store.specs.Meaning.{Meaning, after_undo}
@@ -36,8 +36,8 @@ IfRefused (Ok (Refused command cause)) P = P
 IfRefused (Err walk) P = ⊤
 
 -- The calls that a block made on its store, up to the store `before`, and how often it asked for a new record. A block that is done
--- left its tables, a refused one was undone, and any other answer came at once. Up to there it was given no more records than it asked for,
--- and wrote only records that are never given out, that are present in the state, or that were given.
+-- left its tables, a refused one was undone, and any other answer came at once. Up to there it was given no more records than it asked for;
+-- and it wrote at most 128 records for each command, and only such as are never given out, are present in the state, or were given.
 pub record Called {S F : Type 0} (read_gives : S → ℕ → Result (Option (List ℕ)) F → S → Type 0) (write_gives : S → ℕ → Option (List ℕ)
     → Result (Unit {0}) F → S → Type 0) (fresh_gives : S → Result ℕ F → S → Type 0) (meaning : S → Meaning) (commands : List Command)
     (first last : S) (result : Result Outcome (Walk F)) : Type 0 where
@@ -45,7 +45,7 @@ pub record Called {S F : Type 0} (read_gives : S → ℕ → Result (Option (Lis
   pub asked : ℕ
   pub calls : Calls read_gives write_gives fresh_gives first asked before
   pub may : 0 < asked → MayAskOnce commands (meaning first) (meaning last) asked
-  pub few : OnOk result (WritesAtMost (128 * length commands) (meaning first) (meaning before))
+  pub few : WritesAtMost (128 * length commands) (meaning first) (meaning before)
   pub given : GivesAtMost asked (meaning first) (meaning before)
   pub writes : EachTables (meaning first) (meaning last) (λ state _ _. WritesKnown (meaning first) (meaning before) state)
   pub done : IfDone result ((meaning last ≡ meaning before) × EachTables (meaning first) (meaning last)
@@ -62,9 +62,6 @@ Left commands answers now asked state held = (tables : TableMap) × (run_from 1 
 abbrev pub RanTo : List Command → Meaning → Outcome → ℕ → State → Held → Type 0
 RanTo commands now (Done answers) asked state held = Left commands answers now asked state held
 RanTo commands now (Refused command cause) asked state held = run_from 1 commands held.1 ≡ Err (command, cause)
-
-abbrev pub MayAskAll : List Command → ℕ → State → Held → Type 0
-MayAskAll commands asks state held = MayAskIn (run_plan commands held.1) held.0 asks
 
 -- the same of commands that read alone
 abbrev pub Saw : List Command → List Answer → State → Held → Type 0

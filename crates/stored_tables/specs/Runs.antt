@@ -1,5 +1,5 @@
 -- What a part of a block's run did, told of each state that agrees with what was read and stands as it is said.
-use Rattle.std.specs.Prelude.{ℕ, ◌<◌, List, Option, Result, IfOk, OnOk}
+use Rattle.std.specs.Prelude.{ℕ, ◌<◌, List, Option, Result, IfOk}
 use Rattle.plain_data.specs.State.{State, Agrees}
 use Rattle.record_store.specs.Calls.{Reads, ReadFault, Calls, CallFault}
 use Rattle.record_store.specs.Meaning.{Meaning}
@@ -21,8 +21,8 @@ pub record Looks {S F T X : Type 0} (read_gives : S → ℕ → Result (Option (
   pub only : OnlyReads (meaning first) (meaning last)
 
 -- a part that changes: what it did, in each such state, when it asked so often for a new record; each ask may be made, and one that was
--- refused gave nothing. Whatever it answers, it wrote no record but those that are never given out, that are present in such a state, or that
--- were given.
+-- refused gave nothing. Whatever it answers, it wrote so many records at most, and none but those that are never given out, that are present
+-- in such a state, or that were given.
 pub record Runs {S F T X : Type 0} (read_gives : S → ℕ → Result (Option (List ℕ)) F → S → Type 0) (write_gives : S → ℕ → Option (List ℕ)
     → Result (Unit {0}) F → S → Type 0) (fresh_gives : S → Result ℕ F → S → Type 0) (meaning : S → Meaning) (Stands : State → X → Type 0)
     (Due : ℕ → State → X → Type 0) (Did : T → ℕ → State → X → Type 0) (most : ℕ) (first last : S) (result : Result T (Walk F)) : Type 0
@@ -34,7 +34,7 @@ pub record Runs {S F T X : Type 0} (read_gives : S → ℕ → Result (Option (L
     pub torn : IfTorn result (λ _. (state : State) (x : X) → Agrees state (meaning last).reads → Stands state x → ⊥)
     pub fault : IfStore result (CallFault read_gives write_gives fresh_gives
         (λ asks. Each Stands (meaning last) (Due asks) × GivesFewer asks (meaning first) (meaning last)) first last)
-    pub few : OnOk result (WritesAtMost most (meaning first) (meaning last))
+    pub few : WritesAtMost most (meaning first) (meaning last)
     pub given : GivesAtMost asked (meaning first) (meaning last)
     pub writes : Each Stands (meaning last) (λ state _. WritesKnown (meaning first) (meaning last) state)
     pub grow : ReadsGrow (meaning first) (meaning last)

@@ -6,8 +6,9 @@ ghost use Rattle.record_store.specs.Walks.{IfTorn, IfStore, OnlyReads, ReadsGrow
 ghost use Rattle.record_store.specs.Writes.{GivesFewer};
 ghost use Rattle.replay_model.specs.Input.{AreCommands};
 ghost use Rattle.replay_model.specs.Running.{outcome_of};
-ghost use Rattle.stored_tables.specs.Answers.{IsIdle, IsShort, ReadsAlone, Stands};
-ghost use Rattle.stored_tables.specs.Blocks.{Called, IfRefused, MayAskOnce, MayAskAll, RanTo, SawTo};
+ghost use Rattle.stored_tables.specs.Answers.{IsIdle, IsShort, MayAsk, ReadsAlone, Stands};
+ghost use Rattle.stored_tables.specs.Blocks.{Called, IfRefused, MayAskOnce, RanTo, SawTo};
+ghost use Rattle.stored_tables.specs.Plan.{run_plan};
 ghost use Rattle.stored_tables.specs.Runs.{Looks, Runs};
 ghost use Rattle.stored_tables.specs.Tables.{EachTables};
 
@@ -20,10 +21,10 @@ use std::alloc::Global;
 /// Runs a block's commands in order, up to the first that is refused. A refused block is taken back by `undo`, which drops all
 /// writes, also those before this call. After a fault what was read and written may have grown.
 ///
-/// `NoMemory` comes of the room for answers and lists alone.
+/// Room is taken for the answers and for each list.
 pub fn exec_txn<S: RecordStore>(
-    store: &mut S,
     alloc: Global,
+    store: &mut S,
     commands: &Commands,
 ) -> Result<Outcome, Walk<S::Fault>>
     requires commands { AreCommands 8 commands.now }
@@ -43,7 +44,7 @@ pub fn exec_txn<S: RecordStore>(
 {
     // The records that are never given out lie in the store: its size says so.
     let _size = store.size();
-    match run_commands(store, alloc, commands)? {
+    match run_commands(alloc, store, commands)? {
         Outcome::Done(answers) => Ok(Outcome::Done(answers)),
         Outcome::Refused { command, cause } => {
             store.undo();
@@ -54,15 +55,15 @@ pub fn exec_txn<S: RecordStore>(
 
 /// Runs the commands up to the first that is refused, and takes nothing back.
 fn run_commands<S: RecordStore>(
-    store: &mut S,
     alloc: Global,
+    store: &mut S,
     commands: &Commands,
 ) -> Result<Outcome, Walk<S::Fault>>
     requires commands { AreCommands 8 commands.now }
     requires short { All IsShort commands.now }
     requires size { 4112 ≤ (S.meaning store.old).size }
     requires fixed { 4112 ≤ (S.meaning store.old).fixed }
-    ensures runs { Runs S.read_gives S.write_gives S.fresh_gives S.meaning (Stands (S.meaning store.old)) (MayAskAll commands.now) (RanTo commands.now (S.meaning store.new)) (128 * length commands.now) store.old store.new result }
+    ensures runs { Runs S.read_gives S.write_gives S.fresh_gives S.meaning (Stands (S.meaning store.old)) (MayAsk (run_plan commands.now)) (RanTo commands.now (S.meaning store.new)) (128 * length commands.now) store.old store.new result }
     ensures idle { All IsIdle commands.now → store.new ≡ store.old }
     ensures unrefused { All IsIdle commands.now → IfRefused result ⊥ }
     ensures rest { S.rest store.new ≡ S.rest store.old }
@@ -73,7 +74,7 @@ fn run_commands<S: RecordStore>(
     }
     let mut kept = Kept::new(alloc);
     for (i, command) in commands.as_slice().iter().enumerate() {
-        match run_command(store, &mut kept, alloc, command)? {
+        match run_command(alloc, store, &mut kept, command)? {
             Ok(answer) => {
                 if answers.push(answer).is_err() {
                     return Err(Walk::NoMemory);
@@ -90,10 +91,10 @@ fn run_commands<S: RecordStore>(
 
 /// Runs a block of commands that read alone. After a fault what was read may have grown.
 ///
-/// `NoMemory` comes of the room for answers and lists alone.
+/// Room is taken for the answers and for each list.
 pub fn exec_snap<S: RecordRead>(
-    store: &mut S,
     alloc: Global,
+    store: &mut S,
     commands: &Commands,
 ) -> Result<Outcome, Walk<S::Fault>>
     requires commands { AreCommands 8 commands.now }
@@ -110,13 +111,13 @@ pub fn exec_snap<S: RecordRead>(
     ensures idle { All IsIdle commands.now → store.new ≡ store.old }
     ensures rest { S.rest store.new ≡ S.rest store.old }
 {
-    read_commands(store, alloc, commands)
+    read_commands(alloc, store, commands)
 }
 
 /// Runs the commands up to the first that is refused.
 fn read_commands<S: RecordRead>(
-    store: &mut S,
     alloc: Global,
+    store: &mut S,
     commands: &Commands,
 ) -> Result<Outcome, Walk<S::Fault>>
     requires commands { AreCommands 8 commands.now }
@@ -132,7 +133,7 @@ fn read_commands<S: RecordRead>(
         return Err(Walk::NoMemory);
     }
     for (i, command) in commands.as_slice().iter().enumerate() {
-        match read_command(store, alloc, command)? {
+        match read_command(alloc, store, command)? {
             Ok(answer) => {
                 if answers.push(answer).is_err() {
                     return Err(Walk::NoMemory);

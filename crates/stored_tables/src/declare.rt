@@ -17,12 +17,10 @@ use record_store::{RecordRead, RecordStore, Walk};
 use std::alloc::Global;
 
 /// Declares an index of a table on a column, where the table has no row and no index, and answers whether it did. After `false`
-/// or a refusal nothing was written. It never asks for a new record.
-///
-/// `NoMemory` comes of the room for one entry alone.
+/// or a refusal nothing was written. It never asks for a new record. Room is taken for one entry.
 pub fn declare_index<S: RecordStore>(
-    store: &mut S,
     alloc: Global,
+    store: &mut S,
     table: u32,
     column: u32,
 ) -> Result<bool, Walk<S::Fault>>
@@ -46,7 +44,7 @@ pub fn declare_index<S: RecordStore>(
     match index_of(store, table)? {
         Some(_index) => Ok(false),
         None => {
-            if has_row(store, alloc, table)? {
+            if has_row(alloc, store, table)? {
                 return Ok(false);
             }
             store.write(head_of(table), Some(head_cells(column)))?;
@@ -56,7 +54,7 @@ pub fn declare_index<S: RecordStore>(
 }
 
 /// Whether a table has a row.
-fn has_row<S: RecordRead>(store: &mut S, alloc: Global, table: u32) -> Result<bool, Walk<S::Fault>>
+fn has_row<S: RecordRead>(alloc: Global, store: &mut S, table: u32) -> Result<bool, Walk<S::Fault>>
     requires table { table < 8 }
     requires size { 4112 ≤ (S.meaning store.old).size }
     ensures looks { Looks S.read_gives S.meaning (Stands (S.meaning store.old)) (TellsRows table) store.old store.new result }

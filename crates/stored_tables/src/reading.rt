@@ -63,8 +63,8 @@ fn row_at<S: RecordRead>(store: &mut S, rid: u32) -> Result<Columns, Walk<S::Fau
 
 /// The first `limit` rows of a table whose keys lie from `lo` to `hi`, by rising key.
 pub fn scan_rows<S: RecordRead>(
-    store: &mut S,
     alloc: Global,
+    store: &mut S,
     table: u32,
     lo: u64,
     hi: u64,
@@ -83,13 +83,13 @@ pub fn scan_rows<S: RecordRead>(
     };
     let mut entries = Vec::new(alloc);
     ordered_index::scan(store, root_of(table), lo, hi, limit, &mut entries)?;
-    read_rows(store, alloc, &entries, KeyPart::High)
+    read_rows(alloc, store, &entries, KeyPart::High)
 }
 
 /// The first `limit` rows of a table whose column, that of its index, lies from `lo` to `hi`, by that column and then by key.
 pub fn search_rows<S: RecordRead>(
-    store: &mut S,
     alloc: Global,
+    store: &mut S,
     table: u32,
     column: u32,
     lo: u64,
@@ -109,7 +109,7 @@ pub fn search_rows<S: RecordRead>(
     };
     let mut entries = Vec::new(alloc);
     ordered_index::scan(store, root_of(table + 8), lo, hi, limit, &mut entries)?;
-    read_rows(store, alloc, &entries, KeyPart::Low)
+    read_rows(alloc, store, &entries, KeyPart::Low)
 }
 
 /// Which part of an entry's key is the key of its row.
@@ -131,8 +131,8 @@ fn part_of(key: Key, part: KeyPart) -> u64
 
 /// The rows of these records, each with its key. Room for them is taken first.
 fn read_rows<S: RecordRead>(
-    store: &mut S,
     alloc: Global,
+    store: &mut S,
     entries: &[(Key, u32)],
     part: KeyPart,
 ) -> Result<Pairs, Walk<S::Fault>>

@@ -6,6 +6,7 @@ ghost use Rattle.record_store.specs.Walks.{IfNoMemory, OnlyReads};
 ghost use Rattle.replay_model.specs.declared.command.Command.TheVariants.{Put, Del};
 ghost use Rattle.stored_tables.specs.Answers.{IsScanned, MayAsk, Stands};
 ghost use Rattle.stored_tables.specs.OneRow.{IsRowAt, SetsRow, TakesRow};
+ghost use Rattle.stored_tables.specs.Plan.{plan};
 ghost use Rattle.stored_tables.specs.Runs.{AsksNothing, Looks, Runs};
 
 use crate::command::run_command;
@@ -49,7 +50,7 @@ pub fn list_rows<S: RecordRead>(
     ensures nothing { (limit ≡ 0) ⊎ (hi < lo) → store.new ≡ store.old }
     ensures rest { S.rest store.new ≡ S.rest store.old }
 {
-    scan_rows(store, alloc, table, lo, hi, limit)
+    scan_rows(alloc, store, table, lo, hi, limit)
 }
 
 /// Sets the row at a key, whether there is one or not. It asks for new records as the command does.
@@ -62,7 +63,7 @@ pub fn put_row<S: RecordStore>(
 ) -> Result<(), Walk<S::Fault>>
     requires table { table < 8 }
     requires fixed { 4112 ≤ (S.meaning store.old).fixed }
-    ensures runs { Runs S.read_gives S.write_gives S.fresh_gives S.meaning (Stands (S.meaning store.old)) (MayAsk (Put table key row.now)) (λ _. SetsRow table key row.now (S.meaning store.new)) 128 store.old store.new result }
+    ensures runs { Runs S.read_gives S.write_gives S.fresh_gives S.meaning (Stands (S.meaning store.old)) (MayAsk (plan (Put table key row.now))) (λ _. SetsRow table key row.now (S.meaning store.new)) 128 store.old store.new result }
     ensures rest { S.rest store.new ≡ S.rest store.old }
 {
     // The records that are never given out lie in the store: its size says so.
@@ -74,7 +75,7 @@ pub fn put_row<S: RecordStore>(
         values: *row,
     };
     // A put is never refused.
-    let _ran = run_command(store, &mut kept, alloc, &put)?;
+    let _ran = run_command(alloc, store, &mut kept, &put)?;
     Ok(())
 }
 
@@ -87,7 +88,7 @@ pub fn remove_row<S: RecordStore>(
 ) -> Result<bool, Walk<S::Fault>>
     requires table { table < 8 }
     requires fixed { 4112 ≤ (S.meaning store.old).fixed }
-    ensures runs { Runs S.read_gives S.write_gives S.fresh_gives S.meaning (Stands (S.meaning store.old)) (MayAsk (Del table key)) (λ taken. TakesRow table key (S.meaning store.new) taken) 128 store.old store.new result }
+    ensures runs { Runs S.read_gives S.write_gives S.fresh_gives S.meaning (Stands (S.meaning store.old)) (MayAsk (plan (Del table key))) (λ taken. TakesRow table key (S.meaning store.new) taken) 4 store.old store.new result }
     ensures asks_nothing { AsksNothing S.read_gives S.write_gives S.fresh_gives store.old store.new result }
 
     // nothing is written where there is no row
@@ -113,7 +114,7 @@ fn take_once<S: RecordStore>(
     requires size { 4112 ≤ (S.meaning once.old.store.now).size }
     requires fixed { 4112 ≤ (S.meaning once.old.store.now).fixed }
     ensures same_reference { once.new.store.ghost_name ≡ once.old.store.ghost_name }
-    ensures runs { Runs S.read_gives S.write_gives S.fresh_gives S.meaning (Stands (S.meaning once.old.store.now)) (MayAsk (Del table key)) (λ taken. TakesRow table key (S.meaning once.new.store.now) taken) 4 once.old.store.now once.new.store.now result }
+    ensures runs { Runs S.read_gives S.write_gives S.fresh_gives S.meaning (Stands (S.meaning once.old.store.now)) (MayAsk (plan (Del table key))) (λ taken. TakesRow table key (S.meaning once.new.store.now) taken) 4 once.old.store.now once.new.store.now result }
     ensures asks_nothing { AsksNothing S.read_gives S.write_gives S.fresh_gives once.old.store.now once.new.store.now result }
     ensures kept { IfOk result (λ taken. taken ≡ false → OnlyReads (S.meaning once.old.store.now) (S.meaning once.new.store.now)) }
     ensures rest { S.rest once.new.store.now ≡ S.rest once.old.store.now }

@@ -45,7 +45,7 @@ impl Store {
         requires table { table < 8 }
         requires column { IsColumn column }
     {
-        declare_index(&mut self.map, alloc, table, column)
+        declare_index(alloc, &mut self.map, table, column)
     }
 
     /// Runs a transaction, which has to come to this outcome, and answers whether it was done; one that is refused leaves the store as
@@ -68,7 +68,7 @@ impl Store {
         requires short { All IsShort commands.now }
     {
         self.map.begin();
-        let got = exec_txn(&mut self.map, alloc, commands)?;
+        let got = exec_txn(alloc, &mut self.map, commands)?;
         compare(got, due)?;
         self.is_read_once(commands)
     }
@@ -124,7 +124,7 @@ impl Store {
         requires reads { All ReadsAlone commands.now }
     {
         self.map.begin();
-        let got = exec_snap(&mut self.map, alloc, commands)?;
+        let got = exec_snap(alloc, &mut self.map, commands)?;
         compare(got, due)?;
         self.is_read_once(commands)
     }

@@ -62,7 +62,7 @@ fn put_other(alloc: Global, store: &mut MapStore) -> Result<bool, Fail>
         values: other(),
     });
     let script = script.if_filled(filled)?;
-    let outcome = exec_txn(store, alloc, &script.block().commands)?;
+    let outcome = exec_txn(alloc, store, &script.block().commands)?;
     Ok(matches!(outcome, Outcome::Done(_)))
 }
 

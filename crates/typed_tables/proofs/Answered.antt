@@ -49,17 +49,19 @@ removes table key now false asked state held took = (took.0, (held.0, took.2))
 
 -- ---- scans
 
-pub rows_on : {R F : Type 0} (row_of : Row → Option R) (table lo hi limit : ℕ) (pairs : List (ℕ × Row)) (old new : List (ℕ × R)) (first last : Meaning)
+pub rows_on : {R F : Type 0} (row_of : Row → Option R) (columns_of : R → Row) (table lo hi limit : ℕ) (pairs : List (ℕ × Row)) (old new : List (ℕ × R)) (first last : Meaning)
     (read : Result (Unit {0}) (TypedFault F)) → Each (Stands first) last (IsScanned table lo hi limit pairs)
-    → OnOk read ((rows : List (ℕ × R)) × (new ≡ old ++ rows) × AllTyped row_of pairs rows)
-    → OnOk read ((rows : List (ℕ × R)) × (new ≡ old ++ rows) × EachTables first last (λ _ _ tables. AreTyped row_of table lo hi limit rows tables))
-rows_on row_of table lo hi limit pairs old new first last (Ok done) listed typed = (
+    → OnOk read ((rows : List (ℕ × R)) × (new ≡ old ++ rows) × AllTyped row_of columns_of pairs rows)
+    → OnOk read ((rows : List (ℕ × R)) × (new ≡ old ++ rows) × EachTables first last (λ _ _ tables. AreTyped row_of columns_of table lo hi limit rows tables))
+rows_on row_of columns_of table lo hi limit pairs old new first last (Ok done) listed typed = (
   typed.0,
   typed.1,
-  λ state places tables agrees stands. scanned_typed row_of table lo hi limit tables
-      ∙ ap (map (read_as row_of)) (sym (listed state (places, tables) agrees stands)) ∙ typed.2,
+  λ state places tables agrees stands. record {
+    typed = scanned_typed row_of table lo hi limit tables ∙ ap (map (read_as row_of)) (sym (listed state (places, tables) agrees stands)) ∙ typed.2.typed;
+    written = sym (listed state (places, tables) agrees stands) ∙ typed.2.written;
+  },
 )
-rows_on row_of table lo hi limit pairs old new first last (Err fault) listed typed = tt
+rows_on row_of columns_of table lo hi limit pairs old new first last (Err fault) listed typed = tt
 
 pub foreign_on : {R F : Type 0} (row_of : Row → Option R) (table lo hi limit : ℕ) (pairs : List (ℕ × Row)) (first last : Meaning)
     (read : Result (Unit {0}) (TypedFault F)) → Each (Stands first) last (IsScanned table lo hi limit pairs)

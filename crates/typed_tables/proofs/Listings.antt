@@ -40,14 +40,14 @@ same_plain (x ∷ xs) (y ∷ ys) is = (λ j. first_of (is j) x ∷ same_plain xs
 module _ {S F : Type 0} {read_gives : S → ℕ → Result (Option (List ℕ)) F → S → Type 0} {meaning : S → Meaning} where
   -- the page was read
   pub page_read : (table lo hi limit : ℕ) (first last : S) (old new page rows : List (ℕ × Row)) → old ≡ [] → new ≡ old ++ rows → page ≡ new
-      → EachTables (meaning first) (meaning last) (λ _ _ tables. AreTyped plain table lo hi limit rows tables)
+      → EachTables (meaning first) (meaning last) (λ _ _ tables. AreTyped plain (λ columns. columns) table lo hi limit rows tables)
       → Reads read_gives first last → OnlyReads (meaning first) (meaning last)
       → Looks {F = F} read_gives meaning (Stands (meaning first)) (IsScanned table lo hi limit) first last (Ok page)
   page_read table lo hi limit first last old new page rows none grown is typed calls only = record {
     calls = calls;
     found = λ state held agrees stands.
         is ∙ grown ∙ ap (λ xs. xs ++ rows) none
-        ∙ sym (same_plain (scanned table lo hi limit held.1) rows (sym (scanned_typed plain table lo hi limit held.1) ∙ typed state held.0 held.1 agrees stands));
+        ∙ sym (same_plain (scanned table lo hi limit held.1) rows (sym (scanned_typed plain table lo hi limit held.1) ∙ (typed state held.0 held.1 agrees stands).typed));
     torn = tt;
     fault = tt;
     only = only;

@@ -22,6 +22,10 @@ read_as row_of pair = (pair.0, row_of pair.1)
 abbrev pub as_read : {R : Type 0} → ℕ × R → ℕ × Option R
 as_read row = (row.0, Some row.1)
 
+-- a key with the columns of its row
+abbrev pub as_written : {R : Type 0} → (R → Row) → ℕ × R → ℕ × Row
+as_written columns_of row = (row.0, columns_of row.1)
+
 -- Typed table: the rows of a table, as a finite map from keys to what their columns are read as. A key whose columns are refused is foreign:
 -- the map has `None` there.
 abbrev pub typed_table : {R : Type 0} → (Row → Option R) → ℕ → TableMap → FinMap nat_cmp (Option R)
@@ -46,9 +50,10 @@ IfForeign (Err (Foreign key columns)) P = P key columns
 
 -- ---- scans
 
--- these rows are all that a scan lists, and none of them is foreign
-abbrev pub AreTyped : {R : Type 0} → (Row → Option R) → ℕ → ℕ → ℕ → ℕ → List (ℕ × R) → TableMap → Type 0
-AreTyped row_of table lo hi limit rows tables = typed_scanned row_of table lo hi limit tables ≡ map as_read rows
+-- these rows are all that a scan lists, with the columns that stand there, and none of them is foreign
+pub record AreTyped {R : Type 0} (row_of : Row → Option R) (columns_of : R → Row) (table lo hi limit : ℕ) (rows : List (ℕ × R)) (tables : TableMap) : Type 0 where
+  pub typed : typed_scanned row_of table lo hi limit tables ≡ map as_read rows
+  pub written : scanned table lo hi limit tables ≡ map (as_written columns_of) rows
 
 -- the first of these rows that is foreign
 pub record IsForeignIn {R : Type 0} (row_of : Row → Option R) (pairs : List (ℕ × Row)) (key : ℕ) (columns : Row) : Type 0 where
@@ -62,9 +67,10 @@ pub record IsForeignIn {R : Type 0} (row_of : Row → Option R) (pairs : List (�
 abbrev pub IsFirstForeign : {R : Type 0} → (Row → Option R) → ℕ → ℕ → ℕ → ℕ → ℕ → Row → TableMap → Type 0
 IsFirstForeign row_of table lo hi limit key columns tables = IsForeignIn row_of (scanned table lo hi limit tables) key columns
 
--- each of these rows is read as one of those
-abbrev pub AllTyped : {R : Type 0} → (Row → Option R) → List (ℕ × Row) → List (ℕ × R) → Type 0
-AllTyped row_of pairs rows = map (read_as row_of) pairs ≡ map as_read rows
+-- each of these rows is read as one of those, which has its columns
+pub record AllTyped {R : Type 0} (row_of : Row → Option R) (columns_of : R → Row) (pairs : List (ℕ × Row)) (rows : List (ℕ × R)) : Type 0 where
+  pub typed : map (read_as row_of) pairs ≡ map as_read rows
+  pub written : pairs ≡ map (as_written columns_of) rows
 
 -- ---- changes
 

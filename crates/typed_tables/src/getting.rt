@@ -23,6 +23,9 @@ pub fn typed_get<R: Row, S: RecordRead>(
     requires size { 4112 ≤ (S.meaning store.old).size }
     ensures row { IfOk result (λ row. EachTables (S.meaning store.old) (S.meaning store.new) (λ _ _ tables. get (typed_table R.row_of table tables) key ≡ option_map (λ r. Some r) row)) }
 
+    // its columns are those that stand there
+    ensures columns { IfOk result (λ row. EachTables (S.meaning store.old) (S.meaning store.new) (λ _ _ tables. value_at tables table key ≡ option_map R.columns_of row)) }
+
     // the columns of the row that stands there are those of no row of this type
     ensures foreign { IfForeign result (λ at columns. (at ≡ key) × (R.row_of columns ≡ None) × EachTables (S.meaning store.old) (S.meaning store.new) (λ _ _ tables. value_at tables table key ≡ Some columns)) }
     ensures memory { IfNoMemory (walked result) ⊥ }

@@ -3,6 +3,7 @@
 ghost use Rattle.std.specs.Prelude.{◌≡◌, ◌<◌, ◌≤◌, OnOk};
 ghost use Rattle.replay_model.specs.declared.command.Command.TheVariants.{Put};
 ghost use Rattle.stored_tables.specs.Answers.{MayAsk, Stands};
+ghost use Rattle.stored_tables.specs.Plan.{plan};
 ghost use Rattle.stored_tables.specs.Runs.{Runs};
 ghost use Rattle.stored_tables.specs.Tables.{EachTables};
 ghost use Rattle.typed_tables.specs.Typed.{IfForeign, LeavesTyped, SetsTyped, walked};
@@ -29,8 +30,9 @@ pub fn typed_put<R: Row, S: RecordStore>(
     ensures put { OnOk result (EachTables (S.meaning store.old) (S.meaning store.new) (λ state _ tables. LeavesTyped R.row_of R.columns_of table key row.now (S.meaning store.new) state tables)) }
     ensures never_foreign { IfForeign result (λ _ _. ⊥) }
 
-    // whatever it answers: its calls on the store, how often it asked for a new record, and where each fault comes from
-    ensures runs { Runs S.read_gives S.write_gives S.fresh_gives S.meaning (Stands (S.meaning store.old)) (MayAsk (Put table key (R.columns_of row.now))) (SetsTyped table key (R.columns_of row.now) (S.meaning store.new)) 128 store.old store.new (walked result) }
+    // whatever it answers: its calls on the store, how often it asked for a new record, where each fault comes from, and how many records
+    // it writes
+    ensures runs { Runs S.read_gives S.write_gives S.fresh_gives S.meaning (Stands (S.meaning store.old)) (MayAsk (plan (Put table key (R.columns_of row.now)))) (SetsTyped table key (R.columns_of row.now) (S.meaning store.new)) 128 store.old store.new (walked result) }
     ensures rest { S.rest store.new ≡ S.rest store.old }
 {
     put_row(alloc, store, table, key, &row.encode())?;

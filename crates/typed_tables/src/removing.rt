@@ -6,6 +6,7 @@ ghost use Rattle.record_store.specs.Walks.{OnlyReads};
 ghost use Rattle.replay_model.specs.TableMap.{TableMap, without};
 ghost use Rattle.replay_model.specs.declared.command.Command.TheVariants.{Del};
 ghost use Rattle.stored_tables.specs.Answers.{MayAsk, Stands};
+ghost use Rattle.stored_tables.specs.Plan.{plan};
 ghost use Rattle.stored_tables.specs.Runs.{AsksNothing, Runs};
 ghost use Rattle.stored_tables.specs.Tables.{EachTables};
 ghost use Rattle.typed_tables.specs.Typed.{IfForeign, Removes, TakesTyped, typed_table, walked};
@@ -31,8 +32,8 @@ pub fn typed_remove<S: RecordStore>(
     ensures removed { IfOk result (λ removed. EachTables (S.meaning store.old) (S.meaning store.new) (λ state _ tables. Removes table key (S.meaning store.new) removed state tables)) }
     ensures never_foreign { IfForeign result (λ _ _. ⊥) }
 
-    // whatever it answers: its calls on the store, and where each fault comes from
-    ensures runs { Runs S.read_gives S.write_gives S.fresh_gives S.meaning (Stands (S.meaning store.old)) (MayAsk (Del table key)) (TakesTyped table key (S.meaning store.new)) 128 store.old store.new (walked result) }
+    // whatever it answers: its calls on the store, where each fault comes from, and how many records it writes
+    ensures runs { Runs S.read_gives S.write_gives S.fresh_gives S.meaning (Stands (S.meaning store.old)) (MayAsk (plan (Del table key))) (TakesTyped table key (S.meaning store.new)) 4 store.old store.new (walked result) }
 
     // `fresh` is never asked, whatever the state is
     ensures asks_nothing { AsksNothing S.read_gives S.write_gives S.fresh_gives store.old store.new (walked result) }

@@ -28,7 +28,7 @@ pub fn typed_scan<R: Row, S: RecordRead>(
 ) -> Result<(), TypedFault<S::Fault>>
     requires table { table < 8 }
     requires size { 4112 ≤ (S.meaning store.old).size }
-    ensures rows { OnOk result ((rows : List (ℕ × R)) × (out.new.items ≡ out.old.items ++ rows) × EachTables (S.meaning store.old) (S.meaning store.new) (λ _ _ tables. AreTyped R.row_of table lo hi limit rows tables)) }
+    ensures rows { OnOk result ((rows : List (ℕ × R)) × (out.new.items ≡ out.old.items ++ rows) × EachTables (S.meaning store.old) (S.meaning store.new) (λ _ _ tables. AreTyped R.row_of R.columns_of table lo hi limit rows tables)) }
 
     // the first of the rows to be given whose columns are refused
     ensures foreign { IfForeign result (λ key columns. EachTables (S.meaning store.old) (S.meaning store.new) (λ _ _ tables. IsFirstForeign R.row_of table lo hi limit key columns tables)) }
@@ -49,7 +49,7 @@ pub fn typed_scan<R: Row, S: RecordRead>(
 
 /// Appends the rows of these columns, or nothing where some are refused.
 fn read_all<R: Row, F>(pairs: &Pairs, out: &mut Vec<(u64, R)>) -> Result<(), TypedFault<F>>
-    ensures typed { OnOk result ((rows : List (ℕ × R)) × (out.new.items ≡ out.old.items ++ rows) × AllTyped R.row_of pairs.now rows) }
+    ensures typed { OnOk result ((rows : List (ℕ × R)) × (out.new.items ≡ out.old.items ++ rows) × AllTyped R.row_of R.columns_of pairs.now rows) }
     ensures err { OnErr result (out.new.items ≡ out.old.items) }
     ensures foreign { IfForeign result (λ key columns. IsForeignIn R.row_of pairs.now key columns) }
     ensures not_torn { IfTorn (walked result) (λ _. ⊥) }
@@ -68,7 +68,7 @@ fn read_all<R: Row, F>(pairs: &Pairs, out: &mut Vec<(u64, R)>) -> Result<(), Typ
 
 /// Appends the rows of these columns, up to the first that are refused. Room for them was taken.
 fn read_typed<R: Row, F>(pairs: &Pairs, out: &mut Vec<(u64, R)>) -> Result<(), TypedFault<F>>
-    ensures typed { OnOk result ((rows : List (ℕ × R)) × (out.new.items ≡ out.old.items ++ rows) × AllTyped R.row_of pairs.now rows) }
+    ensures typed { OnOk result ((rows : List (ℕ × R)) × (out.new.items ≡ out.old.items ++ rows) × AllTyped R.row_of R.columns_of pairs.now rows) }
     ensures grown { OnErr result ((rows : List (ℕ × R)) × (out.new.items ≡ out.old.items ++ rows)) }
     ensures foreign { IfForeign result (λ key columns. IsForeignIn R.row_of pairs.now key columns) }
     ensures not_torn { IfTorn (walked result) (λ _. ⊥) }

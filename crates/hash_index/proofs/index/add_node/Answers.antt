@@ -2,7 +2,8 @@ use Rattle.std.proofs.Common.{◌≡◌, Some, ap, refl, ◌∙◌, arith}
 use Rattle.record_store.specs.Meaning.{after_write, after_fresh}
 use Rattle.record_store.specs.Calls.Calls.{none, fresh}
 use Rattle.record_store.specs.Calls.CallFault.{by_fresh}
-use Rattle.record_store.proofs.Known.{tries, fewer-refused, gives-weaken, goes-same, goes-added, goes-tried, goes-trans}
+use Rattle.record_store.proofs.Known.{few-same, few-fresh, tries, fewer-refused, gives-weaken, goes-same, goes-added, goes-tried, goes-trans}
+use Rattle.record_store.proofs.Writes.{writes-trans}
 use Rattle.record_store.proofs.Refusals.{store_fault, fault_moved, IfStore-map, OnOk-map}
 use Rattle.record_store.proofs.Paths.{Calls-trans, CallFault-never}
 use Rattle.hash_index.specs.Node.{words_of}
@@ -85,3 +86,16 @@ returns-clause-after g c =
     let given = ReadsGrow-fresh m0 m0 m1 c.in_ok-fresh.fresh (ReadsGrow-refl m0) c.in_ok-fresh.ensures.ok in
     let written = ReadsGrow-write m0 m1 m2 _ _ given c.in_ok-write_node.ensures.ok in
     ReadsGrow-tried c.write_node-2.result m0 m2 m3 _ _ written c.write_node-2.ensures.ok c.write_node-2.ensures.err
+
+-- how many records are written
+pub returns-in_err-fresh-clause-few : goal.returns-in_err-fresh-clause-few
+returns-in_err-fresh-clause-few g c = few-same 2 (g.S.RecordRead.meaning c.args.store.now) (g.S.RecordRead.meaning c.fresh.new.self) c.in_err-fresh.ensures.err
+
+pub returns-in_err-write_node-clause-few : goal.returns-in_err-write_node-clause-few
+returns-in_err-write_node-clause-few g c =
+    writes-trans 0 2 (g.S.RecordRead.meaning c.args.store.now) (g.S.RecordRead.meaning c.fresh.new.self) (g.S.RecordRead.meaning c.write_node.new.store) (few-fresh (g.S.RecordRead.meaning c.args.store.now) (g.S.RecordRead.meaning c.fresh.new.self) _ c.in_ok-fresh.ensures.ok) (few-same 2 (g.S.RecordRead.meaning c.fresh.new.self) (g.S.RecordRead.meaning c.write_node.new.store) c.in_err-write_node.ensures.err)
+
+pub returns-clause-few : goal.returns-clause-few
+returns-clause-few g c =
+    let wrote = writes-trans 0 1 (g.S.RecordRead.meaning c.args.store.now) (g.S.RecordRead.meaning c.fresh.new.self) (g.S.RecordRead.meaning c.write_node.new.store) (few-fresh (g.S.RecordRead.meaning c.args.store.now) (g.S.RecordRead.meaning c.fresh.new.self) _ c.in_ok-fresh.ensures.ok) (tries c.write_node.result (g.S.RecordRead.meaning c.fresh.new.self) (g.S.RecordRead.meaning c.write_node.new.store) c.in_ok-fresh.fresh _ c.write_node.ensures.ok c.write_node.ensures.err).few in
+    writes-trans 1 1 (g.S.RecordRead.meaning c.args.store.now) (g.S.RecordRead.meaning c.write_node.new.store) (g.S.RecordRead.meaning c.write_node-2.new.store) wrote (tries c.write_node-2.result (g.S.RecordRead.meaning c.write_node.new.store) (g.S.RecordRead.meaning c.write_node-2.new.store) c.args.last.at _ c.write_node-2.ensures.ok c.write_node-2.ensures.err).few

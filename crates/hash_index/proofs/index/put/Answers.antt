@@ -1,7 +1,7 @@
 use Rattle.std.proofs.Common.{arith}
 use Rattle.record_store.proofs.Refusals.{fault_moved, torn_moved, IfStore-map, IfTorn-map, OnOk-map}
 use Rattle.record_store.proofs.Paths.{Calls-reads, Calls-trans, CallFault-read, CallFault-behind, CallFault-never}
-use Rattle.record_store.proofs.Known.{tries, gives-reads, gives-tried, gives-trans, fewer-behind, known-reads, known-found, known-fixed}
+use Rattle.record_store.proofs.Known.{few-reads, few-behind, few-tried, tries, gives-reads, gives-tried, gives-trans, fewer-behind, known-reads, known-found, known-fixed}
 use Rattle.hash_index.proofs.Words.{words_alike}
 use Rattle.hash_index.proofs.Pairs.{position-found}
 use Rattle.hash_index.proofs.Chains.{bucket_below, is_torn}
@@ -22,7 +22,7 @@ returns-in_err-link-clause-fault g c =
     (IfStore-map c.search.result (λ fault. CallFault-read _ _ _ fault) c.search.ensures.fault)
 
 pub returns-in_err-link-clause-calls : goal.returns-in_err-link-clause-calls
-returns-in_err-link-clause-calls g c = (0, Calls-reads _ _ c.search.ensures.calls, record { may = λ asked. absurd (omega arith); exact = never_ok c.from_residual.result _ _ c.from_residual.ensures.1; given = gives-reads (g.S.RecordRead.meaning c.args.store.now) (g.S.RecordRead.meaning c.search.new.store) c.search.ensures.after })
+returns-in_err-link-clause-calls g c = (0, Calls-reads _ _ c.search.ensures.calls, record { may = λ asked. absurd (omega arith); exact = never_ok c.from_residual.result _ _ c.from_residual.ensures.1; given = gives-reads (g.S.RecordRead.meaning c.args.store.now) (g.S.RecordRead.meaning c.search.new.store) c.search.ensures.after; few = few-reads 1 (g.S.RecordRead.meaning c.args.store.now) (g.S.RecordRead.meaning c.search.new.store) c.search.ensures.after })
 
 -- the key is there
 pub returns-in-Found-clause-ok : goal.returns-in-Found-clause-ok
@@ -37,7 +37,7 @@ returns-in-Found-clause-fault g c = IfStore-map c.write_node.result (λ fault. C
 
 pub returns-in-Found-clause-calls : goal.returns-in-Found-clause-calls
 returns-in-Found-clause-calls g c =
-    (0, Calls-trans _ _ _ 0 0 (Calls-reads _ _ c.search.ensures.calls) c.write_node.ensures.calls, record { may = λ asked. absurd (omega arith); exact = OnOk-map c.write_node.result (asked_none (g.S.RecordRead.meaning c.args.store.now) (g.S.RecordRead.meaning c.search.new.store) (g.S.RecordRead.meaning c.write_node.new.store) _ _ c.in_ok-link.ensures.after) c.write_node.ensures.ok; given = gives-tried (g.S.RecordRead.meaning c.args.store.now) (g.S.RecordRead.meaning c.search.new.store) (g.S.RecordRead.meaning c.write_node.new.store) c.in-Found.link.at c.in_ok-link.ensures.after (tries c.write_node.result (g.S.RecordRead.meaning c.search.new.store) (g.S.RecordRead.meaning c.write_node.new.store) c.in-Found.link.at _ c.write_node.ensures.ok c.write_node.ensures.err) })
+    (0, Calls-trans _ _ _ 0 0 (Calls-reads _ _ c.search.ensures.calls) c.write_node.ensures.calls, record { may = λ asked. absurd (omega arith); exact = OnOk-map c.write_node.result (asked_none (g.S.RecordRead.meaning c.args.store.now) (g.S.RecordRead.meaning c.search.new.store) (g.S.RecordRead.meaning c.write_node.new.store) _ _ c.in_ok-link.ensures.after) c.write_node.ensures.ok; given = gives-tried (g.S.RecordRead.meaning c.args.store.now) (g.S.RecordRead.meaning c.search.new.store) (g.S.RecordRead.meaning c.write_node.new.store) c.in-Found.link.at c.in_ok-link.ensures.after (tries c.write_node.result (g.S.RecordRead.meaning c.search.new.store) (g.S.RecordRead.meaning c.write_node.new.store) c.in-Found.link.at _ c.write_node.ensures.ok c.write_node.ensures.err); few = few-tried (g.S.RecordRead.meaning c.args.store.now) (g.S.RecordRead.meaning c.search.new.store) (g.S.RecordRead.meaning c.write_node.new.store) c.in-Found.link.at c.in_ok-link.ensures.after (tries c.write_node.result (g.S.RecordRead.meaning c.search.new.store) (g.S.RecordRead.meaning c.write_node.new.store) c.in-Found.link.at _ c.write_node.ensures.ok c.write_node.ensures.err) })
 
 -- a node has room
 pub returns-in-Room-clause-ok : goal.returns-in-Room-clause-ok
@@ -51,7 +51,7 @@ returns-in-Room-clause-fault g c = IfStore-map c.write_node-in-Room.result (λ f
 
 pub returns-in-Room-clause-calls : goal.returns-in-Room-clause-calls
 returns-in-Room-clause-calls g c =
-    (0, Calls-trans _ _ _ 0 0 (Calls-reads _ _ c.search.ensures.calls) c.write_node-in-Room.ensures.calls, record { may = λ asked. absurd (omega arith); exact = OnOk-map c.write_node-in-Room.result (asked_none (g.S.RecordRead.meaning c.args.store.now) (g.S.RecordRead.meaning c.search.new.store) (g.S.RecordRead.meaning c.write_node-in-Room.new.store) _ _ c.in_ok-link.ensures.after) c.write_node-in-Room.ensures.ok; given = gives-tried (g.S.RecordRead.meaning c.args.store.now) (g.S.RecordRead.meaning c.search.new.store) (g.S.RecordRead.meaning c.write_node-in-Room.new.store) c.in-Room.link.at c.in_ok-link.ensures.after (tries c.write_node-in-Room.result (g.S.RecordRead.meaning c.search.new.store) (g.S.RecordRead.meaning c.write_node-in-Room.new.store) c.in-Room.link.at _ c.write_node-in-Room.ensures.ok c.write_node-in-Room.ensures.err) })
+    (0, Calls-trans _ _ _ 0 0 (Calls-reads _ _ c.search.ensures.calls) c.write_node-in-Room.ensures.calls, record { may = λ asked. absurd (omega arith); exact = OnOk-map c.write_node-in-Room.result (asked_none (g.S.RecordRead.meaning c.args.store.now) (g.S.RecordRead.meaning c.search.new.store) (g.S.RecordRead.meaning c.write_node-in-Room.new.store) _ _ c.in_ok-link.ensures.after) c.write_node-in-Room.ensures.ok; given = gives-tried (g.S.RecordRead.meaning c.args.store.now) (g.S.RecordRead.meaning c.search.new.store) (g.S.RecordRead.meaning c.write_node-in-Room.new.store) c.in-Room.link.at c.in_ok-link.ensures.after (tries c.write_node-in-Room.result (g.S.RecordRead.meaning c.search.new.store) (g.S.RecordRead.meaning c.write_node-in-Room.new.store) c.in-Room.link.at _ c.write_node-in-Room.ensures.ok c.write_node-in-Room.ensures.err); few = few-tried (g.S.RecordRead.meaning c.args.store.now) (g.S.RecordRead.meaning c.search.new.store) (g.S.RecordRead.meaning c.write_node-in-Room.new.store) c.in-Room.link.at c.in_ok-link.ensures.after (tries c.write_node-in-Room.result (g.S.RecordRead.meaning c.search.new.store) (g.S.RecordRead.meaning c.write_node-in-Room.new.store) c.in-Room.link.at _ c.write_node-in-Room.ensures.ok c.write_node-in-Room.ensures.err) })
 
 -- every node is full
 pub returns-in-Full-clause-ok : goal.returns-in-Full-clause-ok
@@ -67,7 +67,7 @@ returns-in-Full-clause-fault g c =
 pub returns-in-Full-clause-calls : goal.returns-in-Full-clause-calls
 returns-in-Full-clause-calls g c =
     let needs = needs_node c.size-size.result c.args.base c.args.key (g.S.RecordRead.meaning c.args.store.now) (g.S.RecordRead.meaning c.search.new.store) (g.S.RecordRead.meaning c.add_node.new.store) c.in-Full.link c.size-size.ensures.size c.add_node.ensures.after.reads (λ state agrees. rw c.in-Full.is at (c.in_ok-link.ensures.place state agrees)) in
-    (1, Calls-trans _ _ _ 0 1 (Calls-reads _ _ c.search.ensures.calls) c.add_node.ensures.calls, record { may = λ asked. record { once = omega arith; needs_node = needs }; exact = OnOk-map c.add_node.result (asked_one c.args.key c.args.rid c.in-Full.link (g.S.RecordRead.meaning c.args.store.now) (g.S.RecordRead.meaning c.search.new.store) (g.S.RecordRead.meaning c.add_node.new.store) c.in_ok-link.ensures.after) c.add_node.ensures.ok; given = gives-trans 0 1 (g.S.RecordRead.meaning c.args.store.now) (g.S.RecordRead.meaning c.search.new.store) (g.S.RecordRead.meaning c.add_node.new.store) (gives-reads (g.S.RecordRead.meaning c.args.store.now) (g.S.RecordRead.meaning c.search.new.store) c.in_ok-link.ensures.after) c.add_node.ensures.given })
+    (1, Calls-trans _ _ _ 0 1 (Calls-reads _ _ c.search.ensures.calls) c.add_node.ensures.calls, record { may = λ asked. record { once = omega arith; needs_node = needs }; exact = OnOk-map c.add_node.result (asked_one c.args.key c.args.rid c.in-Full.link (g.S.RecordRead.meaning c.args.store.now) (g.S.RecordRead.meaning c.search.new.store) (g.S.RecordRead.meaning c.add_node.new.store) c.in_ok-link.ensures.after) c.add_node.ensures.ok; given = gives-trans 0 1 (g.S.RecordRead.meaning c.args.store.now) (g.S.RecordRead.meaning c.search.new.store) (g.S.RecordRead.meaning c.add_node.new.store) (gives-reads (g.S.RecordRead.meaning c.args.store.now) (g.S.RecordRead.meaning c.search.new.store) c.in_ok-link.ensures.after) c.add_node.ensures.given; few = few-behind 2 (g.S.RecordRead.meaning c.args.store.now) (g.S.RecordRead.meaning c.search.new.store) (g.S.RecordRead.meaning c.add_node.new.store) c.in_ok-link.ensures.after c.add_node.ensures.few })
 
 -- the bucket is absent
 pub returns-in-Empty-clause-ok : goal.returns-in-Empty-clause-ok
@@ -81,7 +81,7 @@ returns-in-Empty-clause-fault g c = IfStore-map c.write_node-in-Empty.result (λ
 
 pub returns-in-Empty-clause-calls : goal.returns-in-Empty-clause-calls
 returns-in-Empty-clause-calls g c =
-    (0, Calls-trans _ _ _ 0 0 (Calls-reads _ _ c.search.ensures.calls) c.write_node-in-Empty.ensures.calls, record { may = λ asked. absurd (omega arith); exact = OnOk-map c.write_node-in-Empty.result (asked_none (g.S.RecordRead.meaning c.args.store.now) (g.S.RecordRead.meaning c.search.new.store) (g.S.RecordRead.meaning c.write_node-in-Empty.new.store) _ _ c.in_ok-link.ensures.after) c.write_node-in-Empty.ensures.ok; given = gives-tried (g.S.RecordRead.meaning c.args.store.now) (g.S.RecordRead.meaning c.search.new.store) (g.S.RecordRead.meaning c.write_node-in-Empty.new.store) c.in-Empty.bucket c.in_ok-link.ensures.after (tries c.write_node-in-Empty.result (g.S.RecordRead.meaning c.search.new.store) (g.S.RecordRead.meaning c.write_node-in-Empty.new.store) c.in-Empty.bucket _ c.write_node-in-Empty.ensures.ok c.write_node-in-Empty.ensures.err) })
+    (0, Calls-trans _ _ _ 0 0 (Calls-reads _ _ c.search.ensures.calls) c.write_node-in-Empty.ensures.calls, record { may = λ asked. absurd (omega arith); exact = OnOk-map c.write_node-in-Empty.result (asked_none (g.S.RecordRead.meaning c.args.store.now) (g.S.RecordRead.meaning c.search.new.store) (g.S.RecordRead.meaning c.write_node-in-Empty.new.store) _ _ c.in_ok-link.ensures.after) c.write_node-in-Empty.ensures.ok; given = gives-tried (g.S.RecordRead.meaning c.args.store.now) (g.S.RecordRead.meaning c.search.new.store) (g.S.RecordRead.meaning c.write_node-in-Empty.new.store) c.in-Empty.bucket c.in_ok-link.ensures.after (tries c.write_node-in-Empty.result (g.S.RecordRead.meaning c.search.new.store) (g.S.RecordRead.meaning c.write_node-in-Empty.new.store) c.in-Empty.bucket _ c.write_node-in-Empty.ensures.ok c.write_node-in-Empty.ensures.err); few = few-tried (g.S.RecordRead.meaning c.args.store.now) (g.S.RecordRead.meaning c.search.new.store) (g.S.RecordRead.meaning c.write_node-in-Empty.new.store) c.in-Empty.bucket c.in_ok-link.ensures.after (tries c.write_node-in-Empty.result (g.S.RecordRead.meaning c.search.new.store) (g.S.RecordRead.meaning c.write_node-in-Empty.new.store) c.in-Empty.bucket _ c.write_node-in-Empty.ensures.ok c.write_node-in-Empty.ensures.err) })
 
 -- the walk ended well
 pub returns-in-Found-clause-walked : goal.returns-in-Found-clause-walked

@@ -1,7 +1,7 @@
 use Rattle.record_store.proofs.Refusals.{fault_moved, torn_moved, IfStore-map, IfTorn-map}
 use Rattle.record_store.proofs.Paths.{Calls-reads, Calls-trans, CallFault-read, CallFault-never}
 use Rattle.record_store.proofs.Agreement.{ReadsGrow-only}
-use Rattle.record_store.proofs.Known.{tries, gives-reads, gives-tried, known-reads, known-found}
+use Rattle.record_store.proofs.Known.{few-reads, few-tried, tries, gives-reads, gives-tried, known-reads, known-found}
 use Rattle.hash_index.proofs.Chains.{each_absent, is_torn}
 use Rattle.hash_index.proofs.Removed.{removes_pair, removes_nothing}
 use Rattle.hash_index.proofs.Ends.{walked_written}
@@ -79,3 +79,16 @@ returns-in-Room-clause-writes g c = known-reads (g.S.RecordRead.meaning c.args.s
 
 pub returns-in-Room-clause-given : goal.returns-in-Room-clause-given
 returns-in-Room-clause-given g c = gives-reads (g.S.RecordRead.meaning c.args.store.now) (g.S.RecordRead.meaning c.search.new.store) c.in_ok-link.ensures.after
+
+-- how many records are written
+pub returns-in_err-link-clause-few : goal.returns-in_err-link-clause-few
+returns-in_err-link-clause-few g c = few-reads 1 (g.S.RecordRead.meaning c.args.store.now) (g.S.RecordRead.meaning c.search.new.store) c.search.ensures.after
+
+pub returns-in_err-write_node-in-Found-clause-few : goal.returns-in_err-write_node-in-Found-clause-few
+returns-in_err-write_node-in-Found-clause-few g c = few-tried (g.S.RecordRead.meaning c.args.store.now) (g.S.RecordRead.meaning c.search.new.store) (g.S.RecordRead.meaning c.write_node.new.store) c.in-Found.link.at c.in_ok-link.ensures.after (tries c.write_node.result (g.S.RecordRead.meaning c.search.new.store) (g.S.RecordRead.meaning c.write_node.new.store) c.in-Found.link.at _ c.write_node.ensures.ok c.write_node.ensures.err)
+
+pub returns-in_ok-write_node-in-Found-clause-few : goal.returns-in_ok-write_node-in-Found-clause-few
+returns-in_ok-write_node-in-Found-clause-few g c = few-tried (g.S.RecordRead.meaning c.args.store.now) (g.S.RecordRead.meaning c.search.new.store) (g.S.RecordRead.meaning c.write_node.new.store) c.in-Found.link.at c.in_ok-link.ensures.after (tries c.write_node.result (g.S.RecordRead.meaning c.search.new.store) (g.S.RecordRead.meaning c.write_node.new.store) c.in-Found.link.at _ c.write_node.ensures.ok c.write_node.ensures.err)
+
+pub returns-in-Room-clause-few : goal.returns-in-Room-clause-few
+returns-in-Room-clause-few g c = few-reads 1 (g.S.RecordRead.meaning c.args.store.now) (g.S.RecordRead.meaning c.search.new.store) c.in_ok-link.ensures.after

@@ -5,10 +5,10 @@ use Rattle.record_store.specs.Meaning.{Meaning}
 use Rattle.record_store.proofs.Refusals.{store_fault, fault_moved, IfStore-map}
 use Rattle.record_store.proofs.Paths.{Calls-at, Calls-trans, CallFault-never}
 use Rattle.record_store.proofs.Known.{tries, gives-weaken, fewer-refused, goes-same, goes-added, goes-tried, goes-trans}
-use Rattle.record_store.proofs.Writes.{writes-none, writes-weaken}
 use Rattle.ordered_index.specs.Asks.{asks_at}
 use Rattle.ordered_index.proofs.Counting.{asks_nine}
-use Rattle.ordered_index.proofs.Asking.{asks_few, had_nine, wrote_none, wrote_fresh, wrote_one}
+use Rattle.ordered_index.proofs.Asking.{asks_few, had_nine}
+use Rattle.ordered_index.proofs.Wrote.{nodes-none, nodes-weaken, wrote_fresh, wrote_none, wrote_one}
 use Rattle.record_store.proofs.Agreement.{ReadsGrow-refl, ReadsGrow-same, ReadsGrow-fresh, ReadsGrow-write}
 use Rattle.ordered_index.proofs.Parting.{left_few, right_few}
 use Rattle.ordered_index.specs.Held.{content_of}
@@ -26,7 +26,7 @@ returns-in_err-write_node-clause-calls g c =
 
 pub returns-in_err-write_node-clause-few : goal.returns-in_err-write_node-clause-few
 returns-in_err-write_node-clause-few g c =
-    writes-weaken 0 (2 * asks_at c.args.link.node.entries.items + 1) (g.S.RecordRead.meaning c.args.store.now) (g.S.RecordRead.meaning c.write_node.new.store) (omega arith) (writes-none (g.S.RecordRead.meaning c.args.store.now) (g.S.RecordRead.meaning c.write_node.new.store) (ap (λ (m : Meaning). m.writes) c.in_err-write_node.ensures.err))
+    nodes-weaken 0 (2 * asks_at c.args.link.node.entries.items + 1) (g.S.RecordRead.meaning c.args.store.now) (g.S.RecordRead.meaning c.write_node.new.store) (omega arith) (nodes-none (g.S.RecordRead.meaning c.args.store.now) (g.S.RecordRead.meaning c.write_node.new.store) (ap (λ (m : Meaning). m.writes) c.in_err-write_node.ensures.err))
 
 pub returns-then-not-is_full-clause-calls : goal.returns-then-not-is_full-clause-calls
 returns-then-not-is_full-clause-calls g c =
@@ -37,7 +37,7 @@ pub returns-then-not-is_full-clause-few : goal.returns-then-not-is_full-clause-f
 returns-then-not-is_full-clause-few g c =
     let m0 = g.S.RecordRead.meaning c.args.store.now in
     let m1 = g.S.RecordRead.meaning c.write_node.new.store in
-    writes-weaken (0 + 1) (2 * asks_at c.args.link.node.entries.items + 1) m0 m1 (omega arith) (wrote_one 0 m0 m0 m1 _ _ (writes-none m0 m0 refl) c.in_ok-write_node.ensures.ok)
+    nodes-weaken (0 + 1) (2 * asks_at c.args.link.node.entries.items + 1) m0 m1 (omega arith) (wrote_one 0 m0 m0 m1 _ _ (nodes-none m0 m0 refl) c.in_ok-write_node.ensures.ok)
 
 pub returns-in_err-fresh-clause-fault : goal.returns-in_err-fresh-clause-fault
 returns-in_err-fresh-clause-fault g c =
@@ -51,7 +51,7 @@ returns-in_err-fresh-clause-calls g c =
 
 pub returns-in_err-fresh-clause-few : goal.returns-in_err-fresh-clause-few
 returns-in_err-fresh-clause-few g c =
-    writes-weaken 0 (2 * asks_at c.args.link.node.entries.items + 1) (g.S.RecordRead.meaning c.args.store.now) (g.S.RecordRead.meaning c.fresh.new.self) (omega arith) (writes-none (g.S.RecordRead.meaning c.args.store.now) (g.S.RecordRead.meaning c.fresh.new.self) (ap (λ (m : Meaning). m.writes) c.in_err-fresh.ensures.err))
+    nodes-weaken 0 (2 * asks_at c.args.link.node.entries.items + 1) (g.S.RecordRead.meaning c.args.store.now) (g.S.RecordRead.meaning c.fresh.new.self) (omega arith) (nodes-none (g.S.RecordRead.meaning c.args.store.now) (g.S.RecordRead.meaning c.fresh.new.self) (ap (λ (m : Meaning). m.writes) c.in_err-fresh.ensures.err))
 
 pub returns-in_err-write_node-2-clause-fault : goal.returns-in_err-write_node-2-clause-fault
 returns-in_err-write_node-2-clause-fault g c =
@@ -68,7 +68,7 @@ returns-in_err-write_node-2-clause-few g c =
     let m0 = g.S.RecordRead.meaning c.args.store.now in
     let m1 = g.S.RecordRead.meaning c.fresh.new.self in
     let m2 = g.S.RecordRead.meaning c.write_node-2.new.store in
-    writes-weaken 0 (2 * asks_at c.args.link.node.entries.items + 1) m0 m2 (omega arith) (wrote_none 0 m0 m1 m2 (wrote_fresh m0 m1 _ c.in_ok-fresh.ensures.ok) c.in_err-write_node-2.ensures.err)
+    nodes-weaken 0 (2 * asks_at c.args.link.node.entries.items + 1) m0 m2 (omega arith) (wrote_none 0 m0 m1 m2 (wrote_fresh m0 m1 _ c.in_ok-fresh.ensures.ok) c.in_err-write_node-2.ensures.err)
 
 pub returns-in_err-write_node-3-clause-fault : goal.returns-in_err-write_node-3-clause-fault
 returns-in_err-write_node-3-clause-fault g c =
@@ -86,7 +86,7 @@ returns-in_err-write_node-3-clause-few g c =
     let m1 = g.S.RecordRead.meaning c.fresh.new.self in
     let m2 = g.S.RecordRead.meaning c.write_node-2.new.store in
     let m3 = g.S.RecordRead.meaning c.write_node-3.new.store in
-    writes-weaken (0 + 1) (2 * asks_at c.args.link.node.entries.items + 1) m0 m3 (omega arith) (wrote_none (0 + 1) m0 m2 m3 (wrote_one 0 m0 m1 m2 _ _ (wrote_fresh m0 m1 _ c.in_ok-fresh.ensures.ok) c.in_ok-write_node-2.ensures.ok) c.in_err-write_node-3.ensures.err)
+    nodes-weaken (0 + 1) (2 * asks_at c.args.link.node.entries.items + 1) m0 m3 (omega arith) (wrote_none (0 + 1) m0 m2 m3 (wrote_one 0 m0 m1 m2 _ _ (wrote_fresh m0 m1 _ c.in_ok-fresh.ensures.ok) c.in_ok-write_node-2.ensures.ok) c.in_err-write_node-3.ensures.err)
 
 pub returns-clause-calls : goal.returns-clause-calls
 returns-clause-calls g c =
@@ -100,7 +100,7 @@ returns-clause-few g c =
     let m1 = g.S.RecordRead.meaning c.fresh.new.self in
     let m2 = g.S.RecordRead.meaning c.write_node-2.new.store in
     let m3 = g.S.RecordRead.meaning c.write_node-3.new.store in
-    writes-weaken (0 + 1 + 1) (2 * asks_at c.args.link.node.entries.items + 1) m0 m3 (omega (arith, asks_nine c.args.link.node.entries.items nine)) (wrote_one (0 + 1) m0 m2 m3 _ _ (wrote_one 0 m0 m1 m2 _ _ (wrote_fresh m0 m1 _ c.in_ok-fresh.ensures.ok) c.in_ok-write_node-2.ensures.ok) c.in_ok-write_node-3.ensures.ok)
+    nodes-weaken (0 + 1 + 1) (2 * asks_at c.args.link.node.entries.items + 1) m0 m3 (omega (arith, asks_nine c.args.link.node.entries.items nine)) (wrote_one (0 + 1) m0 m2 m3 _ _ (wrote_one 0 m0 m1 m2 _ _ (wrote_fresh m0 m1 _ c.in_ok-fresh.ensures.ok) c.in_ok-write_node-2.ensures.ok) c.in_ok-write_node-3.ensures.ok)
 
 pub returns-clause-parted : goal.returns-clause-parted
 returns-clause-parted g c =
@@ -109,7 +109,7 @@ returns-clause-parted g c =
     let m1 = g.S.RecordRead.meaning c.fresh.new.self in
     let m2 = g.S.RecordRead.meaning c.write_node-2.new.store in
     let m3 = g.S.RecordRead.meaning c.write_node-3.new.store in
-    writes-weaken (0 + 1 + 1) (2 * asks_at c.args.link.node.entries.items) m0 m3 (omega (arith, asks_nine c.args.link.node.entries.items nine)) (wrote_one (0 + 1) m0 m2 m3 _ _ (wrote_one 0 m0 m1 m2 _ _ (wrote_fresh m0 m1 _ c.in_ok-fresh.ensures.ok) c.in_ok-write_node-2.ensures.ok) c.in_ok-write_node-3.ensures.ok)
+    nodes-weaken (0 + 1 + 1) (2 * asks_at c.args.link.node.entries.items) m0 m3 (omega (arith, asks_nine c.args.link.node.entries.items nine)) (wrote_one (0 + 1) m0 m2 m3 _ _ (wrote_one 0 m0 m1 m2 _ _ (wrote_fresh m0 m1 _ c.in_ok-fresh.ensures.ok) c.in_ok-write_node-2.ensures.ok) c.in_ok-write_node-3.ensures.ok)
 
 -- what is written and given
 pub returns-in_err-write_node-clause-writes : goal.returns-in_err-write_node-clause-writes

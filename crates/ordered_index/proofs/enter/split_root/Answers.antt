@@ -10,8 +10,8 @@ use Rattle.record_store.specs.Calls.CallFault.{by_fresh}
 use Rattle.ordered_index.specs.Enter.PutsRoot.{parted}
 use Rattle.record_store.proofs.Known.{tries, gives-weaken, fewer-refused, goes-same, goes-fresh, goes-trans}
 use Rattle.ordered_index.proofs.Going.{left_goes, right_goes, over_goes}
-use Rattle.record_store.proofs.Writes.{writes-none, writes-trans, writes-weaken}
-use Rattle.ordered_index.proofs.Asking.{wrote_none, wrote_fresh, wrote_one, on_err}
+use Rattle.ordered_index.proofs.Asking.{on_err}
+use Rattle.ordered_index.proofs.Wrote.{nodes-none, nodes-trans, nodes-weaken, wrote_fresh, wrote_none, wrote_one}
 use Rattle.record_store.proofs.Agreement.{ReadsGrow-refl, ReadsGrow-same, ReadsGrow-fresh, ReadsGrow-write}
 use Rattle.ordered_index.proofs.Parting.{left_few, right_few}
 use Rattle.ordered_index.proofs.enter.split_root.Goals as goal
@@ -133,14 +133,14 @@ pub returns-in_err-left-clause-few : goal.returns-in_err-left-clause-few
 returns-in_err-left-clause-few g c =
     let m0 = g.S.RecordRead.meaning c.args.store.now in
     let m1 = g.S.RecordRead.meaning c.fresh.new.self in
-    writes-weaken 0 3 m0 m1 (omega arith) (wrote_none 0 m0 m0 m1 (writes-none m0 m0 refl) c.in_err-left.ensures.err)
+    nodes-weaken 0 3 m0 m1 (omega arith) (wrote_none 0 m0 m0 m1 (nodes-none m0 m0 refl) c.in_err-left.ensures.err)
 
 pub returns-in_err-right-clause-few : goal.returns-in_err-right-clause-few
 returns-in_err-right-clause-few g c =
     let m0 = g.S.RecordRead.meaning c.args.store.now in
     let m1 = g.S.RecordRead.meaning c.fresh.new.self in
     let m2 = g.S.RecordRead.meaning c.fresh-2.new.self in
-    writes-weaken 0 3 m0 m2 (omega arith) (wrote_none 0 m0 m1 m2 (wrote_fresh m0 m1 _ c.in_ok-left.ensures.ok) c.in_err-right.ensures.err)
+    nodes-weaken 0 3 m0 m2 (omega arith) (wrote_none 0 m0 m1 m2 (wrote_fresh m0 m1 _ c.in_ok-left.ensures.ok) c.in_err-right.ensures.err)
 
 pub returns-in_err-write_node-clause-few : goal.returns-in_err-write_node-clause-few
 returns-in_err-write_node-clause-few g c =
@@ -148,7 +148,7 @@ returns-in_err-write_node-clause-few g c =
     let m1 = g.S.RecordRead.meaning c.fresh.new.self in
     let m2 = g.S.RecordRead.meaning c.fresh-2.new.self in
     let m3 = g.S.RecordRead.meaning c.write_node.new.store in
-    writes-weaken 0 3 m0 m3 (omega arith) (wrote_none 0 m0 m2 m3 (writes-trans 0 0 m0 m1 m2 (wrote_fresh m0 m1 _ c.in_ok-left.ensures.ok) (wrote_fresh m1 m2 _ c.in_ok-right.ensures.ok)) c.in_err-write_node.ensures.err)
+    nodes-weaken 0 3 m0 m3 (omega arith) (wrote_none 0 m0 m2 m3 (nodes-trans 0 0 m0 m1 m2 (wrote_fresh m0 m1 _ c.in_ok-left.ensures.ok) (wrote_fresh m1 m2 _ c.in_ok-right.ensures.ok)) c.in_err-write_node.ensures.err)
 
 pub returns-in_err-write_node-2-clause-few : goal.returns-in_err-write_node-2-clause-few
 returns-in_err-write_node-2-clause-few g c =
@@ -157,7 +157,7 @@ returns-in_err-write_node-2-clause-few g c =
     let m2 = g.S.RecordRead.meaning c.fresh-2.new.self in
     let m3 = g.S.RecordRead.meaning c.write_node.new.store in
     let m4 = g.S.RecordRead.meaning c.write_node-2.new.store in
-    writes-weaken 1 3 m0 m4 (omega arith) (wrote_none 1 m0 m3 m4 (wrote_one 0 m0 m2 m3 _ _ (writes-trans 0 0 m0 m1 m2 (wrote_fresh m0 m1 _ c.in_ok-left.ensures.ok) (wrote_fresh m1 m2 _ c.in_ok-right.ensures.ok)) c.in_ok-write_node.ensures.ok) c.in_err-write_node-2.ensures.err)
+    nodes-weaken 1 3 m0 m4 (omega arith) (wrote_none 1 m0 m3 m4 (wrote_one 0 m0 m2 m3 _ _ (nodes-trans 0 0 m0 m1 m2 (wrote_fresh m0 m1 _ c.in_ok-left.ensures.ok) (wrote_fresh m1 m2 _ c.in_ok-right.ensures.ok)) c.in_ok-write_node.ensures.ok) c.in_err-write_node-2.ensures.err)
 
 pub returns-in_err-write_node-3-clause-few : goal.returns-in_err-write_node-3-clause-few
 returns-in_err-write_node-3-clause-few g c =
@@ -167,7 +167,7 @@ returns-in_err-write_node-3-clause-few g c =
     let m3 = g.S.RecordRead.meaning c.write_node.new.store in
     let m4 = g.S.RecordRead.meaning c.write_node-2.new.store in
     let m5 = g.S.RecordRead.meaning c.write_node-3.new.store in
-    writes-weaken 2 3 m0 m5 (omega arith) (wrote_none 2 m0 m4 m5 (wrote_one 1 m0 m3 m4 _ _ (wrote_one 0 m0 m2 m3 _ _ (writes-trans 0 0 m0 m1 m2 (wrote_fresh m0 m1 _ c.in_ok-left.ensures.ok) (wrote_fresh m1 m2 _ c.in_ok-right.ensures.ok)) c.in_ok-write_node.ensures.ok) c.in_ok-write_node-2.ensures.ok) c.in_err-write_node-3.ensures.err)
+    nodes-weaken 2 3 m0 m5 (omega arith) (wrote_none 2 m0 m4 m5 (wrote_one 1 m0 m3 m4 _ _ (wrote_one 0 m0 m2 m3 _ _ (nodes-trans 0 0 m0 m1 m2 (wrote_fresh m0 m1 _ c.in_ok-left.ensures.ok) (wrote_fresh m1 m2 _ c.in_ok-right.ensures.ok)) c.in_ok-write_node.ensures.ok) c.in_ok-write_node-2.ensures.ok) c.in_err-write_node-3.ensures.err)
 
 pub returns-clause-few : goal.returns-clause-few
 returns-clause-few g c =
@@ -177,7 +177,7 @@ returns-clause-few g c =
     let m3 = g.S.RecordRead.meaning c.write_node.new.store in
     let m4 = g.S.RecordRead.meaning c.write_node-2.new.store in
     let m5 = g.S.RecordRead.meaning c.write_node-3.new.store in
-    wrote_one 2 m0 m4 m5 _ _ (wrote_one 1 m0 m3 m4 _ _ (wrote_one 0 m0 m2 m3 _ _ (writes-trans 0 0 m0 m1 m2 (wrote_fresh m0 m1 _ c.in_ok-left.ensures.ok) (wrote_fresh m1 m2 _ c.in_ok-right.ensures.ok)) c.in_ok-write_node.ensures.ok) c.in_ok-write_node-2.ensures.ok) c.in_ok-write_node-3.ensures.ok
+    wrote_one 2 m0 m4 m5 _ _ (wrote_one 1 m0 m3 m4 _ _ (wrote_one 0 m0 m2 m3 _ _ (nodes-trans 0 0 m0 m1 m2 (wrote_fresh m0 m1 _ c.in_ok-left.ensures.ok) (wrote_fresh m1 m2 _ c.in_ok-right.ensures.ok)) c.in_ok-write_node.ensures.ok) c.in_ok-write_node-2.ensures.ok) c.in_ok-write_node-3.ensures.ok
 
 pub returns-in_err-left-clause-writes : goal.returns-in_err-left-clause-writes
 returns-in_err-left-clause-writes g c = (goes-same (λ rid. rid ≡ c.args.top.at) (g.S.RecordRead.meaning c.args.store.now) (g.S.RecordRead.meaning c.fresh.new.self) c.in_err-left.ensures.err).only

@@ -4,8 +4,7 @@ use Rattle.record_store.specs.Meaning.{after_write}
 use Rattle.record_store.proofs.Paths.{Calls-reads, Calls-trans, CallFault-read, CallFault-never}
 use Rattle.record_store.proofs.Agreement.{writes_same, extends-refl, ReadsGrow-refl, ReadsGrow-write, ReadsGrow-only, written_after}
 use Rattle.record_store.proofs.Known.{tries, gives-reads, gives-tried, known-reads, known-found}
-use Rattle.record_store.proofs.Writes.{writes-none}
-use Rattle.ordered_index.proofs.Asking.{read_few, wrote_none, wrote_one}
+use Rattle.ordered_index.proofs.Wrote.{nodes-none, read_few, wrote_none, wrote_one}
 use Rattle.ordered_index.specs.Node.{words_of, Content}
 use Rattle.ordered_index.specs.Held.{content_of}
 use Rattle.ordered_index.proofs.Trees.{is_torn}
@@ -69,7 +68,7 @@ pub returns-in_err-write_node-clause-few : goal.returns-in_err-write_node-clause
 returns-in_err-write_node-clause-few g c = wrote_none 1 (g.S.RecordRead.meaning c.args.store.now) (g.S.RecordRead.meaning c.leaf_for.new.store) (g.S.RecordRead.meaning c.write_node.new.store) (read_few (g.S.RecordRead.meaning c.args.store.now) (g.S.RecordRead.meaning c.leaf_for.new.store) c.leaf_for.ensures.after) c.in_err-write_node.ensures.err
 
 pub returns-clause-few : goal.returns-clause-few
-returns-clause-few g c = wrote_one 0 (g.S.RecordRead.meaning c.args.store.now) (g.S.RecordRead.meaning c.leaf_for.new.store) (g.S.RecordRead.meaning c.write_node.new.store) _ _ (writes-none (g.S.RecordRead.meaning c.args.store.now) (g.S.RecordRead.meaning c.leaf_for.new.store) (writes_same (g.S.RecordRead.meaning c.args.store.now) (g.S.RecordRead.meaning c.leaf_for.new.store) c.leaf_for.ensures.after)) c.in_ok-write_node.ensures.ok
+returns-clause-few g c = wrote_one 0 (g.S.RecordRead.meaning c.args.store.now) (g.S.RecordRead.meaning c.leaf_for.new.store) (g.S.RecordRead.meaning c.write_node.new.store) _ _ (nodes-none (g.S.RecordRead.meaning c.args.store.now) (g.S.RecordRead.meaning c.leaf_for.new.store) (writes_same (g.S.RecordRead.meaning c.args.store.now) (g.S.RecordRead.meaning c.leaf_for.new.store) c.leaf_for.ensures.after)) c.in_ok-write_node.ensures.ok
 
 -- what is written and given
 pub returns-in_err-leaf-clause-writes : goal.returns-in_err-leaf-clause-writes

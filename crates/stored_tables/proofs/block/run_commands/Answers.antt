@@ -10,7 +10,7 @@ use Rattle.stored_tables.proofs.block.run_commands.Goals as goal
 
 pub returns-then-is_err-clause-runs : goal.returns-then-is_err-clause-runs
 returns-then-is_err-clause-runs g c =
-    runs_memory _ 0 (128 * length c.args.commands.now) c.args.store.now c.args.store.now (Ok (tt {0}))
+    runs_memory _ 0 (128 * length c.args.commands.now) (omega arith) c.args.store.now c.args.store.now (Ok (tt {0}))
     (runs_begin {F = g.row.S-Fault.Denot} _ _ (λ _ _ _ _. Unit {0}) c.args.store.now (λ state held stands. tt))
 
 pub loop-i-init : goal.loop-i-init
@@ -37,7 +37,7 @@ returns-in_err-answer-clause-runs g c =
     let within : c.loop-i.i < length c.args.commands.now = omega (arith, ap length c.as_slice-command-items.ensures) in
     let here : c.command-item.result ≡ get_or c.args.commands.now c.loop-i.i c.command-item.result = c.command-item.is
     ∙ ap (λ (cs : List Command). get_or cs c.loop-i.i c.command-item.result) c.as_slice-command-items.ensures in
-    runs_moved _ (128 * c.loop-i.i + 128) (128 * length c.args.commands.now) c.args.store.now c.run_command.new.store
+    runs_moved _ (128 * c.loop-i.i + 128) (128 * length c.args.commands.now) (omega (arith, within)) c.args.store.now c.run_command.new.store
     c.from_residual.result c.run_command.result c.in_err-answer.field-0.0
     (next_runs {meaning = g.S.RecordRead.meaning} c.args.commands.now c.command-item.result c.loop-i.i c.loop-i.answers.items
     c.args.store.now c.loop-i.store c.run_command.new.store c.run_command.result within here c.loop-i.invariant.runs
@@ -48,7 +48,7 @@ returns-then-is_err-2-clause-runs g c =
     let within : c.loop-i.i < length c.args.commands.now = omega (arith, ap length c.as_slice-command-items.ensures) in
     let here : c.command-item.result ≡ get_or c.args.commands.now c.loop-i.i c.command-item.result = c.command-item.is
     ∙ ap (λ (cs : List Command). get_or cs c.loop-i.i c.command-item.result) c.as_slice-command-items.ensures in
-    runs_memory _ (128 * c.loop-i.i + 128) (128 * length c.args.commands.now) c.args.store.now c.run_command.new.store
+    runs_memory _ (128 * c.loop-i.i + 128) (128 * length c.args.commands.now) (omega (arith, within)) c.args.store.now c.run_command.new.store
     c.run_command.result
     (next_runs {meaning = g.S.RecordRead.meaning} c.args.commands.now c.command-item.result c.loop-i.i c.loop-i.answers.items
     c.args.store.now c.loop-i.store c.run_command.new.store c.run_command.result within here c.loop-i.invariant.runs

@@ -17,7 +17,7 @@ insert_entry-requires-clause-rid g c = rw (c.remove_entry.ensures.runs.grow.size
 
 pub returns-in_err-write_row-clause-runs : goal.returns-in_err-write_row-clause-runs
 returns-in_err-write_row-clause-runs g c =
-    runs_moved _ 1 53 c.args.store.now c.write_row.new.store c.from_residual.result c.write_row.result c.in_err-write_row.field-0.0
+    runs_moved _ 1 53 (omega arith) c.args.store.now c.write_row.new.store c.from_residual.result c.write_row.result c.in_err-write_row.field-0.0
     (changed_row {meaning = g.S.RecordRead.meaning} c.args.table c.args.key c.args.index c.args.found.now c.args.row.now c.args.store.now
     c.write_row.new.store c.write_row.result c.requires.table (c.write_row.ensures.runs c.args.table c.args.key))
     c.in_err-write_row.was c.from_residual.ensures.1
@@ -43,7 +43,7 @@ returns-then-was-high-clause-runs g c =
 
 pub returns-in_err-remove_entry-clause-runs : goal.returns-in_err-remove_entry-clause-runs
 returns-in_err-remove_entry-clause-runs g c =
-    runs_moved _ 2 53 c.args.store.now c.remove_entry.new.store c.from_residual-in_err-remove_entry.result c.remove_entry.result
+    runs_moved _ 2 53 (omega arith) c.args.store.now c.remove_entry.new.store c.from_residual-in_err-remove_entry.result c.remove_entry.result
     c.in_err-remove_entry.field-0.0
     (changed_removed {meaning = g.S.RecordRead.meaning} c.args.table c.args.key c.in-Some.column c.column-was.result c.column-high.result
     c.args.index c.args.found.now c.args.row.now c.args.store.now c.write_row.new.store c.remove_entry.new.store c.write_row.result

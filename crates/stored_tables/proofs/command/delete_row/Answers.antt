@@ -5,7 +5,7 @@ use Rattle.stored_tables.proofs.command.delete_row.Goals as goal
 
 pub returns-in_err-take_row-clause-runs : goal.returns-in_err-take_row-clause-runs
 returns-in_err-take_row-clause-runs g c =
-    runs_moved _ 4 105 c.args.store.now c.take_row.new.store c.from_residual.result c.take_row.result c.in_err-take_row.field-0.0
+    runs_moved _ 4 105 (omega arith) c.args.store.now c.take_row.new.store c.from_residual.result c.take_row.result c.in_err-take_row.field-0.0
     c.take_row.ensures.runs c.in_err-take_row.was c.from_residual.ensures.1
 
 pub returns-then-branch-clause-runs : goal.returns-then-branch-clause-runs

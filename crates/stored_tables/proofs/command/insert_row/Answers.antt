@@ -9,13 +9,13 @@ use Rattle.stored_tables.proofs.command.insert_row.Goals as goal
 
 pub returns-in_err-_found-clause-runs : goal.returns-in_err-_found-clause-runs
 returns-in_err-_found-clause-runs g c =
-    runs_moved _ 105 105 c.args.store.now c.find_row.new.store c.from_residual.result c.find_row.result c.in_err-_found.field-0.0
+    runs_moved _ 105 105 (omega arith) c.args.store.now c.find_row.new.store c.from_residual.result c.find_row.result c.in_err-_found.field-0.0
     (looks_runs _ (λ _ _ _ _. Unit {0}) 105 c.args.store.now c.find_row.new.store c.find_row.result c.find_row.ensures.looks
     (λ v state held agrees stands found. tt)) c.in_err-_found.was c.from_residual.ensures.1
 
 pub returns-in_err-index-in-None-clause-runs : goal.returns-in_err-index-in-None-clause-runs
 returns-in_err-index-in-None-clause-runs g c =
-    runs_moved _ 105 105 c.args.store.now c.index_of.new.store c.from_residual-in_err-index-in-None.result c.index_of.result
+    runs_moved _ 105 105 (omega arith) c.args.store.now c.index_of.new.store c.from_residual-in_err-index-in-None.result c.index_of.result
     c.in_err-index-in-None.field-0.0
     (looks_runs _ (λ _ _ _ _. Unit {0}) 105 c.args.store.now c.index_of.new.store c.index_of.result
     (row_then_index {meaning = g.S.RecordRead.meaning} c.args.table c.args.key None c.args.store.now c.find_row.new.store
@@ -25,7 +25,7 @@ returns-in_err-index-in-None-clause-runs g c =
 
 pub returns-in_err-enter_row-in-None-clause-runs : goal.returns-in_err-enter_row-in-None-clause-runs
 returns-in_err-enter_row-in-None-clause-runs g c =
-    runs_moved _ 105 105 c.args.store.now c.enter_row.new.store c.from_residual-in_err-enter_row-in-None.result c.enter_row.result
+    runs_moved _ 105 105 (omega arith) c.args.store.now c.enter_row.new.store c.from_residual-in_err-enter_row-in-None.result c.enter_row.result
     c.in_err-enter_row-in-None.field-0.0
     (then_command {meaning = g.S.RecordRead.meaning} (Ins c.args.table c.args.key c.args.values.now) _
     (λ held. with_value held.1 c.args.table c.args.key c.args.values.now) 105 105 c.args.store.now c.index_of.new.store

@@ -12,13 +12,13 @@ find_row-requires-clause-size g c = rw (size_same (g.S.RecordRead.meaning c.args
 
 pub returns-in_err-index-clause-runs : goal.returns-in_err-index-clause-runs
 returns-in_err-index-clause-runs g c =
-    runs_moved _ 105 105 c.args.store.now c.index_of.new.store c.from_residual.result c.index_of.result c.in_err-index.field-0.0
+    runs_moved _ 105 105 (omega arith) c.args.store.now c.index_of.new.store c.from_residual.result c.index_of.result c.in_err-index.field-0.0
     (looks_runs _ (λ _ _ _ _. Unit {0}) 105 c.args.store.now c.index_of.new.store c.index_of.result c.index_of.ensures.looks
     (λ v state held agrees stands found. tt)) c.in_err-index.was c.from_residual.ensures.1
 
 pub returns-in_err-found-clause-runs : goal.returns-in_err-found-clause-runs
 returns-in_err-found-clause-runs g c =
-    runs_moved _ 105 105 c.args.store.now c.find_row.new.store c.from_residual-in_err-found.result c.find_row.result
+    runs_moved _ 105 105 (omega arith) c.args.store.now c.find_row.new.store c.from_residual-in_err-found.result c.find_row.result
     c.in_err-found.field-0.0
     (looks_runs _ (λ _ _ _ _. Unit {0}) 105 c.args.store.now c.find_row.new.store c.find_row.result
     (index_then_row {meaning = g.S.RecordRead.meaning} c.args.table c.args.key c.in_ok-index.index c.args.store.now
@@ -28,7 +28,7 @@ returns-in_err-found-clause-runs g c =
 
 pub returns-in_err-change_row-in-Some-clause-runs : goal.returns-in_err-change_row-in-Some-clause-runs
 returns-in_err-change_row-in-Some-clause-runs g c =
-    runs_moved _ 105 105 c.args.store.now c.change_row.new.store c.from_residual-in_err-change_row-in-Some.result c.change_row.result
+    runs_moved _ 105 105 (omega arith) c.args.store.now c.change_row.new.store c.from_residual-in_err-change_row-in-Some.result c.change_row.result
     c.in_err-change_row-in-Some.field-0.0
     (then_command {meaning = g.S.RecordRead.meaning} (Put c.args.table c.args.key c.args.values.now) _
     (λ held. with_value held.1 c.args.table c.args.key c.args.values.now) 53 105 c.args.store.now c.find_row.new.store
@@ -46,7 +46,7 @@ returns-in_err-change_row-in-Some-clause-runs g c =
 
 pub returns-in_err-enter_row-in-None-clause-runs : goal.returns-in_err-enter_row-in-None-clause-runs
 returns-in_err-enter_row-in-None-clause-runs g c =
-    runs_moved _ 105 105 c.args.store.now c.enter_row.new.store c.from_residual-in_err-enter_row-in-None.result c.enter_row.result
+    runs_moved _ 105 105 (omega arith) c.args.store.now c.enter_row.new.store c.from_residual-in_err-enter_row-in-None.result c.enter_row.result
     c.in_err-enter_row-in-None.field-0.0
     (then_command {meaning = g.S.RecordRead.meaning} (Put c.args.table c.args.key c.args.values.now) _
     (λ held. with_value held.1 c.args.table c.args.key c.args.values.now) 105 105 c.args.store.now c.find_row.new.store

@@ -19,14 +19,14 @@ insert_entry-requires-clause-rid g c = rw (c.put_pair.ensures.runs.grow.size
 
 pub returns-in_err-rid-clause-runs : goal.returns-in_err-rid-clause-runs
 returns-in_err-rid-clause-runs g c =
-    runs_moved _ 1 105 c.args.store.now c.add_row.new.store c.from_residual.result c.add_row.result c.in_err-rid.field-0.0
+    runs_moved _ 1 105 (omega arith) c.args.store.now c.add_row.new.store c.from_residual.result c.add_row.result c.in_err-rid.field-0.0
     (entered_row {meaning = g.S.RecordRead.meaning} c.args.table c.args.key c.args.index c.args.row.now c.args.store.now
     c.add_row.new.store c.add_row.result c.requires.table (c.add_row.ensures.runs c.args.table c.args.key))
     c.in_err-rid.was c.from_residual.ensures.1
 
 pub returns-in_err-put_pair-clause-runs : goal.returns-in_err-put_pair-clause-runs
 returns-in_err-put_pair-clause-runs g c =
-    runs_moved _ 3 105 c.args.store.now c.put_pair.new.store c.from_residual-in_err-put_pair.result c.put_pair.result
+    runs_moved _ 3 105 (omega arith) c.args.store.now c.put_pair.new.store c.from_residual-in_err-put_pair.result c.put_pair.result
     c.in_err-put_pair.field-0.0
     (entered_pair {meaning = g.S.RecordRead.meaning} c.args.table c.args.key c.in_ok-rid.rid c.args.index c.args.row.now c.args.store.now
     c.add_row.new.store c.put_pair.new.store c.add_row.result c.put_pair.result c.requires.table
@@ -36,7 +36,7 @@ returns-in_err-put_pair-clause-runs g c =
 
 pub returns-in_err-insert_entry-clause-runs : goal.returns-in_err-insert_entry-clause-runs
 returns-in_err-insert_entry-clause-runs g c =
-    runs_moved _ 54 105 c.args.store.now c.insert_entry.new.store c.from_residual-in_err-insert_entry.result c.insert_entry.result
+    runs_moved _ 54 105 (omega arith) c.args.store.now c.insert_entry.new.store c.from_residual-in_err-insert_entry.result c.insert_entry.result
     c.in_err-insert_entry.field-0.0
     (entered_tree {meaning = g.S.RecordRead.meaning} c.args.table c.args.key c.in_ok-rid.rid c.args.index c.args.row.now c.args.store.now
     c.put_pair.new.store c.insert_entry.new.store c.put_pair.result c.insert_entry.result c.requires.table

@@ -17,12 +17,12 @@ drop_row-requires g c = rw (c.remove_entry.ensures.runs.grow.size ∙ c.remove_p
 
 pub returns-in_err-leave_index-clause-runs : goal.returns-in_err-leave_index-clause-runs
 returns-in_err-leave_index-clause-runs g c =
-    runs_moved _ 1 4 c.args.store.now c.leave_index.new.store c.from_residual.result c.leave_index.result c.in_err-leave_index.field-0.0
+    runs_moved _ 1 4 (omega arith) c.args.store.now c.leave_index.new.store c.from_residual.result c.leave_index.result c.in_err-leave_index.field-0.0
     c.leave_index.ensures.runs c.in_err-leave_index.was c.from_residual.ensures.1
 
 pub returns-in_err-remove_pair-clause-runs : goal.returns-in_err-remove_pair-clause-runs
 returns-in_err-remove_pair-clause-runs g c =
-    runs_moved _ 2 4 c.args.store.now c.remove_pair.new.store c.from_residual-in_err-remove_pair.result c.remove_pair.result
+    runs_moved _ 2 4 (omega arith) c.args.store.now c.remove_pair.new.store c.from_residual-in_err-remove_pair.result c.remove_pair.result
     c.in_err-remove_pair.field-0.0
     (left_pair {meaning = g.S.RecordRead.meaning} c.args.table c.args.key c.args.index c.args.found.now c.args.store.now
     c.leave_index.new.store c.remove_pair.new.store c.leave_index.result c.remove_pair.result c.requires.table
@@ -31,7 +31,7 @@ returns-in_err-remove_pair-clause-runs g c =
 
 pub returns-in_err-remove_entry-clause-runs : goal.returns-in_err-remove_entry-clause-runs
 returns-in_err-remove_entry-clause-runs g c =
-    runs_moved _ 3 4 c.args.store.now c.remove_entry.new.store c.from_residual-in_err-remove_entry.result c.remove_entry.result
+    runs_moved _ 3 4 (omega arith) c.args.store.now c.remove_entry.new.store c.from_residual-in_err-remove_entry.result c.remove_entry.result
     c.in_err-remove_entry.field-0.0
     (left_tree {meaning = g.S.RecordRead.meaning} c.args.table c.args.key c.args.index c.args.found.now c.args.store.now
     c.remove_pair.new.store c.remove_entry.new.store c.remove_pair.result c.remove_entry.result c.requires.table

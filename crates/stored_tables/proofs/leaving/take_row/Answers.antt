@@ -17,13 +17,13 @@ index_of-requires-clause-size g c = rw (size_same (g.S.RecordRead.meaning c.args
 
 pub returns-in_err-found-clause-runs : goal.returns-in_err-found-clause-runs
 returns-in_err-found-clause-runs g c =
-    runs_moved _ 4 4 c.args.store.now c.find_row.new.store c.from_residual.result c.find_row.result c.in_err-found.field-0.0
+    runs_moved _ 4 4 (omega arith) c.args.store.now c.find_row.new.store c.from_residual.result c.find_row.result c.in_err-found.field-0.0
     (looks_runs _ (λ _ _ _ _. Unit {0}) 4 c.args.store.now c.find_row.new.store c.find_row.result c.find_row.ensures.looks
     (λ v state held agrees stands found. tt)) c.in_err-found.was c.from_residual.ensures.1
 
 pub returns-in_err-index-clause-runs : goal.returns-in_err-index-clause-runs
 returns-in_err-index-clause-runs g c =
-    runs_moved _ 4 4 c.args.store.now c.index_of.new.store c.from_residual-in_err-index.result c.index_of.result
+    runs_moved _ 4 4 (omega arith) c.args.store.now c.index_of.new.store c.from_residual-in_err-index.result c.index_of.result
     c.in_err-index.field-0.0
     (looks_runs _ (λ _ _ _ _. Unit {0}) 4 c.args.store.now c.index_of.new.store c.index_of.result
     (row_then_index {meaning = g.S.RecordRead.meaning} c.args.table c.args.key (Some c.in-Some.found) c.args.store.now
@@ -33,7 +33,7 @@ returns-in_err-index-clause-runs g c =
 
 pub returns-in_err-leave_row-clause-runs : goal.returns-in_err-leave_row-clause-runs
 returns-in_err-leave_row-clause-runs g c =
-    runs_moved _ 4 4 c.args.store.now c.leave_row.new.store c.from_residual-in_err-leave_row.result c.leave_row.result
+    runs_moved _ 4 4 (omega arith) c.args.store.now c.leave_row.new.store c.from_residual-in_err-leave_row.result c.leave_row.result
     c.in_err-leave_row.field-0.0
     (then_command {meaning = g.S.RecordRead.meaning} (Del c.args.table c.args.key) _
     (λ held. without held.1 c.args.table c.args.key) 4 4 c.args.store.now c.index_of.new.store c.leave_row.new.store

@@ -5,7 +5,7 @@ use Rattle.stored_tables.proofs.rows.put_row.Goals as goal
 
 pub returns-in_err-_ran-clause-runs : goal.returns-in_err-_ran-clause-runs
 returns-in_err-_ran-clause-runs g c =
-    runs_moved _ 128 128 c.args.store.now c.run_command.new.store c.from_residual.result c.run_command.result c.in_err-_ran.field-0.0
+    runs_moved _ 128 128 (omega arith) c.args.store.now c.run_command.new.store c.from_residual.result c.run_command.result c.in_err-_ran.field-0.0
     c.run_command.ensures.runs c.in_err-_ran.was c.from_residual.ensures.1
 
 pub returns-clause-runs : goal.returns-clause-runs

@@ -5,7 +5,7 @@ use Rattle.stored_tables.proofs.steps.insert_entry.Goals as goal
 
 pub returns-in_err-insert-clause-runs : goal.returns-in_err-insert-clause-runs
 returns-in_err-insert-clause-runs g c =
-    runs_moved _ 51 51 c.args.store.now c.insert.new.store c.from_residual.result c.insert.result c.in_err-insert.field-0.0
+    runs_moved _ 51 51 (omega arith) c.args.store.now c.insert.new.store c.from_residual.result c.insert.result c.in_err-insert.field-0.0
     (inserted_runs {meaning = g.S.RecordRead.meaning} c.args.tree c.root_of.result c.args.key c.args.rid c.args.store.now
     c.insert.new.store c.insert.result c.requires.tree c.root_of.ensures.root c.requires.fixed c.insert.ensures.ok
     c.insert.ensures.torn c.insert.ensures.fault c.insert.ensures.calls c.insert.ensures.writes c.insert.ensures.few c.insert.ensures.after)
@@ -21,7 +21,7 @@ returns-then-branch-clause-runs g c =
 
 pub returns-else-branch-clause-runs : goal.returns-else-branch-clause-runs
 returns-else-branch-clause-runs g c =
-    runs_torn _ 51 51 c.args.store.now c.insert.new.store c.insert.result _ c.args.rid
+    runs_torn _ 51 51 (omega arith) c.args.store.now c.insert.new.store c.insert.result _ c.args.rid
     (inserted_runs {meaning = g.S.RecordRead.meaning} c.args.tree c.root_of.result c.args.key c.args.rid c.args.store.now
     c.insert.new.store c.insert.result c.requires.tree c.root_of.ensures.root c.requires.fixed c.insert.ensures.ok
     c.insert.ensures.torn c.insert.ensures.fault c.insert.ensures.calls c.insert.ensures.writes c.insert.ensures.few c.insert.ensures.after)

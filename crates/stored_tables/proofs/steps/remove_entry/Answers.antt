@@ -6,7 +6,7 @@ use Rattle.stored_tables.proofs.steps.remove_entry.Goals as goal
 
 pub returns-in_err-remove-clause-runs : goal.returns-in_err-remove-clause-runs
 returns-in_err-remove-clause-runs g c =
-    runs_moved _ 1 1 c.args.store.now c.remove.new.store c.from_residual.result c.remove.result c.in_err-remove.field-0.0
+    runs_moved _ 1 1 (omega arith) c.args.store.now c.remove.new.store c.from_residual.result c.remove.result c.in_err-remove.field-0.0
     (taken_runs {meaning = g.S.RecordRead.meaning} c.args.tree c.root_of.result c.args.key c.args.rid c.args.store.now c.remove.new.store
     c.remove.result c.requires.tree c.root_of.ensures.root c.requires.fixed c.remove.ensures.ok c.remove.ensures.torn
     c.remove.ensures.fault c.remove.ensures.few c.remove.ensures.calls c.remove.ensures.given c.remove.ensures.writes
@@ -24,7 +24,7 @@ returns-then-branch-clause-runs g c =
 
 pub returns-else-branch-clause-runs : goal.returns-else-branch-clause-runs
 returns-else-branch-clause-runs g c =
-    runs_torn _ 1 1 c.args.store.now c.remove.new.store c.remove.result _ c.args.rid
+    runs_torn _ 1 1 (omega arith) c.args.store.now c.remove.new.store c.remove.result _ c.args.rid
     (taken_runs {meaning = g.S.RecordRead.meaning} c.args.tree c.root_of.result c.args.key c.args.rid c.args.store.now c.remove.new.store
     c.remove.result c.requires.tree c.root_of.ensures.root c.requires.fixed c.remove.ensures.ok c.remove.ensures.torn
     c.remove.ensures.fault c.remove.ensures.few c.remove.ensures.calls c.remove.ensures.given c.remove.ensures.writes

@@ -1,28 +1,28 @@
 //! The run of an input on an engine.
 
-ghost use Rattle.std.specs.Prelude.{ℕ, ◌≤◌, All, IfOk, length};
+ghost use Rattle.std.specs.Prelude.{◌≡◌, ℕ, ◌≤◌, All, IfOk, OnOk, length};
 ghost use Rattle.txn_engine.specs.Pass.{PassView};
 ghost use Rattle.replay_model.specs.Input.{IsWellFormed};
 ghost use Rattle.txn_script.specs.Grammar.{IsWithinLimits, IsRunnable};
 ghost use Rattle.lane_runner.specs.Loading.{AreRowsOf};
 ghost use Rattle.lane_runner.specs.Finishing.{MayFinish};
-ghost use Rattle.input_runner.specs.Ran.{IsRunOf};
-ghost use Rattle.input_runner.specs.Running.{IsFor, IsLoaded, HasRunLanes, HasRunAll};
+ghost use Rattle.input_runner.specs.Ran.{IsRunOf, AreSeenIn, order_of};
+ghost use Rattle.input_runner.specs.Running.{IsFor, IsLoaded, HasRunLanes, AreSeenBehind, GrowsBehind, HasRunAll};
 
 use crate::copying::copy_lanes;
 use crate::reading::read_tables;
 use crate::sizes::{FIXED, sizes_are_enough, sizes_of};
 use history_replay::sort_results;
 use lane_runner::{
-    LaneDone, RowTables, finish_alone, load_rows, run_all, runs_become_whole, runs_can_finish,
-    shares_are_all, whole_runs_are_results,
+    LaneDone, LaneRun, RowTables, finish_alone, load_rows, run_all_by, runs_become_whole,
+    runs_can_finish, shares_are_all, whole_runs_are_results,
 };
 use outside_io::{Clock, Gate};
 use replay_model::{Input, NoMemory, Outcome, Pairs, Placed};
 use std::alloc::Global;
 use std::sync::Wait;
 use std::thread::Threads;
-use stored_tables::RowsLawful;
+use stored_tables::{RowsLawful, one_tables};
 use txn_engine::{Alone, Engine, StartFault};
 
 /// What the run of an input came to.
@@ -67,8 +67,8 @@ fn start(
     Ok((engine, alone))
 }
 
-/// Runs the lanes of an input on the passes of all seats, and brings these together again.
-fn run_lanes<R: Threads + Wait + Sync, C: Clock, G: Gate>(
+/// Runs the lanes of an input in this way on the passes of all seats, and brings these together again.
+fn run_lanes<R: Threads + Wait + Sync, C: Clock, G: Gate, L: LaneRun<C, G>>(
     rt: &R,
     alloc: Global,
     engine: &Engine<RowsLawful>,
@@ -77,6 +77,7 @@ fn run_lanes<R: Threads + Wait + Sync, C: Clock, G: Gate>(
     tries: u32,
     clocks: Vec<C>,
     gate: &G,
+    way: &mut L,
 ) -> Result<(Alone<RowsLawful>, Vec<LaneDone>), NoMemory>
     requires well_formed { IsWellFormed input.now }
     requires within { IsWithinLimits input.now }
@@ -85,7 +86,9 @@ fn run_lanes<R: Threads + Wait + Sync, C: Clock, G: Gate>(
     requires loaded { IsLoaded input.now engine.now alone }
     requires tries { tries ≤ 1000 }
     requires clocks { engine.now.size.seats ≤ length clocks.items }
-    ensures ran { IfOk result (λ run. HasRunLanes input.now tries engine.now alone.pass run.0 run.1.items) }
+    ensures ran { IfOk result (λ run. HasRunLanes input.now tries (L.due way.old) engine.now alone.pass run.0 run.1.items) }
+    ensures due { L.due way.new ≡ L.due way.old }
+    ensures seen { IfOk result (λ run. AreSeenBehind (L.due way.old) alone.pass run.0 (L.seen way.new)) }
 {
     shares_are_all();
     // The engine has a seat, and the seat that is alone is its first.
@@ -93,7 +96,7 @@ fn run_lanes<R: Threads + Wait + Sync, C: Clock, G: Gate>(
     alone.shared();
     let lanes = copy_lanes(alloc, &input.lanes)?;
     let passes = alone.share(engine);
-    let (mut alone, done) = run_all(rt, alloc, engine, passes, lanes, clocks, gate, tries)?;
+    let (mut alone, done) = run_all_by(rt, alloc, engine, passes, lanes, clocks, gate, tries, way)?;
     alone.tell(engine);
     Ok((alone, done))
 }
@@ -109,8 +112,10 @@ fn run_rests(
     requires within { IsWithinLimits input.now }
     requires blocks { All (All MayFinish) input.now.lanes }
     requires engine { IsFor input.now engine.now.size.seats engine.now }
-    requires ran { (tries : ℕ) × (loaded : PassView) × (tries ≤ 1000) × HasRunLanes input.now tries engine.now loaded alone.old done.items }
-    ensures ran { IfOk result (λ run. (loaded : PassView) × HasRunAll input.now loaded alone.new.pass run.0.items run.1.items) }
+    requires ran { (tries due : ℕ) × (loaded : PassView) × (tries ≤ 1000) × (due ≤ 64) × HasRunLanes input.now tries due engine.now loaded alone.old done.items }
+    ensures ran { IfOk result (λ run. (tries due : ℕ) (loaded : PassView) → tries ≤ 1000 → due ≤ 64 → HasRunLanes input.now tries due engine.now loaded alone.old done.items
+        → HasRunAll input.now loaded alone.new.pass run.0.items run.1.items) }
+    ensures grows { OnOk result (GrowsBehind alone.old.pass alone.new.pass.log) }
 {
     sizes_are_enough();
     runs_can_finish();
@@ -122,11 +127,12 @@ fn run_rests(
     Ok((results, rows))
 }
 
-/// Runs an input on an engine of its own with so many seats, each on a thread with its clock; each transaction block is tried so many
-/// times beside the others, and those that remain are run by the seat that is alone.
+/// Runs an input on an engine of its own with so many seats, its lanes in this way, each seat with its clock; each transaction block is tried
+/// so many times beside the others, and those that remain are run by the seat that is alone. What was read beside the lanes are the rows
+/// that the transaction blocks up to its stamp leave.
 ///
 /// `NoMemory` may come at any point.
-pub fn run_input<R: Threads + Wait + Sync, C: Clock, G: Gate>(
+pub fn run_input<R: Threads + Wait + Sync, C: Clock, G: Gate, L: LaneRun<C, G>>(
     rt: &R,
     alloc: Global,
     input: &Input,
@@ -134,6 +140,7 @@ pub fn run_input<R: Threads + Wait + Sync, C: Clock, G: Gate>(
     tries: u32,
     clocks: Vec<C>,
     gate: &G,
+    way: &mut L,
 ) -> Result<Ran, NoMemory>
     requires well_formed { IsWellFormed input.now }
     requires within { IsWithinLimits input.now }
@@ -142,11 +149,14 @@ pub fn run_input<R: Threads + Wait + Sync, C: Clock, G: Gate>(
     requires most { workers ≤ 64 }
     requires tries { tries ≤ 1000 }
     requires clocks { workers ≤ length clocks.items }
-    ensures { IfOk result (λ ran. IsRunOf input.now ran.results.items ran.rows.items ran.end.pass) }
+    ensures ran { IfOk result (λ ran. IsRunOf input.now ran.results.items ran.rows.items ran.end.pass) }
+    ensures due { L.due way.new ≡ L.due way.old }
+    ensures seen { IfOk result (λ ran. AreSeenIn (L.due way.old) input.now (order_of ran.results.items) (L.seen way.new)) }
 {
     whole_runs_are_results();
+    one_tables();
     let (engine, alone) = start(alloc, input, workers)?;
-    let (mut alone, done) = run_lanes(rt, alloc, &engine, alone, input, tries, clocks, gate)?;
+    let (mut alone, done) = run_lanes(rt, alloc, &engine, alone, input, tries, clocks, gate, way)?;
     let (mut results, rows) = run_rests(alloc, &engine, &mut alone, input, done)?;
     sort_results::<RowTables>(&mut results);
     Ok(Ran {

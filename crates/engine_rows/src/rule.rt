@@ -245,17 +245,32 @@ fn fill_and_give(core: &Core<AnyState>, hand: &mut Hand<AnyState>, place: u32, s
     found
 }
 
+// Takes a place, fills it and gives it back: what its first cell showed before, where it was free.
+fn take_and_fill(
+    core: &Core<AnyState>,
+    hand: &mut Hand<AnyState>,
+    place: u32,
+    stamp: Stamp,
+) -> Option<u64>
+    requires ready { IsReady core.now hand.old }
+    requires place { place < places core.now.size }
+    ensures ready { IsReady core.now hand.new }
+{
+    if !take_at(core, hand, place) {
+        return None;
+    }
+    Some(fill_and_give(core, hand, place, stamp))
+}
+
 #[test]
 fn a_place_is_filled_and_taken_again(rt: HostRuntime) -> Result<(), Fail> {
     let (core, mut hand) = first_seat(rt.alloc(), 1, 1, 2)?;
     let stamp = publish(&core, &mut hand);
-    hold(&rt, take_at(&core, &mut hand, 1), 0);
-    let at_first = fill_and_give(&core, &mut hand, 1, stamp);
-    same(&rt, at_first, 0, 1);
+    let at_first = take_and_fill(&core, &mut hand, 1, stamp);
+    same(&rt, at_first, Some(0), 0);
     // What was stored there stands still once the place is taken again.
-    hold(&rt, take_at(&core, &mut hand, 1), 2);
-    let again = fill_and_give(&core, &mut hand, 1, stamp);
-    same(&rt, again, 7, 3);
+    let again = take_and_fill(&core, &mut hand, 1, stamp);
+    same(&rt, again, Some(7), 1);
     Ok(())
 }
 

@@ -1,6 +1,6 @@
 //! The worked row of typed tables: an account at key 1, a row that is none at key 2, and no row at key 3.
 
-ghost use Rattle.std.specs.Prelude.{◌≤◌};
+ghost use Rattle.std.specs.Prelude.{◌≡◌, OnOk};
 
 use crate::script::Script;
 use record_store::{MapFault, MapStore};
@@ -38,28 +38,28 @@ const SAVED: Account = Account {
 };
 
 /// The columns at key 2: an owner has 32 bits at most.
-fn other() -> Columns {
-    Columns::new([4_294_967_296, 1, 0, 0, 0, 0])
-}
+const OTHER: [u64; 6] = [4_294_967_296, 1, 0, 0, 0, 0];
 
 /// Whether it is the foreign row at key 2.
 fn is_foreign<T: Drop>(answer: Result<T, TypedFault<MapFault>>) -> bool {
-    match answer {
-        Err(TypedFault::Foreign { key, columns }) => key == 2 && columns == other(),
+    match &answer {
+        Err(TypedFault::Foreign { key, columns }) => *key == 2 && columns.values() == OTHER,
         _ => false,
     }
 }
 
 /// Puts the columns of no account at key 2 by a block, and answers whether it was done.
 fn put_other(alloc: Global, store: &mut MapStore) -> Result<bool, Fail>
-    requires { 4112 ≤ store.old.fixed }
-    ensures { 4112 ≤ store.new.fixed }
+    requires fixed { store.old.fixed ≡ 4112 }
+    requires size { store.old.size ≡ 4200 }
+    ensures fixed { OnOk result (store.new.fixed ≡ 4112) }
+    ensures size { OnOk result (store.new.size ≡ 4200) }
 {
     let mut script = Script::new(alloc);
     let filled = script.push(Command::Put {
         table: 0,
         key: 2,
-        values: other(),
+        values: Columns::new(OTHER),
     });
     let script = script.if_filled(filled)?;
     let outcome = exec_txn(alloc, store, &script.block().commands)?;
@@ -68,8 +68,10 @@ fn put_other(alloc: Global, store: &mut MapStore) -> Result<bool, Fail>
 
 /// Whether a scan for one row lists the account alone, or one for five is refused and leaves a list of it as it was.
 fn scans(alloc: Global, store: &mut MapStore, limit: u32) -> Result<bool, Fail>
-    requires { 4112 ≤ store.old.fixed }
-    ensures { 4112 ≤ store.new.fixed }
+    requires fixed { store.old.fixed ≡ 4112 }
+    requires size { store.old.size ≡ 4200 }
+    ensures fixed { OnOk result (store.new.fixed ≡ 4112) }
+    ensures size { OnOk result (store.new.size ≡ 4200) }
 {
     let mut out: Vec<(u64, Account)> = Vec::new(alloc);
     typed_scan(alloc, store, 0, 0, 9, 1, &mut out)?;
@@ -79,8 +81,10 @@ fn scans(alloc: Global, store: &mut MapStore, limit: u32) -> Result<bool, Fail>
 
 /// Makes a call, and answers whether it came to what is due.
 fn comes_to(alloc: Global, store: &mut MapStore, call: Call) -> Result<bool, Fail>
-    requires { 4112 ≤ store.old.fixed }
-    ensures { 4112 ≤ store.new.fixed }
+    requires fixed { store.old.fixed ≡ 4112 }
+    requires size { store.old.size ≡ 4200 }
+    ensures fixed { OnOk result (store.new.fixed ≡ 4112) }
+    ensures size { OnOk result (store.new.size ≡ 4200) }
 {
     match call {
         Puts => {

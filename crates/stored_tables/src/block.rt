@@ -13,7 +13,6 @@ ghost use Rattle.stored_tables.specs.Runs.{Looks, Runs};
 ghost use Rattle.stored_tables.specs.Tables.{EachTables};
 
 use crate::command::{read_command, run_command};
-use read_once::Kept;
 use record_store::{RecordRead, RecordStore, Walk};
 use replay_model::{Commands, Outcome, Sequence};
 use std::alloc::Global;
@@ -72,9 +71,8 @@ fn run_commands<S: RecordStore>(
     if answers.reserve(commands.len()).is_err() {
         return Err(Walk::NoMemory);
     }
-    let mut kept = Kept::new(alloc);
     for (i, command) in commands.as_slice().iter().enumerate() {
-        match run_command(alloc, store, &mut kept, command)? {
+        match run_command(alloc, store, command)? {
             Ok(answer) => {
                 if answers.push(answer).is_err() {
                     return Err(Walk::NoMemory);

@@ -19,8 +19,6 @@ use std::alloc::Global;
 
 /// Runs a block's commands in order, up to the first that is refused. A refused block is taken back by `undo`, which drops all
 /// writes, also those before this call. After a fault what was read and written may have grown.
-///
-/// Room is taken for the answers and for each list.
 pub fn exec_txn<S: RecordStore>(
     alloc: Global,
     store: &mut S,
@@ -88,8 +86,6 @@ fn run_commands<S: RecordStore>(
 }
 
 /// Runs a block of commands that read alone. After a fault what was read may have grown.
-///
-/// Room is taken for the answers and for each list.
 pub fn exec_snap<S: RecordRead>(
     alloc: Global,
     store: &mut S,

@@ -16,7 +16,7 @@ use record_store::{RecordRead, RecordStore, Walk};
 use replay_model::{Columns, Pairs};
 use std::alloc::Global;
 
-/// The row of a table at a key, if there is one. It takes no memory.
+/// The row of a table at a key, if there is one. It never answers `NoMemory`.
 pub fn get_row<S: RecordRead>(
     store: &mut S,
     table: u32,
@@ -34,7 +34,7 @@ pub fn get_row<S: RecordRead>(
     }
 }
 
-/// The first `limit` rows of a table whose keys lie from `lo` to `hi`, by rising key. Room for so many is taken first.
+/// The first `limit` rows of a table whose keys lie from `lo` to `hi`, by rising key.
 pub fn list_rows<S: RecordRead>(
     alloc: Global,
     store: &mut S,

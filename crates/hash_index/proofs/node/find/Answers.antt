@@ -1,4 +1,4 @@
-use Rattle.std.proofs.Common.{◌≡◌, ◌∙◌, sym, ap, arith, eq-eqb, ne_eqb}
+use Rattle.std.proofs.Common.{◌∙◌, sym, ap, arith, eq-eqb, ne_eqb}
 use Rattle.hash_index.specs.Node.{pairs_of}
 use Rattle.hash_index.proofs.Words.{pair_is, length-pairs_of}
 use Rattle.hash_index.proofs.Pairs.{position_here, position_none, fails_next}

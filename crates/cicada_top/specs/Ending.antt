@@ -20,6 +20,12 @@ RunsBlocks Run = Unit {0}
 RunsBlocks (Generate seed) = Unit {0}
 RunsBlocks Check = ⊥
 
+-- a report is checked
+abbrev pub ChecksReport : Mode → Type 0
+ChecksReport Run = ⊥
+ChecksReport (Generate seed) = ⊥
+ChecksReport Check = Unit {0}
+
 -- the input whose blocks are run, for these bytes of a source
 abbrev pub IsInputFor : Mode → List ℕ → Input → Type 0
 IsInputFor Run bytes input = (length bytes ≤ most_input) × IsInput bytes input

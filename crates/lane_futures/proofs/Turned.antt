@@ -120,7 +120,7 @@ module _ (u l : LanesView) (place : ℕ) (s : SessionView) (same : u ≡ l) (tur
   turn_here = subst (λ (x : LanesView). IsInTurn x.next x.sessions place) (sym same) turn
 
   session_is : s ≡ turn_here.session
-  session_is = is ∙ get_or_from_slice_get u.sessions place s turn_here.session turn_here.there
+  session_is = is ∙ get_or_from_slice_get u.sessions place turn_here.session s turn_here.there
 
   pub room_in_turn : IsIdle u.pass → HasRoomLeft l → HasRoom u.pass.clock 2
   room_in_turn idle room = room_turn u place turn_here.session idle turn_here.there turn_here.has_block (subst HasRoomLeft (sym same) room)
@@ -144,19 +144,15 @@ adds_turn u l q same adds = subst (λ (x : LanesView). AddsSome x.pass q) same a
 -- what holds of all sessions, behind a turn
 pub leads_turn : (l m : LanesView) → IsIdle l.pass → MakesTurn l m → Leads l m
 leads_turn l m idle (inl turn) = leads_attempt l m turn.place turn.in_turn.session turn.session turn.answer idle turn.in_turn.there turn.attempts turn.clock turn.sessions_are
-leads_turn l m idle (inr none) = subst (λ (x : LanesView). Leads l x) (sym none.1) (leads_none l idle)
+leads_turn l m idle (inr over) = subst (λ (x : LanesView). Leads l x) (sym over.1) (leads_none l idle)
 
 pub fewer_turn : (l m : LanesView) → TakesTurn l m → all_tries_left m.sessions < all_tries_left l.sessions
 fewer_turn l m turn = fewer_attempt l m turn.place turn.in_turn.session turn.session turn.answer turn.in_turn.there turn.in_turn.has_block turn.attempts turn.sessions_are
 
-pub has_one : (next place : ℕ) (sessions : List SessionView) → IsInTurn next sessions place → HasOne sessions
-has_one next place sessions turn = record { place = place; session = turn.session; there = turn.there; has_block = turn.has_block }
+pub has_one : (from place : ℕ) (sessions : List SessionView) → IsInTurn from sessions place → HasOne sessions
+has_one from place sessions turn = record { place = place; session = turn.session; there = turn.there; has_block = turn.has_block }
 
--- what the last turn gives is what lanes come to
-pub come_last : (l : LanesView) (pass : PassView) (done : List LaneDone) → IsIdle l.pass → TurnsLast l pass done → ComeTo l pass done
-come_last l pass done idle turns = record { last = turns.last; leads = leads_turn l turns.last idle turns.turns; over = turns.over; pass_is = turns.pass_is; done_is = turns.done_is }
-
--- and what they come to later they come to
+-- what lanes come to behind some turns is what they come to
 pub come_later : (l m : LanesView) (pass : PassView) (done : List LaneDone) → Leads l m → ComeTo m pass done → ComeTo l pass done
 come_later l m pass done leads come = record { last = come.last; leads = leads_trans l m come.last leads come.leads; over = come.over; pass_is = come.pass_is; done_is = come.done_is }
 

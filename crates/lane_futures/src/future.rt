@@ -5,6 +5,7 @@ ghost use Rattle.std.specs.Option.{IsSomeAnd};
 ghost use Rattle.futures.specs.Poll.{IfReady, OnPending};
 ghost use Rattle.futures.specs.Task.{Covers, Keeps};
 ghost use Rattle.lane_futures.specs.Lanes.{HasOne, HasRoomLeft, BothThere, all_tries_left, MakesTurn, TurnsLast, ComeTo};
+ghost use Rattle.lane_futures.specs.Outputs.{EachOutput};
 
 use crate::lanes::Lanes;
 use futures::Future;
@@ -43,7 +44,8 @@ impl<'a, C: Reads + Drop, G: Meets> Future for Lanes<'a, C, G> {
         // What each future promises.
         ensures value { IfReady result (λ output. IfOk output (λ done. IsSomeAnd self.old (λ l. ComeTo l done.0 done.2.items))) }
         ensures again { OnPending result (IsSomeAnd self.new HasRoomLeft) }
-        ensures same { OnPending result ((x : _) → IfOk x (λ done. IsSomeAnd self.new (λ l. ComeTo l done.0 done.2.items)) → IfOk x (λ done. IsSomeAnd self.old (λ l. ComeTo l done.0 done.2.items))) }
+        ensures same { OnPending result (EachOutput result (λ output. IfOk output (λ done. IsSomeAnd self.new (λ l. ComeTo l done.0 done.2.items))
+            → IfOk output (λ done. IsSomeAnd self.old (λ l. ComeTo l done.0 done.2.items)))) }
         ensures registered { OnPending result (Covers cx.new (λ _. ⊥)) }
         ensures kept { Keeps cx.old cx.new }
     {

@@ -1,8 +1,7 @@
 //! The lanes that a worker takes at a time.
 
-ghost use Rattle.std.specs.Prelude.{◌≡◌, ◌<◌, ◌≤◌, [], ◌++◌, All, List, IfOk, length, map};
+ghost use Rattle.std.specs.Prelude.{◌≡◌, ◌+◌, ◌/◌, ◌%◌, ◌<◌, ◌≤◌, min, max, [], All, IfOk, length};
 ghost use Rattle.std.specs.Vec.{vec_capacity};
-ghost use Rattle.lane_queue.specs.declared.lane.Lane.{Lane};
 ghost use Rattle.lane_queue.specs.Passes.{IsSamePass, HasEnded};
 ghost use Rattle.lane_runner.specs.Workers.{MayRunLane};
 ghost use Rattle.lane_futures.specs.Groups.{Takes};
@@ -16,14 +15,22 @@ use std::sync::Wait;
 /// How many lanes a worker takes at a time: its part of all lanes, rounded up, but at least one and at most four.
 pub(crate) fn group_size(lanes: usize, workers: u32) -> u32
     requires { 1 ≤ workers }
-    ensures { (1 ≤ result) × (result ≤ 4) }
+    ensures some { 1 ≤ result }
+    ensures four { result ≤ 4 }
+    ensures part { result ≤ max 1 (lanes / workers + min 1 (lanes % workers)) }
+    ensures whole { min 4 (lanes / workers + min 1 (lanes % workers)) ≤ result }
 {
-    let workers = workers as usize;
-    let part = lanes / workers + if lanes % workers > 0 { 1 } else { 0 };
-    part.clamp(1, 4) as u32
+    lanes.div_ceil(workers as usize).clamp(1, 4) as u32
 }
 
-/// Takes as many lanes as there are, so many at most, and begins a session of each; with room for what they come to.
+/// Lanes that a worker has taken, with room for what they come to.
+#[derive(Drop)]
+pub(crate) struct Group {
+    pub(crate) sessions: Vec<Session>,
+    pub(crate) room: Vec<LaneDone>,
+}
+
+/// Takes as many lanes as there are, so many at most, and begins a session of each.
 pub(crate) fn take_group<R: Wait>(
     rt: &R,
     alloc: Global,
@@ -31,14 +38,15 @@ pub(crate) fn take_group<R: Wait>(
     taker: &mut LanePass,
     most: u32,
     tries: u32,
-) -> Result<(Vec<Session>, Vec<LaneDone>), NoMemory>
+) -> Result<Group, NoMemory>
     requires queue { taker.old.queue ≡ queue.now }
     requires lanes { All MayRunLane taker.old.lanes }
     ensures same { IsSamePass taker.old taker.new }
-    ensures takes { IfOk result (λ group. Takes tries taker.old taker.new group.0.items) }
-    ensures few { IfOk result (λ group. length group.0.items ≤ most) }
-    ensures ended { IfOk result (λ group. length group.0.items < most → HasEnded taker.new) }
-    ensures room { IfOk result (λ group. (group.1.items ≡ []) × (length group.0.items ≤ vec_capacity group.1)) }
+    ensures takes { IfOk result (λ group. Takes tries taker.old taker.new group.sessions.items) }
+    ensures few { IfOk result (λ group. length group.sessions.items ≤ most) }
+    ensures ended { IfOk result (λ group. length group.sessions.items < most → HasEnded taker.new) }
+    ensures empty { IfOk result (λ group. group.room.items ≡ []) }
+    ensures enough { IfOk result (λ group. length group.sessions.items ≤ vec_capacity group.room) }
 {
     let mut sessions = Vec::new(alloc);
     for _ in 0..most {
@@ -48,5 +56,5 @@ pub(crate) fn take_group<R: Wait>(
         sessions.push(Session::new(alloc, lane, tries))?;
     }
     let room = Vec::with_capacity(alloc, sessions.len())?;
-    Ok((sessions, room))
+    Ok(Group { sessions, room })
 }

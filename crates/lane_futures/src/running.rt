@@ -65,7 +65,6 @@ impl<'a, C: Reads + Drop, G: Meets> Running<'a, C, G> {
         ensures takes { OnOk result (TakesTurn self.old self.new) }
         ensures adds { AddsSome self.old.pass self.new.pass }
     {
-        self.next = place + 1;
         self.sessions[place].attempt(
             self.engine,
             &mut self.seat.pass,
@@ -73,6 +72,7 @@ impl<'a, C: Reads + Drop, G: Meets> Running<'a, C, G> {
             self.gate,
             &mut self.seat.commits,
         )?;
+        self.next = place + 1;
         Ok(())
     }
 
@@ -86,6 +86,7 @@ impl<'a, C: Reads + Drop, G: Meets> Running<'a, C, G> {
         ensures over { IfOk result (λ more. more ≡ false → AreOver self.new) }
         ensures fewer { IfOk result (λ more. more ≡ true → all_tries_left self.new.sessions < all_tries_left self.old.sessions) }
     {
+        let _ = &self.engine;
         let Some(place) = self.in_turn() else {
             return Ok(false);
         };

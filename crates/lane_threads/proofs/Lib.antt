@@ -1,0 +1,15 @@
+mod Paired
+mod Merging
+mod LaneLists
+mod Gathered
+mod Together
+mod ReadBeside
+mod Shared
+mod WholeRun
+mod Remaining
+mod BecomingLists
+mod BecomingLanes
+mod BecomingRan
+mod BecomingLog
+mod BecomingOrder
+mod Becoming

@@ -1,11 +1,12 @@
 -- What workers leave together, worker behind worker.
-use Rattle.std.proofs.Common.{◌≡◌, ℕ, ◌+◌, Result, Ok, Err, List, [], ◌∷◌, ◌++◌, map, refl, sym, ap, subst, ◌∙◌, append-nil, append_assoc, arith}
+use Rattle.std.proofs.Common.{◌≡◌, ℕ, suc, ◌+◌, Result, Ok, Err, List, [], ◌∷◌, ◌++◌, map, refl, sym, ap, subst, ◌∙◌, append-nil, append_assoc, length, All, arith}
 use Rattle.std.specs.Prelude.{max, IfOk}
 use Rattle.std.specs.List.{AllByRecursion}
 use Rattle.std.specs.Result.{IsOkAnd}
 use Rattle.std.proofs.lemmas.List.{map-append}
 use Rattle.plain_data.specs.declared.entry.Entry.{Entry}
 use Rattle.atomic_table.specs.Seated.{TableId}
+use Rattle.replay_model.specs.TableMap.{TableMap}
 use Rattle.lane_queue.specs.declared.lane.Lane.{Lane}
 use Rattle.lane_queue.specs.Passes.{Taker, IsFresh, IsSamePass, HasEnded, taken_by}
 use Rattle.txn_engine.specs.Pass.{PassView, EngineView}
@@ -18,7 +19,8 @@ use Rattle.lane_threads.specs.declared.workers.Worked.{Worked}
 use Rattle.lane_threads.specs.declared.workers.Left.{Left}
 use Rattle.lane_threads.specs.declared.gathering.Gathered.{Gathered}
 use Rattle.lane_threads.specs.All.{Grown, IsGrown, grown_logs, all_added, AreOfLanes, all_refusals, latest_clock, greatest_met}
-use Rattle.lane_threads.specs.Workers.{MayWork, MayBegin, DoesLanes, Works, WorksAndRetires, draws_of}
+use Rattle.lane_threads.specs.Workers.{MayWork, MayBegin, DoesLanes, DoesAndReads, WorksAndReads, WorksAndRetires, draws_of}
+use Rattle.lane_threads.specs.Seen.{IsRead, met_first}
 use Rattle.lane_threads.specs.Gathers.{Starts, GoesOn, Gathers, GathersIn, fresh_again}
 use Rattle.lane_threads.proofs.LaneLists.{AreOfLanes-append, draws_append, rests_append}
 
@@ -80,6 +82,18 @@ greatest_push : (ps : List PassView) (p : PassView) → greatest_met (ps ++ p �
 greatest_push [] p = omega arith
 greatest_push (x ∷ ps) p = let rest : greatest_met (ps ++ p ∷ []) ≡ max (greatest_met ps) p.met = greatest_push ps p in omega arith
 
+-- of all, what holds of the last one and of those before it
+pub last_of : {X : Type 0} (P : X → Type 0) (all front : List X) (x : X) → all ≡ front ++ x ∷ [] → AllByRecursion P all → P x
+last_of P all front x is each = each_last P front x (subst (AllByRecursion P) is each)
+
+pub front_of : {X : Type 0} (P : X → Type 0) (all front : List X) (x : X) → all ≡ front ++ x ∷ [] → AllByRecursion P all → AllByRecursion P front
+front_of P all front x is each = each_front P front x (subst (AllByRecursion P) is each)
+
+-- one more does not change what the first has met
+met_stays : (seat : ℕ) (seats : List ℕ) (passes : List PassView) (p : PassView) → seat ∷ seats ≡ map (λ (x : PassView). x.seat) passes → met_first (passes ++ p ∷ []) ≡ met_first passes
+met_stays seat seats [] p same = absurd (let count : suc (length seats) ≡ 0 = ap (λ (xs : List ℕ). length xs) same in omega arith)
+met_stays seat seats (q ∷ passes) p same = refl
+
 -- ---- a worker
 
 -- what was done is there, and is so
@@ -115,9 +129,9 @@ module _ {C : Type 0} where
 
 module _ (engine : EngineView) (queue : TableId) (tries : ℕ) where
   -- the first one
-  gathers_one : (p q : PassView) (t u : Taker) (done : List LaneDone) → MayWork engine queue tries p t → IsSamePass t u → HasEnded u → DoesLanes tries p q u.took done
-      → Gathers engine tries (p ∷ []) (t ∷ []) q [] (u ∷ []) done
-  gathers_one p q t u done may same ended does = record {
+  gathers_one : (due : ℕ) (p q : PassView) (t u : Taker) (done : List LaneDone) (readings : List (ℕ × TableMap)) → MayWork engine queue tries p t → IsSamePass t u → HasEnded u → DoesAndReads tries due p q u.took done readings
+      → Gathers engine tries due (p ∷ []) (t ∷ []) q [] (u ∷ []) done readings
+  gathers_one due p q t u done readings may same ended works = let does = works.does in record {
     engine_is = does.adds.engine ∙ may.engine_is;
     idle = does.adds.idle;
     of_engine = tt;
@@ -133,16 +147,18 @@ module _ (engine : EngineView) (queue : TableId) (tries : ℕ) where
     clock_from = omega (arith, does.adds.clock);
     clock_to = omega (arith, does.clock, ap (λ (lanes : List Lane). draws_of lanes tries) (append-nil u.took));
     met = omega (arith, does.adds.met);
+    few = works.few;
+    each_read = works.each;
   } where
-    here : AreOfLanes engine.size.records does.entries u.took done
-    here = subst (λ (e : EngineView). AreOfLanes e.size.records does.entries u.took done) may.engine_is does.are_of_lanes
+    here : AreOfLanes engine.size.records works.does.entries u.took done
+    here = subst (λ (e : EngineView). AreOfLanes e.size.records works.does.entries u.took done) may.engine_is works.does.are_of_lanes
 
   -- one more, whose pass has retired
-  gathers_more : (passes : List PassView) (takers : List Taker) (first : PassView) (others : List RetiredView) (ended : List Taker) (done : List LaneDone)
-      → Gathers engine tries passes takers first others ended done
+  gathers_more : (due : ℕ) (passes : List PassView) (takers : List Taker) (first : PassView) (others : List RetiredView) (ended : List Taker) (done : List LaneDone) (readings : List (ℕ × TableMap))
+      → Gathers engine tries due passes takers first others ended done readings
       → (p q : PassView) (t u : Taker) (more : List LaneDone) → MayWork engine queue tries p t → IsSamePass t u → HasEnded u → DoesLanes tries p q u.took more
-      → Gathers engine tries (passes ++ p ∷ []) (takers ++ t ∷ []) first (others ++ retired q ∷ []) (ended ++ u ∷ []) (done ++ more)
-  gathers_more passes takers first others ended done so_far p q t u more may same is_end does = let here : Grown = record { pass = p; added = does.entries } in record {
+      → Gathers engine tries due (passes ++ p ∷ []) (takers ++ t ∷ []) first (others ++ retired q ∷ []) (ended ++ u ∷ []) (done ++ more) readings
+  gathers_more due passes takers first others ended done readings so_far p q t u more may same is_end does = let here : Grown = record { pass = p; added = does.entries } in record {
     engine_is = so_far.engine_is;
     idle = so_far.idle;
     of_engine = of_engine_push engine others (retired q) so_far.of_engine (does.adds.engine ∙ may.engine_is);
@@ -158,49 +174,46 @@ module _ (engine : EngineView) (queue : TableId) (tries : ℕ) where
     clock_from = omega (arith, so_far.clock_from, does.adds.clock, clock_push first.clock others (retired q), latest_push passes p);
     clock_to = omega (arith, so_far.clock_to, does.clock, clock_push first.clock others (retired q), latest_push passes p, draws_append tries (taken_by ended) u.took, ap (λ (lanes : List Lane). draws_of lanes tries) (taken_push ended u));
     met = omega (arith, so_far.met, does.adds.met, met_push first.met others (retired q), greatest_push passes p);
+    few = so_far.few;
+    each_read = subst (λ (m : ℕ). All (IsRead m first) readings) (sym (met_stays first.seat (map (λ (r : RetiredView). r.seat) others) passes p so_far.seats)) so_far.each_read;
   } where
     both : AreOfLanes engine.size.records (all_added so_far.grown ++ does.entries) (taken_by ended ++ u.took) (done ++ more)
     both = AreOfLanes-append engine.size.records (all_added so_far.grown) does.entries (taken_by ended) u.took done more so_far.are_of_lanes
         (subst (λ (e : EngineView). AreOfLanes e.size.records does.entries u.took more) may.engine_is does.are_of_lanes)
 
   -- what is gathered of the first one
-  gathers_start : (p : PassView) (t : Taker) (worked : Worked) (g : Gathered) → MayWork engine queue tries p t → Works tries p t worked → Starts worked g → GathersIn engine tries (p ∷ []) (t ∷ []) g
-  gathers_start p t worked g may works starts =
-      let d = done_of worked.done (λ done. g.done.items ≡ done.items) (λ done. HasEnded worked.taker × DoesLanes tries p worked.pass worked.taker.took done.items) starts.done_is works.done in
-      subst (λ (y : PassView × List RetiredView × List Taker × List LaneDone). Gathers engine tries (p ∷ []) (t ∷ []) y.0 y.1 y.2 y.3)
+  gathers_start : (due : ℕ) (p : PassView) (t : Taker) (worked : Worked) (readings : List (ℕ × TableMap)) (g : Gathered) → MayWork engine queue tries p t → WorksAndReads due tries p t worked readings → Starts worked g → GathersIn engine tries due (p ∷ []) (t ∷ []) g readings
+  gathers_start due p t worked readings g may works starts =
+      let d = done_of worked.done (λ done. g.done.items ≡ done.items) (λ done. HasEnded worked.taker × DoesAndReads tries due p worked.pass worked.taker.took done.items readings) starts.done_is works.done in
+      subst (λ (y : PassView × List RetiredView × List Taker × List LaneDone). Gathers engine tries due (p ∷ []) (t ∷ []) y.0 y.1 y.2 y.3 readings)
       (λ i. (sym starts.pass_is i, sym starts.retired_are i, sym starts.takers_are i, sym d.1 i))
-      (gathers_one p worked.pass t worked.taker d.0.items may works.same d.2.0 d.2.1)
+      (gathers_one due p worked.pass t worked.taker d.0.items readings may works.same d.2.0 d.2.1)
 
   -- and of one more
-  gathers_next : (passes : List PassView) (takers : List Taker) (g g' : Gathered) (p : PassView) (t : Taker) (left : Left)
-      → GathersIn engine tries passes takers g → MayWork engine queue tries p t → WorksAndRetires tries p t left → GoesOn g g' left → GathersIn engine tries (passes ++ p ∷ []) (takers ++ t ∷ []) g'
-  gathers_next passes takers g g' p t left so_far may works goes =
+  gathers_next : (due : ℕ) (passes : List PassView) (takers : List Taker) (g g' : Gathered) (readings : List (ℕ × TableMap)) (p : PassView) (t : Taker) (left : Left)
+      → GathersIn engine tries due passes takers g readings → MayWork engine queue tries p t → WorksAndRetires tries p t left → GoesOn g g' left → GathersIn engine tries due (passes ++ p ∷ []) (takers ++ t ∷ []) g' readings
+  gathers_next due passes takers g g' readings p t left so_far may works goes =
       let w = works.worked in
       let d = done_of w.done (λ done. g'.done.items ≡ g.done.items ++ done.items) (λ done. HasEnded w.taker × DoesLanes tries p w.pass w.taker.took done.items) (rw works.done_is at goes.done_is) works.works.done in
       let retired_are : g'.retired.items ≡ g.retired.items ++ retired w.pass ∷ [] = goes.retired_are ∙ ap (λ (r : RetiredView). g.retired.items ++ r ∷ []) works.retired_is in
       let takers_are : g'.takers.items ≡ g.takers.items ++ w.taker ∷ [] = goes.takers_are ∙ ap (λ (u : Taker). g.takers.items ++ u ∷ []) works.taker_is in
-      subst (λ (y : PassView × List RetiredView × List Taker × List LaneDone). Gathers engine tries (passes ++ p ∷ []) (takers ++ t ∷ []) y.0 y.1 y.2 y.3)
+      subst (λ (y : PassView × List RetiredView × List Taker × List LaneDone). Gathers engine tries due (passes ++ p ∷ []) (takers ++ t ∷ []) y.0 y.1 y.2 y.3 readings)
       (λ i. (sym goes.pass_is i, sym retired_are i, sym takers_are i, sym d.1 i))
-      (gathers_more passes takers g.pass g.retired.items g.takers.items g.done.items so_far p w.pass t w.taker d.0.items may works.works.same d.2.0 d.2.1)
+      (gathers_more due passes takers g.pass g.retired.items g.takers.items g.done.items readings so_far p w.pass t w.taker d.0.items may works.works.same d.2.0 d.2.1)
 
   -- ---- the same of a list of workers
 
   module _ {C : Type 0} where
-    pub begin_last : (all front : List (Worker C)) (w : Worker C) → all ≡ front ++ w ∷ [] → AllByRecursion (MayBegin engine queue tries) all → MayBegin engine queue tries w
-    begin_last all front w is begin = each_last (MayBegin engine queue tries) front w (subst (AllByRecursion (MayBegin engine queue tries)) is begin)
-
-    pub begin_front : (all front : List (Worker C)) (w : Worker C) → all ≡ front ++ w ∷ [] → AllByRecursion (MayBegin engine queue tries) all → AllByRecursion (MayBegin engine queue tries) front
-    begin_front all front w is begin = each_front (MayBegin engine queue tries) front w (subst (AllByRecursion (MayBegin engine queue tries)) is begin)
-
-    pub workers_start : (all front : List (Worker C)) (w : Worker C) (worked : Worked) (g : Gathered) → all ≡ front ++ w ∷ [] → front ≡ [] → AllByRecursion (MayBegin engine queue tries) all
-        → Works tries w.pass w.taker worked → Starts worked g → GathersIn engine tries (passes_of all) (takers_of all) g
-    workers_start all front w worked g is none begin works starts =
+    pub workers_start : (due : ℕ) (all front : List (Worker C)) (w : Worker C) (worked : Worked) (readings : List (ℕ × TableMap)) (g : Gathered) → all ≡ front ++ w ∷ [] → front ≡ [] → AllByRecursion (MayBegin engine queue tries) all
+        → WorksAndReads due tries w.pass w.taker worked readings → Starts worked g → GathersIn engine tries due (passes_of all) (takers_of all) g readings
+    workers_start due all front w worked readings g is none begin works starts =
         let only : all ≡ w ∷ [] = is ∙ ap (λ (ws : List (Worker C)). ws ++ w ∷ []) none in
-        subst (λ (ws : List (Worker C)). GathersIn engine tries (passes_of ws) (takers_of ws) g) (sym only) (gathers_start w.pass w.taker worked g (begin_last all front w is begin) works starts)
+        subst (λ (ws : List (Worker C)). GathersIn engine tries due (passes_of ws) (takers_of ws) g readings) (sym only)
+        (gathers_start due w.pass w.taker worked readings g (last_of (MayBegin engine queue tries) all front w is begin) works starts)
 
-    pub workers_next : (all front : List (Worker C)) (w : Worker C) (g g' : Gathered) (left : Left) → all ≡ front ++ w ∷ [] → AllByRecursion (MayBegin engine queue tries) all
-        → GathersIn engine tries (passes_of front) (takers_of front) g → WorksAndRetires tries w.pass w.taker left → GoesOn g g' left → GathersIn engine tries (passes_of all) (takers_of all) g'
-    workers_next all front w g g' left is begin so_far works goes =
-        subst (λ (y : List PassView × List Taker). GathersIn engine tries y.0 y.1 g')
+    pub workers_next : (due : ℕ) (all front : List (Worker C)) (w : Worker C) (g g' : Gathered) (readings : List (ℕ × TableMap)) (left : Left) → all ≡ front ++ w ∷ [] → AllByRecursion (MayBegin engine queue tries) all
+        → GathersIn engine tries due (passes_of front) (takers_of front) g readings → WorksAndRetires tries w.pass w.taker left → GoesOn g g' left → GathersIn engine tries due (passes_of all) (takers_of all) g' readings
+    workers_next due all front w g g' readings left is begin so_far works goes =
+        subst (λ (y : List PassView × List Taker). GathersIn engine tries due y.0 y.1 g' readings)
         (λ i. ((sym (map-append (λ (x : Worker C). x.pass) front (w ∷ [])) ∙ ap passes_of (sym is)) i, (sym (map-append (λ (x : Worker C). x.taker) front (w ∷ [])) ∙ ap takers_of (sym is)) i))
-        (gathers_next (passes_of front) (takers_of front) g g' w.pass w.taker left so_far (begin_last all front w is begin) works goes)
+        (gathers_next due (passes_of front) (takers_of front) g g' readings w.pass w.taker left so_far (last_of (MayBegin engine queue tries) all front w is begin) works goes)

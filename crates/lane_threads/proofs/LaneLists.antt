@@ -1,6 +1,6 @@
 -- Lanes one behind another: which of them may run, how many stamps they may draw, and the entries of what they come to.
-use Rattle.std.proofs.Common.{◌≡◌, ◌≢◌, ℕ, suc, ◌+◌, ◌≤◌, List, [], ◌∷◌, ◌++◌, inl, inr, ⊎_elim, refl, sym, ap, subst, length, arith}
-use Rattle.std.specs.Prelude.{All}
+use Rattle.std.proofs.Common.{◌≡◌, ◌≢◌, ℕ, suc, ◌+◌, ◌≤◌, List, [], ◌∷◌, ◌++◌, inl, inr, ⊎_elim, refl, sym, ap, subst, length, Result, Ok, Err, arith}
+use Rattle.std.specs.Prelude.{All, IfOk}
 use Rattle.std.proofs.lemmas.List.Elements.{All-nil, All-cons, All-head, All-tail}
 use Rattle.std.proofs.lemmas.List.Sums.{sum_by-cons, sum_by_push, sum_by-append}
 use Rattle.plain_data.specs.declared.entry.Entry.{Entry}
@@ -9,7 +9,7 @@ use Rattle.core_rule.proofs.Among.{Among-split}
 use Rattle.replay_model.specs.declared.input.Block.{Block}
 use Rattle.lane_queue.specs.declared.lane.Lane.{Lane}
 use Rattle.lane_queue.specs.Subsequences.{IsSubsequence}
-use Rattle.lane_queue.specs.Passes.{numbered}
+use Rattle.lane_queue.specs.Passes.{numbered, HasEnded}
 use Rattle.txn_engine.specs.Pass.{PassView, EngineView, IsIdle}
 use Rattle.lane_runner.specs.declared.done.LaneDone.{LaneDone}
 use Rattle.lane_runner.specs.Room.{HasRoom, clock_after}
@@ -19,7 +19,8 @@ use Rattle.lane_runner.specs.Done.{DoesLane}
 use Rattle.lane_runner.specs.Done.{tries_of_rest}
 use Rattle.lane_threads.specs.All.{AreOfLane, AreOfLanes, tries_of_rests, all_draws}
 use Rattle.lane_threads.specs.All.AreOfLanes.{none, next}
-use Rattle.lane_threads.specs.Workers.{MayRunLane, draws_of, DoesLanes}
+use Rattle.lane_threads.specs.Workers.{MayRunLane, draws_of, RunsLanes, DoesLanes, DoesAndReads, WorksAndReads, NothingIsRead}
+use Rattle.lane_threads.specs.Seen.{IsRead}
 use Rattle.lane_runner.proofs.Adding.{Adds-none, Adds-trans}
 use Rattle.lane_threads.proofs.Merging.{merge_first, merge_before_second, merge_behind_second}
 
@@ -117,8 +118,8 @@ rest_counted tries (block ∷ rest) m n counts low = counts (λ none. cc)
 
 -- ---- the work of one pass
 
-pub DoesLanes-none : (tries : ℕ) (p : PassView) → IsIdle p → DoesLanes tries p p [] []
-DoesLanes-none tries p idle = record {
+pub RunsLanes-none : (tries : ℕ) (p : PassView) → IsIdle p → RunsLanes tries 0 p p [] []
+RunsLanes-none tries p idle = record {
   entries = [];
   adds = Adds-none p idle;
   are_of_lanes = none [] (λ entry among. absurd among);
@@ -126,24 +127,29 @@ DoesLanes-none tries p idle = record {
   clock = omega arith;
 }
 
+-- more draws than it made
+pub RunsLanes-weaker : (tries m n : ℕ) (p q : PassView) (lanes : List Lane) (dones : List LaneDone) → m ≤ n → RunsLanes tries m p q lanes dones → RunsLanes tries n p q lanes dones
+RunsLanes-weaker tries m n p q lanes dones few does = record { entries = does.entries; adds = does.adds; are_of_lanes = does.are_of_lanes; refusals = does.refusals; clock = (let clock = does.clock in omega arith) }
+
 -- the work on more lanes behind that on others
-pub DoesLanes-append : (tries : ℕ) (p q r : PassView) (lanes more : List Lane) (dones dones' : List LaneDone) → DoesLanes tries p q lanes dones → DoesLanes tries q r more dones' → DoesLanes tries p r (lanes ++ more) (dones ++ dones')
-DoesLanes-append tries p q r lanes more dones dones' first second = record {
+pub RunsLanes-append : (tries m n : ℕ) (p q r : PassView) (lanes more : List Lane) (dones dones' : List LaneDone) → RunsLanes tries m p q lanes dones → RunsLanes tries n q r more dones' → RunsLanes tries (m + n) p r (lanes ++ more) (dones ++ dones')
+RunsLanes-append tries m n p q r lanes more dones dones' first second = record {
   entries = first.entries ++ second.entries;
   adds = Adds-trans p q r first.entries second.entries first.adds second.adds;
   are_of_lanes = AreOfLanes-append p.engine.size.records first.entries second.entries lanes more dones dones' first.are_of_lanes
       (subst (λ (e : EngineView). AreOfLanes e.size.records second.entries more dones') first.adds.engine second.are_of_lanes);
   refusals = omega (arith, first.refusals, second.refusals, rests_append tries dones dones');
-  clock = omega (arith, first.clock, second.clock, draws_append tries lanes more);
+  clock = omega (arith, first.clock, second.clock);
 }
 
-pub DoesLanes-next : (tries : ℕ) (p q r : PassView) (lanes lanes' : List Lane) (lane : Lane) (dones dones' : List LaneDone) (done : LaneDone) → lanes' ≡ lanes ++ lane ∷ [] → dones' ≡ dones ++ done ∷ []
-    → DoesLanes tries p q lanes dones → DoesLane lane done q r → (done.rest ≢ [] → q.refusals + tries ≤ r.refusals) → r.clock ≤ clock_after q.clock (lane_draws lane.blocks tries)
-    → DoesLanes tries p r lanes' dones'
-DoesLanes-next tries p q r lanes lanes' lane dones dones' done taken pushed so_far does rest clock =
-    subst (λ (y : List Lane × List LaneDone). DoesLanes tries p r y.0 y.1) (λ i. (sym taken i, sym pushed i)) (DoesLanes-append tries p q r lanes (lane ∷ []) dones (done ∷ []) so_far here)
+-- that on one more lane
+pub RunsLanes-next : (tries m n : ℕ) (p q r : PassView) (lanes lanes' : List Lane) (lane : Lane) (dones dones' : List LaneDone) (done : LaneDone) → lanes' ≡ lanes ++ lane ∷ [] → dones' ≡ dones ++ done ∷ []
+    → RunsLanes tries m p q lanes dones → DoesLane lane done q r → (done.rest ≢ [] → q.refusals + tries ≤ r.refusals) → r.clock ≤ clock_after q.clock n
+    → RunsLanes tries (m + n) p r lanes' dones'
+RunsLanes-next tries m n p q r lanes lanes' lane dones dones' done taken pushed so_far does rest clock =
+    subst (λ (y : List Lane × List LaneDone). RunsLanes tries (m + n) p r y.0 y.1) (λ i. (sym taken i, sym pushed i)) (RunsLanes-append tries m n p q r lanes (lane ∷ []) dones (done ∷ []) so_far here)
   where
-    here : DoesLanes tries q r (lane ∷ []) (done ∷ [])
+    here : RunsLanes tries n q r (lane ∷ []) (done ∷ [])
     here = record {
       entries = does.runs.entries;
       adds = does.runs.adds;
@@ -151,8 +157,38 @@ DoesLanes-next tries p q r lanes lanes' lane dones dones' done taken pushed so_f
       refusals =
           let counted : q.refusals + tries_of_rest tries done.rest ≤ r.refusals = rest_counted tries done.rest q.refusals r.refusals rest does.runs.adds.refusals in
           omega (arith, counted);
-      clock = omega (arith, clock, draws_cons tries lane []);
+      clock = clock;
     }
+
+pub DoesLanes-none : (tries : ℕ) (p : PassView) → IsIdle p → DoesLanes tries p p [] []
+DoesLanes-none tries p idle = RunsLanes-weaker tries 0 (draws_of [] tries) p p [] [] (omega arith) (RunsLanes-none tries p idle)
+
+pub DoesLanes-append : (tries : ℕ) (p q r : PassView) (lanes more : List Lane) (dones dones' : List LaneDone) → DoesLanes tries p q lanes dones → DoesLanes tries q r more dones' → DoesLanes tries p r (lanes ++ more) (dones ++ dones')
+DoesLanes-append tries p q r lanes more dones dones' first second =
+    RunsLanes-weaker tries (draws_of lanes tries + draws_of more tries) (draws_of (lanes ++ more) tries) p r (lanes ++ more) (dones ++ dones') (omega (arith, draws_append tries lanes more))
+    (RunsLanes-append tries (draws_of lanes tries) (draws_of more tries) p q r lanes more dones dones' first second)
+
+pub DoesLanes-next : (tries : ℕ) (p q r : PassView) (lanes lanes' : List Lane) (lane : Lane) (dones dones' : List LaneDone) (done : LaneDone) → lanes' ≡ lanes ++ lane ∷ [] → dones' ≡ dones ++ done ∷ []
+    → DoesLanes tries p q lanes dones → DoesLane lane done q r → (done.rest ≢ [] → q.refusals + tries ≤ r.refusals) → r.clock ≤ clock_after q.clock (lane_draws lane.blocks tries)
+    → DoesLanes tries p r lanes' dones'
+DoesLanes-next tries p q r lanes lanes' lane dones dones' done taken pushed so_far does rest clock =
+    RunsLanes-weaker tries (draws_of lanes tries + lane_draws lane.blocks tries) (draws_of lanes' tries) p r lanes' dones' (omega (arith, ap (λ (ls : List Lane). draws_of ls tries) taken, draws_push tries lanes lane))
+    (RunsLanes-next tries (draws_of lanes tries) (lane_draws lane.blocks tries) p q r lanes lanes' lane dones dones' done taken pushed so_far does rest clock)
+
+-- one that reads nothing
+pub nothing_is_read : NothingIsRead
+nothing_is_read due tries pass taker worked readings none works = subst (WorksAndReads due tries pass taker worked) (sym none) (record {
+  adds = works.adds;
+  same = works.same;
+  done = by worked.done works.done;
+}) where
+  by : (answer : Result _ _) → IfOk answer (λ done. HasEnded worked.taker × DoesLanes tries pass worked.pass worked.taker.took done.items) → IfOk answer (λ done. HasEnded worked.taker × DoesAndReads tries due pass worked.pass worked.taker.took done.items [])
+  by (Ok done) so = (so.0, record {
+    does = RunsLanes-weaker tries (draws_of worked.taker.took tries) (draws_of worked.taker.took tries + 0) pass worked.pass worked.taker.took done.items (omega arith) so.1;
+    few = omega arith;
+    each = All-nil (IsRead pass.met worked.pass);
+  })
+  by (Err fault) so = tt
 
 pub no_items : {X : Type 0} (xs : List X) → length xs ≡ 0 → xs ≡ []
 no_items [] is = refl

@@ -1,6 +1,7 @@
 mod Paired
 mod Merging
-mod LaneLists
+pub mod LaneLists
+pub mod Readings
 mod Gathered
 mod Together
 mod ReadBeside

@@ -1,31 +1,31 @@
 -- What is read at the seat that is alone, behind all lanes.
-use Rattle.std.proofs.Common.{◌≡◌, ℕ, ◌+◌, ◌≤◌, max, List, [], ◌∷◌, ◌++◌, map, length, All, append-nil, append_assoc, refl, sym, ap, subst, ◌∙◌, inl, inr, ⊎_elim, arith}
+use Rattle.std.proofs.Common.{◌≡◌, ℕ, ◌+◌, ◌-◌, ◌≤◌, max, length-append, List, [], ◌∷◌, ◌++◌, map, length, All, append-nil, append_assoc, refl, sym, ap, subst, ◌∙◌, inl, inr, ⊎_elim, arith}
 use Rattle.std.specs.List.{AllByRecursion}
-use Rattle.std.proofs.lemmas.List.Elements.{All-weaker}
+use Rattle.std.proofs.lemmas.List.Elements.{All-weaker, All-append}
 use Rattle.plain_data.specs.declared.entry.Entry.{Entry}
 use Rattle.stamp_base.specs.Stamp.{bound_of_clock}
 use Rattle.core_rule.specs.Views.{Among, AllIn}
 use Rattle.core_rule.proofs.Among.{Among-left, Among-right, Among-split}
+use Rattle.histories.specs.History.{Lawful}
+use Rattle.history_replay.specs.Results.{StandsForSome}
 use Rattle.replay_model.specs.declared.input.Block.{Block}
 use Rattle.replay_model.specs.TableMap.{TableMap}
 use Rattle.txn_engine.specs.Pass.{EngineView, PassView}
-use Rattle.txn_engine.specs.Alone.{AloneView}
+use Rattle.txn_engine.specs.Alone.{AloneView, with_pass}
 use Rattle.lane_runner.specs.declared.done.LaneDone.{LaneDone}
+use Rattle.lane_runner.specs.Rows.{stands}
 use Rattle.lane_runner.specs.Room.{HasRoom, clock_after}
 use Rattle.lane_runner.specs.Adds.{IsNext, IsLater, AreInOrder, Adds}
 use Rattle.lane_runner.specs.Weighs.{LeavesTables}
-use Rattle.lane_threads.specs.All.{AreAllPasses, AreOfLanes, Grown, IsGrown, grown_logs, all_added, all_draws, latest_clock, greatest_met, RunsAll}
+use Rattle.lane_threads.specs.All.{AreAllPasses, AreOfLanes, Grown, IsGrown, grown_logs, all_added, all_draws, latest_clock, greatest_met, RunsAll, RunsAndReads}
 use Rattle.lane_threads.specs.All.AreOfLanes.{none}
-use Rattle.lane_threads.specs.Seen.{met_first, IsSeen, AreSeen, IsReadAlone, ReadsAll}
+use Rattle.lane_threads.specs.Seen.{met_first, IsRead, ReadsAll, IsSeen, AreSeen, ReadingsAreSeen}
 use Rattle.lane_runner.proofs.Adding.{alone_stays, in_order_behind}
 use Rattle.lane_threads.proofs.LaneLists.{AreOfLanes-append}
 use Rattle.lane_threads.proofs.Together.{count_passes, added_in_logs}
+use Rattle.lane_threads.proofs.Readings.{read_later}
 
 -- ---- room
-
-pub less_room : (passes : List PassView) (draws due : ℕ) → AllByRecursion (λ p. HasRoom p.clock (draws + due)) passes → AllByRecursion (λ p. HasRoom p.clock draws) passes
-less_room [] draws due each = tt
-less_room (p ∷ ps) draws due each = (let here : HasRoom p.clock (draws + due) = each.0 in omega arith, less_room ps draws due each.1)
 
 latest_room : (passes : List PassView) (n most : ℕ) → AllByRecursion (λ p. HasRoom p.clock n) passes → most ≤ latest_clock passes → HasRoom 0 n → HasRoom most n
 latest_room [] n most each at fits = omega (arith, at, fits)
@@ -95,17 +95,26 @@ met_below (p ∷ ps) = omega arith
 
 -- ---- both
 
-module _ (engine : EngineView) (passes : List PassView) (lanes : List (List Block)) (tries due : ℕ) (alone alone' : AloneView) (done : List LaneDone) (seen : List (ℕ × TableMap))
-    (runs : RunsAll engine passes lanes tries 0 alone done) (reads : ReadsAll due alone alone' seen) where
+module _ (engine : EngineView) (passes : List PassView) (lanes : List (List Block)) (tries due : ℕ) (alone alone' : AloneView) (done : List LaneDone) (earlier seen : List (ℕ × TableMap))
+    (both : RunsAndReads engine passes lanes tries due alone done earlier) (reads : ReadsAll due earlier alone alone' seen) where
+  abbrev runs : RunsAll engine passes lanes tries (length earlier) alone done
+  runs = both.runs
+
   abbrev more : List Entry
   more = reads.others.entries
 
-  pub seen_beside : AreSeen due passes alone' seen
-  seen_beside = record {
-    count = reads.count;
-    each = All-weaker (IsReadAlone alone alone') (IsSeen passes alone')
-        (λ x is. record { tables = is.tables; leaves = is.leaves; rows = is.rows; up_to = is.up_to; met = omega (arith, is.met, runs.met, met_below passes) }) seen reads.each;
-  }
+  -- each reading has its entry in the log
+  each_read : All (IsRead (met_first passes) alone'.pass) seen
+  each_read = subst (All (IsRead (met_first passes) alone'.pass)) (sym reads.seen_are) (All-append (IsRead (met_first passes) alone'.pass) earlier reads.more
+      (read_later (met_first passes) (met_first passes) alone.pass alone'.pass (omega arith) reads.others.adds.engine reads.others.adds.seat
+      (λ e among. subst (Among e) (sym reads.others.adds.log) (Among-left e alone.pass.log more among)) reads.others.adds.clock earlier both.each)
+      (read_later alone.pass.met (met_first passes) alone'.pass alone'.pass (omega (arith, runs.met, met_below passes)) refl refl (λ e among. among) (omega arith) reads.more reads.each))
+
+  pub seen_beside : ReadingsAreSeen → Lawful (StandsForSome stands) alone'.pass.engine.size.records alone'.pass.log → AreSeen due passes alone' seen
+  seen_beside law lawful = record { count = reads.count; each = law passes alone' seen lawful each_read }
+
+  draws_are : length earlier + length reads.more ≡ due
+  draws_are = omega (arith, reads.count, ap (λ (xs : List (ℕ × TableMap)). length xs) reads.seen_are, length-append earlier reads.more)
 
   module _ (g : Grown) (gs : List Grown) (are : runs.grown ≡ g ∷ gs) where
     passes_are : map (λ (x : Grown). x.pass) (g ∷ gs) ≡ passes
@@ -150,7 +159,7 @@ module _ (engine : EngineView) (passes : List PassView) (lanes : List (List Bloc
       in_log = subst (AllIn (all_added (behind_last (g ∷ gs) more))) (sym log_after) (added_in_logs (behind_last (g ∷ gs) more));
       refusals = omega (arith, runs.refusals, reads.others.adds.refusals);
       clock_from = omega (arith, runs.clock_from, reads.others.adds.clock);
-      clock_to = omega (arith, runs.clock_to, reads.clock);
+      clock_to = omega (arith, runs.clock_to, reads.clock, draws_are);
       met = omega (arith, runs.met, reads.others.adds.met);
     }
 
@@ -160,11 +169,48 @@ module _ (engine : EngineView) (passes : List PassView) (lanes : List (List Bloc
     by [] none_grown = absurd (let few : length passes ≡ 0 = ap (λ (ps : List PassView). length ps) (sym runs.passes_are) ∙ ap (λ (xs : List Grown). length (map (λ (x : Grown). x.pass) xs)) none_grown in let count : length passes ≡ engine.size.seats = count_passes engine passes are in omega (arith, few, count, some))
     by (g ∷ gs) same = read_behind g gs same
 
--- there is room for what is due at the seat that is alone
-pub room_beside : (engine : EngineView) (passes : List PassView) (lanes : List (List Block)) (tries due : ℕ) (alone : AloneView) (done : List LaneDone) → 1 ≤ engine.size.seats → AreAllPasses engine passes → RunsAll engine passes lanes tries 0 alone done
-    → AllByRecursion (λ p. HasRoom p.clock (all_draws lanes tries + due)) passes → HasRoom alone.pass.clock due
-room_beside engine [] lanes tries due alone done some are runs room = absurd (let count : 0 ≡ engine.size.seats = count_passes engine [] are in omega (arith, count, some))
-room_beside engine (p ∷ ps) lanes tries due alone done some are runs room =
+-- there is room for what is still due at the seat that is alone
+pub room_beside : (engine : EngineView) (passes : List PassView) (lanes : List (List Block)) (tries due : ℕ) (alone : AloneView) (done : List LaneDone) (earlier : List (ℕ × TableMap)) → 1 ≤ engine.size.seats → AreAllPasses engine passes
+    → RunsAndReads engine passes lanes tries due alone done earlier → AllByRecursion (λ p. HasRoom p.clock (all_draws lanes tries + due)) passes → HasRoom alone.pass.clock (due - length earlier)
+room_beside engine [] lanes tries due alone done earlier some are both room = absurd (let count : 0 ≡ engine.size.seats = count_passes engine [] are in omega (arith, count, some))
+room_beside engine (p ∷ ps) lanes tries due alone done earlier some are both room =
     let first : HasRoom p.clock (all_draws lanes tries + due) = room.0 in
     let latest : HasRoom (latest_clock (p ∷ ps)) (all_draws lanes tries + due) = latest_room (p ∷ ps) (all_draws lanes tries + due) (latest_clock (p ∷ ps)) room (omega arith) (omega (arith, first)) in
-    omega (arith, latest, runs.clock_to)
+    omega (arith, latest, both.runs.clock_to, both.few)
+
+-- ---- and what was met since
+
+-- one load of the minimum changes what was met alone
+module _ (alone told : AloneView) (is : told ≡ with_pass alone (record alone.pass { met = told.pass.met })) (not_back : alone.pass.met ≤ told.pass.met) where
+  pub runs_told : (engine : EngineView) (passes : List PassView) (lanes : List (List Block)) (tries due : ℕ) (done : List LaneDone) → RunsAll engine passes lanes tries due alone done → RunsAll engine passes lanes tries due told done
+  runs_told engine passes lanes tries due done runs = subst (λ (a : AloneView). RunsAll engine passes lanes tries due a done) (sym is) (record {
+    together = record {
+      shared = runs.together.shared;
+      engine_is = runs.together.engine_is;
+      first = runs.together.first;
+      is_alone = runs.together.is_alone;
+      idle = runs.together.idle;
+      none_given = runs.together.none_given;
+      none_queued = runs.together.none_queued;
+      no_boost = runs.together.no_boost;
+    };
+    taken = runs.taken;
+    each_once = runs.each_once;
+    grown = runs.grown;
+    passes_are = runs.passes_are;
+    log_is = runs.log_is;
+    each_grown = runs.each_grown;
+    are_of_lanes = runs.are_of_lanes;
+    in_log = runs.in_log;
+    refusals = runs.refusals;
+    clock_from = runs.clock_from;
+    clock_to = runs.clock_to;
+    met = omega (arith, runs.met, not_back);
+  })
+
+  pub seen_told : (due : ℕ) (passes : List PassView) (seen : List (ℕ × TableMap)) → AreSeen due passes alone seen → AreSeen due passes told seen
+  seen_told due passes seen are = subst (λ (a : AloneView). AreSeen due passes a seen) (sym is) (record {
+    count = are.count;
+    each = All-weaker (IsSeen passes alone) (IsSeen passes (with_pass alone (record alone.pass { met = told.pass.met })))
+        (λ x s. record { tables = s.tables; leaves = s.leaves; rows = s.rows; up_to = s.up_to; met = s.met }) seen are.each;
+  })

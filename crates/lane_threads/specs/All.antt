@@ -1,10 +1,11 @@
 -- What the run of all lanes takes, and what it leaves.
-use Rattle.std.specs.Prelude.{◌≡◌, ℕ, ◌+◌, ◌≤◌, max, true, List, [], ◌∷◌, ◌++◌, map}
+use Rattle.std.specs.Prelude.{◌≡◌, ℕ, ◌+◌, ◌≤◌, max, true, List, [], ◌∷◌, ◌++◌, map, length, All}
 use Rattle.std.specs.List.{range_with_len, sum_by, AllByRecursion}
 use Rattle.std.specs.List.Sorted.{IsPermutation}
 use Rattle.plain_data.specs.declared.entry.Entry.{Entry}
 use Rattle.core_rule.specs.Views.{Among, AllIn}
 use Rattle.replay_model.specs.declared.input.Block.{Block}
+use Rattle.replay_model.specs.TableMap.{TableMap}
 use Rattle.lane_queue.specs.declared.lane.Lane.{Lane}
 use Rattle.lane_queue.specs.Passes.{numbered}
 use Rattle.txn_engine.specs.Pass.{EngineView, PassView, IsIdle, IsAlone}
@@ -13,6 +14,7 @@ use Rattle.lane_runner.specs.declared.done.LaneDone.{LaneDone}
 use Rattle.lane_runner.specs.Room.{clock_after}
 use Rattle.lane_runner.specs.Adds.{IsNext, AreInOrder}
 use Rattle.lane_threads.specs.Merges.{IsMerge}
+use Rattle.lane_threads.specs.Seen.{IsRead, met_first}
 use Rattle.lane_runner.specs.Weighs.{LeavesTables}
 use Rattle.lane_runner.specs.Lanes.{AreEntries, KeepOrder, lane_draws}
 
@@ -118,3 +120,9 @@ pub record RunsAll (engine : EngineView) (passes : List PassView) (lanes : List 
   pub clock_from : latest_clock passes ≤ alone.pass.clock
   pub clock_to : alone.pass.clock ≤ clock_after (latest_clock passes) (all_draws lanes tries + due)
   pub met : greatest_met passes ≤ alone.pass.met
+
+-- Besides, the worker of the first pass has read all rows, at most so often, each time with its entry in the log.
+pub record RunsAndReads (engine : EngineView) (passes : List PassView) (lanes : List (List Block)) (tries due : ℕ) (alone : AloneView) (done : List LaneDone) (readings : List (ℕ × TableMap)) : Type 0 where
+  pub runs : RunsAll engine passes lanes tries (length readings) alone done
+  pub few : length readings ≤ due
+  pub each : All (IsRead (met_first passes) alone.pass) readings

@@ -1,7 +1,8 @@
 -- What several workers leave together.
-use Rattle.std.specs.Prelude.{◌≡◌, ℕ, ◌+◌, ◌≤◌, false, List, [], ◌∷◌, ◌++◌, map}
+use Rattle.std.specs.Prelude.{◌≡◌, ℕ, ◌+◌, ◌≤◌, false, List, [], ◌∷◌, ◌++◌, map, length, All}
 use Rattle.std.specs.List.{AllByRecursion}
 use Rattle.std.specs.Result.{IsOkAnd}
+use Rattle.replay_model.specs.TableMap.{TableMap}
 use Rattle.lane_queue.specs.Passes.{Taker, HasEnded, taken_by}
 use Rattle.txn_engine.specs.Pass.{EngineView, PassView, IsIdle}
 use Rattle.txn_engine.specs.Retired.{RetiredView}
@@ -13,6 +14,7 @@ use Rattle.lane_threads.specs.declared.gathering.Gathered.{Gathered}
 use Rattle.lane_runner.specs.Room.{clock_after}
 use Rattle.lane_threads.specs.Workers.{draws_of}
 use Rattle.lane_threads.specs.All.{Grown, IsGrown, grown_logs, all_added, AreOfLanes, all_refusals, tries_of_rests, latest_clock, greatest_met}
+use Rattle.lane_threads.specs.Seen.{IsRead, met_first}
 
 -- what is gathered is what this worker left
 pub record Starts (worked : Worked) (gathered : Gathered) : Type 0 where
@@ -33,8 +35,8 @@ abbrev pub fresh_again : Taker → Taker
 fresh_again taker = record taker { took = []; ended = false }
 
 -- What workers leave that began with these passes and these rights to take lanes: the first pass, which is open, the others, which have
--- retired, the rights, with what was taken, and what the lanes came to.
-pub record Gathers (engine : EngineView) (tries : ℕ) (passes : List PassView) (takers : List Taker) (first : PassView) (others : List RetiredView) (ended : List Taker) (done : List LaneDone) : Type 0 where
+-- retired, the rights, with what was taken, what the lanes came to, and what the worker of the first pass has read beside them.
+pub record Gathers (engine : EngineView) (tries due : ℕ) (passes : List PassView) (takers : List Taker) (first : PassView) (others : List RetiredView) (ended : List Taker) (done : List LaneDone) (readings : List (ℕ × TableMap)) : Type 0 where
   pub engine_is : first.engine ≡ engine
   pub idle : IsIdle first
   pub of_engine : AreOfEngine engine others
@@ -51,8 +53,11 @@ pub record Gathers (engine : EngineView) (tries : ℕ) (passes : List PassView) 
   -- refusals and clocks
   pub refusals : all_refusals passes + tries_of_rests tries done ≤ first.refusals + refusals_of others
   pub clock_from : latest_clock passes ≤ greatest_clock_of first.clock others
-  pub clock_to : greatest_clock_of first.clock others ≤ clock_after (latest_clock passes) (draws_of (taken_by ended) tries)
+  pub clock_to : greatest_clock_of first.clock others ≤ clock_after (latest_clock passes) (draws_of (taken_by ended) tries + length readings)
   pub met : greatest_met passes ≤ greatest_met_of first.met others
+  -- the readings
+  pub few : length readings ≤ due
+  pub each_read : All (IsRead (met_first passes) first) readings
 
-abbrev pub GathersIn : (engine : EngineView) (tries : ℕ) (passes : List PassView) (takers : List Taker) → Gathered → Type 0
-GathersIn engine tries passes takers g = Gathers engine tries passes takers g.pass g.retired.items g.takers.items g.done.items
+abbrev pub GathersIn : (engine : EngineView) (tries due : ℕ) (passes : List PassView) (takers : List Taker) → Gathered → List (ℕ × TableMap) → Type 0
+GathersIn engine tries due passes takers g readings = Gathers engine tries due passes takers g.pass g.retired.items g.takers.items g.done.items readings

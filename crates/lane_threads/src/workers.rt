@@ -3,7 +3,7 @@
 ghost use Rattle.std.specs.Prelude.{◌≡◌, ◌≤◌, IfOk, All};
 ghost use Rattle.lane_queue.specs.Passes.{IsSamePass, HasEnded};
 ghost use Rattle.lane_runner.specs.Lanes.{AddsSome};
-ghost use Rattle.lane_threads.specs.Workers.{MayWork, MayBegin, DoesLanes, Works, WorksAndRetires};
+ghost use Rattle.lane_threads.specs.Workers.{MayWork, MayBegin, DoesLanes, Works, WorksAndRetires, NothingIsRead};
 
 use lane_queue::{LanePass, LaneQueue};
 use lane_runner::{LaneDone, run_lane};
@@ -90,6 +90,36 @@ fn work_lanes<R: Wait, C: Reads, G: Meets>(
     Ok(done)
 }
 
+/// Takes lanes until none is left, and runs one behind the other.
+pub(crate) fn work_lane_by_lane<R: Wait, C: Reads + Drop, G: Meets>(
+    rt: &R,
+    alloc: Global,
+    engine: &Engine<RowsLawful>,
+    queue: &LaneQueue,
+    worker: Worker<C>,
+    gate: &G,
+    tries: u32,
+) -> Worked
+    requires begin { MayBegin engine.now queue.now tries worker }
+    requires fixed { 4112 ≤ engine.now.fixed }
+    ensures { Works tries worker.pass worker.taker result }
+{
+    let Worker {
+        mut pass,
+        mut taker,
+        mut clock,
+    } = worker;
+    let done = work_lanes(
+        rt, alloc, engine, queue, &mut pass, &mut taker, &mut clock, gate, tries,
+    );
+    Worked { pass, taker, done }
+}
+
+/// What one leaves that reads nothing beside its lanes is what one leaves that may read. The function does nothing; its contract is the law.
+pub fn nothing_is_read()
+    ensures { NothingIsRead }
+{}
+
 /// One lane behind the other.
 #[derive(Clone, Copy, Debug)]
 pub struct LaneByLane;
@@ -109,15 +139,7 @@ impl<C: Clock, G: Gate> Work<C, G> for LaneByLane {
         requires fixed { 4112 ≤ engine.now.fixed }
         ensures { Works tries worker.pass worker.taker result }
     {
-        let Worker {
-            mut pass,
-            mut taker,
-            mut clock,
-        } = worker;
-        let done = work_lanes(
-            rt, alloc, engine, queue, &mut pass, &mut taker, &mut clock, gate, tries,
-        );
-        Worked { pass, taker, done }
+        work_lane_by_lane(rt, alloc, engine, queue, worker, gate, tries)
     }
 }
 

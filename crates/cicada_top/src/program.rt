@@ -3,7 +3,7 @@
 use crate::finish::Status;
 use crate::telling::{refuse_words, tell};
 use crate::top::run_with;
-use lane_runner::LaneRun;
+use lane_threads::LaneRun;
 use outside_io::{Chosen, OpenGate, RealClock, StdSink, StdSource};
 use std::alloc::Global;
 use std::env::Args;

@@ -11,10 +11,10 @@ use Rattle.lane_runner.specs.declared.done.LaneDone.{LaneDone}
 use Rattle.lane_runner.specs.Lanes.{AddsSome}
 use Rattle.lane_runner.specs.declared.turn.Turn.{Turn}
 use Rattle.lane_runner.specs.Room.{HasRoom, clock_after}
-use Rattle.lane_runner.specs.Merges.IsMerge.{none as none_merged}
+use Rattle.lane_threads.specs.Merges.IsMerge.{none as none_merged}
 use Rattle.lane_runner.specs.Session.{SessionView, to_try, done_of, Attempts, drawn_by, tries_left, draws_left, GoesOn}
 use Rattle.lane_runner.proofs.Adding.{Adds-none, Adds-trans}
-use Rattle.lane_runner.proofs.Merging.{merge_append, merge_behind_first, merge_behind_second}
+use Rattle.lane_threads.proofs.Merging.{merge_append, merge_behind_first, merge_behind_second}
 use Rattle.lane_runner.proofs.Attempted.{Steps, steps_none, room_for_try, goes_none, goes_trans, steps_attempt, tries_attempt}
 use Rattle.lane_futures.specs.Lanes.{LanesView, HasRoomLeft, HasOne, all_tries, all_tries_left, all_draws_left, all_refused, IsInTurn, TakesTurn, MakesTurn, TurnsLast, AreOfSessions, Leads, ComeTo}
 use Rattle.lane_futures.specs.Lanes.AreOfSessions.{none, next}

@@ -7,7 +7,7 @@ use Rattle.lane_runner.specs.declared.done.LaneDone.{LaneDone}
 use Rattle.lane_runner.specs.declared.turn.Turn.{Turn}
 use Rattle.lane_runner.specs.Room.{HasRoom, clock_after}
 use Rattle.lane_runner.specs.Adds.{Adds}
-use Rattle.lane_runner.specs.Merges.{IsMerge}
+use Rattle.lane_threads.specs.Merges.{IsMerge}
 use Rattle.lane_runner.specs.Session.{SessionView, to_try, done_of, Attempts, drawn_by, tries_left, draws_left, GoesOn}
 
 -- the pass, the sessions, and the place from which the next turn looks for one with a block to try

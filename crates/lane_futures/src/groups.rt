@@ -3,7 +3,7 @@
 ghost use Rattle.std.specs.Prelude.{◌≡◌, ◌+◌, ◌/◌, ◌%◌, ◌<◌, ◌≤◌, min, max, [], All, IfOk, length};
 ghost use Rattle.std.specs.Vec.{vec_capacity};
 ghost use Rattle.lane_queue.specs.Passes.{IsSamePass, HasEnded};
-ghost use Rattle.lane_runner.specs.Workers.{MayRunLane};
+ghost use Rattle.lane_threads.specs.Workers.{MayRunLane};
 ghost use Rattle.lane_futures.specs.Groups.{Takes};
 
 use lane_queue::{LanePass, LaneQueue};

@@ -32,7 +32,7 @@ use Rattle.lane_runner.specs.Lanes.{AreEntries}
 use Rattle.lane_runner.specs.Weighs.{blocks_add}
 use Rattle.lane_runner.specs.Holding.{HasPlaces, HasRecords}
 use Rattle.lane_runner.specs.Finishing.{MayFinish}
-use Rattle.lane_runner.specs.Whole.{WeighsAfter}
+use Rattle.lane_runner.specs.Behind.{WeighsAfter}
 use Rattle.lane_runner.specs.Ready.{IsReady, IsReadyOnceCollected, HasRecordsFor, IsAmple}
 use Rattle.lane_runner.proofs.Adding.{Adds-no_entry, alone_stays}
 use Rattle.lane_runner.proofs.Held.{absent_same, roomy_once}

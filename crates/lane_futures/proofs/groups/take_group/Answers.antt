@@ -1,5 +1,5 @@
 use Rattle.std.proofs.Common.{◌∙◌, arith}
-use Rattle.lane_runner.proofs.LaneLists.{taken_may}
+use Rattle.lane_threads.proofs.LaneLists.{taken_may}
 use Rattle.lane_futures.proofs.groups.take_group.Goals as goal
 
 pub new-requires : goal.new-requires

@@ -6,9 +6,9 @@ use Rattle.lane_queue.specs.Subsequences.{IsSubsequence}
 use Rattle.lane_runner.specs.declared.done.LaneDone.{LaneDone}
 use Rattle.lane_runner.specs.Room.{HasRoom}
 use Rattle.lane_runner.specs.Session.{SessionView}
-use Rattle.lane_runner.specs.Workers.{DoesLanes}
+use Rattle.lane_threads.specs.Workers.{DoesLanes}
 use Rattle.lane_runner.proofs.Adding.{Adds-trans}
-use Rattle.lane_runner.proofs.LaneLists.{DoesLanes-none}
+use Rattle.lane_threads.proofs.LaneLists.{DoesLanes-none}
 use Rattle.lane_futures.specs.Lanes.{all_draws_left, ComeTo}
 use Rattle.lane_futures.proofs.Grouped.{room_group, does_more, none_taken}
 use Rattle.lane_futures.proofs.turns.work_groups.Goals.{in-None, in-Some+in-Ok+then-is_empty}

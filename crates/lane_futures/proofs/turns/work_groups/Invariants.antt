@@ -1,7 +1,7 @@
 use Rattle.std.proofs.Common.{◌≡◌}
 use Rattle.lane_queue.specs.Passes.{IsSamePass}
 use Rattle.lane_queue.specs.Subsequences.{IsSubsequence}
-use Rattle.lane_runner.specs.Workers.{DoesLanes}
+use Rattle.lane_threads.specs.Workers.{DoesLanes}
 use Rattle.lane_futures.proofs.turns.work_groups.Given as goal
 
 abbrev pub invariant-loop : goal.invariant-loop

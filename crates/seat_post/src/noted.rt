@@ -110,16 +110,20 @@ impl Noted {
         ensures ok { OnOk result (self.new.entries ≡ with_value self.old.entries rid value.now) }
         ensures err { OnErr result (self.new.entries ≡ self.old.entries) }
     {
-        if let Some(i) = position(self.few.as_slice(), rid) {
-            self.few[i].1 = *value;
-            return Ok(());
+        match position(self.few.as_slice(), rid) {
+            Some(i) => {
+                self.few[i] = (rid, *value);
+                Ok(())
+            }
+            None => {
+                if self.few.len() < FEW {
+                    self.few.push((rid, *value))?;
+                } else {
+                    self.more.insert(rid, *value)?;
+                }
+                Ok(())
+            }
         }
-        if self.few.len() < FEW {
-            self.few.push((rid, *value))?;
-        } else {
-            self.more.insert(rid, *value)?;
-        }
-        Ok(())
     }
 
     /// Notes a value of a record that has none, where there is room.

@@ -18,11 +18,11 @@ ghost use Rattle.core_rule.specs.Paths.{load};
 ghost use Rattle.seat_post.specs.Observing.{Grows, with_load};
 ghost use Rattle.seat_post.specs.Post.{PostView, shared_of, post_view, opened, drawn_at, with_clock, closed, observing};
 
+use crate::noted::Noted;
 use crate::phase::Phase;
 use crate::rewriting::Room;
 use clock_stamps::{ClockOut, draw, hear, sync};
 use core_rule::{Core, Hand, Keeps};
-use crate::noted::Noted;
 use plain_data::Cells;
 use stamp_base::Stamp;
 use std::alloc::Global;

@@ -13,12 +13,12 @@ ghost use Rattle.seat_post.specs.Leaves.{LeavesValue, LeavesSome};
 ghost use Rattle.seat_post.specs.Conflicts.{IsOfAnother, IsLoaded};
 ghost use Rattle.seat_post.specs.Reading.{IfPending};
 
+use crate::noted::Noted;
 use crate::phase::Phase;
 use crate::post::Post;
 use crate::search::{Read, search};
 use crate::values::copy;
 use core_rule::{Core, Keeps};
-use crate::noted::Noted;
 use plain_data::{Cells, NoMemory};
 use validate_core::Sets;
 

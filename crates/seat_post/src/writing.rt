@@ -8,10 +8,10 @@ ghost use Rattle.seat_post.specs.Leaves.{AreLeft};
 ghost use Rattle.seat_post.specs.Seats.{IsAloneAt};
 ghost use Rattle.seat_post.specs.Post.{PostView, written, unwritten, closed};
 
+use crate::noted::Noted;
 use crate::phase::Phase;
 use crate::post::Post;
 use crate::values::copy;
-use crate::noted::Noted;
 use plain_data::{Cells, NoMemory};
 use stamp_base::Stamp;
 use validate_core::Sets;
@@ -26,7 +26,8 @@ impl<J> Post<J> {
     {
         let count = self.writes.len() as u32 + 1;
         self.sets.reserve(0, count)?;
-        self.writes.insert(rid, value)
+        self.writes.insert(rid, value)?;
+        Ok(())
     }
 
     /// Drops what is written.
@@ -50,11 +51,7 @@ impl<J> Post<J> {
 }
 
 /// Forgets what was read and written.
-pub(crate) fn clear(
-    reads: &mut Noted,
-    writes: &mut Noted,
-    sets: &mut Sets,
-)
+pub(crate) fn clear(reads: &mut Noted, writes: &mut Noted, sets: &mut Sets)
     ensures no_reads { reads.new.entries ≡ [] }
     ensures no_writes { writes.new.entries ≡ [] }
     ensures none_read { sets.new.reads ≡ [] }

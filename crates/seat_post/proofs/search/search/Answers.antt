@@ -1,4 +1,4 @@
-use Rattle.std.proofs.Common.{◌≡◌, ◌<◌, ℕ, Bool, length, subst, sym, rules}
+use Rattle.std.proofs.Common.{◌≡◌, ◌<◌, Bool, length, subst, sym, rules}
 use Rattle.word_layout.specs.Size.{Size, places}
 use Rattle.version_search.specs.Finding.{Reads, status_of}
 use Rattle.seat_post.proofs.ReadMore.{stops_at}

@@ -1,4 +1,4 @@
-use Rattle.std.proofs.Common.{◌≡◌, ◌∙◌, None, ap}
+use Rattle.std.proofs.Common.{◌∙◌, ap}
 use Rattle.record_store.specs.Meaning.{value_at}
 use Rattle.record_store.proofs.Values.{lookup-value_at}
 use Rattle.seat_post.specs.Noted.{NotedView}

@@ -1,4 +1,4 @@
-use Rattle.std.proofs.Common.{◌≡◌, ◌<◌, ◌≤◌, ◌∙◌, ◌++◌, None, ap, sym, length, arith}
+use Rattle.std.proofs.Common.{◌<◌, ◌≤◌, ◌∙◌, ◌++◌, ap, sym, length, arith}
 use Rattle.record_store.specs.Meaning.{with_value}
 use Rattle.record_store.proofs.Values.{insert_entry-with_value}
 use Rattle.seat_post.specs.Noted.{NotedView}

@@ -183,11 +183,14 @@ nothing_is_read due tries pass taker worked readings none works = subst (WorksAn
   done = by worked.done works.done;
 }) where
   by : (answer : Result _ _) → IfOk answer (λ done. HasEnded worked.taker × DoesLanes tries pass worked.pass worked.taker.took done.items) → IfOk answer (λ done. HasEnded worked.taker × DoesAndReads tries due pass worked.pass worked.taker.took done.items [])
-  by (Ok done) so = (so.0, record {
-    does = RunsLanes-weaker tries (draws_of worked.taker.took tries) (draws_of worked.taker.took tries + 0) pass worked.pass worked.taker.took done.items (omega arith) so.1;
-    few = omega arith;
-    each = All-nil (IsRead pass.met worked.pass);
-  })
+  by (Ok done) so = (
+    so.0,
+    record {
+      does = RunsLanes-weaker tries (draws_of worked.taker.took tries) (draws_of worked.taker.took tries + 0) pass worked.pass worked.taker.took done.items (omega arith) so.1;
+      few = omega arith;
+      each = All-nil (IsRead pass.met worked.pass);
+    },
+  )
   by (Err fault) so = tt
 
 pub no_items : {X : Type 0} (xs : List X) → length xs ≡ 0 → xs ≡ []

@@ -72,8 +72,7 @@ fn run_workers<
         unreachable!()
     };
     if workers.is_empty() {
-        let (worked, reader) =
-            L::first(rt, alloc, engine, queue, way, reader, worker, gate, tries);
+        let (worked, reader) = L::first(rt, alloc, engine, queue, way, reader, worker, gate, tries);
         return Ok((start_gathering(alloc, worked)?, reader));
     }
     let begun = Begun {

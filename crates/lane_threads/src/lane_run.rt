@@ -39,6 +39,7 @@ pub trait LaneRun<C: Clock, G: Gate> {
 
     /// How often a reader may read all rows, and what it has read.
     ghost may_read: { Self.Reader → ℕ };
+
     ghost has_read: { Self.Reader → List (ℕ × TableMap) };
 
     /// Begins a run of so many lanes by so many workers, of which nothing was read yet.

@@ -62,7 +62,14 @@ where
     let mut source = StdSource::new(input);
     let mut sink = HeardSink::new(StdSink::new(output));
     let finish = run_with(
-        rt, alloc, &words, &mut source, &mut sink, clocks, &OpenGate, lanes,
+        rt,
+        alloc,
+        &words,
+        &mut source,
+        &mut sink,
+        clocks,
+        &OpenGate,
+        lanes,
     );
     tell(rt, name, &finish, &sink);
     finish.status

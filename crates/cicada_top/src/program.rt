@@ -4,7 +4,7 @@ use crate::finish::Status;
 use crate::telling::{refuse_words, tell};
 use crate::top::run_with;
 use lane_threads::LaneRun;
-use outside_io::{Chosen, OpenGate, RealClock, StdSink, StdSource};
+use outside_io::{Chosen, Clock, OpenGate, StdSink, StdSource};
 use std::alloc::Global;
 use std::env::Args;
 use std::io::{self, Eprint};
@@ -12,25 +12,25 @@ use std::process::ExitCode;
 use std::rt::{Stdin, Stdout};
 use std::sync::Wait;
 use std::thread::Threads;
-use std::time::Clock;
 
-/// Hands the words behind the program's name to the top call, over the standard streams and by the machine's clock, with the lanes run in
-/// this way. What standard output may not say enough of is told on standard error, under the program's name.
-pub fn run_program<'a, R, L>(
-    rt: &'a R,
+/// Hands the words behind the program's name to the top call, over the standard streams and by this clock, with the lanes run in this way.
+/// What standard output may not say enough of is told on standard error, under the program's name.
+pub fn run_program<
+    R: Threads + Wait + Sync + Eprint,
+    C: Clock + Copy,
+    L: LaneRun<Chosen<C>, OpenGate>,
+>(
+    rt: &R,
     alloc: Global,
     name: &str,
     args: io::Result<Args>,
     input: Stdin,
     output: Stdout,
+    clock: C,
     lanes: &mut L,
-) -> ExitCode
-where
-    R: Threads + Wait + Sync + Eprint + Clock,
-    L: LaneRun<Chosen<RealClock<&'a R>>, OpenGate>,
-{
+) -> ExitCode {
     let status = match args {
-        Ok(args) => run_words(rt, alloc, name, args, input, output, lanes),
+        Ok(args) => run_words(rt, alloc, name, args, input, output, clock, lanes),
         Err(error) => refuse_words(rt, name, &error),
     };
     if let Some(sentence) = status.sentence() {
@@ -40,23 +40,20 @@ where
 }
 
 /// The same, where the words can be had.
-fn run_words<'a, R, L>(
-    rt: &'a R,
+fn run_words<R: Threads + Wait + Sync + Eprint, C: Clock + Copy, L: LaneRun<Chosen<C>, OpenGate>>(
+    rt: &R,
     alloc: Global,
     name: &str,
     args: Args,
     input: Stdin,
     output: Stdout,
+    clock: C,
     lanes: &mut L,
-) -> Status
-where
-    R: Threads + Wait + Sync + Eprint + Clock,
-    L: LaneRun<Chosen<RealClock<&'a R>>, OpenGate>,
-{
+) -> Status {
     let Ok(words) = args.skip(1).collect::<Vec<String>>(alloc) else {
         return Status::NoMemory;
     };
-    let Ok(clocks) = vec![in alloc; RealClock::new(rt); 64] else {
+    let Ok(clocks) = vec![in alloc; clock; 64] else {
         return Status::NoMemory;
     };
     let mut source = StdSource::new(input);

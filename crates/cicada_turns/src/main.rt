@@ -3,6 +3,7 @@
 
 use cicada_top::run_program;
 use lane_futures::Turns;
+use outside_io::RealClock;
 use std::env;
 use std::process::ExitCode;
 
@@ -15,6 +16,7 @@ fn main(rt: HostRuntime) -> ExitCode {
         args,
         rt.stdin(),
         rt.stdout(),
+        RealClock::new(&rt),
         &mut Turns,
     )
 }

@@ -177,7 +177,7 @@ DoesLanes-next tries p q r lanes lanes' lane dones dones' done taken pushed so_f
 
 -- one that reads nothing
 pub nothing_is_read : NothingIsRead
-nothing_is_read due tries pass taker worked readings none works = subst (WorksAndReads due tries pass taker worked) (sym none) (record {
+nothing_is_read due tries pass taker worked readings is_none works = subst (WorksAndReads due tries pass taker worked) (sym is_none) (record {
   adds = works.adds;
   same = works.same;
   done = by worked.done works.done;

@@ -21,6 +21,7 @@ use Rattle.txn_engine.specs.Pass.{PassView, IsIdle, unglanced}
 use Rattle.txn_engine.specs.Sharing.{shares}
 use Rattle.lane_runner.specs.declared.done.LaneDone.{LaneDone}
 use Rattle.lane_runner.specs.Rows.{stands}
+use Rattle.lane_runner.specs.Behind.{ComesBehind}
 use Rattle.lane_runner.specs.Lanes.{AreEntries}
 use Rattle.lane_threads.specs.All.{RunsAll}
 use Rattle.lane_runner.specs.Weighs.{blocks_add}

@@ -1,9 +1,7 @@
 use Rattle.std.proofs.Common.{◌≡◌, [], length, refl, sym, rules, arith, vec_len}
 use Rattle.std.proofs.lemmas.Bool.{eqb-true}
-use Rattle.lane_threads.specs.declared.gathering.Gathered.{Gathered}
 use Rattle.lane_threads.specs.declared.all.Begun.{Begun}
 use Rattle.lane_threads.specs.Workers.{MayBegin, HasRoomBeside, WorksAndRetires}
-use Rattle.lane_threads.specs.Gathers.{GoesOn}
 use Rattle.lane_threads.proofs.LaneLists.{no_items}
 use Rattle.lane_threads.proofs.Gathered.{last_of, front_of, works_again, works_told, workers_start, workers_next}
 use Rattle.lane_threads.proofs.all.+run_workers.Goals as goal

@@ -1,4 +1,4 @@
-use Rattle.std.proofs.Common.{ℕ, ◌+◌, ◌-◌, length, sym, subst, arith}
+use Rattle.std.proofs.Common.{ℕ, ◌+◌, ◌-◌, length, sym, subst}
 use Rattle.std.specs.List.{AllByRecursion}
 use Rattle.lane_runner.specs.Room.{HasRoom}
 use Rattle.lane_threads.specs.All.{all_draws, RunsAndReads}

@@ -101,11 +101,6 @@ pub done_of : {T E : Type 0} (answer : Result T E) (P Q : T → Type 0) → IsOk
 done_of (Ok done) P Q is so = (done, is, so)
 done_of (Err fault) P Q is so = elim is [ ]
 
--- what follows from what is there
-pub ok_then : {T E : Type 0} (P Q : T → Type 0) (answer : Result T E) → ((x : T) → P x → Q x) → IfOk answer P → IfOk answer Q
-ok_then P Q (Ok x) then so = then x so
-ok_then P Q (Err fault) then so = tt
-
 -- the same of equal values
 pub works_again : (tries tries' : ℕ) (p p' : PassView) (t t' : Taker) (left left' : Left) → tries' ≡ tries → p' ≡ p → t' ≡ t → left ≡ left' → WorksAndRetires tries' p' t' left' → WorksAndRetires tries p t left
 works_again tries tries' p p' t t' left left' of_tries of_pass of_taker of_left = subst (λ (y : ℕ × PassView × Taker × Left). WorksAndRetires y.0 y.1 y.2 y.3) (λ i. (of_tries i, of_pass i, of_taker i, sym of_left i))

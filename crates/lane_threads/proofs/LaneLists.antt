@@ -175,23 +175,27 @@ DoesLanes-next tries p q r lanes lanes' lane dones dones' done taken pushed so_f
     RunsLanes-weaker tries (draws_of lanes tries + lane_draws lane.blocks tries) (draws_of lanes' tries) p r lanes' dones' (omega (arith, ap (λ (ls : List Lane). draws_of ls tries) taken, draws_push tries lanes lane))
     (RunsLanes-next tries (draws_of lanes tries) (lane_draws lane.blocks tries) p q r lanes lanes' lane dones dones' done taken pushed so_far does rest clock)
 
+-- what follows from what is there
+ok_then : {T E : Type 0} (answer : Result T E) (P Q : T → Type 0) → ((x : T) → P x → Q x) → IfOk answer P → IfOk answer Q
+ok_then (Ok x) P Q then so = then x so
+ok_then (Err fault) P Q then so = tt
+
 -- one that reads nothing
+none_read : (due tries : ℕ) (p q : PassView) (lanes : List Lane) (dones : List LaneDone) → DoesLanes tries p q lanes dones → DoesAndReads tries due p q lanes dones []
+none_read due tries p q lanes dones does = record {
+  does = RunsLanes-weaker tries (draws_of lanes tries) (draws_of lanes tries + 0) p q lanes dones (omega arith) does;
+  few = omega arith;
+  each = All-nil (IsRead p.met q);
+}
+
 pub nothing_is_read : NothingIsRead
-nothing_is_read due tries pass taker worked readings none works = subst (WorksAndReads due tries pass taker worked) (sym none) (record {
+nothing_is_read due tries pass taker worked readings is_none works = subst (WorksAndReads due tries pass taker worked) (sym is_none) (record {
   adds = works.adds;
   same = works.same;
-  done = by worked.done works.done;
-}) where
-  by : (answer : Result _ _) → IfOk answer (λ done. HasEnded worked.taker × DoesLanes tries pass worked.pass worked.taker.took done.items) → IfOk answer (λ done. HasEnded worked.taker × DoesAndReads tries due pass worked.pass worked.taker.took done.items [])
-  by (Ok done) so = (
-    so.0,
-    record {
-      does = RunsLanes-weaker tries (draws_of worked.taker.took tries) (draws_of worked.taker.took tries + 0) pass worked.pass worked.taker.took done.items (omega arith) so.1;
-      few = omega arith;
-      each = All-nil (IsRead pass.met worked.pass);
-    },
-  )
-  by (Err fault) so = tt
+  done = ok_then worked.done (λ done. HasEnded worked.taker × DoesLanes tries pass worked.pass worked.taker.took done.items)
+      (λ done. HasEnded worked.taker × DoesAndReads tries due pass worked.pass worked.taker.took done.items [])
+      (λ done so. (so.0, none_read due tries pass worked.pass worked.taker.took done.items so.1)) works.done;
+})
 
 pub no_items : {X : Type 0} (xs : List X) → length xs ≡ 0 → xs ≡ []
 no_items [] is = refl

@@ -1,5 +1,5 @@
 -- Two lists in one: what each of them has and what both have, and the entries of blocks in one list.
-use Rattle.std.proofs.Common.{◌⊎◌, ℕ, inl, inr, ⊎_elim, List, [], ◌∷◌, ◌++◌, All, AllPairs, IsPermutation, refl}
+use Rattle.std.proofs.Common.{◌⊎◌, ℕ, inl, inr, ⊎_elim, List, [], ◌∷◌, ◌++◌, AllPairs, IsPermutation, refl}
 use Rattle.std.proofs.lemmas.List.Elements.{All-contains}
 use Rattle.std.proofs.lemmas.List.Kept.{AllPairs-cons}
 use Rattle.std.proofs.lemmas.List.Sorted.{IsPermutation-refl, IsPermutation-trans, IsPermutation-append_right}

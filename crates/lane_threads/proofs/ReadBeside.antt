@@ -1,5 +1,5 @@
 -- What is read at the seat that is alone, behind all lanes.
-use Rattle.std.proofs.Common.{◌≡◌, ℕ, ◌+◌, ◌-◌, ◌≤◌, max, length-append, List, [], ◌∷◌, ◌++◌, map, length, All, append-nil, append_assoc, refl, sym, ap, subst, ◌∙◌, inl, inr, ⊎_elim, arith}
+use Rattle.std.proofs.Common.{◌≡◌, ℕ, ◌+◌, ◌-◌, ◌≤◌, length-append, List, [], ◌∷◌, ◌++◌, map, length, All, append-nil, append_assoc, refl, sym, ap, subst, ◌∙◌, ⊎_elim, arith}
 use Rattle.std.specs.List.{AllByRecursion}
 use Rattle.std.proofs.lemmas.List.Elements.{All-weaker, All-append}
 use Rattle.plain_data.specs.declared.entry.Entry.{Entry}
@@ -14,8 +14,8 @@ use Rattle.txn_engine.specs.Pass.{EngineView, PassView}
 use Rattle.txn_engine.specs.Alone.{AloneView, with_pass}
 use Rattle.lane_runner.specs.declared.done.LaneDone.{LaneDone}
 use Rattle.lane_runner.specs.Rows.{stands}
-use Rattle.lane_runner.specs.Room.{HasRoom, clock_after}
-use Rattle.lane_runner.specs.Adds.{IsNext, IsLater, AreInOrder, Adds}
+use Rattle.lane_runner.specs.Room.{HasRoom}
+use Rattle.lane_runner.specs.Adds.{IsNext, AreInOrder}
 use Rattle.lane_runner.specs.Weighs.{LeavesTables}
 use Rattle.lane_threads.specs.All.{AreAllPasses, AreOfLanes, Grown, IsGrown, grown_logs, all_added, all_draws, latest_clock, greatest_met, RunsAll, RunsAndReads}
 use Rattle.lane_threads.specs.All.AreOfLanes.{none}

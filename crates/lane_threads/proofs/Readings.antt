@@ -1,9 +1,9 @@
 -- Readings, each by its entry, and what they are in a lawful history.
-use Rattle.std.proofs.Common.{◌≡◌, ℕ, ◌+◌, ◌<◌, ◌≤◌, max, true, false, List, [], ◌∷◌, ◌++◌, All, Contains, refl, sym, ap, subst, arith}
+use Rattle.std.proofs.Common.{◌≡◌, ℕ, ◌≤◌, true, false, List, All, sym, subst, arith}
 use Rattle.std.proofs.lemmas.List.Elements.{All-weaker, All-contains}
 use Rattle.plain_data.specs.declared.entry.Entry.{Entry}
 use Rattle.plain_data.specs.State.{State, Agrees}
-use Rattle.core_rule.specs.Views.{Among, AllIn}
+use Rattle.core_rule.specs.Views.{AllIn}
 use Rattle.histories.specs.History.{Lawful, LeavesKept, Leaves, Before, UpTo}
 use Rattle.histories.specs.Laws.{LawfulHasStates}
 use Rattle.histories.proofs.States.{time-commit, time-snapshot, IsValue-same}

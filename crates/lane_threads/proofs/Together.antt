@@ -8,7 +8,7 @@ use Rattle.std.proofs.lemmas.List.FromFn.{length-range_with_len}
 use Rattle.std.proofs.lemmas.List.Sorted.{IsPermutation-refl, sum_by-IsPermutation}
 use Rattle.std.proofs.lemmas.List.Sums.{sum_by-cons}
 use Rattle.atomic_table.specs.Seated.{TableId}
-use Rattle.core_rule.specs.Views.{AllIn}
+use Rattle.core_rule.specs.Views.{Among, AllIn}
 use Rattle.core_rule.proofs.Among.{Among-left, Among-right, Among-split}
 use Rattle.replay_model.specs.declared.input.Block.{Block}
 use Rattle.replay_model.specs.TableMap.{TableMap}

@@ -1,12 +1,10 @@
 -- The results of a whole run are those of its input.
-use Rattle.std.proofs.Common.{◌≡◌, ◌≢◌, ◌⊎◌, inl, inr, ⊎_elim, ℕ, suc, ◌+◌, ◌-◌, ◌==◌, ◌<◌, ◌≤◌, ◌||◌, Bool, true, false, List, [], ◌∷◌, ◌++◌, All, AllPairs, Contains, IsPermutation, Option, Some, slice_get, refl, sym, ap, subst, ◌∙◌, arith}
+use Rattle.std.proofs.Common.{◌≡◌, ◌≢◌, ◌⊎◌, inl, inr, ⊎_elim, ℕ, suc, ◌+◌, ◌-◌, ◌==◌, ◌<◌, ◌≤◌, Bool, true, false, List, [], ◌∷◌, ◌++◌, All, AllPairs, Contains, Option, Some, slice_get, refl, sym, ap, subst, ◌∙◌, arith}
 use Rattle.std.specs.Prelude.{IsTrue, IsSomeAnd, MatchBool}
-use Rattle.std.proofs.Math.Bool.{or-true}
 use Rattle.std.specs.List.{list_any}
 use Rattle.std.proofs.lemmas.Bool.Decides.{eqb_tells}
-use Rattle.std.proofs.lemmas.List.Elements.{All-nil, All-cons, All-contains}
+use Rattle.std.proofs.lemmas.List.Elements.{All-contains}
 use Rattle.std.proofs.lemmas.List.Kept.{AllPairs-cons}
-use Rattle.std.proofs.lemmas.List.Sorted.{IsPermutation-sym, Contains-permutation}
 use Rattle.plain_data.specs.declared.entry.Entry.{Entry}
 use Rattle.core_rule.specs.Views.{Among}
 use Rattle.core_rule.proofs.Among.{Among-left, Among-right, Among-split}
@@ -19,7 +17,7 @@ use Rattle.replay_model.specs.Order.{NamesOther, names}
 use Rattle.replay_model.specs.Replay.{block_at, block_or_none, block_named, NamesBlock}
 use Rattle.replay_model.specs.TableMap.{TableMap}
 use Rattle.histories.specs.History.{Lawful, StampsDiffer, UpTo}
-use Rattle.histories.proofs.Lists.{pairs_head, pairs_tail, pairs_nil, Contains-nil, Contains-head, Contains-tail, Contains-cases, AllPairs-IsPermutation}
+use Rattle.histories.proofs.Lists.{pairs_head, pairs_tail, pairs_nil, AllPairs-IsPermutation}
 use Rattle.histories.proofs.States.{IsValue-same}
 use Rattle.history_replay.specs.Results.{StandsForSome, LeaveTables, IsEntryOf, KeepsTables, PlacedApart, IsBehind, AreResults}
 use Rattle.lane_runner.specs.Rows.{stands}

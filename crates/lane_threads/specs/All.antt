@@ -12,6 +12,7 @@ use Rattle.txn_engine.specs.Pass.{EngineView, PassView, IsIdle, IsAlone}
 use Rattle.txn_engine.specs.Alone.{AloneView}
 use Rattle.lane_runner.specs.declared.done.LaneDone.{LaneDone}
 use Rattle.lane_runner.specs.Room.{clock_after}
+use Rattle.lane_runner.specs.Done.{tries_of_rest}
 use Rattle.lane_runner.specs.Adds.{IsNext, AreInOrder}
 use Rattle.lane_threads.specs.Merges.{IsMerge}
 use Rattle.lane_threads.specs.Seen.{IsRead, met_first}

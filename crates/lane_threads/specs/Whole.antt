@@ -1,5 +1,5 @@
 -- What the log of a seat that is alone has once all blocks of an input have run: the loading, and behind it the entries of the blocks.
-use Rattle.std.specs.Prelude.{◌≡◌, ℕ, ◌+◌, ◌-◌, ◌<◌, ◌≤◌, true, false, List, ◌++◌, length, map, All, Contains}
+use Rattle.std.specs.Prelude.{◌≡◌, ℕ, ◌+◌, ◌-◌, ◌≤◌, false, List, ◌++◌, length, map, All, Contains}
 use Rattle.std.specs.List.{flat_map}
 use Rattle.std.specs.List.Sorted.{IsPermutation}
 use Rattle.plain_data.specs.declared.entry.Entry.{Entry}
@@ -9,9 +9,7 @@ use Rattle.replay_model.specs.declared.input.Input.{Input}
 use Rattle.replay_model.specs.declared.outcome.Outcome.{Outcome}
 use Rattle.replay_model.specs.declared.outcome.Placed.{Placed}
 use Rattle.replay_model.specs.Input.{IsWellFormed}
-use Rattle.replay_model.specs.declared.command.Command.{Command}
 use Rattle.replay_model.specs.TableMap.{TableMap, loaded}
-use Rattle.stored_tables.specs.Weight.{all_add}
 use Rattle.histories.specs.History.{Lawful}
 use Rattle.history_replay.specs.Results.{StandsForSome, LeaveTables, KeepsLane, AreResults}
 use Rattle.stamp_base.specs.Stamp.{bound_of_clock}
@@ -21,10 +19,11 @@ use Rattle.txn_engine.specs.Pass.{PassView, IsIdle, unglanced}
 use Rattle.txn_engine.specs.Sharing.{shares}
 use Rattle.lane_runner.specs.declared.done.LaneDone.{LaneDone}
 use Rattle.lane_runner.specs.Rows.{stands}
+use Rattle.lane_runner.specs.Behind.{ComesBehind}
 use Rattle.lane_runner.specs.Lanes.{AreEntries}
 use Rattle.lane_threads.specs.All.{RunsAll}
 use Rattle.lane_runner.specs.Weighs.{blocks_add}
-use Rattle.lane_runner.specs.Holding.{LeavesWithin, HasRecords}
+use Rattle.lane_runner.specs.Holding.{HasRecords}
 use Rattle.lane_runner.specs.Loading.{Loads, rows_add}
 use Rattle.lane_runner.specs.Finishing.{MayFinish, MayFinishAll, Finishes, rests_add, how_many_remain}
 

@@ -1,26 +1,24 @@
 use Rattle.std.proofs.Common.{◌≡◌, [], length, refl, sym, rules, arith, vec_len}
 use Rattle.std.proofs.lemmas.Bool.{eqb-true}
-use Rattle.lane_threads.specs.declared.gathering.Gathered.{Gathered}
 use Rattle.lane_threads.specs.declared.all.Begun.{Begun}
 use Rattle.lane_threads.specs.Workers.{MayBegin, HasRoomBeside, WorksAndRetires}
-use Rattle.lane_threads.specs.Gathers.{GoesOn}
 use Rattle.lane_threads.proofs.LaneLists.{no_items}
 use Rattle.lane_threads.proofs.Gathered.{last_of, front_of, works_again, works_told, workers_start, workers_next}
 use Rattle.lane_threads.proofs.all.+run_workers.Goals as goal
 use Rattle.lane_threads.proofs.all.+run_workers.Goals.{in-Ok, in-Err}
 
-pub first-requires-clause-begin : goal.first-requires-clause-begin
-first-requires-clause-begin g t c = last_of (MayBegin c.args.engine.now c.args.queue.now c.args.tries) c.args.workers.items c.pop.new.self.items c.in-Some.worker c.in-Some.ensures.items c.requires.begin
+pub first-worked-requires-clause-begin : goal.first-worked-requires-clause-begin
+first-worked-requires-clause-begin g t c = last_of (MayBegin c.args.engine.now c.args.queue.now c.args.tries) c.args.workers.items c.pop.new.self.items c.in-Some.worker c.in-Some.ensures.items c.requires.begin
 
-pub first-requires-clause-room : goal.first-requires-clause-room
-first-requires-clause-room g t c = last_of (HasRoomBeside (g.L.LaneRun.may_read c.args.reader) c.args.tries) c.args.workers.items c.pop.new.self.items c.in-Some.worker c.in-Some.ensures.items c.requires.room
+pub first-worked-requires-clause-room : goal.first-worked-requires-clause-room
+first-worked-requires-clause-room g t c = last_of (HasRoomBeside (g.L.LaneRun.may_read c.args.reader) c.args.tries) c.args.workers.items c.pop.new.self.items c.in-Some.worker c.in-Some.ensures.items c.requires.room
 
 pub returns-then-is_empty : goal.returns-then-is_empty
 returns-then-is_empty g t c =
     let zero : length c.pop.new.self.items ≡ 0 = omega (arith, c.pop.new.self.ok.0, eqb-true (vec_len c.pop.new.self) 0 (sym c.if-is_empty.ensures)) in
     let none : c.pop.new.self.items ≡ [] = no_items c.pop.new.self.items zero in
-    workers_start c.args.engine.now c.args.queue.now c.args.tries (g.L.LaneRun.may_read c.args.reader) c.args.workers.items c.pop.new.self.items c.in-Some.worker c.first.result.0 (g.L.LaneRun.has_read c.first.result.1) c.in_ok-start_gathering.field-0
-    c.in-Some.ensures.items none c.requires.begin c.first.ensures c.in_ok-start_gathering.ensures
+    workers_start c.args.engine.now c.args.queue.now c.args.tries (g.L.LaneRun.may_read c.args.reader) c.args.workers.items c.pop.new.self.items c.in-Some.worker c.first-worked.result.0 (g.L.LaneRun.has_read c.first-worked.result.1) c.in_ok-start_gathering.field-0
+    c.in-Some.ensures.items none c.requires.begin c.first-worked.ensures c.in_ok-start_gathering.ensures
 
 pub spawn_with-started-requires-clause-runs : goal.spawn_with-started-requires-clause-runs
 spawn_with-started-requires-clause-runs g t c κs within =

@@ -8,9 +8,8 @@ pub(crate) fn copy(value: &Option<Cells>) -> Option<Cells>
     ensures same { result ≡ value.now }
     ensures whole { IfSome result (λ words. length words ≡ 32) }
 {
-    if let Some(cells) = value {
-        // Its type tells contracts how long it is.
-        let _words = cells.words();
+    match value {
+        None => None,
+        Some(cells) => Some(Cells::new(cells.words())),
     }
-    *value
 }

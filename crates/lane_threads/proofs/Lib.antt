@@ -1,5 +1,5 @@
 mod Paired
-mod Merging
+pub mod Merging
 pub mod LaneLists
 pub mod Readings
 mod Gathered

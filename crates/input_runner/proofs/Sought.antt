@@ -22,7 +22,7 @@ use Rattle.stored_tables.specs.Kept.{KeepsTables}
 use Rattle.stored_tables.specs.Places.{Places}
 use Rattle.stored_tables.specs.Tables.{StandsFor, EachTables}
 use Rattle.txn_engine.specs.Alone.{AloneView, with_pass}
-use Rattle.txn_engine.specs.Pass.{PassView, IsAlone, IsIdle, next_clock, ticked}
+use Rattle.txn_engine.specs.Pass.{PassView, IsAlone, IsIdle, next_clock, ticked, engine_of, desk_of}
 use Rattle.txn_engine.specs.Snapshot.{Begins, finished, glance_store, looking, meaning_of_glance, unread}
 use Rattle.input_runner.specs.Reading.{AddsSnapshot, clock_read}
 
@@ -66,9 +66,9 @@ pub record Sought (p s0 s1 r : PassView) : Type 0 where
   pub adds : AddsSnapshot p r
   pub log : r.log ≡ p.log ++ entry_of_glance glance ∷ []
   pub behind : (e : Entry) → Among e p.log → e.stamp ≤ glance.stamp
-  pub records : s1.engine.size.records ≡ p.engine.size.records
-  pub kept_records : r.engine.size.records ≡ p.engine.size.records
-  pub size : (meaning_of_glance s0).size ≡ p.engine.size.records
+  pub records : s1.shared.size.records ≡ p.shared.size.records
+  pub kept_records : r.shared.size.records ≡ p.shared.size.records
+  pub size : (meaning_of_glance s0).size ≡ p.shared.size.records
   pub none : (meaning_of_glance s0).writes ≡ []
   pub reads : (meaning_of_glance s1).reads ≡ glance.reads
 
@@ -82,7 +82,7 @@ sought p t s0 s1 f r clock begins tick rest ends told idle alone above later dra
     let whole : unread s1 ≡ unread (looking (ticked p clock) begins.stamp) = rest ∙ ap unread (begins.pass ∙ ap (λ (x : PassView). looking x begins.stamp) tick) in
     let stamped : g.stamp ≡ begins.stamp = found.2 in
     let grown : r.log ≡ p.log ++ entry_of_glance g ∷ [] = ap (λ (x : PassView). x.log) tells ∙ ap (λ (x : PassView). x.log) ended ∙ ap (λ (x : PassView). x.log ++ entry_of_glance g ∷ []) whole in
-    let engine : r.engine ≡ p.engine = ap (λ (x : PassView). x.engine) tells ∙ ap (λ (x : PassView). x.engine) ended ∙ ap (λ (x : PassView). x.engine) whole in
+    let engine : engine_of r ≡ engine_of p = ap engine_of tells ∙ ap engine_of ended ∙ ap engine_of whole in
     let at : r.clock ≡ clock = ap (λ (x : PassView). x.clock) tells ∙ ap (λ (x : PassView). x.clock) ended ∙ ap (λ (x : PassView). x.clock) whole in
     let met : p.met ≤ begins.stamp + 1 = subst (λ (x : PassView). x.met ≤ begins.stamp + 1) tick begins.met in
     let ended_met : f.met ≡ begins.stamp + 1 = ap (λ (x : PassView). x.met) ended ∙ ap (λ (x : PassView). x.met) whole in
@@ -105,13 +105,13 @@ sought p t s0 s1 f r clock begins tick rest ends told idle alone above later dra
         seat = ap (λ (x : PassView). x.seat) tells ∙ ap (λ (x : PassView). x.seat) ended ∙ ap (λ (x : PassView). x.seat) whole;
         others = ap (λ (x : PassView). x.others) tells ∙ ap (λ (x : PassView). x.others) ended ∙ ap (λ (x : PassView). x.others) whole;
         refusals = ap (λ (x : PassView). x.refusals) tells ∙ ap (λ (x : PassView). x.refusals) ended ∙ ap (λ (x : PassView). x.refusals) whole;
-        idle = ap (λ (x : PassView). x.desk) tells ∙ ap (λ (x : PassView). x.desk) ended ∙ ap (λ (x : PassView). x.desk) whole ∙ idle;
+        idle = ap desk_of tells ∙ ap desk_of ended ∙ ap desk_of whole ∙ idle;
         later = omega (arith, at, later);
         clock = subst (λ (n : ℕ). n ≤ clock_read p) (sym at) drawn;
       };
       log = grown;
       behind = behind;
-      records = ap (λ (x : PassView). x.engine.size.records) whole;
+      records = ap (λ (x : PassView). x.shared.size.records) whole;
       kept_records = ap (λ e. e.size.records) engine;
       size = ap (λ (x : PassView). (meaning_of_glance x).size) (begins.pass ∙ ap (λ (x : PassView). looking x begins.stamp) tick);
       none = ap (λ (x : PassView). (meaning_of_glance x).writes) begins.pass;
@@ -134,11 +134,11 @@ each_told records m m' reads P size none same each state places tables agrees st
     (subst (λ (ws : List (ℕ × Option (List ℕ))). StandsFor m.size (overlay ws state) places tables) (sym none) (subst (λ (n : ℕ). StandsFor n state places tables) (sym size) stands))
 
 -- no tables were torn
-pub never_torn : (kept : State → Type 0) (p s0 s1 r : PassView) (s : Sought p s0 s1 r) → KeepsTables kept → IfSome s1.glance (λ g. Stood kept s1.engine.size.records s1.log (entry_of_glance g)) → EachTables (meaning_of_glance s0) (meaning_of_glance s1) (λ _ _ _. ⊥) → ⊥
+pub never_torn : (kept : State → Type 0) (p s0 s1 r : PassView) (s : Sought p s0 s1 r) → KeepsTables kept → IfSome s1.glance (λ g. Stood kept s1.shared.size.records s1.log (entry_of_glance g)) → EachTables (meaning_of_glance s0) (meaning_of_glance s1) (λ _ _ _. ⊥) → ⊥
 never_torn kept p s0 s1 r s keeps stood torn =
-    let here : Stood kept s1.engine.size.records s1.log (entry_of_glance s.glance) = subst (λ (o : Option GlanceView). IfSome o (λ g. Stood kept s1.engine.size.records s1.log (entry_of_glance g))) s.seen stood in
-    let held = keeps.stands s1.engine.size.records here.state here.left.is_state here.left.is_kept in
-    each_told s1.engine.size.records (meaning_of_glance s0) (meaning_of_glance s1) s.glance.reads (λ _. ⊥) (s.size ∙ sym s.records) s.none s.reads torn here.state held.1.0 held.0 here.agrees held.1.1
+    let here : Stood kept s1.shared.size.records s1.log (entry_of_glance s.glance) = subst (λ (o : Option GlanceView). IfSome o (λ g. Stood kept s1.shared.size.records s1.log (entry_of_glance g))) s.seen stood in
+    let held = keeps.stands s1.shared.size.records here.state here.left.is_state here.left.is_kept in
+    each_told s1.shared.size.records (meaning_of_glance s0) (meaning_of_glance s1) s.glance.reads (λ _. ⊥) (s.size ∙ sym s.records) s.none s.reads torn here.state held.1.0 held.0 here.agrees held.1.1
 
 -- ---- what the log leaves agrees with it
 

@@ -21,7 +21,7 @@ use Rattle.seat_post.specs.Leaves.{LeavesValue}
 use Rattle.seat_post.specs.Logs.{IsAbove}
 use Rattle.seat_post.specs.Rewriting.{rewriting, Rewritings, none_yet, one_more}
 use Rattle.seat_post.proofs.Leaving.{leaves_all, leaves_one}
-use Rattle.txn_engine.specs.Pass.{EngineView, PassView, IsIdle}
+use Rattle.txn_engine.specs.Pass.{EngineView, PassView, IsIdle, engine_of, desk_of}
 use Rattle.txn_engine.specs.Settling.{SettlesPass}
 use Rattle.lane_runner.specs.declared.done.LaneDone.{LaneDone}
 use Rattle.lane_runner.specs.Rows.{stands}
@@ -118,14 +118,14 @@ not_self : (n : ℕ) → n < n → ⊥
 not_self n less = omega arith
 
 module _ (p q : PassView) (s : SettlesPass (StandsForSome stands) p q) where
-  are : AreAgain p.engine.size.records p.log q.log
-  are = again p.engine.size.records p.log q.log s.log
+  are : AreAgain p.shared.size.records p.log q.log
+  are = again p.shared.size.records p.log q.log s.log
 
-  pub engine_settled : q.engine ≡ p.engine
-  engine_settled = ap (λ (x : PassView). x.engine) s.after
+  pub engine_settled : engine_of q ≡ engine_of p
+  engine_settled = ap engine_of s.after
 
   pub idle_settled : IsIdle p → IsIdle q
-  idle_settled idle = ap (λ (x : PassView). x.desk) s.after ∙ idle
+  idle_settled idle = ap desk_of s.after ∙ idle
 
   in_both : (e : Entry) → Among e p.log → Among e q.log
   in_both e among = subst (λ (es : List Entry). Among e es) (sym are.log_is) (Among-left e p.log are.entries among)
@@ -157,10 +157,10 @@ module _ (p q : PassView) (s : SettlesPass (StandsForSome stands) p q) where
     refusals = let same : q.refusals ≡ p.refusals = ap (λ (x : PassView). x.refusals) s.after in omega arith;
   }
 
-  pub records_again : NextStateIsOverlay → Lawful (StandsForSome stands) q.engine.size.records q.log → (added : TableMap → ℕ) → HasRecords p added → HasRecords q added
+  pub records_again : NextStateIsOverlay → Lawful (StandsForSome stands) q.shared.size.records q.log → (added : TableMap → ℕ) → HasRecords p added → HasRecords q added
   records_again overlays lawful added has =
-      let here : Lawful (StandsForSome stands) p.engine.size.records q.log = subst (λ (e : EngineView). Lawful (StandsForSome stands) e.size.records q.log) engine_settled lawful in
-      let within : LeavesWithin p.engine.size.records q.log has.tables has.most = within_again overlays p.engine.size.records p.log q.log has.tables has.most s.log here.each here.apart has.leaves in
+      let here : Lawful (StandsForSome stands) p.shared.size.records q.log = subst (λ (e : EngineView). Lawful (StandsForSome stands) e.size.records q.log) engine_settled lawful in
+      let within : LeavesWithin p.shared.size.records q.log has.tables has.most = within_again overlays p.shared.size.records p.log q.log has.tables has.most s.log here.each here.apart has.leaves in
       record {
         tables = has.tables;
         most = has.most;
@@ -174,7 +174,7 @@ module _ (p q : PassView) (s : SettlesPass (StandsForSome stands) p q) where
       done = f.runs.done;
       blocks_are = f.runs.blocks_are;
       entries = are.entries ++ f.runs.entries;
-      are_entries = AreEntries-append p.engine.size.records are.entries [] [] f.runs.entries f.runs.done f.rests (AreEntries-others p.engine.size.records are.entries are.others)
+      are_entries = AreEntries-append p.shared.size.records are.entries [] [] f.runs.entries f.runs.done f.rests (AreEntries-others p.shared.size.records are.entries are.others)
           (subst (λ (e : EngineView). AreEntries e.size.records f.runs.entries f.runs.done f.rests) engine_settled f.runs.are_entries);
       adds = Adds-trans p q r are.entries f.runs.entries (Adds-again idle) f.runs.adds;
     }

@@ -27,7 +27,7 @@ use Rattle.txn_engine.specs.Alone.{AloneView, with_pass}
 use Rattle.seat_post.specs.Glance.{GlanceView}
 use Rattle.txn_engine.specs.Leaves.{HoldsAbsent}
 use Rattle.txn_engine.specs.Lists.{IsRoomy}
-use Rattle.txn_engine.specs.Pass.{PassView, IsIdle, IsAlone, ticked}
+use Rattle.txn_engine.specs.Pass.{PassView, IsIdle, IsAlone, ticked, engine_of, desk_of}
 use Rattle.seat_post.specs.Logs.{IsAbove}
 use Rattle.txn_engine.specs.Snapshot.{Begins, finished, glance_store, meaning_of_glance, unread}
 use Rattle.seat_post.specs.Glance.{entry_of_glance}
@@ -97,8 +97,8 @@ module _ (p t s0 s1 f : PassView) (clock : ℕ) (begins : Begins t s0) (g : Glan
   whole : unread s1 ≡ unread (record (ticked p clock) { met = begins.stamp + 1; glance = Some (record { stamp = begins.stamp; reads = [] }) })
   whole = rest ∙ ap unread begins.pass ∙ ap (λ (x : PassView). unread (record x { met = begins.stamp + 1; glance = Some (record { stamp = begins.stamp; reads = [] }) })) tick
 
-  same_engine : f.engine ≡ p.engine
-  same_engine = ap (λ (x : PassView). x.engine) ends ∙ ap (λ (x : PassView). x.engine) whole
+  same_engine : engine_of f ≡ engine_of p
+  same_engine = ap engine_of ends ∙ ap engine_of whole
 
   grown : f.log ≡ p.log ++ entry_of_glance g ∷ []
   grown = ap (λ (x : PassView). x.log) ends ∙ ap (λ (x : PassView). x.log ++ entry_of_glance g ∷ []) whole
@@ -121,7 +121,7 @@ module _ (p t s0 s1 f : PassView) (clock : ℕ) (begins : Begins t s0) (g : Glan
     engine = same_engine;
     seat = ap (λ (x : PassView). x.seat) ends ∙ ap (λ (x : PassView). x.seat) whole;
     others = ap (λ (x : PassView). x.others) ends ∙ ap (λ (x : PassView). x.others) whole;
-    idle = ap (λ (x : PassView). x.desk) ends ∙ ap (λ (x : PassView). x.desk) whole ∙ idle;
+    idle = ap desk_of ends ∙ ap desk_of whole ∙ idle;
     log = grown;
     each = only;
     in_order = (λ second among. absurd among, tt);
@@ -194,8 +194,8 @@ sought p t s0 s1 f clock stamp begins later drawn idle tick rest ends is alone a
 -- ---- its entry
 
 module _ (p t s0 s1 : PassView) (clock : ℕ) (begins : Begins t s0) (tick : t ≡ ticked p clock) (glance : GlanceView) (seen : s1.glance ≡ Some glance) where
-  pub size_looked : (meaning_of_glance s0).size ≡ p.engine.size.records
-  size_looked = ap (λ (x : PassView). (meaning_of_glance x).size) begins.pass ∙ ap (λ (x : PassView). x.engine.size.records) tick
+  pub size_looked : (meaning_of_glance s0).size ≡ p.shared.size.records
+  size_looked = ap (λ (x : PassView). (meaning_of_glance x).size) begins.pass ∙ ap (λ (x : PassView). x.shared.size.records) tick
 
   pub none_looked : (meaning_of_glance s0).writes ≡ []
   none_looked = ap (λ (x : PassView). (meaning_of_glance x).writes) begins.pass
@@ -227,6 +227,6 @@ torn_looked records m m' g size_is none reads torn state places tables agrees ho
 
 pub leaves_looked : (p f : PassView) (g : GlanceView) (commands : List Command) → Adds p f (entry_of_glance g ∷ []) → All ReadsAlone commands → LeavesAfter commands p f
 leaves_looked p f g commands adds reads tables most within =
-    let more = within_weaker p.engine.size.records p.log tables most (most + all_add commands tables) (omega arith) within in
-    let here = within_at p f (entry_of_glance g ∷ []) tables (most + all_add commands tables) adds (within_snapshot p.engine.size.records p.log (entry_of_glance g) tables (most + all_add commands tables) refl more) in
-    subst (λ (after : TableMap). LeavesWithin f.engine.size.records f.log after (most + all_add commands tables)) (sym (reads_stay commands tables reads)) here
+    let more = within_weaker p.shared.size.records p.log tables most (most + all_add commands tables) (omega arith) within in
+    let here = within_at p f (entry_of_glance g ∷ []) tables (most + all_add commands tables) adds (within_snapshot p.shared.size.records p.log (entry_of_glance g) tables (most + all_add commands tables) refl more) in
+    subst (λ (after : TableMap). LeavesWithin f.shared.size.records f.log after (most + all_add commands tables)) (sym (reads_stay commands tables reads)) here

@@ -80,8 +80,8 @@ leaves_one kept p q rid clock stamp idle later is = rw is.after (record {
   others = record {
     entries = entry ∷ [];
     adds = Adds-one p (promoted p clock rid (Some is.words)) entry next refl refl refl idle refl (omega arith) (omega arith) (omega arith);
-    keep = λ e among. elim among as (λ _. LeavesTables p.engine.size.records e) [
-      | inl same ↦ subst (λ (x : Entry). LeavesTables p.engine.size.records x) same (leaves_rewritten p.engine.size.records (stamp_of clock p.seat) rid (Some is.words))
+    keep = λ e among. elim among as (λ _. LeavesTables p.shared.size.records e) [
+      | inl same ↦ subst (λ (x : Entry). LeavesTables p.shared.size.records x) same (leaves_rewritten p.shared.size.records (stamp_of clock p.seat) rid (Some is.words))
       | inr none ↦ absurd none
     ];
   };

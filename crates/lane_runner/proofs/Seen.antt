@@ -18,7 +18,7 @@ use Rattle.stored_tables.specs.Places.{Places}
 use Rattle.stored_tables.specs.Tables.{StandsFor, EachTables}
 use Rattle.seat_post.specs.Ends.{Stood}
 use Rattle.seat_post.specs.Glance.{GlanceView, first_glance}
-use Rattle.txn_engine.specs.Pass.{PassView, IsIdle, with_glance, ticked}
+use Rattle.txn_engine.specs.Pass.{PassView, IsIdle, with_glance, ticked, engine_of, desk_of}
 use Rattle.seat_post.specs.Logs.{AreBelow}
 use Rattle.txn_engine.specs.Snapshot.{Begins, looking, finished, meaning_of_glance, unread}
 use Rattle.seat_post.specs.Glance.{entry_of_glance}
@@ -42,7 +42,7 @@ pub record HasSeen (p q : PassView) (clock : ℕ) (g : GlanceView) : Type 0 wher
 
 -- the records that it sees, with these reads
 abbrev sees : PassView → List (ℕ × Option (List ℕ)) → Meaning
-sees p reads = record { size = p.engine.size.records; fixed = p.engine.fixed; reads = reads; writes = []; given = [] }
+sees p reads = record { size = p.shared.size.records; fixed = p.fixed; reads = reads; writes = []; given = [] }
 
 abbrev stamp_in : Option GlanceView → ℕ
 stamp_in None = 0
@@ -57,7 +57,7 @@ still_there (Some g) stamp is = (g, refl, ap stamp_in is)
 begun_is : (p t s : PassView) (clock : ℕ) → t ≡ ticked p clock → (begins : Begins t s) → s ≡ looking (ticked p clock) begins.stamp
 begun_is p t s clock ticks begins = begins.pass ∙ ap (λ (x : PassView). looking x begins.stamp) ticks
 
-pub sees_all : (p t s : PassView) (clock : ℕ) → t ≡ ticked p clock → Begins t s → (meaning_of_glance s).size ≡ p.engine.size.records
+pub sees_all : (p t s : PassView) (clock : ℕ) → t ≡ ticked p clock → Begins t s → (meaning_of_glance s).size ≡ p.shared.size.records
 sees_all p t s clock ticks begins = ap (λ (x : PassView). (meaning_of_glance x).size) (begun_is p t s clock ticks begins)
 
 module _ (p t s q : PassView) (clock : ℕ) (ticks : t ≡ ticked p clock) (begins : Begins t s) (rest : unread q ≡ unread s) where
@@ -81,7 +81,7 @@ module _ (p t s q : PassView) (clock : ℕ) (ticks : t ≡ ticked p clock) (begi
 
   -- what holds of each state that agrees with what it read and stands for tables
   each_state : (P : TableMap → Type 0) → EachTables (meaning_of_glance s) (meaning_of_glance q) (λ _ _ tables. P tables)
-      → (state : State) (places : Places) (tables : TableMap) → Agrees state has_seen.0.reads → StandsFor p.engine.size.records state places tables → P tables
+      → (state : State) (places : Places) (tables : TableMap) → Agrees state has_seen.0.reads → StandsFor p.shared.size.records state places tables → P tables
   each_state P each state places tables agrees holds =
       let after : meaning_of_glance q ≡ sees p has_seen.0.reads = ap meaning_of_glance has_seen.1.same in
       let told : EachTables (sees p []) (sees p has_seen.0.reads) (λ _ _ tables. P tables) =
@@ -90,12 +90,12 @@ module _ (p t s q : PassView) (clock : ℕ) (ticks : t ≡ ticked p clock) (begi
       told state places tables agrees holds
 
   -- it has met no torn tables
-  pub never_torn : (kept : State → Type 0) → KeepsTables kept → IfSome q.glance (λ g. Stood kept q.engine.size.records q.log (entry_of_glance g))
+  pub never_torn : (kept : State → Type 0) → KeepsTables kept → IfSome q.glance (λ g. Stood kept q.shared.size.records q.log (entry_of_glance g))
       → EachTables (meaning_of_glance s) (meaning_of_glance q) (λ _ _ _. ⊥) → ⊥
   never_torn kept keeps stood torn =
-      let here : Stood kept p.engine.size.records p.log (entry_of_glance has_seen.0) =
-      subst (λ (x : PassView). IfSome x.glance (λ g. Stood kept x.engine.size.records x.log (entry_of_glance g))) has_seen.1.same stood in
-      never_stood kept p.engine.size.records p.log (entry_of_glance has_seen.0) keeps here (each_state (λ _. ⊥) torn)
+      let here : Stood kept p.shared.size.records p.log (entry_of_glance has_seen.0) =
+      subst (λ (x : PassView). IfSome x.glance (λ g. Stood kept x.shared.size.records x.log (entry_of_glance g))) has_seen.1.same stood in
+      never_stood kept p.shared.size.records p.log (entry_of_glance has_seen.0) keeps here (each_state (λ _. ⊥) torn)
 
   -- ---- its end
 
@@ -117,10 +117,10 @@ module _ (p t s q : PassView) (clock : ℕ) (ticks : t ≡ ticked p clock) (begi
 
     pub Adds-finished : Adds p f (entry_of_glance has_seen.0 ∷ [])
     Adds-finished = Adds-one p f (entry_of_glance has_seen.0) next_snapshot
-        (ap (λ (x : PassView). x.engine) ends)
+        (ap engine_of ends)
         (ap (λ (x : PassView). x.seat) ends)
         (ap (λ (x : PassView). x.others) ends)
-        (ap (λ (x : PassView). x.desk) ends ∙ idle)
+        (ap desk_of ends ∙ idle)
         (ap (λ (x : PassView). x.log) ends)
         (omega (arith, at_clock))
         (let is : f.met ≡ has_seen.0.stamp + 1 = ap (λ (x : PassView). x.met) ends in omega (arith, has_seen.1.met))
@@ -139,7 +139,7 @@ module _ (p t s q : PassView) (clock : ℕ) (ticks : t ≡ ticked p clock) (begi
         stamp = sym (subst (λ (x : PassView). IfSome x.glance (λ g. placed.stamp ≡ g.stamp)) has_seen.1.same stamp);
         kind = kind;
         answers = λ state tables is_state holds agrees.
-            each_state (λ tables. outcome ≡ outcome_of commands tables) told state holds.0 tables agrees (fits record_limit p.engine.size.records state holds.0 tables is_state holds.1);
+            each_state (λ tables. outcome ≡ outcome_of commands tables) told state holds.0 tables agrees (fits record_limit p.shared.size.records state holds.0 tables is_state holds.1);
         writes = λ commit. let both : true ≡ false = kind ∙ commit in cc;
       };
       weighs = λ commit. cc;

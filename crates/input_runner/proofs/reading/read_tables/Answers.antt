@@ -39,10 +39,10 @@ returns-clause-rows c =
     let p = c.args.alone.now.pass in
     let s = sight (goal.at.returns-clause-rows c).After-tell in
     let entry = entry_of_glance s.glance in
-    let records = p.engine.size.records in
-    let told : Lawful (StandsForSome stands) c.tell.new.self.pass.engine.size.records c.tell.new.self.pass.log = search rules in
+    let records = p.shared.size.records in
+    let told : Lawful (StandsForSome stands) c.tell.new.self.pass.shared.size.records c.tell.new.self.pass.log = search rules in
     let lawful : Lawful (StandsForSome stands) records (p.log ++ entry ∷ []) =
-    subst (λ (n : ℕ). Lawful (StandsForSome stands) n (p.log ++ entry ∷ [])) s.kept_records (subst (λ (log : List Entry). Lawful (StandsForSome stands) c.tell.new.self.pass.engine.size.records log) s.log told) in
+    subst (λ (n : ℕ). Lawful (StandsForSome stands) n (p.log ++ entry ∷ [])) s.kept_records (subst (λ (log : List Entry). Lawful (StandsForSome stands) c.tell.new.self.pass.shared.size.records log) s.log told) in
     IfOk-map c.untorn.result (λ rows was tables leaves.
     (let left = left_agrees (StandsForSome stands) records p.log entry leaves.0 c.lawful_has_states.ensures lawful refl s.behind (subst (λ (log : List Entry). Leaves (Contains log) leaves.0) s.log leaves.1) in
     each_told records (meaning_of_glance c.snapshot-snapshot.result.alone.now.pass) (meaning_of_glance c.list_tables-told.new.store.alone.now.pass) s.glance.reads (λ tables. AreRows c.args.count tables rows.items) s.size s.none s.reads (ok_of c.list_tables-told.result _ rows was c.list_tables-told.ensures.rows) leaves.0 leaves.2.0 tables left.agrees

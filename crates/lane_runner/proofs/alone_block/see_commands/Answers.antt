@@ -36,11 +36,11 @@ untorn-requires c =
     let begins = c.snapshot-snapshot.ensures.begins in
     let tick = ap (λ (a : AloneView). a.pass) c.in-Ok.ensures.ok in
     let o = sight (goal.at.untorn-requires c).After-finish-stamp in
-    let records : s1.engine.size.records ≡ p.engine.size.records = ap (λ (x : AloneGlanceRest). x.of_pass.engine.size.records) c.exec_snap-told.ensures.rest ∙ ap (λ (x : PassView). x.engine.size.records) begins.pass ∙ ap (λ (x : PassView). x.engine.size.records) tick in
-    let stood = subst (λ (g : Option GlanceView). IfSome g (λ g. Stood (StandsForSome stands) s1.engine.size.records s1.log (entry_of_glance g))) o.seen c.finish-stamp.ensures.stood in
+    let records : s1.shared.size.records ≡ p.shared.size.records = ap (λ (x : AloneGlanceRest). x.of_pass.shared.size.records) c.exec_snap-told.ensures.rest ∙ ap (λ (x : PassView). x.shared.size.records) begins.pass ∙ ap (λ (x : PassView). x.shared.size.records) tick in
+    let stood = subst (λ (g : Option GlanceView). IfSome g (λ g. Stood (StandsForSome stands) s1.shared.size.records s1.log (entry_of_glance g))) o.seen c.finish-stamp.ensures.stood in
     not_torn c.exec_snap-told.result _ c.exec_snap-told.ensures.torn
-    (λ torn. never_stood (StandsForSome stands) s1.engine.size.records s1.log (entry_of_glance o.glance) c.keeps_tables.ensures stood
-    (torn_looked s1.engine.size.records (meaning_of_glance s0) (meaning_of_glance s1) o.glance (size_looked p t s0 s1 (next_clock p 0) begins tick o.glance o.seen ∙ sym records) (none_looked p t s0 s1 (next_clock p 0) begins tick o.glance o.seen) (reads_looked p t s0 s1 (next_clock p 0) begins tick o.glance o.seen) torn))
+    (λ torn. never_stood (StandsForSome stands) s1.shared.size.records s1.log (entry_of_glance o.glance) c.keeps_tables.ensures stood
+    (torn_looked s1.shared.size.records (meaning_of_glance s0) (meaning_of_glance s1) o.glance (size_looked p t s0 s1 (next_clock p 0) begins tick o.glance o.seen ∙ sym records) (none_looked p t s0 s1 (next_clock p 0) begins tick o.glance o.seen) (reads_looked p t s0 s1 (next_clock p 0) begins tick o.glance o.seen) torn))
 
 enters : (c : In_ok-outcome) → Enters c.args.commands.now c.args.alone.now c.finish-stamp.new.self.0 c.finish-stamp.result true c.in_ok-outcome.outcome
 enters c =
@@ -55,7 +55,7 @@ enters c =
       committed = λ placed stamp kind. record {
         entry = entry_of_glance o.glance;
         adds = o.adds;
-        is_entry = is_entry_looked p.engine.size.records (meaning_of_glance s0) (meaning_of_glance s1) c.args.commands.now c.in_ok-outcome.outcome placed o.glance c.fits_records.ensures (size_looked p t s0 s1 (next_clock p 0) begins tick o.glance o.seen)
+        is_entry = is_entry_looked p.shared.size.records (meaning_of_glance s0) (meaning_of_glance s1) c.args.commands.now c.in_ok-outcome.outcome placed o.glance c.fits_records.ensures (size_looked p t s0 s1 (next_clock p 0) begins tick o.glance o.seen)
             (none_looked p t s0 s1 (next_clock p 0) begins tick o.glance o.seen) (reads_looked p t s0 s1 (next_clock p 0) begins tick o.glance o.seen) (rw c.in_ok-outcome.ensures at c.exec_snap-told.ensures.outcome) (sym (stamp ∙ o.stamp_is)) kind;
         weighs = λ commit. cc;
       };

@@ -1,5 +1,5 @@
 use Rattle.std.proofs.Common.{◌≡◌, ap, sym, subst, ◌∙◌}
-use Rattle.txn_engine.specs.Pass.{PassView, IsAlone}
+use Rattle.txn_engine.specs.Pass.{PassView, IsAlone, engine_of}
 use Rattle.txn_engine.specs.Collecting.{collected}
 use Rattle.txn_engine.specs.Lists.{IsRoomyOnceCollected}
 use Rattle.lane_runner.proofs.Granted.{none_collected, ready_collected}
@@ -19,5 +19,5 @@ returns-clause-ready c = λ ready.
     let r = c.collect.new.self in
     let is : r ≡ collected (record c.args.pass.now { met = c.tell.new.self.met }) r.met r.known r.queue = c.collect.ensures.after ∙ ap (λ (x : PassView). collected x r.met r.known r.queue) c.tell.ensures.value in
     let told = c.tell.ensures.value in
-    ready_collected c.args.pass.now r (ap (λ (x : PassView). x.engine) is) (ap (λ (x : PassView). x.seat) is) (ap (λ (x : PassView). x.others) is) (ap (λ (x : PassView). x.given) is) (ap (λ (x : PassView). x.spare) is) (ap (λ (x : PassView). x.log) is)
+    ready_collected c.args.pass.now r (ap engine_of is) (ap (λ (x : PassView). x.seat) is) (ap (λ (x : PassView). x.others) is) (ap (λ (x : PassView). x.given) is) (ap (λ (x : PassView). x.spare) is) (ap (λ (x : PassView). x.log) is)
     ready (c.collect.ensures.roomy (subst (λ (x : PassView). IsAlone x) (sym told) ready.alone) (subst (λ (x : PassView). IsRoomyOnceCollected x) (sym told) ready.roomy))

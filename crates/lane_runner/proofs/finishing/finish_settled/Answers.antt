@@ -2,7 +2,7 @@ use Rattle.std.proofs.Common.{◌≡◌, ℕ, ◌≤◌, List, [], length, sym, 
 use Rattle.std.proofs.lemmas.List.Sorted.{answers_always}
 use Rattle.replay_model.specs.declared.input.Block.{Block}
 use Rattle.txn_engine.specs.Alone.{AloneView}
-use Rattle.txn_engine.specs.Pass.{EngineView}
+use Rattle.txn_engine.specs.Pass.{EngineView, engine_of}
 use Rattle.plain_data.specs.declared.entry.Entry.{Entry}
 use Rattle.histories.specs.History.{Lawful}
 use Rattle.history_replay.specs.Results.{StandsForSome}
@@ -28,13 +28,13 @@ adds c =
     c.collect.ensures.met c.collect.ensures.seen c.tell.ensures.not_back
 
 -- the log that was told to be lawful is that of before
-lawful_before : (c : After-tell) → Lawful (StandsForSome stands) c.args.alone.now.pass.engine.size.records c.args.alone.now.pass.log
+lawful_before : (c : After-tell) → Lawful (StandsForSome stands) c.args.alone.now.pass.shared.size.records c.args.alone.now.pass.log
 lawful_before c =
     let p = c.args.alone.now.pass in
     let d = c.rescan.new.self.pass in
-    let engine : d.engine ≡ p.engine = ap (λ (a : AloneView). a.pass.engine) c.rescan.ensures.after ∙ ap (λ (a : AloneView). a.pass.engine) c.collect.ensures.after in
+    let engine : engine_of d ≡ engine_of p = ap (λ (a : AloneView). engine_of a.pass) c.rescan.ensures.after ∙ ap (λ (a : AloneView). engine_of a.pass) c.collect.ensures.after in
     let log : d.log ≡ p.log = ap (λ (a : AloneView). a.pass.log) c.rescan.ensures.after ∙ ap (λ (a : AloneView). a.pass.log) c.collect.ensures.after in
-    subst (λ (es : List Entry). Lawful (StandsForSome stands) p.engine.size.records es) log (subst (λ (e : EngineView). Lawful (StandsForSome stands) e.size.records d.log) engine c.tell.ensures.lawful)
+    subst (λ (es : List Entry). Lawful (StandsForSome stands) p.shared.size.records es) log (subst (λ (e : EngineView). Lawful (StandsForSome stands) e.size.records d.log) engine c.tell.ensures.lawful)
 
 same_clock : (c : After-tell) → c.tell.new.self.pass.clock ≡ c.args.alone.now.pass.clock
 same_clock c =

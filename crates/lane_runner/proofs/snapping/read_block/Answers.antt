@@ -14,7 +14,7 @@ pub exec_snap-told-requires-clause-size : goal.exec_snap-told-requires-clause-si
 exec_snap-told-requires-clause-size c =
     let p = c.args.pass.now in
     let all = sees_all p c.tick.new.self c.snapshot-snapshot.result.pass.now (next_clock p c.args.reading) c.in-Ok.ensures.ok c.snapshot-snapshot.ensures.begins in
-    let records : p.engine.size.records ≡ c.args.engine.now.size.records = ap (λ (e : EngineView). e.size.records) c.requires.engine in
+    let records : p.shared.size.records ≡ c.args.engine.now.size.records = ap (λ (e : EngineView). e.size.records) c.requires.engine in
     omega (arith, all, records, c.requires.fixed, c.fixed.ensures.value, c.fixed.ensures.within)
 
 pub untorn-requires : goal.untorn-requires

@@ -2,10 +2,11 @@ use Rattle.std.proofs.Common.{◌≡◌, None, sym, ap, ◌∙◌, subst, length
 use Rattle.std.specs.Prelude.{slice_get}
 use Rattle.txn_engine.specs.Faults.{IfConflict, MeetsAmong}
 use Rattle.txn_engine.specs.Fresh.{AreWritten}
-use Rattle.txn_engine.specs.Pass.{PassView}
+use Rattle.txn_engine.specs.Pass.{PassView, observing}
 use Rattle.txn_engine.specs.Accounts.{accounted}
 use Rattle.txn_engine.proofs.Asking.{asks_left, on_at, meets_among, refused_by, all_written, none_there}
 use Rattle.txn_engine.proofs.Accounting.{none_left}
+use Rattle.txn_engine.proofs.Growing.{grows_both}
 use Rattle.txn_engine.proofs.pass.Pass.fresh.Goals as goal
 
 pub loop-rid-smaller : goal.loop-rid-smaller
@@ -19,7 +20,8 @@ loop-rid-preserved g c =
     let at = sym (ap (λ (p : PassView). slice_get p.spare c.loop-rid.i) c.self.view_is) ∙ sym c.in-Some.ensures.at in
     let left = asks_left c.loop-rid.self c.ask.new.self c.loop-rid.i c.in-Some.rid c.in-Next.j c.in_ok-ask.field-0 at c.in-Next.is c.in_ok-ask.ensures.ok in
     record {
-      same = left.only ∙ ap (λ (p : PassView). record p { spare = c.ask.new.self.spare }) before.same;
+      same = left.only ∙ ap (λ (p : PassView). observing (record p { spare = c.ask.new.self.spare }) c.ask.new.self.observed) before.same;
+      grows = grows_both _ _ _ before.grows c.ask.ensures.grows;
       written = left.written before.written;
       accounts = c.ask.ensures.accounts ∙ before.accounts;
       were_on = λ r on. before.were_on r (left.were_on r on);
@@ -29,7 +31,7 @@ pub returns-in_err-ask-clause-meets : goal.returns-in_err-ask-clause-meets
 returns-in_err-ask-clause-meets g c =
     let at = sym (ap (λ (p : PassView). slice_get p.spare c.loop-rid.i) c.self.view_is) ∙ sym c.in-Some.ensures.at in
     let on = c.loop-rid.invariant.were_on c.in-Some.rid (on_at c.loop-rid.self.spare c.loop-rid.i c.in-Some.rid at) in
-    refused_by (λ fault. c.args.self.now.desk.dead ≡ None → IfConflict fault (MeetsAmong c.args.self.now.spare)) c.in_err-ask.field-0.0 c.from_residual-in_err-ask.result c.from_residual-in_err-ask.ensures.1
+    refused_by (λ fault. c.args.self.now.dead ≡ None → IfConflict fault (MeetsAmong c.args.self.now.spare)) c.in_err-ask.field-0.0 c.from_residual-in_err-ask.result c.from_residual-in_err-ask.ensures.1
     (λ alive. meets_among c.args.self.now.spare c.in-Some.rid c.in_err-ask.field-0.0 on c.in_err-ask.ensures.meets)
 
 pub returns-in_err-ask-clause-accounts : goal.returns-in_err-ask-clause-accounts

@@ -14,7 +14,7 @@ invariant_of-self-in_err-write g c = rw c.in_err-write.ensures.err (pass_room _ 
 pub invariant_of-self-2 : goal.invariant_of-self-2
 invariant_of-self-2 g c =
     let p = c.self.inside.post in
-    let phase = ap (λ (x : PassView). x.desk.phase) c.self.view_is ∙ ap (λ (x : PassView). x.desk.phase) c.in_ok-stopped.ensures.ok.0 ∙ c.requires.open in
+    let phase = ap (λ (x : PassView). x.phase) c.self.view_is ∙ ap (λ (x : PassView). x.phase) c.in_ok-stopped.ensures.ok.0 ∙ c.requires.open in
     let room = pass_room _ c.self.inside.queue c.reserve.new.self _ _ _ _ c.self.invariant c.reserve.ensures.items c.reserve.ensures.not_less in
     let enough : length c.reserve.new.self.items + length (with_value p.writes c.args.rid c.args.value.now) ≤ c.reserve.new.self.room =
     let r = c.in_ok-reserve.ensures.room in let i = ap length c.reserve.ensures.items in let w = ap length c.writes.ensures.value in let l = c.len.ensures.len in let m = longer p.writes c.args.rid c.args.value.now in omega arith in

@@ -24,7 +24,7 @@ use Rattle.txn_engine.specs.Collecting.{collected}
 use Rattle.txn_engine.specs.Faults.{IsShown, IsPending, MatchStopped}
 use Rattle.txn_engine.specs.Leaves.{HoldsAbsent}
 use Rattle.txn_engine.specs.Lists.{IsRoomy, IsRoomyOnceCollected}
-use Rattle.txn_engine.specs.Pass.{EngineView, PassView, frame, IsIdle, IsAlone, begun, committed, knowing, entry_of, engine_of, desk_of}
+use Rattle.txn_engine.specs.Pass.{EngineView, PassView, frame, IsIdle, IsAlone, begun, committed, knowing, entry_of, engine_of, desk_of, observing, with_met}
 use Rattle.lane_runner.specs.Rows.{stands}
 use Rattle.lane_runner.specs.Adds.{IsNext}
 use Rattle.lane_runner.specs.Blocks.{IsPlaceOf, Commits, IsRefused, AddsOthers}
@@ -162,7 +162,7 @@ pub alone_still : (q r : PassView) → frame r ≡ frame q → IsAlone q → IsA
 alone_still q r same alone = subst (λ (f : PassView). IsAloneAt f.shared.size f.seat f.others) (sym same) alone
 
 -- it has committed
-pub ready_committed : (p b q r r' : PassView) (known : Known) → Opened p b q → IsAlone p → r ≡ committed (knowing q known) → HoldsAbsent r → IsRoomyOnceCollected r → r' ≡ r → IsReadyOnceCollected r'
+pub ready_committed : (p b q r r' : PassView) (known : Known) → Opened p b q → IsAlone p → r ≡ observing (committed (knowing q known)) r.observed → HoldsAbsent r → IsRoomyOnceCollected r → r' ≡ r → IsReadyOnceCollected r'
 ready_committed p b q r r' known o alone ends absent roomy same = subst (λ (x : PassView). IsReadyOnceCollected x) (sym same) (record {
   alone = alone_stays p r (entry_of q ∷ []) (adds_entered p b q r known o ends) alone;
   absent = absent;
@@ -170,9 +170,9 @@ ready_committed p b q r r' known o alone ends absent roomy same = subst (λ (x :
 })
 
 -- it has told that its log is lawful, and has collected
-pub none_collected : (p q r : PassView) (met met' : ℕ) (known : Known) → q ≡ record p { met = met } → r ≡ collected q met' known r.queue → IsIdle p → p.met ≤ met → met ≤ met' → IsRefused 0 p r
+pub none_collected : (p q r : PassView) (met met' : ℕ) (known : Known) → q ≡ observing (with_met p met) q.observed → r ≡ observing (collected q met' known r.queue) r.observed → IsIdle p → p.met ≤ met → met ≤ met' → IsRefused 0 p r
 none_collected p q r met met' known told after idle more most =
-    let is : r ≡ collected (record p { met = met }) met' known r.queue = after ∙ ap (λ (x : PassView). collected x met' known r.queue) told in
+    let is : r ≡ observing (collected (with_met p met) met' known r.queue) r.observed = after ∙ ap (λ (x : PassView). observing (collected x met' known r.queue) r.observed) told in
     let same_clock : r.clock ≡ p.clock = ap (λ (x : PassView). x.clock) is in
     let last_met : r.met ≡ met' = ap (λ (x : PassView). x.met) is in
     let same_refusals : r.refusals ≡ p.refusals = ap (λ (x : PassView). x.refusals) is in

@@ -11,12 +11,14 @@ use Rattle.replay_model.specs.declared.command.Command.{Command}
 use Rattle.replay_model.specs.declared.outcome.Outcome.{Outcome}
 use Rattle.replay_model.specs.declared.outcome.Placed.{Placed}
 use Rattle.txn_engine.specs.Accounts.{accounted}
-use Rattle.txn_engine.specs.Collecting.{collected}
+use Rattle.txn_engine.specs.Collecting.{collected, CollectsPass}
+use Rattle.rapid_gc.specs.declared.collecting.Collected.{Collected}
+use Rattle.rapid_gc.specs.declared.queue.Queued.{Queued}
 use Rattle.seat_post.specs.Leaves.{AreLeft, IsPresent}
 use Rattle.txn_engine.specs.Leaves.{HoldsAbsent}
 use Rattle.seat_post.specs.Lists.{IsRoomyAt}
 use Rattle.txn_engine.specs.Lists.{IsRoomy, IsRoomyOnceCollected, IsFull}
-use Rattle.txn_engine.specs.Pass.{EngineView, PassView, frame, IsIdle, IsAlone, begun, meaning_of_pass, engine_of, desk_of}
+use Rattle.txn_engine.specs.Pass.{EngineView, PassView, frame, IsIdle, IsAlone, begun, meaning_of_pass, engine_of, desk_of, observing, with_met}
 use Rattle.seat_post.specs.Logs.{IsAbove}
 use Rattle.seat_post.specs.Seats.{Known}
 use Rattle.seat_post.specs.Spare.{is_on}
@@ -29,8 +31,12 @@ use Rattle.lane_runner.proofs.Adding.{Adds-no_entry, Adds-trans}
 use Rattle.lane_runner.proofs.Begun.{undone_reads}
 use Rattle.lane_runner.proofs.Within.{left_agrees}
 
+-- the seat that is alone keeps nothing in its queue
+pub collected_alone : (p q : PassView) (tally : Collected) → CollectsPass p q tally → IsAlone p → q ≡ observing (collected p q.met q.known []) q.observed
+collected_alone p q tally is alone = is.after ∙ ap (λ (queue : List Queued). observing (collected p q.met q.known queue) q.observed) (is.alone alone)
+
 -- it has told that its log is lawful, and has collected
-module _ (r w : PassView) (met met' : ℕ) (known : Known) (is : w ≡ collected (record r { met = met }) met' known []) (idle : IsIdle r) where
+module _ (r w : PassView) (met met' : ℕ) (known : Known) (is : w ≡ observing (collected (with_met r met) met' known []) w.observed) (idle : IsIdle r) where
   pub Holds-collected : Lawful (StandsForSome stands) r.shared.size.records r.log → IsAbove r.log w.published → HoldsAbsent r → IsRoomy w → Holds w
   Holds-collected lawful above absent roomy = record {
     idle = ap desk_of is ∙ idle;
@@ -81,7 +87,7 @@ absent_same p q engine given spare log absent r from within =
 -- it is still alone, and holds the absent records
 pub absent_open : (p b q : PassView) (clock : ℕ) → b ≡ begun p clock → IsAlone p → frame q ≡ frame b → accounted q ≡ accounted b → HoldsAbsent b → HoldsAbsent q
 absent_open p b q clock began alone same_frame same_accounts absent =
-    absent_stays b q (record { same_frame = same_frame; same_accounts = same_accounts }) (subst (λ (x : PassView). IsAlone x) (sym began) alone) absent
+    absent_stays b q same_frame same_accounts (subst (λ (x : PassView). IsAlone x) (sym began) alone) absent
 
 -- a place is left for so few writes
 pub places_left : (q : PassView) (engine : EngineView) → engine_of q ≡ engine → HasPlaces engine → IsRoomy q → length q.writes ≤ 8192 → IsFull q → ⊥

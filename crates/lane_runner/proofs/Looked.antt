@@ -27,9 +27,9 @@ use Rattle.txn_engine.specs.Alone.{AloneView, with_pass}
 use Rattle.seat_post.specs.Glance.{GlanceView}
 use Rattle.txn_engine.specs.Leaves.{HoldsAbsent}
 use Rattle.txn_engine.specs.Lists.{IsRoomy}
-use Rattle.txn_engine.specs.Pass.{PassView, IsIdle, IsAlone, ticked, engine_of, desk_of}
+use Rattle.txn_engine.specs.Pass.{PassView, IsIdle, IsAlone, ticked, engine_of, desk_of, observing, with_log}
 use Rattle.seat_post.specs.Logs.{IsAbove}
-use Rattle.txn_engine.specs.Snapshot.{Begins, finished, glance_store, meaning_of_glance, unread}
+use Rattle.txn_engine.specs.Snapshot.{Begins, finished, glance_store, meaning_of_glance, unread, looking}
 use Rattle.seat_post.specs.Glance.{entry_of_glance}
 use Rattle.txn_engine.proofs.Accounting.{absent_snapshot}
 use Rattle.lane_runner.specs.Rows.{stands}
@@ -93,9 +93,9 @@ cleared_is (Some g) stamp is = (g, refl, (let same : Some (record g { reads = []
 pub seen_at : (t s0 s1 : PassView) (begins : Begins t s0) → unread s1 ≡ unread s0 → (g : GlanceView) × (s1.glance ≡ Some g) × (g.stamp ≡ begins.stamp)
 seen_at t s0 s1 begins rest = cleared_is s1.glance begins.stamp (ap (λ (x : PassView). x.glance) (rest ∙ ap unread begins.pass))
 
-module _ (p t s0 s1 f : PassView) (clock : ℕ) (begins : Begins t s0) (g : GlanceView) (later : p.clock ≤ clock) (idle : IsIdle p) (tick : t ≡ ticked p clock) (rest : unread s1 ≡ unread s0) (stamp : g.stamp ≡ begins.stamp) (ends : f ≡ finished s1 g) where
-  whole : unread s1 ≡ unread (record (ticked p clock) { met = begins.stamp + 1; glance = Some (record { stamp = begins.stamp; reads = [] }) })
-  whole = rest ∙ ap unread begins.pass ∙ ap (λ (x : PassView). unread (record x { met = begins.stamp + 1; glance = Some (record { stamp = begins.stamp; reads = [] }) })) tick
+module _ (p t s0 s1 f : PassView) (clock : ℕ) (begins : Begins t s0) (g : GlanceView) (later : p.clock ≤ clock) (idle : IsIdle p) (tick : t ≡ ticked p clock) (rest : unread s1 ≡ unread s0) (stamp : g.stamp ≡ begins.stamp) (ends : f ≡ observing (finished s1 g) f.observed) where
+  whole : unread s1 ≡ unread (looking (ticked p clock) begins.stamp)
+  whole = rest ∙ ap unread begins.pass ∙ ap (λ (x : PassView). unread (looking x begins.stamp)) tick
 
   same_engine : engine_of f ≡ engine_of p
   same_engine = ap engine_of ends ∙ ap engine_of whole
@@ -141,7 +141,7 @@ module _ (p t s0 s1 f : PassView) (clock : ℕ) (begins : Begins t s0) (g : Glan
   clock_looked = ap (λ (x : PassView). x.clock) ends ∙ ap (λ (x : PassView). x.clock) whole
 
   pub absent_looked : HoldsAbsent p → HoldsAbsent f
-  absent_looked absent = absent_same (record p { log = p.log ++ entry_of_glance g ∷ [] }) f same_engine
+  absent_looked absent = absent_same (with_log p (p.log ++ entry_of_glance g ∷ [])) f same_engine
       (ap (λ (x : PassView). x.given) ends ∙ ap (λ (x : PassView). x.given) whole) (ap (λ (x : PassView). x.spare) ends ∙ ap (λ (x : PassView). x.spare) whole) grown
       (absent_snapshot p (entry_of_glance g) refl absent)
 
@@ -157,11 +157,6 @@ module _ (p t s0 s1 f : PassView) (clock : ℕ) (begins : Begins t s0) (g : Glan
       let below : e.stamp < t.published = above e among commit in
       omega arith
 
--- what is told of the seat, as told of its pass
-pub seen_as : (s1 : PassView) (a f : AloneView) (glance : Option GlanceView) → IfSome glance (λ g. f ≡ with_pass a (finished s1 g)) → IfSome glance (λ g. f.pass ≡ finished s1 g)
-seen_as s1 a f None told = tt
-seen_as s1 a f (Some g) told = ap (λ (x : AloneView). x.pass) told
-
 -- what is known of a snapshot once it is finished
 pub record Sought (p s1 f : PassView) (stamp : ℕ) : Type 0 where
   pub glance : GlanceView
@@ -173,12 +168,12 @@ pub record Sought (p s1 f : PassView) (stamp : ℕ) : Type 0 where
   pub behind : IsBehind p.log glance.stamp
   pub clock : f.clock ≤ clock_after p.clock 1
 
-pub sought : (p t s0 s1 f : PassView) (clock stamp : ℕ) (begins : Begins t s0) → p.clock < clock → clock ≤ clock_after p.clock 1 → IsIdle p → t ≡ ticked p clock → unread s1 ≡ unread s0 → IfSome s1.glance (λ g. f ≡ finished s1 g) → IfSome s1.glance (λ g. stamp ≡ g.stamp)
+pub sought : (p t s0 s1 f : PassView) (clock stamp : ℕ) (begins : Begins t s0) → p.clock < clock → clock ≤ clock_after p.clock 1 → IsIdle p → t ≡ ticked p clock → unread s1 ≡ unread s0 → IfSome s1.glance (λ g. f ≡ observing (finished s1 g) f.observed) → IfSome s1.glance (λ g. stamp ≡ g.stamp)
     → IsAlone p → IsAbove p.log t.published → Sought p s1 f stamp
 sought p t s0 s1 f clock stamp begins later drawn idle tick rest ends is alone above =
     let found = seen_at t s0 s1 begins rest in
     let g = found.0 in
-    let ended : f ≡ finished s1 g = subst (λ (o : Option GlanceView). IfSome o (λ g. f ≡ finished s1 g)) found.1 ends in
+    let ended : f ≡ observing (finished s1 g) f.observed = subst (λ (o : Option GlanceView). IfSome o (λ g. f ≡ observing (finished s1 g) f.observed)) found.1 ends in
     let stamped : stamp ≡ g.stamp = subst (λ (o : Option GlanceView). IfSome o (λ g. stamp ≡ g.stamp)) found.1 is in
     record {
       glance = g;

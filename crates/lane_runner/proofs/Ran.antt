@@ -24,7 +24,7 @@ use Rattle.replay_model.specs.TableMap.{TableMap}
 use Rattle.seat_post.specs.Leaves.{AreLeft}
 use Rattle.txn_engine.specs.Leaves.{HoldsAbsent, NoneLeft}
 use Rattle.txn_engine.specs.Lists.{IsRoomy}
-use Rattle.txn_engine.specs.Pass.{EngineView, PassView, frame, IsIdle, IsAlone, begun, committed, knowing, entry_of, store_of, meaning_of_pass, engine_of, desk_of}
+use Rattle.txn_engine.specs.Pass.{EngineView, PassView, frame, IsIdle, IsAlone, begun, committed, knowing, entry_of, store_of, meaning_of_pass, engine_of, desk_of, observing}
 use Rattle.seat_post.specs.Logs.{IsAbove}
 use Rattle.txn_engine.specs.Accounts.{accounted}
 use Rattle.seat_post.specs.Seats.{Known}
@@ -151,7 +151,7 @@ never_out p b q o commands asks left lawful reads has known fixed may fewer writ
     (known_at p b q o.clock o.began o.rest state (each_at p b q o.clock o.began o.rest (λ s _ _. WritesKnown (meaning_of_pass b) (meaning_of_pass q) s) written state has.leaves.places has.tables agrees has.leaves.stands_for))
 
 -- it has committed
-module _ (p b q r : PassView) (known : Known) (o : Opened p b q) (ends : r ≡ committed (knowing q known)) where
+module _ (p b q r : PassView) (known : Known) (o : Opened p b q) (ends : r ≡ observing (committed (knowing q known)) r.observed) where
   pub adds_entered : Adds p r (entry_of q ∷ [])
   adds_entered = Adds-committed p q r o.clock known o.later o.above (kept_frame p b q o.clock o.began o.rest) ends
 

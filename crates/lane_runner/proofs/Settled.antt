@@ -9,7 +9,7 @@ use Rattle.replay_model.specs.declared.input.Block.{Block}
 use Rattle.txn_engine.specs.Collecting.{collected}
 use Rattle.seat_post.specs.Leaves.{IsPresent, LeavesAs, AreAbsent}
 use Rattle.txn_engine.specs.Lists.{IsRoomy}
-use Rattle.txn_engine.specs.Pass.{EngineView, PassView, IsIdle, engine_of, desk_of}
+use Rattle.txn_engine.specs.Pass.{EngineView, PassView, IsIdle, engine_of, desk_of, observing, with_met}
 use Rattle.seat_post.specs.Logs.{IsAbove}
 use Rattle.txn_engine.specs.Rescan.{rescanned}
 use Rattle.seat_post.specs.Seats.{Known}
@@ -35,9 +35,9 @@ listed : (b : Bool) (log : List Entry) (r limit : ℕ) (spare : List ℕ) → is
 listed true log r limit spare is above left = inl is
 listed false log r limit spare is above left = inr (present_all log r limit above left)
 
-module _ (p c d t : PassView) (met met' : ℕ) (known : Known) (spare : List ℕ) (first : c ≡ collected p met known []) (second : d ≡ rescanned c spare) (third : t ≡ record d { met = met' }) (idle : IsIdle p) where
-  whole : t ≡ record (rescanned (collected p met known []) spare) { met = met' }
-  whole = third ∙ ap (λ (x : PassView). record x { met = met' }) (second ∙ ap (λ (x : PassView). rescanned x spare) first)
+module _ (p c d t : PassView) (met met' : ℕ) (known : Known) (spare : List ℕ) (first : c ≡ observing (collected p met known []) c.observed) (second : d ≡ observing (rescanned c spare) d.observed) (third : t ≡ observing (with_met d met') t.observed) (idle : IsIdle p) where
+  whole : t ≡ observing (with_met (rescanned (collected p met known []) spare) met') t.observed
+  whole = third ∙ ap (λ (x : PassView). observing (with_met x met') t.observed) (second ∙ ap (λ (x : PassView). observing (rescanned x spare) d.observed) first)
 
   above_settled : IsAbove p.log c.published → IsAbove p.log d.published
   above_settled above e among commit =

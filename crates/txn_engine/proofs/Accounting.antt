@@ -16,11 +16,11 @@ use Rattle.record_store.specs.Meaning.{value_at}
 use Rattle.seat_post.specs.Seats.{Known, is_alone_at}
 use Rattle.seat_post.specs.Spare.{is_on, holds, is_deletion, unused, added, with_deleted, spare_after}
 use Rattle.txn_engine.specs.Fresh.{AreWritten}
-use Rattle.txn_engine.specs.Pass.{PassView, IsAlone, first_pass, with_log, knowing, entry_of, decided, published, committed, EngineView, engine_of}
+use Rattle.txn_engine.specs.Pass.{PassView, IsAlone, first_pass, with_log, frame, knowing, entry_of, decided, published, committed, EngineView, engine_of}
 use Rattle.seat_post.specs.Logs.{IsAbove}
 use Rattle.seat_post.specs.Leaves.{IsPresent}
 use Rattle.txn_engine.specs.Leaves.{HoldsAbsent, NoneLeft}
-use Rattle.txn_engine.specs.Accounts.{writes_at, gives_at, is_present, accounted, Stays}
+use Rattle.txn_engine.specs.Accounts.{writes_at, gives_at, is_present, accounted}
 use Rattle.seat_post.proofs.AloneSeats.{both, either, and_of}
 use Rattle.seat_post.proofs.Listed.{known_head, known_tail}
 use Rattle.seat_post.proofs.Leaving.{among_of, leaves_one}
@@ -177,14 +177,14 @@ shown_bools a b p (inl on) = or_right (not a) _ (or_left b p on)
 shown_bools a b p (inr on) = or_right (not a) _ (or_right b p on)
 
 -- a pass that is alone holds the absent records after each call of a transaction
-pub absent_stays : (p q : PassView) → Stays p q → IsAlone p → HoldsAbsent p → HoldsAbsent q
-absent_stays p q stays alone absent r from within =
-    let engine = ap engine_of stays.same_frame in
+pub absent_stays : (p q : PassView) → frame q ≡ frame p → accounted q ≡ accounted p → IsAlone p → HoldsAbsent p → HoldsAbsent q
+absent_stays p q same_frame same_accounts alone absent r from within =
+    let engine = ap engine_of same_frame in
     let fixed : q.fixed ≡ p.fixed = ap (λ (e : EngineView). e.fixed) engine in
     let records : q.shared.size.records ≡ p.shared.size.records = ap (λ (e : EngineView). e.size.records) engine in
     let was = elim (absent r (omega arith) (omega arith)) as (λ _. (is_on (p.given ++ p.spare) r ≡ true) ⊎ (is_present p.log r ≡ true)) [ inl on ↦ inl on | inr present ↦ inr (present_shown p.log r present) ] in
-    let on : accounted q r ≡ true = ap (λ f. f r) stays.same_accounts ∙ shown_bools (is_alone_at p.shared.size p.seat p.others) (is_on (p.given ++ p.spare) r) (is_present p.log r) was in
-    let still : is_alone_at q.shared.size q.seat q.others ≡ true = ap (λ (f : PassView). is_alone_at f.shared.size f.seat f.others) stays.same_frame ∙ alone in
+    let on : accounted q r ≡ true = ap (λ f. f r) same_accounts ∙ shown_bools (is_alone_at p.shared.size p.seat p.others) (is_on (p.given ++ p.spare) r) (is_present p.log r) was in
+    let still : is_alone_at q.shared.size q.seat q.others ≡ true = ap (λ (f : PassView). is_alone_at f.shared.size f.seat f.others) same_frame ∙ alone in
     elim (told_bools (is_alone_at q.shared.size q.seat q.others) (is_on (q.given ++ q.spare) r) (is_present q.log r) still on) as (λ _. (is_on (q.given ++ q.spare) r ≡ true) ⊎ IsPresent q.log r) [
       | inl here ↦ inl here
       | inr present ↦ inr (present_told q.log r present)

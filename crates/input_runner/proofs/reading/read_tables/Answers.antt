@@ -21,7 +21,7 @@ sight c =
     let s1 = c.list_tables-told.new.store.alone.now in
     let f = c.finish.new.self.0 in
     sought p c.tick.new.self.pass c.snapshot-snapshot.result.alone.now.pass s1.pass f.pass c.tell.new.self.pass (next_clock p 0) c.snapshot-snapshot.ensures.begins
-    (ap (λ (a : AloneView). a.pass) c.in-Ok.ensures.ok) (ap (λ (x : AloneGlanceRest). x.of_pass) c.list_tables-told.ensures.rest) (finished_pass s1 f s1.pass.glance c.finish.ensures.after)
+    (ap (λ (a : AloneView). a.pass) c.in-Ok.ensures.ok) (ap (λ (x : AloneGlanceRest). x.of_pass) c.list_tables-told.ensures.rest) c.finish.ensures.finishes.after
     (told_of f _ c.tell.new.self c.tell.ensures.value c.tell.ensures.not_back (search rules)) c.requires.idle c.shared.ensures.alone
     (subst (λ (n : ℕ). IsAbove p.log n) (c.in-Ok.ensures.stamp ∙ sym (ap (λ (a : AloneView). a.pass.published) c.in-Ok.ensures.ok)) c.in-Ok.ensures.above) (clock_later p 0) (clock_drawn p 0)
 
@@ -29,7 +29,7 @@ pub untorn-requires : goal.untorn-requires
 untorn-requires c =
     let p = c.args.alone.now.pass in
     not_torn c.list_tables-told.result _ c.list_tables-told.ensures.torn
-    (never_torn (StandsForSome stands) p c.snapshot-snapshot.result.alone.now.pass c.list_tables-told.new.store.alone.now.pass c.tell.new.self.pass (sight (goal.at.untorn-requires c).After-tell) c.keeps_tables.ensures c.finish.ensures.stood)
+    (never_torn (StandsForSome stands) p c.snapshot-snapshot.result.alone.now.pass c.list_tables-told.new.store.alone.now.pass c.tell.new.self.pass (sight (goal.at.untorn-requires c).After-tell) c.keeps_tables.ensures c.finish.ensures.finishes.stood)
 
 pub returns-clause-adds : goal.returns-clause-adds
 returns-clause-adds c = (sight (goal.at.returns-clause-adds c).After-tell).adds

@@ -39,10 +39,10 @@ pub record Begins (before after' : PassView) : Type 0 where
 
 -- It ends, and gives its stamp: one entry with all that was read stands at the end of the log, and a kept state of the history at that
 -- stamp agrees with it.
-pub record Finishes (kept : State → Type 0) (before after' : PassView) (stamp : ℕ) : Type 0 where
+pub record Finishes (kept : State → Type 0) (before after' : PassView) (told : ℕ) : Type 0 where
   pub after : IfSome before.glance (λ g. after' ≡ observing (finished before g) after'.observed)
   pub grows : Grows before.observed after'.observed
-  pub stamp : IfSome before.glance (λ g. stamp ≡ g.stamp)
+  pub stamp : IfSome before.glance (λ g. told ≡ g.stamp)
   pub stood : IfSome before.glance (λ g. Stood kept before.shared.size.records before.log (entry_of_glance g))
 
 -- no transaction is in flight, and a snapshot is, at a stamp below the minimum met

@@ -30,7 +30,7 @@ impl<J> Retired<J> {
     /// The number of the seat.
     pub fn seat(&self) -> u32
         ensures value { result ≡ self.now.seat }
-        ensures within { result < self.now.shared.size.seats }
+        ensures within { result < self.now.engine.size.seats }
     {
         self.hand.number()
     }

@@ -11,7 +11,7 @@ use Rattle.txn_engine.specs.Pass.{next_clock}
 use Rattle.txn_engine.specs.Snapshot.{meaning_of_glance}
 use Rattle.typed_tables.specs.Listing.{AreRows}
 use Rattle.lane_runner.specs.Rows.{stands}
-use Rattle.input_runner.proofs.Sought.{Sought, sought, finished_pass, told_of, not_torn, never_torn, each_told, left_agrees, clock_later, clock_drawn}
+use Rattle.input_runner.proofs.Sought.{Sought, sought, told_of, not_torn, never_torn, each_told, left_agrees, clock_later, clock_drawn}
 use Rattle.input_runner.proofs.reading.read_tables.Goals as goal
 use Rattle.input_runner.proofs.reading.read_tables.Goals.{After-tell}
 

@@ -11,7 +11,7 @@ abbrev pub invariant-loop-seat : goal.invariant-loop-seat
 invariant-loop-seat g l = record {
   pass : l.pass ≡ with_glance (with_made l._seat l.fn.pass) l.pass.glance;
   passes : map bare l.passes.items ≡ map (share_at l.fn.pass) (range_with_len 1 (l._seat - 1));
-  lists : length l.lists.items + l._seat ≡ l.shared.size.seats;
-  empty : (n : NumbersView) → Among n l.lists.items → n ≡ no_numbers l.fixed l.shared.size.records;
-  room : l.shared.size.seats ≤ vec_capacity l.passes;
+  lists : length l.lists.items + l._seat ≡ l.engine.size.seats;
+  empty : (n : NumbersView) → Among n l.lists.items → n ≡ no_numbers l.engine.fixed l.engine.size.records;
+  room : l.engine.size.seats ≤ vec_capacity l.passes;
 }

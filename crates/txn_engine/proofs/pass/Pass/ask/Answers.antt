@@ -7,7 +7,7 @@ use Rattle.txn_engine.specs.Inside.{pass_view}
 use Rattle.seat_post.specs.Spare.{NumbersView}
 use Rattle.txn_engine.specs.Accounts.{accounted}
 use Rattle.txn_engine.proofs.Accounting.{accounted_given, accounted_struck}
-use Rattle.txn_engine.proofs.Growing.{observing_own}
+use Rattle.txn_engine.proofs.Growing.{observing_own, grows_none}
 use Rattle.txn_engine.proofs.pass.Pass.ask.Goals as goal
 
 pub returns-then-is_written-clause-ok : goal.returns-then-is_written-clause-ok
@@ -34,7 +34,7 @@ returns-else-branch-clause-ok g c =
     let kept : c.is_absent.new.self ≡ observing c.args.self.now o = rw c.if-branch.false at c.in_ok-is_absent.ensures.ok in
     let is : pass_view i.post i.boost i.queue c.strike.new.self i.refusals i.dead i.counted ≡ observing (record c.args.self.now { spare = remove c.args.self.now.spare c.args.i }) o =
     ap (λ (n : NumbersView). pass_view i.post i.boost i.queue n i.refusals i.dead i.counted) c.strike.ensures ∙ ap (λ (x : PassView). record x { spare = remove x.spare c.args.i }) (c.self-2.view_is ∙ kept) in
-    inr (observing_own _ _ o is, refl)
+    inr (observing_own (pass_view i.post i.boost i.queue c.strike.new.self i.refusals i.dead i.counted) (record c.args.self.now { spare = remove c.args.self.now.spare c.args.i }) o is, refl)
 
 pub returns-then-branch-clause-accounts : goal.returns-then-branch-clause-accounts
 returns-then-branch-clause-accounts g c =
@@ -52,3 +52,6 @@ returns-else-branch-clause-accounts g c =
     let is : pass_view i.post i.boost i.queue c.strike.new.self i.refusals i.dead i.counted ≡ observing (record c.args.self.now { spare = remove c.args.self.now.spare c.args.i }) o =
     ap (λ (n : NumbersView). pass_view i.post i.boost i.queue n i.refusals i.dead i.counted) c.strike.ensures ∙ ap (λ (x : PassView). record x { spare = remove x.spare c.args.i }) (c.self-2.view_is ∙ kept) in
     ap accounted is ∙ accounted_struck c.args.self.now c.args.i c.args.rid c.requires.at (λ alone. c.in_ok-is_absent.ensures.present alone c.if-branch.false)
+
+pub returns-then-is_written-clause-grows : goal.returns-then-is_written-clause-grows
+returns-then-is_written-clause-grows g c = grows_none c.args.self.now.observed

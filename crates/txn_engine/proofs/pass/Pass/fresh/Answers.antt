@@ -1,12 +1,14 @@
-use Rattle.std.proofs.Common.{◌≡◌, None, sym, ap, ◌∙◌, subst, length}
+use Rattle.std.proofs.Common.{◌≡◌, None, true, refl, sym, ap, ◌∙◌, subst, length, arith}
 use Rattle.std.specs.Prelude.{slice_get}
-use Rattle.txn_engine.specs.Faults.{IfConflict, MeetsAmong}
+use Rattle.seat_post.specs.Conflicts.{IsLoaded}
+use Rattle.seat_post.specs.Spare.{is_on}
+use Rattle.txn_engine.specs.Faults.{IfConflict, MeetsAmong, WasLoaded}
 use Rattle.txn_engine.specs.Fresh.{AreWritten}
 use Rattle.txn_engine.specs.Pass.{PassView, observing}
 use Rattle.txn_engine.specs.Accounts.{accounted}
 use Rattle.txn_engine.proofs.Asking.{asks_left, on_at, meets_among, refused_by, all_written, none_there}
 use Rattle.txn_engine.proofs.Accounting.{none_left}
-use Rattle.txn_engine.proofs.Growing.{grows_both}
+use Rattle.txn_engine.proofs.Growing.{grows_both, grows_same, conflict_earlier}
 use Rattle.txn_engine.proofs.pass.Pass.fresh.Goals as goal
 
 pub loop-rid-smaller : goal.loop-rid-smaller
@@ -52,3 +54,25 @@ pub returns-clause-none_left : goal.returns-clause-none_left
 returns-clause-none_left g c = λ out absent.
     let none : slice_get c.loop-rid.self.spare c.loop-rid.i ≡ None = sym (ap (λ (p : PassView). slice_get p.spare c.loop-rid.i) c.self.view_is) ∙ sym c.at.ensures.at ∙ none_there c.at.result c.in_default.not-Some in
     none_left c.count.new.self absent (subst (λ (p : PassView). AreWritten p (length p.spare)) (sym c.count.ensures) (all_written c.loop-rid.self c.loop-rid.i c.loop-rid.invariant.written none))
+
+pub returns-in_err-stopped-clause-grows : goal.returns-in_err-stopped-clause-grows
+returns-in_err-stopped-clause-grows g c = grows_same c.args.self.now.observed c.stopped.new.self.observed (ap (λ (x : PassView). x.observed) c.in_err-stopped.ensures.err)
+
+pub loop-rid-init : goal.loop-rid-init
+loop-rid-init g c =
+    let same = c.in_ok-stopped.ensures.ok.0 in
+    record {
+      same = subst (λ (x : PassView). x ≡ observing (record c.args.self.now { spare = x.spare }) x.observed) (sym same) refl;
+      grows = grows_same c.args.self.now.observed c.stopped.new.self.observed (ap (λ (x : PassView). x.observed) same);
+      written = λ k rid below at. absurd (omega arith);
+      accounts = ap accounted same;
+      were_on = λ r on. subst (λ (x : PassView). is_on x.spare r ≡ true) same on;
+    }
+
+pub returns-in_err-ask-clause-loaded : goal.returns-in_err-ask-clause-loaded
+returns-in_err-ask-clause-loaded g c = λ alive.
+    let p = c.args.self.now in
+    let q = c.loop-rid.self in
+    let stamp = ap (λ (x : PassView). x.stamp) c.loop-rid.invariant.same in
+    refused_by (λ fault. IfConflict fault (WasLoaded p c.ask.new.self)) c.in_err-ask.field-0.0 c.from_residual-in_err-ask.result c.from_residual-in_err-ask.ensures.1
+    (conflict_earlier p.stamp p.observed q.observed c.ask.new.self.observed c.in_err-ask.field-0.0 c.loop-rid.invariant.grows (subst (λ n. IfConflict c.in_err-ask.field-0.0 (λ conflict. IsLoaded n conflict q.observed c.ask.new.self.observed)) stamp c.in_err-ask.ensures.loaded))

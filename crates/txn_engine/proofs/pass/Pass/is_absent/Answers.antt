@@ -5,6 +5,7 @@ use Rattle.seat_post.specs.Leaves.{LeavesValue, LeavesSome, IsPresent}
 use Rattle.seat_post.proofs.Leaving.{some_words, present_all}
 use Rattle.txn_engine.proofs.Asking.{pass_asked}
 use Rattle.txn_engine.proofs.Passes.{pass_observing}
+use Rattle.txn_engine.proofs.Growing.{grows_none}
 use Rattle.txn_engine.proofs.pass.Pass.is_absent.Goals as goal
 
 pub invariant_of-self : goal.invariant_of-self
@@ -34,3 +35,6 @@ invariant_of-self-in-Err-Pending g c = rw c.in-Err-Pending.ensures.err (pass_obs
 
 pub invariant_of-self-in-Err-NoMemory : goal.invariant_of-self-in-Err-NoMemory
 invariant_of-self-in-Err-NoMemory g c = rw c.in-Err-NoMemory.ensures.err (pass_observing _ _ _ _ _ _ _ c.self.invariant)
+
+pub returns-in-Some-clause-grows : goal.returns-in-Some-clause-grows
+returns-in-Some-clause-grows g c = grows_none c.args.self.now.observed

@@ -4,6 +4,7 @@ use Rattle.txn_engine.specs.Pass.{PassView, IsAlone}
 use Rattle.seat_post.specs.Leaves.{LeavesValue}
 use Rattle.seat_post.specs.Post.{PostView, known_at}
 use Rattle.txn_engine.proofs.Passes.{pass_read, none_known, known_noted, pass_observing}
+use Rattle.txn_engine.proofs.Growing.{grows_same}
 use Rattle.txn_engine.proofs.pass.Pass.read.Goals as goal
 
 pub invariant_of-self : goal.invariant_of-self
@@ -34,3 +35,9 @@ pub returns-in-Ok-clause-left : goal.returns-in-Ok-clause-left
 returns-in-Ok-clause-left g c = λ alone unwritten.
     let same = c.self.view_is ∙ c.in_ok-stopped.ensures.ok.0 in
     subst (λ (x : PassView). LeavesValue x.log c.args.rid x.stamp c.in-Ok.value) same (c.in-Ok.ensures.left (subst (λ (x : PassView). IsAlone x) (sym same) alone))
+
+pub returns-in_err-stopped-clause-grows : goal.returns-in_err-stopped-clause-grows
+returns-in_err-stopped-clause-grows g c = grows_same c.args.self.now.observed c.stopped.new.self.observed (ap (λ (x : PassView). x.observed) c.in_err-stopped.ensures.err)
+
+pub returns-in-Some-clause-grows : goal.returns-in-Some-clause-grows
+returns-in-Some-clause-grows g c = grows_same c.args.self.now.observed c.stopped.new.self.observed (ap (λ (x : PassView). x.observed) c.in_ok-stopped.ensures.ok.0)

@@ -4,7 +4,7 @@ use Rattle.plain_data.specs.declared.entry.Entry.{Entry}
 use Rattle.stamp_base.specs.Stamp.{bound_of_clock}
 use Rattle.core_rule.specs.Views.{Among}
 use Rattle.core_rule.proofs.Among.{Among-left, Among-right, Among-split}
-use Rattle.txn_engine.specs.Pass.{PassView, IsIdle, IsAlone, engine_of}
+use Rattle.txn_engine.specs.Pass.{PassView, IsIdle, IsAlone, engine_of, EngineView}
 use Rattle.lane_runner.specs.Adds.{IsNext, IsLater, AreInOrder, Adds}
 
 -- no entry is added
@@ -43,7 +43,7 @@ Adds-one p q entry next engine seat others idle log clock met refusals = record 
 
 -- a seat that is alone stays so
 pub alone_stays : (p q : PassView) (entries : List Entry) → Adds p q entries → IsAlone p → IsAlone q
-alone_stays p q entries adds alone = rw (adds.engine, adds.seat, adds.others) alone
+alone_stays p q entries adds alone = rw (ap (λ (e : EngineView). e.size) adds.engine, adds.seat, adds.others) alone
 
 -- what comes next after other entries came next
 next_before : (p q : PassView) (xs : List Entry) (entry : Entry) → Adds p q xs → IsNext q entry → IsNext p entry

@@ -183,7 +183,7 @@ none_collected p q r met met' known told after idle more most =
 
 pub ready_collected : (p q : PassView) → engine_of q ≡ engine_of p → q.seat ≡ p.seat → q.others ≡ p.others → q.given ≡ p.given → q.spare ≡ p.spare → q.log ≡ p.log → IsReadyOnceCollected p → IsRoomy q → IsReady q
 ready_collected p q engine seat others given spare log ready roomy = record {
-  alone = rw (engine, seat, others) ready.alone;
+  alone = rw (ap (λ (e : EngineView). e.size) engine, seat, others) ready.alone;
   absent = absent_same p q engine given spare log ready.absent;
   roomy = roomy;
 }

@@ -11,9 +11,7 @@ use Rattle.replay_model.specs.declared.command.Command.{Command}
 use Rattle.replay_model.specs.declared.outcome.Outcome.{Outcome}
 use Rattle.replay_model.specs.declared.outcome.Placed.{Placed}
 use Rattle.txn_engine.specs.Accounts.{accounted}
-use Rattle.txn_engine.specs.Collecting.{collected, CollectsPass}
-use Rattle.rapid_gc.specs.declared.collecting.Collected.{Collected}
-use Rattle.rapid_gc.specs.declared.queue.Queued.{Queued}
+use Rattle.txn_engine.specs.Collecting.{collected}
 use Rattle.seat_post.specs.Leaves.{AreLeft, IsPresent}
 use Rattle.txn_engine.specs.Leaves.{HoldsAbsent}
 use Rattle.seat_post.specs.Lists.{IsRoomyAt}
@@ -32,8 +30,8 @@ use Rattle.lane_runner.proofs.Begun.{undone_reads}
 use Rattle.lane_runner.proofs.Within.{left_agrees}
 
 -- the seat that is alone keeps nothing in its queue
-pub collected_alone : (p q : PassView) (tally : Collected) → CollectsPass p q tally → IsAlone p → q ≡ observing (collected p q.met q.known []) q.observed
-collected_alone p q tally is alone = is.after ∙ ap (λ (queue : List Queued). observing (collected p q.met q.known queue) q.observed) (is.alone alone)
+pub collected_alone : (p q : PassView) → q ≡ observing (collected p q.met q.known q.queue) q.observed → q.queue ≡ [] → q ≡ observing (collected p q.met q.known []) q.observed
+collected_alone p q after none = after ∙ ap (λ queue. observing (collected p q.met q.known queue) q.observed) none
 
 -- it has told that its log is lawful, and has collected
 module _ (r w : PassView) (met met' : ℕ) (known : Known) (is : w ≡ observing (collected (with_met r met) met' known []) w.observed) (idle : IsIdle r) where

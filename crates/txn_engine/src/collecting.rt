@@ -1,8 +1,8 @@
 //! Taking back the versions that no reader can reach any more.
 ghost use Rattle.std.specs.Prelude.{◌≡◌};
-ghost use Rattle.txn_engine.specs.Alone.{AloneView, with_pass};
+ghost use Rattle.txn_engine.specs.Alone.{with_pass};
 ghost use Rattle.txn_engine.specs.Collecting.{CollectsPass};
-ghost use Rattle.txn_engine.specs.Pass.{PassView, IsIdle, IsAlone, engine_of};
+ghost use Rattle.txn_engine.specs.Pass.{IsIdle, IsAlone, engine_of};
 
 use crate::alone::Alone;
 use crate::engine::Engine;

@@ -1,9 +1,8 @@
 //! Coming together: a pass takes in the seats that have retired, and is alone.
 ghost use Rattle.std.specs.Prelude.{◌≡◌, ◌≤◌, ◌+◌, ◌++◌, [], true};
 ghost use Rattle.stamp_base.specs.Limits.{greatest_clock};
-ghost use Rattle.txn_engine.specs.Alone.{AloneView};
 ghost use Rattle.txn_engine.specs.Joining.{AreOfEngine, AreOthers, joined, come_together};
-ghost use Rattle.txn_engine.specs.Pass.{PassView, IsIdle, IsAlone, with_glance, engine_of};
+ghost use Rattle.txn_engine.specs.Pass.{IsIdle, IsAlone, with_glance, engine_of};
 
 use crate::alone::Alone;
 use crate::engine::Engine;

@@ -1,7 +1,7 @@
 //! Settling: the seat that is alone brings each record's list to one version.
 ghost use Rattle.std.specs.Prelude.{◌≡◌};
-ghost use Rattle.txn_engine.specs.Alone.{AloneView, with_pass};
-ghost use Rattle.txn_engine.specs.Pass.{PassView, IsIdle, IsAlone, engine_of};
+ghost use Rattle.txn_engine.specs.Alone.{with_pass};
+ghost use Rattle.txn_engine.specs.Pass.{IsIdle, IsAlone, engine_of};
 ghost use Rattle.txn_engine.specs.Settling.{SettlesPass};
 
 use crate::alone::Alone;

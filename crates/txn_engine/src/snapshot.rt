@@ -1,11 +1,10 @@
 //! Snapshots: a pass reads records at one stamp, and each read answers.
 ghost use Rattle.std.specs.Prelude.{◌≡◌, ◌<◌, ◌≤◌, Some, IfSome};
-ghost use Rattle.std.specs.Borrow.{sem};
 ghost use Rattle.std.proofs.Props.{props};
 ghost use Rattle.record_store.specs.Limits.{record_limit};
 ghost use Rattle.record_store.specs.Meaning.{known, after_read};
 ghost use Rattle.seat_post.specs.Observing.{Grows};
-ghost use Rattle.txn_engine.specs.Pass.{PassView, IsIdle, observing, engine_of};
+ghost use Rattle.txn_engine.specs.Pass.{IsIdle, observing, engine_of};
 ghost use Rattle.txn_engine.specs.Snapshot.{meaning_of_glance, Begins, IsLooking, looked, unread, Finishes, ReadsLeft};
 
 use crate::engine::Engine;

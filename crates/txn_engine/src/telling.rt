@@ -2,8 +2,8 @@
 ghost use Rattle.std.specs.Prelude.{◌≡◌, ◌≤◌};
 ghost use Rattle.histories.specs.History.{Lawful};
 ghost use Rattle.seat_post.specs.Observing.{Grows};
-ghost use Rattle.txn_engine.specs.Alone.{AloneView, with_pass};
-ghost use Rattle.txn_engine.specs.Pass.{PassView, IsIdle, IsAlone, observing, with_met, engine_of};
+ghost use Rattle.txn_engine.specs.Alone.{with_pass};
+ghost use Rattle.txn_engine.specs.Pass.{IsIdle, IsAlone, observing, with_met, engine_of};
 
 use crate::alone::Alone;
 use crate::engine::Engine;

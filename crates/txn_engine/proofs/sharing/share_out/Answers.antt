@@ -1,7 +1,7 @@
 use Rattle.std.proofs.Common.{◌≡◌, ◌≤◌, [], ◌∷◌, List, length, map, length-append, ap, ◌∙◌, sym, subst, refl, arith}
 use Rattle.core_rule.specs.Views.{Among}
 use Rattle.txn_engine.specs.Alone.{PartsView}
-use Rattle.txn_engine.specs.Pass.{EngineView, PassView, bare, engine_of}
+use Rattle.txn_engine.specs.Pass.{EngineView, bare, engine_of}
 use Rattle.seat_post.specs.Seats.{Others}
 use Rattle.seat_post.specs.Spare.{NumbersView, no_numbers}
 use Rattle.txn_engine.proofs.Making.{next_share, next_made, pushed_share, count_shares}

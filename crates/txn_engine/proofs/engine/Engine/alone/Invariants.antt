@@ -1,5 +1,5 @@
-use Rattle.txn_engine.specs.Pass.{engine_of, no_desk}
-use Rattle.std.proofs.Common.{◌≡◌, ◌+◌, ◌-◌, ◌*◌, ◌≤◌, [], length}
+use Rattle.txn_engine.specs.Pass.{engine_of}
+use Rattle.std.proofs.Common.{◌≡◌, ◌+◌, ◌-◌, ◌*◌, ◌≤◌, length}
 use Rattle.stamp_base.specs.Limits.{greatest_clock}
 use Rattle.txn_engine.specs.Joining.{AreOfEngine, refusals_of, come_together}
 use Rattle.txn_engine.proofs.Joined.{uncounted, resting}

@@ -1,5 +1,5 @@
 use Rattle.std.proofs.Common.{ap, ◌∙◌}
-use Rattle.txn_engine.specs.Pass.{PassView, desk_of, DeskView}
+use Rattle.txn_engine.specs.Pass.{desk_of, DeskView}
 use Rattle.seat_post.specs.Spare.{NumbersView}
 use Rattle.txn_engine.proofs.Joined.{pass_joined}
 use Rattle.txn_engine.proofs.pass.Pass.join.Goals as goal

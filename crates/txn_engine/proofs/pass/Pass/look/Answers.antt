@@ -1,6 +1,6 @@
-use Rattle.txn_engine.proofs.Snapshots.{pass_glanced}
-use Rattle.txn_engine.proofs.Passes.{pass_observing}
+use Rattle.std.proofs.Common.{arith}
+use Rattle.txn_engine.proofs.Passes.{pass_beside}
 use Rattle.txn_engine.proofs.pass.Pass.look.Goals as goal
 
 pub invariant_of-self : goal.invariant_of-self
-invariant_of-self g c = rw c.look.ensures.after (pass_observing _ _ _ _ _ _ _ (pass_glanced c.self.inside.post _ _ _ _ _ _ c.self.invariant))
+invariant_of-self g c = rw c.look.ensures.after (pass_beside c.self.inside.post _ _ _ _ _ _ _ _ _ _ c.self.invariant (omega arith))

@@ -3,7 +3,8 @@ use Rattle.seat_post.specs.Post.{PostView}
 use Rattle.txn_engine.specs.Inside.{pass_view}
 use Rattle.txn_engine.specs.Pass.{PassView, DeskView}
 use Rattle.txn_engine.specs.Settling.{SettlesPass}
-use Rattle.txn_engine.proofs.Settlements.{pass_settled, tidy_settled, roomy_settled, on_ok, absent_settled}
+use Rattle.txn_engine.proofs.Counting.{on_ok_more}
+use Rattle.txn_engine.proofs.Settlements.{pass_settled, tidy_settled, roomy_settled, absent_settled}
 use Rattle.txn_engine.proofs.pass.Pass.settle.Goals as goal
 
 pub invariant_of-self : goal.invariant_of-self
@@ -21,8 +22,8 @@ returns g c =
       settles = subst (λ (x : PassView). SettlesPass g.J.Keeps.kept x (view c.settle.new.self) c.settle.result) c.self.view_is (record {
         settles = s.settles;
         beside = refl;
-        tidy = on_ok c.settle.result (tidy_settled g.J.Keeps.kept i.post c.settle.new.self s.settles) s.settled;
-        roomy = on_ok c.settle.result (roomy_settled g.J.Keeps.kept i.post c.settle.new.self s.settles) s.settled;
+        tidy = on_ok_more c.settle.result (tidy_settled g.J.Keeps.kept i.post c.settle.new.self s.settles) s.settled;
+        roomy = on_ok_more c.settle.result (roomy_settled g.J.Keeps.kept i.post c.settle.new.self s.settles) s.settled;
         absent = absent_settled g.J.Keeps.kept i.post c.settle.new.self i.boost i.queue i.numbers i.refusals i.dead i.counted s.settles;
         draws = s.draws;
         counts = s.counts;

@@ -11,7 +11,7 @@ use Rattle.lane_runner.proofs.alone_block.close.Goals.{After-collect}
 closes : (c : After-collect) → c.collect.new.self.pass ≡ observing (collected (with_met c.args.alone.now.pass c.tell.new.self.pass.met) c.collect.new.self.pass.met c.collect.new.self.pass.known []) c.collect.new.self.pass.observed
 closes c =
     let w = c.collect.new.self.pass in
-    collected_alone _ w c.collect.ensures.collects.after (c.collect.ensures.collects.alone c.collect.ensures.alone) ∙ ap (λ (x : PassView). observing (collected x w.met w.known []) w.observed) (ap (λ (a : AloneView). a.pass) c.tell.ensures.value)
+    collected_alone c.tell.new.self.pass w c.collect.ensures.collects.after (c.collect.ensures.collects.alone c.collect.ensures.alone) ∙ ap (λ (x : PassView). observing (collected x w.met w.known []) w.observed) (ap (λ (a : AloneView). a.pass) c.tell.ensures.value)
 
 pub returns-clause-holds : goal.returns-clause-holds
 returns-clause-holds c =

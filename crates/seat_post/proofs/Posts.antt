@@ -86,11 +86,13 @@ at_turned Installed hand hand' stamp reads writes sets clock seen taken is = rec
   installed = is.installed;
   are_sets = record { as_read = is.are_sets.as_read; as_written = is.are_sets.as_written; inside = is.are_sets.inside };
   placed = is.placed;
+  fit = is.fit;
 }
 at_turned Decided hand hand' stamp reads writes sets clock seen taken is = record {
   decided = decided_turned stamp sets hand.view clock seen is.decided;
   are_sets = record { as_read = is.are_sets.as_read; as_written = is.are_sets.as_written; inside = is.are_sets.inside };
   placed = is.placed;
+  fit = is.fit;
 }
 
 -- a call that changes the clock alone keeps what a post keeps

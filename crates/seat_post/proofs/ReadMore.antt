@@ -7,7 +7,7 @@ use Rattle.core_rule.specs.Views.{Among, IsAlone}
 use Rattle.core_rule.specs.Hands.{Shared, Seated, IsReady}
 use Rattle.core_rule.specs.Searching.{Rests, IsWhole, limit_of}
 use Rattle.core_rule.specs.Deciding.{AreReads, read_values, entry_of}
-use Rattle.core_rule.specs.Versions.{read_version}
+use Rattle.core_rule.specs.Versions.{read_version, state_of}
 use Rattle.record_store.specs.Meaning.{value_at}
 use Rattle.validate_core.specs.Sets.{SetsView, MayInstall}
 use Rattle.validate_core.specs.Installing.{IsBegun}
@@ -16,7 +16,8 @@ use Rattle.version_search.proofs.Grown.{grows_loads}
 use Rattle.validate_core.proofs.Staging.{met_now}
 use Rattle.seat_post.specs.Searched.{Finds, Stops}
 use Rattle.seat_post.specs.Conflicts.{IsOfAnother}
-use Rattle.seat_post.specs.Post.{PostView, IsPost, post_view}
+use Rattle.seat_post.specs.Reading.{FindsValue, value_loaded}
+use Rattle.seat_post.specs.Post.{PostView, IsPost, post_view, observed_in}
 use Rattle.seat_post.specs.declared.phase.Phase.{Phase}
 use Rattle.seat_post.specs.declared.phase.Phase.TheVariants.{Open}
 use Rattle.seat_post.proofs.AloneSeats.{alone_told}
@@ -24,7 +25,8 @@ use Rattle.seat_post.proofs.Posts.{own_ready}
 use Rattle.std.proofs.lemmas.List.Elements.{All-push}
 use Rattle.seat_post.specs.Leaves.{LeavesValue, AreLeft}
 use Rattle.seat_post.specs.Logs.{IsAbove}
-use Rattle.seat_post.specs.Seats.{IsAloneAt}
+use Rattle.seat_post.specs.Seats.{IsAloneAt, Observed}
+use Rattle.seat_post.proofs.Observed.{met_alone}
 use Rattle.seat_post.proofs.Leaving.{post_left, limit_is}
 use Rattle.validate_core.specs.Validating.{Met, no_more}
 use Rattle.seat_post.proofs.Listed.{unread, read_values-append, read_value-version}
@@ -234,15 +236,20 @@ post_passed core hand hand' stamp rid place wts value reads writes sets is ready
       };
     }
 
--- it was met
-pub present_met : (hand hand' : Seated) (phase : Phase) (stamp rid place wts : ℕ) (value : Option (List ℕ)) (reads writes : List (ℕ × Option (List ℕ))) (sets : SetsView) (p : PostView) → IsPost hand phase stamp reads writes sets → post_view hand phase stamp reads writes ≡ p → p.phase ≡ Open → Finds rid place wts value hand.view hand'.view → is_some value ≡ true → Met p.stamp rid wts 3 no_more p.observed.loads hand'.view.seen.loads
-present_met hand hand' phase stamp rid place wts value reads writes sets p is same flying finds some =
+-- it was met, with its value
+pub found_value : (hand hand' : Seated) (phase : Phase) (stamp rid place wts : ℕ) (value : Option (List ℕ)) (reads writes : List (ℕ × Option (List ℕ))) (sets : SetsView) (p : PostView) → IsPost hand phase stamp reads writes sets → post_view hand phase stamp reads writes ≡ p → p.phase ≡ Open → Finds rid place wts value hand.view hand'.view → FindsValue p.stamp rid p.observed (observed_in hand') value
+found_value hand hand' phase stamp rid place wts value reads writes sets p is same flying finds =
     let now = is_open phase hand stamp reads writes sets (ap (λ (q : PostView). q.phase) same ∙ flying) is in
-    let before = hand.view.seen.loads in
-    let after = hand'.view.seen.loads in
-    subst (λ (q : PostView). Met q.stamp rid wts 3 no_more q.observed.loads after) same
-    (subst (λ (n : ℕ). Met n rid wts 3 no_more before after) (limit_is hand.view stamp (now.at.begun.in_flight ∙ ap writing (sym now.at.at)))
-    (subst (λ (b : Bool). Met (limit_of hand.view.flight hand.view.published.read) rid wts (cond b 3 4) no_more before after) some finds.met))
+    subst (λ (q : PostView). FindsValue q.stamp rid q.observed (observed_in hand') value) same (record {
+      wts = wts;
+      met = subst (λ (n : ℕ). Met n rid wts (state_of value) (value_loaded value) hand.view.seen.loads hand'.view.seen.loads)
+          (limit_is hand.view stamp (now.at.begun.in_flight ∙ ap writing (sym now.at.at))) finds.met;
+    })
+
+-- present, it was met as committed
+pub present_met : (stamp rid : ℕ) (before after' : Observed) (value : Option (List ℕ)) → FindsValue stamp rid before after' value → is_some value ≡ true → (wts : ℕ) × Met stamp rid wts 3 no_more before.loads after'.loads
+present_met stamp rid before after' None found some = cc
+present_met stamp rid before after' (Some words) found some = (found.wts, met_alone stamp rid found.wts 3 (value_loaded (Some words)) before.loads after'.loads found.met)
 
 -- ---- what a log leaves
 

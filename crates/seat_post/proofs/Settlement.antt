@@ -81,9 +81,10 @@ settles_post kept hand hand' last phase stamp bound reads writes table table' se
     let reached = settles.met in
     let before = post_view hand phase stamp reads writes in
     let after' = post_view last phase stamp reads writes in
+    let linked : last.view.work.linked ≡ [] = ap (λ (v : View). v.work.linked) view in
     let is : bound ≡ bound + 1 - 1 = omega arith in
     let glance : after'.glance ≡ first_glance (last.view.clock.met - 1) = rw view (ap first_glance is) in
-    let rest : record after' { glance = first_glance (last.view.clock.met - 1) } ≡ record before { clock = after'.clock; published = after'.published; met = after'.met; known = after'.known; log = after'.log; observed = after'.observed; glance = first_glance (after'.met - 1) } = rw (table' ∙ table, number, size, splitting, taken) refl in
+    let rest : record after' { glance = first_glance (last.view.clock.met - 1) } ≡ record before { clock = after'.clock; published = after'.published; met = after'.met; known = after'.known; log = after'.log; observed = after'.observed; gone = after'.gone; placed = []; glance = first_glance (after'.met - 1) } = rw (table' ∙ table, number, size, splitting, taken, linked) refl in
     record {
       only = ap (λ g. record after' { glance = g }) glance ∙ rest;
       later = omega arith;

@@ -1,5 +1,6 @@
 pub mod FirstRead
 pub mod Seats
+pub mod Placing
 pub mod Observing
 pub mod Conflicts
 pub mod Logs
@@ -7,10 +8,10 @@ pub mod Leaves
 pub mod Marks
 pub mod Spare
 pub mod Ends
+pub mod Reading
 pub mod Searched
 pub mod Glance
 pub mod Glancing
-pub mod Reading
 pub mod Lists
 pub mod Post
 pub mod Collecting

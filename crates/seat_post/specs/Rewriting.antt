@@ -15,7 +15,7 @@ use Rattle.version_search.specs.Growing.{Grows}
 use Rattle.rapid_gc.specs.Queues.{Waiting}
 use Rattle.seat_post.specs.Leaves.{LeavesValue}
 use Rattle.seat_post.specs.Logs.{IsAbove}
-use Rattle.seat_post.specs.Seats.{Others, Known, observed_of}
+use Rattle.seat_post.specs.Seats.{Others, Known, observed_of, placed_of}
 use Rattle.seat_post.specs.Conflicts.{ShowsOf, IsLoaded}
 use Rattle.seat_post.specs.Ends.{Stood}
 
@@ -69,6 +69,7 @@ pub record LinksOne (rid place stamp : ℕ) (v w : View) : Type 0 where
     seen = w.seen;
   }
   pub held : w.places.held ≡ without place v.places.held
+  pub placed : placed_of w.work.linked ≡ record { rid = rid; place = place } ∷ []
   pub grows : Grows v.seen w.seen
   pub ends : Ends w.work
 

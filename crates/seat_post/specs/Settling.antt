@@ -44,6 +44,8 @@ pub record SettlesPost (kept : State → Type 0) (before after' : PostView) : Ty
     known = after'.known;
     log = after'.log;
     observed = after'.observed;
+    gone = after'.gone;
+    placed = [];
     glance = first_glance (after'.met - 1);
   }
   pub grows : observing.Grows before.observed after'.observed

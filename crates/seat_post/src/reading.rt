@@ -1,5 +1,5 @@
 //! Reading and writing at a post.
-ghost use Rattle.std.specs.Prelude.{ℕ, ◌≡◌, ◌≢◌, ◌+◌, ◌<◌, ◌≤◌, ◌++◌, ◌∷◌, [], None, Some, false, is_some, IfOk, IfErr, IfSome, OnOk, OnErr, length, if◌then◌else◌};
+ghost use Rattle.std.specs.Prelude.{ℕ, ◌≡◌, ◌≢◌, ◌+◌, ◌<◌, ◌≤◌, ◌++◌, ◌∷◌, [], None, Some, true, false, is_some, IfOk, IfErr, IfSome, OnOk, OnErr, length, if◌then◌else◌};
 ghost use Rattle.indexmap.specs.IndexMap.{spare};
 ghost use Rattle.core_rule.specs.Deciding.{read_values};
 ghost use Rattle.core_rule.specs.Versions.{read_version};
@@ -12,7 +12,7 @@ ghost use Rattle.seat_post.specs.Seats.{IsAloneAt};
 ghost use Rattle.seat_post.specs.Logs.{IsAbove};
 ghost use Rattle.seat_post.specs.Leaves.{LeavesValue, LeavesSome};
 ghost use Rattle.seat_post.specs.Conflicts.{IsOfAnother, IsLoaded};
-ghost use Rattle.seat_post.specs.Reading.{IfPending};
+ghost use Rattle.seat_post.specs.Reading.{IfPending, FindsValue};
 
 use crate::phase::Phase;
 use crate::post::Post;
@@ -101,6 +101,8 @@ impl<J: Keeps> Post<J> {
         requires first { known_at self.old rid ≡ None }
         ensures ok { IfOk result (λ value. self.new ≡ observing (noted self.old rid value) self.new.observed) }
         ensures grows { Grows self.old.observed self.new.observed }
+        // It is the value of the version that the search found.
+        ensures found { IfOk result (FindsValue self.old.stamp rid self.old.observed self.new.observed) }
         ensures left { IsAloneAt self.old.shared.size self.old.seat self.old.others → IfOk result (LeavesValue self.old.log rid self.old.stamp) }
         ensures err { OnErr result (self.new ≡ observing self.old self.new.observed) }
         ensures loaded { IfErr result (λ fault. IfPending fault (λ wts. IsLoaded self.old.stamp (conflict.Pending rid wts) self.old.observed self.new.observed)) }
@@ -124,7 +126,8 @@ impl<J: Keeps> Post<J> {
         requires first { known_at self.old rid ≡ None }
         ensures ok { IfOk result (λ absent. self.new ≡ observing (if absent then noted self.old rid None else self.old) self.new.observed) }
         ensures grows { Grows self.old.observed self.new.observed }
-        // Where it is present, its committed version was met.
+        // Where it is absent, a deleted version was found; where it is present, its committed version was met.
+        ensures absent { IfOk result (λ absent. absent ≡ true → FindsValue self.old.stamp rid self.old.observed self.new.observed None) }
         ensures present { IfOk result (λ absent. absent ≡ false → (wts : ℕ) × Met self.old.stamp rid wts 3 no_more self.old.observed.loads self.new.observed.loads) }
         ensures left { IsAloneAt self.old.shared.size self.old.seat self.old.others → IfOk result (λ absent. absent ≡ false → LeavesSome self.old.log rid self.old.stamp) }
         ensures err { OnErr result (self.new ≡ observing self.old self.new.observed) }

@@ -44,7 +44,7 @@ returns-in-Ok-clause-ok g c =
     let same = c.requires.stamp ∙ sym (ap (λ (p : PostView). p.stamp) c.self.view_is) in
     let p = post_view i.hand i.phase i.stamp i.reads.entries i.writes.entries in
     let entry = entry_same c.args.installed.stamp i.sets.reads i.sets.writes p same a.as_read a.as_written in
-    decided_view g.J.Keeps.kept c.args.core.now.size.records i.hand c.decide.new.hand i.phase i.stamp c.args.installed.stamp i.stamp i.reads.entries i.writes.entries i.sets is.at.installed.in_flight c.decide.ensures.stays.seat.same_table c.in-Ok.ensures.ok entry
+    decided_view g.J.Keeps.kept c.args.core.now.size.records i.hand c.decide.new.hand i.phase i.stamp c.args.installed.stamp i.stamp i.reads.entries i.writes.entries i.sets is.at.installed.in_flight is.at.installed.linked c.decide.ensures.stays.seat.same_table c.in-Ok.ensures.ok entry
     ∙ ap (λ (p : PostView). observing (entered p) (observed_in c.decide.new.hand)) c.self.view_is
 
 pub returns-in-Ok-clause-stood : goal.returns-in-Ok-clause-stood
@@ -97,5 +97,5 @@ returns-in-Err-clause-err g c =
     let is = at_known _ _ _ _ _ _ _ (ap (λ (p : PostView). p.phase) c.self.view_is ∙ c.requires.phase) c.self.invariant in
     let d = c.decide.ensures in
     let e = c.clear.ensures in
-    view_over_all i.hand c.decide.new.hand i.phase i.stamp _ _ i.reads.entries _ i.writes.entries _ d.stays.seat.same_table d.stands c.in-Err.ensures.as_before is.at.installed.in_flight c.in-Err.ensures.log c.make-self-inside.ensures.number e.no_reads e.no_writes
+    view_over_all i.hand c.decide.new.hand i.phase i.stamp _ _ i.reads.entries _ i.writes.entries _ d.stays.seat.same_table d.stands c.in-Err.ensures.as_before (d.linked ∙ sym is.at.installed.linked) is.at.installed.in_flight c.in-Err.ensures.log c.make-self-inside.ensures.number e.no_reads e.no_writes
     ∙ ap (λ (p : PostView). observing (closed p) (observed_in c.decide.new.hand)) c.self.view_is

@@ -113,7 +113,7 @@ each_fits z stamp _ _ _ (one_more_linked us c v w x each l) u among =
 -- of such a place, whether it is inline
 inline_below : (z : Size) (rid place : ℕ) → rid < z.records → IsFor z rid place → nat_lt place z.records ≡ eqb place rid
 inline_below z rid place within (inl same) = lt-ltb place z.records (omega arith) ∙ sym (eq-eqb place rid same)
-inline_below z rid place within (inr usable) = le-ltb z.records place usable.0 ∙ sym (ne_eqb place rid (let low = usable.0 in omega arith))
+inline_below z rid place within (inr usable) = le-ltb place z.records usable.0 ∙ sym (ne_eqb place rid (let low = usable.0 in omega arith))
 
 pub count_placed : (z : Size) (us : List Write) → ((u : Write) → Among u us → u.record_number < z.records) → ((u : Write) → Among u us → IsFor z u.record_number u.place) → count_below z.records us ≡ count_inline (placed_of us)
 count_placed z [] within each = refl

@@ -20,4 +20,4 @@ pub record HavePlaces (size : Size) (writes : List (ℕ × Option (List ℕ))) (
 -- so many of the writes took inline places, and the others usable pool places
 pub record CountsPlaces (size : Size) (writes : List (ℕ × Option (List ℕ))) (placed : List Placed) (inlined : ℕ) : Type 0 where
   pub have : HavePlaces size writes placed
-  pub inlined : inlined ≡ count_inline placed
+  pub count : inlined ≡ count_inline placed

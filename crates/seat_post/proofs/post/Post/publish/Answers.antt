@@ -62,6 +62,6 @@ returns-clause-places g c =
     let us = i.sets.writes in
     let records : c.records.result ≡ z.records = c.records.ensures.count ∙ ap (λ (x : Size). x.records) c.layout.ensures ∙ sym (ap (λ (p : PostView). p.shared.size.records) c.self.view_is ∙ ap (λ (x : Shared). x.size.records) c.requires.core) in
     let counted = c.count_below-inlined.ensures ∙ ap (λ n. count_below n us) records ∙ count_placed z us (λ u among. (is.at.are_sets.inside.writes u among).0) is.at.fit in
-    let told : CountsPlaces z i.writes.entries (placed_of us) c.count_below-inlined.result = record { have = have_places z us i.writes.entries is.at.fit is.at.are_sets.as_written; inlined = counted } in
+    let told : CountsPlaces z i.writes.entries (placed_of us) c.count_below-inlined.result = record { have = have_places z us i.writes.entries is.at.fit is.at.are_sets.as_written; count = counted } in
     subst (λ (p : PostView). CountsPlaces p.shared.size p.writes p.placed c.count_below-inlined.result) c.self.view_is
     (subst (λ ws. CountsPlaces z i.writes.entries (placed_of ws) c.count_below-inlined.result) (sym is.at.decided.linked) told)

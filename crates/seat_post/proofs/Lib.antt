@@ -30,3 +30,4 @@ pub mod Steady
 pub mod Stopped
 pub mod Stuck
 pub mod WriteMore
+pub mod Dues

@@ -1,7 +1,7 @@
 -- A queue of versions to be collected below: what it has, what becomes of its items, and what shows it.
 use Rattle.std.specs.Prelude.{◌≡◌, ◌≢◌, ◌↔◌, ℕ, suc, ◌<◌, ◌≤◌, List, [], ◌∷◌, ◌++◌, length, false, IsSome}
 use Rattle.word_layout.specs.Name.{published_read, min_read, lock, floor}
-use Rattle.core_rule.specs.View.{Load}
+use Rattle.core_rule.specs.View.{View, Load}
 use Rattle.core_rule.specs.Paths.{load}
 use Rattle.core_rule.specs.Views.{Among}
 use Rattle.rapid_gc.specs.declared.queue.Queued.{Queued}
@@ -12,7 +12,7 @@ use Rattle.rapid_gc.specs.Chains.{Follows, counted}
 use Rattle.rapid_gc.specs.Ends.{Ended, items_of, remaining, how_many, late_one, locked_one, dropped_one, cut_one}
 use Rattle.plain_data.specs.declared.entry.Entry.{Entry}
 use Rattle.record_store.specs.Meaning.{value_at}
-use Rattle.seat_post.specs.Seats.{Observed, Removed}
+use Rattle.seat_post.specs.Seats.{Observed, Removed, observed_of, removed_of}
 use Rattle.seat_post.specs.Observing.{with_load, RaisesTo, MeetsMinimum}
 use Rattle.seat_post.specs.Post.{PostView}
 
@@ -50,6 +50,9 @@ pub record Trail : Type 0 where
 
 abbrev pub trail_of : PostView → Trail
 trail_of p = record { observed = p.observed; gone = p.gone }
+
+abbrev pub trail_in : View → Trail
+trail_in v = record { observed = observed_of v; gone = removed_of v }
 
 -- the lock of its record was met held by another seat
 pub record MeetsHeld (seat : ℕ) (i : Queued) (before after' : Trail) : Type 0 where

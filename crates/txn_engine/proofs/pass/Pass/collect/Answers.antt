@@ -4,14 +4,14 @@ use Rattle.txn_engine.specs.Lists.{IsTidyOnceCollected, IsRoomyOnceCollected}
 use Rattle.txn_engine.specs.Pass.{PassView, IsAlone}
 use Rattle.seat_post.specs.Logs.{IsAbove}
 use Rattle.txn_engine.proofs.CollectMore.{all_below, pass_collected, tidy_collected, roomy_collected}
-use Rattle.txn_engine.proofs.Passes.{pass_observing}
+use Rattle.txn_engine.proofs.Passes.{pass_observing, pass_removing}
 use Rattle.txn_engine.proofs.pass.Pass.collect.Goals as goal
 
 pub collect-requires-clause-below : goal.collect-requires-clause-below
 collect-requires-clause-below g c = all_below _ _ _ _ c.self.invariant.queued c.self.invariant.commits
 
 pub invariant_of-self : goal.invariant_of-self
-invariant_of-self g c = let e = c.collect.ensures in rw e.after (pass_observing _ _ _ _ _ _ _ (pass_collected _ _ _ _ _ _ _ _ _ _ c.self.invariant e.met e.queue e.room))
+invariant_of-self g c = let e = c.collect.ensures in rw e.after (pass_removing _ _ _ _ _ _ _ (pass_observing _ _ _ _ _ _ _ (pass_collected _ _ _ _ _ _ _ _ _ _ c.self.invariant e.met e.collects.queue e.room)))
 
 pub returns-clause-above : goal.returns-clause-above
 returns-clause-above g c =

@@ -1,4 +1,6 @@
-use Rattle.std.proofs.Common.{ap, sym, subst, ◌∙◌}
+use Rattle.std.proofs.Common.{ℕ, ◌<◌, ap, sym, subst, ◌∙◌}
+use Rattle.seat_post.specs.Settling.{AreSettled, StopsPost}
+use Rattle.seat_post.proofs.Answered.{on_err_map}
 use Rattle.txn_engine.specs.Desk.{DeskView}
 use Rattle.txn_engine.specs.Leaves.{HoldsAbsent}
 use Rattle.txn_engine.specs.Inside.{pass_view}
@@ -33,3 +35,9 @@ returns-clause-settles g c =
     let i = c.self.inside in
     subst (λ (x : PassView). SettlesPass g.J.Keeps.kept x (pass_view c.settle.new.self i.boost i.queue i.numbers i.refusals i.dead i.counted)) c.self.view_is
     (settles_pass g.J.Keeps.kept i.post c.settle.new.self i.boost i.queue i.numbers i.refusals i.dead i.counted c.settle.ensures.settles)
+
+pub returns-clause-before : goal.returns-clause-before
+returns-clause-before g c =
+    let i = c.self.inside in
+    on_err_map c.settle.result (StopsPost i.post c.settle.new.self) ((count : ℕ) × (count < c.args.self.now.engine.size.records) × AreSettled count c.settle.new.self.known.counts)
+    (λ (s : StopsPost i.post c.settle.new.self). (s.rid, subst (λ (x : PassView). s.rid < x.engine.size.records) c.self.view_is s.within, s.settled)) c.settle.ensures.stops

@@ -35,7 +35,7 @@ pub struct Room {
 impl Model for Room {
     ghost use Rattle.validate_core.specs.Sets.{SetsView};
     ghost use Rattle.seat_post.specs.Settling.{CutsOf};
-ghost use Rattle.seat_post.specs.Rewriting.{IsRoom, IsFree};
+    ghost use Rattle.seat_post.specs.Rewriting.{IsRoom, IsFree};
 
     ghost Value = { SetsView };
 

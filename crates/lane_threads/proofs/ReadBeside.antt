@@ -110,7 +110,7 @@ module _ (engine : EngineView) (passes : List PassView) (lanes : List (List Bloc
       (λ e among. subst (Among e) (sym reads.others.adds.log) (Among-left e alone.pass.log more among)) reads.others.adds.clock earlier both.each)
       (read_later alone.pass.met (met_first passes) alone'.pass alone'.pass (omega (arith, runs.met, met_below passes)) refl refl (λ e among. among) (omega arith) reads.more reads.each))
 
-  pub seen_beside : ReadingsAreSeen → Lawful (StandsForSome stands) alone'.pass.engine.size.records alone'.pass.log → AreSeen due passes alone' seen
+  pub seen_beside : ReadingsAreSeen → Lawful (StandsForSome stands) alone'.pass.shared.size.records alone'.pass.log → AreSeen due passes alone' seen
   seen_beside law lawful = record { count = reads.count; each = law passes alone' seen lawful each_read }
 
   draws_are : length earlier + length reads.more ≡ due

@@ -6,7 +6,7 @@ use Rattle.plain_data.specs.declared.entry.Entry.{Entry}
 use Rattle.replay_model.specs.TableMap.{TableMap}
 use Rattle.lane_queue.specs.declared.lane.Lane.{Lane}
 use Rattle.lane_queue.specs.Passes.{Taker, IsFresh, IsSamePass, HasEnded}
-use Rattle.txn_engine.specs.Pass.{EngineView, PassView, IsIdle}
+use Rattle.txn_engine.specs.Pass.{EngineView, PassView, IsIdle, engine_of}
 use Rattle.txn_engine.specs.Retired.{retired}
 use Rattle.lane_runner.specs.declared.done.LaneDone.{LaneDone}
 use Rattle.lane_threads.specs.declared.workers.Worker.{Worker}
@@ -28,7 +28,7 @@ draws_of lanes tries = sum_by (λ lane. lane_draws lane.blocks tries) lanes
 
 -- a pass of this engine, and a right to take lanes of this queue that has taken none yet, which may run any of its lanes
 pub record MayWork (engine : EngineView) (queue : TableId) (tries : ℕ) (pass : PassView) (taker : Taker) : Type 0 where
-  pub engine_is : pass.engine ≡ engine
+  pub engine_is : engine_of pass ≡ engine
   pub idle : IsIdle pass
   pub queue_is : taker.queue ≡ queue
   pub fresh : IsFresh taker
@@ -39,7 +39,7 @@ pub record MayWork (engine : EngineView) (queue : TableId) (tries : ℕ) (pass :
 pub record RunsLanes (tries draws : ℕ) (before after' : PassView) (lanes : List Lane) (done : List LaneDone) : Type 0 where
   pub entries : List Entry
   pub adds : Adds before after' entries
-  pub are_of_lanes : AreOfLanes before.engine.size.records entries lanes done
+  pub are_of_lanes : AreOfLanes before.shared.size.records entries lanes done
   pub refusals : before.refusals + tries_of_rests tries done ≤ after'.refusals
   pub clock : after'.clock ≤ clock_after before.clock draws
 

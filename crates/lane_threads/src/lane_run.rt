@@ -20,7 +20,7 @@ use txn_engine::{Alone, Engine};
 pub trait LaneRun<C: Clock, G: Gate> {
     ghost use Rattle.std.specs.Prelude.{◌≡◌, ℕ, ◌+◌, ◌-◌, ◌≤◌, List, [], OnOk, length};
     ghost use Rattle.replay_model.specs.TableMap.{TableMap};
-    ghost use Rattle.txn_engine.specs.Pass.{IsIdle};
+    ghost use Rattle.txn_engine.specs.Pass.{IsIdle, engine_of};
     ghost use Rattle.lane_runner.specs.Room.{HasRoom};
     ghost use Rattle.lane_threads.specs.Seen.{ReadsAll};
     ghost use Rattle.lane_threads.specs.Workers.{MayBegin, WorksAndReads, draws_of};
@@ -75,7 +75,7 @@ pub trait LaneRun<C: Clock, G: Gate> {
         alone: &mut Alone<RowsLawful>,
         reader: Self::Reader,
     ) -> Result<(), NoMemory>
-        requires engine { alone.old.pass.engine ≡ engine.now }
+        requires engine { engine_of alone.old.pass ≡ engine.now }
         requires idle { IsIdle alone.old.pass }
         requires fixed { 4112 ≤ engine.now.fixed }
         requires few { length (has_read reader) ≤ due self.old }

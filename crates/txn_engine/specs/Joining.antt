@@ -54,23 +54,27 @@ known_of known (r ∷ rs) = no_knowledge
 -- the pass with one seat taken in, but for its glance
 abbrev pub joined : PassView → RetiredView → PassView
 joined p r = record p {
-  clock = max p.clock r.clock;
-  others = record p.others { taken_in = p.others.taken_in ++ r.seat ∷ r.others.taken_in };
-  known = no_knowledge;
-  log = p.log ++ r.log;
-  met = max p.met r.met;
+  post = record p.post {
+    clock = max p.clock r.clock;
+    others = record p.others { taken_in = p.others.taken_in ++ r.seat ∷ r.others.taken_in };
+    known = no_knowledge;
+    log = p.log ++ r.log;
+    met = max p.met r.met;
+  };
   spare = with_all p.spare r.spare;
 }
 
 -- the seat that is alone when all of them are taken in, but for its glance
 abbrev pub come_together : PassView → List RetiredView → PassView
 come_together p rs = record p {
-  clock = greatest_clock_of p.clock rs;
+  post = record p.post {
+    clock = greatest_clock_of p.clock rs;
+    others = record p.others { taken_in = taken_of p.others.taken_in rs };
+    known = known_of p.known rs;
+    log = p.log ++ logs_of rs;
+    met = greatest_met_of p.met rs;
+  };
   boost = 0;
-  others = record p.others { taken_in = taken_of p.others.taken_in rs };
-  known = known_of p.known rs;
-  log = p.log ++ logs_of rs;
-  met = greatest_met_of p.met rs;
   queue = [];
   spare = spare_of (p.given ++ p.spare) rs;
   given = [];

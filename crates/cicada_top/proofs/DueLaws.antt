@@ -3,6 +3,7 @@ use Rattle.std.proofs.Common.{◌≡◌, ◌∙◌, ◌⊎◌, ℕ, ◌<◌, ◌
 use Rattle.std.proofs.lemmas.List.{take-append-drop}
 use Rattle.std.proofs.lemmas.Option.{none-some, same_Some}
 use Rattle.std.specs.Io.KnownBytes.{append_known, IsAtEnd}
+use Rattle.std.specs.Prelude.{IsSome, IfSome}
 use Rattle.std.proofs.KnownBytes.{prepend_known-nil}
 use Rattle.replay_model.specs.declared.outcome.Placed.{Placed}
 use Rattle.replay_model.specs.declared.input.Input.{Input as InputValue}
@@ -20,7 +21,7 @@ use Rattle.cicada_top.specs.Parts.{input_part, report_part}
 use Rattle.cicada_top.specs.Received.{most_input, most_checked, Receives, ReceivesFor, HoldsFor, HasReadAll, ReadsAtMostFor}
 use Rattle.cicada_top.specs.Due.{IsCheckable, IsJudged, TellsVerdict, IsDueAt, Causes}
 use Rattle.cicada_top.specs.Delivery.{order_kept, IsPart, WritesAs, EndsAs}
-use Rattle.cicada_top.specs.Ending.{IsInputFor}
+use Rattle.cicada_top.specs.Ending.{ChecksReport, IsInputFor}
 
 -- no text is due at a status of a sink that fails
 pub due-not_WriteFault : (status : Status) (mode : Mode) (bytes : List ℕ) (order : List Placed) (fault : Option InputFault) (text : List ℕ)
@@ -234,6 +235,21 @@ received_input Run left left' all bytes input got told is =
     ]
 received_input (Generate seed) left left' all bytes input got told is = is
 received_input Check left left' all bytes input got told is = absurd is
+
+-- and so does the verdict on a report, where there is one
+pub received_judged : (mode : Mode) (left left' : Option (List ℕ)) (all bytes : List ℕ) (verdict : Option Verdict) → ReceivesFor mode left left' bytes
+    → HoldsFor mode left all → (IsSome verdict → ChecksReport mode) → IfSome verdict (λ v. (input : InputValue) × IsJudged bytes input v)
+    → IfSome verdict (λ v. (input : InputValue) × IsJudged all input v)
+received_judged Run left left' all bytes None got told checks judged = tt
+received_judged Run left left' all bytes (Some v) got told checks judged = absurd (checks refl)
+received_judged (Generate seed) left left' all bytes None got told checks judged = tt
+received_judged (Generate seed) left left' all bytes (Some v) got told checks judged = absurd (checks refl)
+received_judged Check left left' all bytes None got told checks judged = tt
+received_judged Check left left' all bytes (Some v) got told checks judged =
+    elim (same_or_long most_checked left left' all bytes told got) [
+      | inl same ↦ subst (λ (b : List ℕ). (input : InputValue) × IsJudged b input v) same judged
+      | inr long ↦ let short = judged.1.checkable.short in let over = long.0 in absurd (omega arith)
+    ]
 
 -- what was received whole
 whole : (most : ℕ) (left left' : Option (List ℕ)) (bytes : List ℕ) → Receives most left left' bytes → length bytes ≤ most → IsAtEnd left'

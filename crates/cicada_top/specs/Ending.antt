@@ -20,6 +20,12 @@ RunsBlocks Run = Unit {0}
 RunsBlocks (Generate seed) = Unit {0}
 RunsBlocks Check = ⊥
 
+-- a report is checked
+abbrev pub ChecksReport : Mode → Type 0
+ChecksReport Run = ⊥
+ChecksReport (Generate seed) = ⊥
+ChecksReport Check = Unit {0}
+
 -- the input whose blocks are run, for these bytes of a source
 abbrev pub IsInputFor : Mode → List ℕ → Input → Type 0
 IsInputFor Run bytes input = (length bytes ≤ most_input) × IsInput bytes input
@@ -28,7 +34,7 @@ IsInputFor Check bytes input = ⊥
 
 -- the log of all transactions is a lawful history
 abbrev pub IsLawfulEnd : PassView → Type 0
-IsLawfulEnd end = Lawful (StandsForSome stands) end.engine.size.records end.log
+IsLawfulEnd end = Lawful (StandsForSome stands) end.shared.size.records end.log
 
 -- The log has an entry of each block of the order, of its stamp and kind; and what its transactions up to there leave stands for the tables
 -- behind that block in the replay.

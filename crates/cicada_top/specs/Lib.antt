@@ -6,3 +6,4 @@ pub mod Due
 pub mod Delivery
 pub mod Ending
 pub mod Reported
+pub mod Runs

@@ -69,11 +69,11 @@ pub row_pairs-around : (before after : List (ℕ × List ℕ)) (rid : ℕ) (word
 row_pairs-around before after rid words = row_pairs-append before ((rid, words) ∷ after)
 
 -- the key was found
-pub found_in : (size base key index : ℕ) (state : State) (rows : ℕ → List (ℕ × List ℕ)) (link : Link) → IsChain size base state rows → Reaches size (base + bucket_of key) key state link → position (λ pair. pair.0 == key) link.node.pairs.items ≡ Some index → record_of rows key ≡ Some (get_or link.node.pairs.items index (0, 0)).1
+pub found_in : (size base key index : ℕ) (state : State) (rows : ℕ → List (ℕ × List ℕ)) (link : Link) → IsChain size base state rows → Reaches size (base + bucket_of key) key state link → position (λ pair. pair.0 == key) (pairs_of link.words) ≡ Some index → record_of rows key ≡ Some (get_or (pairs_of link.words) index (0, 0)).1
 found_in size base key index state rows link chain r is =
     let at = row_at size (base + bucket_of key) key state link (rows (bucket_of key)) r (chain.walks (bucket_of key) (bucket_below key)) in
-    let found = position-found link.node.pairs.items key index is in
-    let here : record_at (pairs_of r.words) key ≡ Some found.rid = ap (λ ps. record_at ps key) (sym r.stands.held.pairs) ∙ found.found in
+    let found = position-found (pairs_of link.words) key index is in
+    let here : record_at (pairs_of r.words) key ≡ Some found.rid = ap (λ ps. record_at ps key) (sym (ap pairs_of r.stands.held.words)) ∙ found.found in
     ap (λ row. record_at (row_pairs row) key) at.joined
     ∙ ap (λ ps. record_at ps key) (row_pairs-around r.before at.after link.at r.words)
     ∙ record_at-behind (row_pairs r.before) (pairs_of r.words ++ row_pairs at.after) key r.not_before

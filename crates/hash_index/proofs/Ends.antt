@@ -16,14 +16,14 @@ use Rattle.hash_index.proofs.Rows.{Leads-push, row_pairs-append}
 use Rattle.hash_index.proofs.Walked.{at_place}
 
 -- at a node that has the key
-pub ends_found : (size bucket key index : ℕ) (state : State) (link : Link) → Reaches size bucket key state link → position (λ pair. pair.0 == key) link.node.pairs.items ≡ Some index → EndsWell size bucket key state
+pub ends_found : (size bucket key index : ℕ) (state : State) (link : Link) → Reaches size bucket key state link → position (λ pair. pair.0 == key) (pairs_of link.words) ≡ Some index → EndsWell size bucket key state
 ends_found size bucket key index state link r is =
     let passed : List (ℕ × List ℕ) = r.before ++ (link.at, r.words) ∷ [] in
-    let found = position-found link.node.pairs.items key index is in
+    let found = position-found (pairs_of link.words) key index is in
     let here : record_at (row_pairs passed) key ≡ Some found.rid =
     ap (λ ps. record_at ps key) (row_pairs-append r.before ((link.at, r.words) ∷ []))
     ∙ record_at-behind (row_pairs r.before) (pairs_of r.words ++ []) key r.not_before
-    ∙ ap (λ ps. record_at ps key) (append-nil (pairs_of r.words) ∙ sym r.stands.held.pairs)
+    ∙ ap (λ ps. record_at ps key) (append-nil (pairs_of r.words) ∙ sym (ap pairs_of r.stands.held.words))
     ∙ found.found in
     record {
       nodes = passed;
@@ -33,7 +33,7 @@ ends_found size bucket key index state link r is =
     }
 
 -- at a node that names no next one
-pub ends_last : (size bucket key : ℕ) (state : State) (link : Link) → Reaches size bucket key state link → link.node.next ≡ None → EndsWell size bucket key state
+pub ends_last : (size bucket key : ℕ) (state : State) (link : Link) → Reaches size bucket key state link → link.next ≡ None → EndsWell size bucket key state
 ends_last size bucket key state link r ends = record {
   nodes = r.before ++ (link.at, r.words) ∷ [];
   to = next_of r.words;

@@ -1,10 +1,11 @@
 -- What lists of pairs have beside a key.
-use Rattle.std.proofs.Common.{◌≡◌, ◌≢◌, ℕ, ◌<◌, ◌≤◌, zero, suc, true, false, cond, eqb, ltb, List, [], ◌∷◌, ◌++◌, length, get_or, Option, None, Some, refl, sym, ap, ◌∙◌, arith, eqb-true, eq-eqb, ne_eqb}
+use Rattle.std.proofs.Common.{◌≡◌, ◌≢◌, ℕ, ◌+◌, ◌<◌, ◌≤◌, zero, suc, true, false, cond, eqb, ltb, List, [], ◌∷◌, ◌++◌, length, get_or, Option, None, Some, refl, sym, ap, ◌∙◌, arith, inl, inr, eqb-true, eq-eqb, ne_eqb}
 use Rattle.std.specs.Prelude.{is_some, position, slice_get}
 use Rattle.std.specs.List.{position_or_len}
 use Rattle.std.proofs.lemmas.Bool.Decides.{nat_tests}
 use Rattle.std.proofs.lemmas.Option.{slice_get-get_or}
-use Rattle.std.proofs.lemmas.List.Sums.{fails_before_first}
+use Rattle.std.proofs.lemmas.Bool.{cases_eq}
+use Rattle.std.proofs.lemmas.List.Sums.{fails_before_first, position_or_len_is}
 use Rattle.std.proofs.lemmas.List.Quantifiers.{position-Some}
 use Rattle.hash_index.specs.Chain.{record_at}
 
@@ -54,6 +55,29 @@ pub position-absent : (pairs : List (ℕ × ℕ)) (key : ℕ) → position (λ p
 position-absent pairs key absent =
     let past = none_past (position_or_len (λ (pair : ℕ × ℕ). eqb pair.0 key) pairs) (length pairs) absent in
     record_at-absent pairs key (λ k below. test_fails (get_or pairs k (0, 0)).0 key (fails_before_first (λ pair. eqb pair.0 key) pairs k (0, 0) (omega arith)))
+
+-- how a search by position goes
+pub fails_next : (pairs : List (ℕ × ℕ)) (key i : ℕ) → ((k : ℕ) → k < i → eqb (get_or pairs k (0, 0)).0 key ≡ false) → eqb (get_or pairs i (0, 0)).0 key ≡ false → (k : ℕ) → k < i + 1 → eqb (get_or pairs k (0, 0)).0 key ≡ false
+fails_next pairs key i before here k below = elim (cases_eq k i) as (λ _. eqb (get_or pairs k (0, 0)).0 key ≡ false) [
+  | inl same ↦ ap (λ n. eqb (get_or pairs n (0, 0)).0 key) same ∙ here
+  | inr differs ↦ before k (omega arith)
+]
+
+some_below : (place long : ℕ) → place < long → cond (ltb place long) (Some place) None ≡ Some place
+some_below place long within = grind (arith, nat_tests)
+
+none_at : (long : ℕ) → cond (ltb long long) (Some long) None ≡ None
+none_at long = grind (arith, nat_tests)
+
+pub position_here : (pairs : List (ℕ × ℕ)) (key i : ℕ) → i < length pairs → eqb (get_or pairs i (0, 0)).0 key ≡ true → ((k : ℕ) → k < i → eqb (get_or pairs k (0, 0)).0 key ≡ false) → position (λ pair. eqb pair.0 key) pairs ≡ Some i
+position_here pairs key i within here before =
+    let at = position_or_len_is (λ (pair : ℕ × ℕ). eqb pair.0 key) pairs i (0, 0) (omega arith) before (λ _. here) in
+    ap (λ p. cond (ltb p (length pairs)) (Some p) None) at ∙ some_below i (length pairs) within
+
+pub position_none : (pairs : List (ℕ × ℕ)) (key : ℕ) → ((k : ℕ) → k < length pairs → eqb (get_or pairs k (0, 0)).0 key ≡ false) → position (λ pair. eqb pair.0 key) pairs ≡ None
+position_none pairs key before =
+    let at = position_or_len_is (λ (pair : ℕ × ℕ). eqb pair.0 key) pairs (length pairs) (0, 0) (omega arith) before (λ low. absurd (omega arith)) in
+    ap (λ p. cond (ltb p (length pairs)) (Some p) None) at ∙ none_at (length pairs)
 
 pub record FoundAt (pairs : List (ℕ × ℕ)) (key index : ℕ) : Type 0 where
   pub rid : ℕ

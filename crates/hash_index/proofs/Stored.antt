@@ -50,7 +50,7 @@ put_state base key rid fresh before after state rows row row' joined chain done 
     )
 
 -- the key was found
-found_state : (base key rid index : ℕ) (before after : Meaning) (state : State) (rows : ℕ → List (ℕ × List ℕ)) (link : Link) → rid < before.size → IsChain before.size base (overlay before.writes state) rows → Reaches before.size (base + bucket_of key) key (overlay before.writes state) link → position (λ pair. pair.0 == key) link.node.pairs.items ≡ Some index → after.writes ≡ with_value before.writes link.at (Some (words_of (slice_set link.node.pairs.items index (key, rid)) link.node.next link.node.position)) → (rows' : ℕ → List (ℕ × List ℕ)) × IsPut base key rid None before after state rows rows'
+found_state : (base key rid index : ℕ) (before after : Meaning) (state : State) (rows : ℕ → List (ℕ × List ℕ)) (link : Link) → rid < before.size → IsChain before.size base (overlay before.writes state) rows → Reaches before.size (base + bucket_of key) key (overlay before.writes state) link → position (λ pair. pair.0 == key) (pairs_of link.words) ≡ Some index → after.writes ≡ with_value before.writes link.at (Some (words_of (slice_set (pairs_of link.words) index (key, rid)) link.next link.position)) → (rows' : ℕ → List (ℕ × List ℕ)) × IsPut base key rid None before after state rows rows'
 found_state base key rid index before after state rows link stored chain r is written =
     let st : State = overlay before.writes state in
     let b = bucket_of key in
@@ -58,8 +58,8 @@ found_state base key rid index before after state rows link stored chain r is wr
     let found = found_in_words before.size (length r.before) key index st link r.words r.stands is in
     let pairs : List (ℕ × ℕ) = slice_set (pairs_of r.words) index (key, rid) in
     let words' : List ℕ = words_of pairs (next_of r.words) (position_of r.words) in
-    let whole : words_of (slice_set link.node.pairs.items index (key, rid)) link.node.next link.node.position ≡ words' =
-    ap (λ ps. words_of (slice_set ps index (key, rid)) link.node.next link.node.position) r.stands.held.pairs ∙ same_words before.size (length r.before) st link r.words pairs r.stands in
+    let whole : words_of (slice_set (pairs_of link.words) index (key, rid)) link.next link.position ≡ words' =
+    ap (λ ps. words_of (slice_set ps index (key, rid)) link.next link.position) (ap pairs_of r.stands.held.words) ∙ same_words before.size (length r.before) st link r.words pairs r.stands in
     let writes : after.writes ≡ with_value before.writes link.at (Some words') = written ∙ ap (λ w. with_value before.writes link.at (Some w)) whole in
     let few = few_pairs before.size (length r.before) r.words r.stands.node in
     let done = edited before.size base key link.at (Some rid) st (overlay after.writes state) rows r.before at.after r.words pairs chain at.joined (omega (arith, length-set (pairs_of r.words) index (key, rid))) (All-set (λ pair. pair.1 < before.size) (pairs_of r.words) index (key, rid) stored r.stands.node.records)
@@ -69,17 +69,17 @@ found_state base key rid index before after state rows link stored chain r is wr
     put_state base key rid None before after state rows (r.before ++ (link.at, r.words) ∷ at.after) (r.before ++ (link.at, words') ∷ at.after) at.joined chain done (replaced r.before at.after (link.at, r.words) index found.rid found.here) tt
 
 -- a node has room
-room_state : (base key rid : ℕ) (before after : Meaning) (state : State) (rows : ℕ → List (ℕ × List ℕ)) (link : Link) → rid < before.size → IsChain before.size base (overlay before.writes state) rows → InRow before.size (base + bucket_of key) key (overlay before.writes state) link → length link.node.pairs.items < 14 → after.writes ≡ with_value before.writes link.at (Some (words_of (link.node.pairs.items ++ (key, rid) ∷ []) link.node.next link.node.position)) → (rows' : ℕ → List (ℕ × List ℕ)) × IsPut base key rid None before after state rows rows'
+room_state : (base key rid : ℕ) (before after : Meaning) (state : State) (rows : ℕ → List (ℕ × List ℕ)) (link : Link) → rid < before.size → IsChain before.size base (overlay before.writes state) rows → InRow before.size (base + bucket_of key) key (overlay before.writes state) link → length (pairs_of link.words) < 14 → after.writes ≡ with_value before.writes link.at (Some (words_of ((pairs_of link.words) ++ (key, rid) ∷ []) link.next link.position)) → (rows' : ℕ → List (ℕ × List ℕ)) × IsPut base key rid None before after state rows rows'
 room_state base key rid before after state rows link stored chain r room written =
     let st : State = overlay before.writes state in
     let b = bucket_of key in
     let joined = not_in_row before.size base key st rows link chain r in
     let pairs : List (ℕ × ℕ) = pairs_of r.words ++ (key, rid) ∷ [] in
     let words' : List ℕ = words_of pairs (next_of r.words) (position_of r.words) in
-    let whole : words_of (link.node.pairs.items ++ (key, rid) ∷ []) link.node.next link.node.position ≡ words' =
-    ap (λ ps. words_of (ps ++ (key, rid) ∷ []) link.node.next link.node.position) r.stands.held.pairs ∙ same_words before.size (length r.before) st link r.words pairs r.stands in
+    let whole : words_of ((pairs_of link.words) ++ (key, rid) ∷ []) link.next link.position ≡ words' =
+    ap (λ ps. words_of (ps ++ (key, rid) ∷ []) link.next link.position) (ap pairs_of r.stands.held.words) ∙ same_words before.size (length r.before) st link r.words pairs r.stands in
     let writes : after.writes ≡ with_value before.writes link.at (Some words') = written ∙ ap (λ w. with_value before.writes link.at (Some w)) whole in
-    let few : length (pairs_of r.words) < 14 = rw (← r.stands.held.pairs) room in
+    let few : length (pairs_of r.words) < 14 = rw (← (ap pairs_of r.stands.held.words)) room in
     let around = row_pairs-around r.before r.after link.at r.words in
     let done = edited before.size base key link.at (Some rid) st (overlay after.writes state) rows r.before r.after r.words pairs chain joined (omega (arith, length_push (pairs_of r.words) (key, rid))) (All-push (λ pair. pair.1 < before.size) (pairs_of r.words) (key, rid) r.stands.node.records stored)
     (ap (λ w. overlay w state link.at) writes ∙ written_here before.writes state link.at (Some words'))
@@ -121,7 +121,7 @@ empty_state_put base key rid before after state rows stored some chain absent wr
     put_state base key rid None before after state rows [] ((bucket, words') ∷ []) (empty_row before.size base key st rows chain absent) chain done began tt
 
 -- every node was full
-full_state : (base key rid fresh : ℕ) (before after : Meaning) (state : State) (rows : ℕ → List (ℕ × List ℕ)) (last : Link) → rid < before.size → base + 511 ≤ fresh → before.fixed ≤ fresh → fresh < before.size → IsChain before.size base (overlay before.writes state) rows → (r : InRow before.size (base + bucket_of key) key (overlay before.writes state) last) → r.after ≡ [] → length last.node.pairs.items ≡ 14 → overlay before.writes state fresh ≡ None → after.writes ≡ with_value (with_value before.writes fresh (Some (words_of ((key, rid) ∷ []) None (last.node.position + 1)))) last.at (Some (words_of last.node.pairs.items (Some fresh) last.node.position)) → (rows' : ℕ → List (ℕ × List ℕ)) × IsPut base key rid (Some fresh) before after state rows rows'
+full_state : (base key rid fresh : ℕ) (before after : Meaning) (state : State) (rows : ℕ → List (ℕ × List ℕ)) (last : Link) → rid < before.size → base + 511 ≤ fresh → before.fixed ≤ fresh → fresh < before.size → IsChain before.size base (overlay before.writes state) rows → (r : InRow before.size (base + bucket_of key) key (overlay before.writes state) last) → r.after ≡ [] → length (pairs_of last.words) ≡ 14 → overlay before.writes state fresh ≡ None → after.writes ≡ with_value (with_value before.writes fresh (Some (words_of ((key, rid) ∷ []) None (last.position + 1)))) last.at (Some (words_of (pairs_of last.words) (Some fresh) last.position)) → (rows' : ℕ → List (ℕ × List ℕ)) × IsPut base key rid (Some fresh) before after state rows rows'
 full_state base key rid fresh before after state rows last stored outside spare within chain r ends full absent written =
     let st : State = overlay before.writes state in
     let st' : State = overlay after.writes state in
@@ -130,38 +130,38 @@ full_state base key rid fresh before after state rows last stored outside spare 
     let not_there : record_at (row_pairs (rows b)) key ≡ None = ap (λ row. record_at (row_pairs row) key) (not_in_row before.size base key st rows last chain r) ∙ r.not_there in
     let new_words : List ℕ = words_of ((key, rid) ∷ []) None (position_of r.words + 1) in
     let last_words : List ℕ = words_of (pairs_of r.words) (Some fresh) (position_of r.words) in
-    let new_same : words_of ((key, rid) ∷ []) None (last.node.position + 1) ≡ new_words = ap (λ p. words_of ((key, rid) ∷ []) None (p + 1)) r.stands.held.position in
-    let last_same : words_of last.node.pairs.items (Some fresh) last.node.position ≡ last_words = ap (λ ps. words_of ps (Some fresh) last.node.position) r.stands.held.pairs ∙ ap (λ p. words_of (pairs_of r.words) (Some fresh) p) r.stands.held.position in
+    let new_same : words_of ((key, rid) ∷ []) None (last.position + 1) ≡ new_words = ap (λ p. words_of ((key, rid) ∷ []) None (p + 1)) r.stands.held.position in
+    let last_same : words_of (pairs_of last.words) (Some fresh) last.position ≡ last_words = ap (λ ps. words_of ps (Some fresh) last.position) (ap pairs_of r.stands.held.words) ∙ ap (λ p. words_of (pairs_of r.words) (Some fresh) p) r.stands.held.position in
     let writes : after.writes ≡ with_value (with_value before.writes fresh (Some new_words)) last.at (Some last_words) =
-    written ∙ ap (λ w. with_value (with_value before.writes fresh (Some w)) last.at (Some (words_of last.node.pairs.items (Some fresh) last.node.position))) new_same ∙ ap (λ w. with_value (with_value before.writes fresh (Some new_words)) last.at (Some w)) last_same in
+    written ∙ ap (λ w. with_value (with_value before.writes fresh (Some w)) last.at (Some (words_of (pairs_of last.words) (Some fresh) last.position))) new_same ∙ ap (λ w. with_value (with_value before.writes fresh (Some new_words)) last.at (Some w)) last_same in
     let differs : fresh ≢ last.at = λ same. none-some r.words (sym absent ∙ ap st same ∙ r.stands.here) in
     let inner : List (ℕ × Option (List ℕ)) = with_value before.writes fresh (Some new_words) in
     let done = linked before.size base key rid last.at fresh st st' rows r.before r.words chain joined not_there absent outside within stored
     (ap (λ w. overlay w state fresh) writes ∙ written_others inner state last.at (Some last_words) fresh differs ∙ written_here before.writes state fresh (Some new_words))
     (ap (λ w. overlay w state last.at) writes ∙ written_here inner state last.at (Some last_words))
     (λ other not_last not_fresh. ap (λ w. overlay w state other) writes ∙ written_others inner state last.at (Some last_words) other not_last ∙ written_others before.writes state fresh (Some new_words) other not_fresh) in
-    let all_full : All IsFull (r.before ++ (last.at, r.words) ∷ []) = All-push IsFull r.before (last.at, r.words) r.full_before (ap length (sym r.stands.held.pairs) ∙ full) in
+    let all_full : All IsFull (r.before ++ (last.at, r.words) ∷ []) = All-push IsFull r.before (last.at, r.words) r.full_before (ap length (sym (ap pairs_of r.stands.held.words)) ∙ full) in
     put_state base key rid (Some fresh) before after state rows (r.before ++ (last.at, r.words) ∷ []) (r.before ++ (last.at, last_words) ∷ (fresh, new_words) ∷ []) joined chain done (links r.before (last.at, r.words) fresh (ap (λ row. record_at (row_pairs row) key) (sym joined) ∙ not_there) all_full) (absent, spare)
 
 -- the contract, over each state
-pub puts_found : (size base key rid index : ℕ) (before between after : Meaning) (link : Link) (pairs : List (ℕ × ℕ)) → size ≡ before.size → rid < before.size → OnlyReads before between → EachState before between (λ state. Reaches size (base + bucket_of key) key state link) → position (λ pair. pair.0 == key) link.node.pairs.items ≡ Some index → pairs ≡ slice_set link.node.pairs.items index (key, rid) → after ≡ after_write between link.at (Some (words_of pairs link.node.next link.node.position)) → PutsPair base key rid before after
+pub puts_found : (size base key rid index : ℕ) (before between after : Meaning) (link : Link) (pairs : List (ℕ × ℕ)) → size ≡ before.size → rid < before.size → OnlyReads before between → EachState before between (λ state. Reaches size (base + bucket_of key) key state link) → position (λ pair. pair.0 == key) (pairs_of link.words) ≡ Some index → pairs ≡ slice_set (pairs_of link.words) index (key, rid) → after ≡ after_write between link.at (Some (words_of pairs link.next link.position)) → PutsPair base key rid before after
 puts_found size base key rid index before between after link pairs same stored only reaches is edit wrote =
     let one = written_after before between after link.at _ only wrote in
     record {
       fresh = None;
       given = one.given ∙ sym (append-nil before.given);
       is_fresh = tt;
-      put = λ state rows agrees chain. found_state base key rid index before after state rows link stored chain (rw same at (reaches state (rw one.reads at agrees))) is (one.writes ∙ ap (λ ps. with_value before.writes link.at (Some (words_of ps link.node.next link.node.position))) edit);
+      put = λ state rows agrees chain. found_state base key rid index before after state rows link stored chain (rw same at (reaches state (rw one.reads at agrees))) is (one.writes ∙ ap (λ ps. with_value before.writes link.at (Some (words_of ps link.next link.position))) edit);
     }
 
-pub puts_room : (size base key rid : ℕ) (before between after : Meaning) (link : Link) (pairs : List (ℕ × ℕ)) → size ≡ before.size → rid < before.size → OnlyReads before between → EachState before between (λ state. InRow size (base + bucket_of key) key state link) → length link.node.pairs.items < 14 → pairs ≡ link.node.pairs.items ++ (key, rid) ∷ [] → after ≡ after_write between link.at (Some (words_of pairs link.node.next link.node.position)) → PutsPair base key rid before after
+pub puts_room : (size base key rid : ℕ) (before between after : Meaning) (link : Link) (pairs : List (ℕ × ℕ)) → size ≡ before.size → rid < before.size → OnlyReads before between → EachState before between (λ state. InRow size (base + bucket_of key) key state link) → length (pairs_of link.words) < 14 → pairs ≡ (pairs_of link.words) ++ (key, rid) ∷ [] → after ≡ after_write between link.at (Some (words_of pairs link.next link.position)) → PutsPair base key rid before after
 puts_room size base key rid before between after link pairs same stored only in_row room edit wrote =
     let one = written_after before between after link.at _ only wrote in
     record {
       fresh = None;
       given = one.given ∙ sym (append-nil before.given);
       is_fresh = tt;
-      put = λ state rows agrees chain. room_state base key rid before after state rows link stored chain (rw same at (in_row state (rw one.reads at agrees))) room (one.writes ∙ ap (λ ps. with_value before.writes link.at (Some (words_of ps link.node.next link.node.position))) edit);
+      put = λ state rows agrees chain. room_state base key rid before after state rows link stored chain (rw same at (in_row state (rw one.reads at agrees))) room (one.writes ∙ ap (λ ps. with_value before.writes link.at (Some (words_of ps link.next link.position))) edit);
     }
 
 pub puts_empty : (size base key rid bucket : ℕ) (before between after : Meaning) (words : List ℕ) → size ≡ before.size → rid < before.size → OnlyReads before between → bucket ≡ base + bucket_of key → EachState before between (λ state. state (base + bucket_of key) ≡ None) → words ≡ words_of ((key, rid) ∷ []) None 0 → after ≡ after_write between bucket (Some words) → PutsPair base key rid before after
@@ -194,11 +194,11 @@ absent_now between fresh state is agrees =
     overlay-unwritten between.writes state fresh is.not_written
     ∙ agrees-value_at (after_fresh between fresh).reads state fresh None agrees (rw is.not_written (known_from_reads between.reads fresh is.absent))
 
-pub puts_full : (size base key rid : ℕ) (before between after : Meaning) (last : Link) → size ≡ before.size → rid < before.size → base + 511 ≤ before.fixed → OnlyReads before between → EachState before between (λ state. (row : InRow size (base + bucket_of key) key state last) × (row.after ≡ []) × (length last.node.pairs.items ≡ 14)) → AddsNode key rid last between after → PutsPair base key rid before after
+pub puts_full : (size base key rid : ℕ) (before between after : Meaning) (last : Link) → size ≡ before.size → rid < before.size → base + 511 ≤ before.fixed → OnlyReads before between → EachState before between (λ state. (row : InRow size (base + bucket_of key) key state last) × (row.after ≡ []) × (length (pairs_of last.words) ≡ 14)) → AddsNode key rid last between after → PutsPair base key rid before after
 puts_full size base key rid before between after last same stored buckets only place adds =
     let is = fresh_before before between adds.fresh only adds.is_fresh in
     let reads : after.reads ≡ (after_fresh between adds.fresh).reads = ap (λ (m : Meaning). m.reads) adds.written in
-    let writes = ap (λ (m : Meaning). m.writes) adds.written ∙ ap (λ ws. with_value (with_value ws adds.fresh (Some (words_of ((key, rid) ∷ []) None (last.node.position + 1)))) last.at (Some (words_of last.node.pairs.items (Some adds.fresh) last.node.position))) (writes_same before between only) in
+    let writes = ap (λ (m : Meaning). m.writes) adds.written ∙ ap (λ ws. with_value (with_value ws adds.fresh (Some (words_of ((key, rid) ∷ []) None (last.position + 1)))) last.at (Some (words_of (pairs_of last.words) (Some adds.fresh) last.position))) (writes_same before between only) in
     record {
       fresh = Some adds.fresh;
       given = ap (λ (m : Meaning). m.given) adds.written ∙ ap (λ gs. gs ++ adds.fresh ∷ []) (given_same before between only);
@@ -212,7 +212,7 @@ puts_full size base key rid before between after last same stored buckets only p
     }
 
 -- where a new node is needed
-pub needs_node : (size base key : ℕ) (before between after : Meaning) (last : Link) → size ≡ before.size → Extends between.reads after.reads → EachState before between (λ state. (row : InRow size (base + bucket_of key) key state last) × (row.after ≡ []) × (length last.node.pairs.items ≡ 14)) → EachChain base before after (λ _ rows. NeedsNode key rows)
+pub needs_node : (size base key : ℕ) (before between after : Meaning) (last : Link) → size ≡ before.size → Extends between.reads after.reads → EachState before between (λ state. (row : InRow size (base + bucket_of key) key state last) × (row.after ≡ []) × (length (pairs_of last.words) ≡ 14)) → EachChain base before after (λ _ rows. NeedsNode key rows)
 needs_node size base key before between after last same more place = λ state rows agrees chain.
     let found = rw same at (place state (agrees-extends between.reads after.reads state more agrees)) in
     let r = found.0 in
@@ -220,7 +220,7 @@ needs_node size base key before between after last same more place = λ state ro
     record {
       not_there = ap (λ row. record_at (row_pairs row) key) (not_in_row before.size base key (overlay before.writes state) rows last chain r) ∙ r.not_there;
       present = λ none. not_nil r.before [] (last.at, r.words) (sym joined ∙ none);
-      full = rw joined (All-push IsFull r.before (last.at, r.words) r.full_before (ap length (sym r.stands.held.pairs) ∙ found.2));
+      full = rw joined (All-push IsFull r.before (last.at, r.words) r.full_before (ap length (sym (ap pairs_of r.stands.held.words)) ∙ found.2));
     }
 
 -- a pair whose record number is written over

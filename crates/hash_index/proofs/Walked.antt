@@ -43,7 +43,7 @@ pub Leads-to : (size : ℕ) (state : State) (position : ℕ) (from to to' : Opti
 Leads-to size state position from to to' row same leads = let P : Option ℕ → Type 0 = Leads size state position from row in subst P same leads
 
 -- the position that a node was read with is its place in the row
-pub place_is : (size place : ℕ) (state : State) (link : Link) (words : List ℕ) → Stands size place state link words → link.node.position ≡ place
+pub place_is : (size place : ℕ) (state : State) (link : Link) (words : List ℕ) → Stands size place state link words → link.position ≡ place
 place_is size place state link words stands = stands.held.position ∙ stands.node.placed
 
 -- one node more does not have the key
@@ -54,8 +54,8 @@ not_there_push before at key words first last =
     ∙ ap (λ ps. record_at ps key) (append-nil (pairs_of words))
     ∙ last
 
-not_in_node : (size place key : ℕ) (state : State) (link : Link) (words : List ℕ) → Stands size place state link words → position (λ pair. eqb pair.0 key) link.node.pairs.items ≡ None → record_at (pairs_of words) key ≡ None
-not_in_node size place key state link words stands absent = ap (λ ps. record_at ps key) (sym stands.held.pairs) ∙ position-absent link.node.pairs.items key absent
+not_in_node : (size place key : ℕ) (state : State) (link : Link) (words : List ℕ) → Stands size place state link words → position (λ pair. eqb pair.0 key) (pairs_of link.words) ≡ None → record_at (pairs_of words) key ≡ None
+not_in_node size place key state link words stands absent = ap (λ ps. record_at ps key) (sym (ap pairs_of stands.held.words)) ∙ position-absent (pairs_of link.words) key absent
 
 -- the walk begins at the bucket
 pub walk_begins : (size bucket key : ℕ) (state : State) (link : Link) (words : List ℕ) → Stands size 0 state link words → link.at ≡ bucket → Walked size bucket key state None link
@@ -76,13 +76,13 @@ stands_at size place place' state link words same stands = let P : ℕ → Type 
 pub at_place : (size place place' : ℕ) (words : List ℕ) → place ≡ place' → IsNode size place words → IsNode size place' words
 at_place size place place' words same node = let P : ℕ → Type 0 = λ p. IsNode size p words in subst P same node
 
-full_from : (size place : ℕ) (state : State) (here : Link) (words : List ℕ) → Stands size place state here words → 14 ≤ length here.node.pairs.items → length (pairs_of words) ≡ 14
+full_from : (size place : ℕ) (state : State) (here : Link) (words : List ℕ) → Stands size place state here words → 14 ≤ length (pairs_of here.words) → length (pairs_of words) ≡ 14
 full_from size place state here words stands many =
     let few = few_pairs size place words stands.node in
-    let same : length here.node.pairs.items ≡ length (pairs_of words) = ap length stands.held.pairs in
+    let same : length (pairs_of here.words) ≡ length (pairs_of words) = ap length (ap pairs_of stands.held.words) in
     omega arith
 
-room_new : (test : Bool) (size place : ℕ) (state : State) (here : Link) (words : List ℕ) (before : List (ℕ × List ℕ)) → ltb (length here.node.pairs.items) 14 ≡ test → length before ≡ place → Stands size place state here words → All IsFull before → RoomAmong size state (cond test (Some here) None) (before ++ (here.at, words) ∷ [])
+room_new : (test : Bool) (size place : ℕ) (state : State) (here : Link) (words : List ℕ) (before : List (ℕ × List ℕ)) → ltb (length (pairs_of here.words)) 14 ≡ test → length before ≡ place → Stands size place state here words → All IsFull before → RoomAmong size state (cond test (Some here) None) (before ++ (here.at, words) ∷ [])
 room_new true size place state here words before is long stands full = record {
   before = before;
   words = words;
@@ -91,7 +91,7 @@ room_new true size place state here words before is long stands full = record {
   stands = stands_at size place (length before) state here words (sym long) stands;
   full_before = full;
 }
-room_new false size place state here words before is long stands full = All-push IsFull before (here.at, words) full (full_from size place state here words stands (ltb-false (length here.node.pairs.items) 14 is))
+room_new false size place state here words before is long stands full = All-push IsFull before (here.at, words) full (full_from size place state here words stands (ltb-false (length (pairs_of here.words)) 14 is))
 
 room_step : (size place : ℕ) (state : State) (room : Option Link) (here : Link) (words : List ℕ) (before : List (ℕ × List ℕ)) → length before ≡ place → Stands size place state here words → RoomAmong size state room before → RoomAmong size state (first_room room here) (before ++ (here.at, words) ∷ [])
 room_step size place state (Some link) here words before long stands room = record {
@@ -102,10 +102,10 @@ room_step size place state (Some link) here words before long stands room = reco
   stands = room.stands;
   full_before = room.full_before;
 }
-room_step size place state None here words before long stands room = room_new (ltb (length here.node.pairs.items) 14) size place state here words before refl long stands room
+room_step size place state None here words before long stands room = room_new (ltb (length (pairs_of here.words)) 14) size place state here words before refl long stands room
 
 -- the walk passes a node without the key
-pub walk_steps : (size bucket key next : ℕ) (state : State) (room : Option Link) (here link : Link) (words : List ℕ) → Walked size bucket key state room here → position (λ pair. eqb pair.0 key) here.node.pairs.items ≡ None → here.node.next ≡ Some next → link.at ≡ next → Stands size (here.node.position + 1) state link words → Walked size bucket key state (first_room room here) link
+pub walk_steps : (size bucket key next : ℕ) (state : State) (room : Option Link) (here link : Link) (words : List ℕ) → Walked size bucket key state room here → position (λ pair. eqb pair.0 key) (pairs_of here.words) ≡ None → here.next ≡ Some next → link.at ≡ next → Stands size (here.position + 1) state link words → Walked size bucket key state (first_room room here) link
 walk_steps size bucket key next state room here link words walked absent names at stands =
     let r = walked.reaches in
     let place = place_is size (length r.before) state here r.words r.stands in
@@ -114,18 +114,18 @@ walk_steps size bucket key next state room here link words walked absent names a
         before = r.before ++ (here.at, r.words) ∷ [];
         words = words;
         reached = Leads-to size state 0 (start_of state bucket) (next_of r.words) (Some link.at) (r.before ++ (here.at, r.words) ∷ []) (sym r.stands.held.next ∙ names ∙ ap (λ n. Some n) (sym at)) (Leads-push size state 0 (start_of state bucket) here.at r.words r.before r.reached r.stands.here (at_place size (length r.before) (0 + length r.before) r.words (omega arith) r.stands.node));
-        stands = stands_at size (here.node.position + 1) (length (r.before ++ (here.at, r.words) ∷ [])) state link words (omega (arith, length_push r.before (here.at, r.words))) stands;
+        stands = stands_at size (here.position + 1) (length (r.before ++ (here.at, r.words) ∷ [])) state link words (omega (arith, length_push r.before (here.at, r.words))) stands;
         not_before = not_there_push r.before here.at key r.words r.not_before (not_in_node size (length r.before) key state here r.words r.stands absent);
       };
       first_room = room_step size (length r.before) state room here r.words r.before refl r.stands walked.first_room;
     }
 
 -- the walk ends at a node without a next one
-row_of : (size bucket : ℕ) (state : State) (here : Link) (words : List ℕ) (before : List (ℕ × List ℕ)) → Leads size state 0 (start_of state bucket) before (Some here.at) → Stands size (length before) state here words → here.node.next ≡ None → Leads size state 0 (start_of state bucket) (before ++ (here.at, words) ∷ []) None
+row_of : (size bucket : ℕ) (state : State) (here : Link) (words : List ℕ) (before : List (ℕ × List ℕ)) → Leads size state 0 (start_of state bucket) before (Some here.at) → Stands size (length before) state here words → here.next ≡ None → Leads size state 0 (start_of state bucket) (before ++ (here.at, words) ∷ []) None
 row_of size bucket state here words before reached stands ends =
     Leads-to size state 0 (start_of state bucket) (next_of words) None (before ++ (here.at, words) ∷ []) (sym stands.held.next ∙ ends) (Leads-push size state 0 (start_of state bucket) here.at words before reached stands.here (at_place size (length before) (0 + length before) words (omega arith) stands.node))
 
-in_row_last : (size bucket key : ℕ) (state : State) (here : Link) (r : Reaches size bucket key state here) → All IsFull r.before → position (λ pair. eqb pair.0 key) here.node.pairs.items ≡ None → here.node.next ≡ None → InRow size bucket key state here
+in_row_last : (size bucket key : ℕ) (state : State) (here : Link) (r : Reaches size bucket key state here) → All IsFull r.before → position (λ pair. eqb pair.0 key) (pairs_of here.words) ≡ None → here.next ≡ None → InRow size bucket key state here
 in_row_last size bucket key state here r full absent ends = record {
   before = r.before;
   words = r.words;
@@ -136,7 +136,7 @@ in_row_last size bucket key state here r full absent ends = record {
   not_there = not_there_push r.before here.at key r.words r.not_before (not_in_node size (length r.before) key state here r.words r.stands absent);
 }
 
-in_row_first : (size bucket key : ℕ) (state : State) (link here : Link) (r : Reaches size bucket key state here) → FirstRoom size state link r.before → position (λ pair. eqb pair.0 key) here.node.pairs.items ≡ None → here.node.next ≡ None → InRow size bucket key state link
+in_row_first : (size bucket key : ℕ) (state : State) (link here : Link) (r : Reaches size bucket key state here) → FirstRoom size state link r.before → position (λ pair. eqb pair.0 key) (pairs_of here.words) ≡ None → here.next ≡ None → InRow size bucket key state link
 in_row_first size bucket key state link here r room absent ends =
     let whole : r.before ++ (here.at, r.words) ∷ [] ≡ room.before ++ (link.at, room.words) ∷ (room.after ++ (here.at, r.words) ∷ []) = ap (λ xs. xs ++ (here.at, r.words) ∷ []) room.joined ∙ append_assoc room.before ((link.at, room.words) ∷ room.after) ((here.at, r.words) ∷ []) in
     let row = row_of size bucket state here r.words r.before r.reached r.stands ends in
@@ -152,22 +152,22 @@ in_row_first size bucket key state link here r room absent ends =
       not_there = ap (λ xs. record_at (row_pairs xs) key) (sym whole) ∙ not_there;
     }
 
-end_last : (test : Bool) (size bucket key : ℕ) (state : State) (here : Link) (r : Reaches size bucket key state here) → ltb (length here.node.pairs.items) 14 ≡ test → All IsFull r.before → position (λ pair. eqb pair.0 key) here.node.pairs.items ≡ None → here.node.next ≡ None → IsPlace size bucket key state (cond test (Room here) (Full here))
+end_last : (test : Bool) (size bucket key : ℕ) (state : State) (here : Link) (r : Reaches size bucket key state here) → ltb (length (pairs_of here.words)) 14 ≡ test → All IsFull r.before → position (λ pair. eqb pair.0 key) (pairs_of here.words) ≡ None → here.next ≡ None → IsPlace size bucket key state (cond test (Room here) (Full here))
 unfolding in_row_last
 end_last true size bucket key state here r is full absent ends = in_row_last size bucket key state here r full absent ends
 end_last false size bucket key state here r is full absent ends =
-    let all = full_from size (length r.before) state here r.words r.stands (ltb-false (length here.node.pairs.items) 14 is) in
-    (in_row_last size bucket key state here r full absent ends, refl, ap length r.stands.held.pairs ∙ all)
+    let all = full_from size (length r.before) state here r.words r.stands (ltb-false (length (pairs_of here.words)) 14 is) in
+    (in_row_last size bucket key state here r full absent ends, refl, ap length (ap pairs_of r.stands.held.words) ∙ all)
 
-end_by : (room : Option Link) (size bucket key : ℕ) (state : State) (here : Link) (r : Reaches size bucket key state here) → RoomAmong size state room r.before → position (λ pair. eqb pair.0 key) here.node.pairs.items ≡ None → here.node.next ≡ None → IsPlace size bucket key state (end_place room here)
+end_by : (room : Option Link) (size bucket key : ℕ) (state : State) (here : Link) (r : Reaches size bucket key state here) → RoomAmong size state room r.before → position (λ pair. eqb pair.0 key) (pairs_of here.words) ≡ None → here.next ≡ None → IsPlace size bucket key state (end_place room here)
 end_by (Some link) size bucket key state here r room absent ends = in_row_first size bucket key state link here r room absent ends
-end_by None size bucket key state here r room absent ends = end_last (ltb (length here.node.pairs.items) 14) size bucket key state here r refl room absent ends
+end_by None size bucket key state here r room absent ends = end_last (ltb (length (pairs_of here.words)) 14) size bucket key state here r refl room absent ends
 
-pub walk_ends : (size bucket key : ℕ) (state : State) (room : Option Link) (here : Link) → Walked size bucket key state room here → position (λ pair. eqb pair.0 key) here.node.pairs.items ≡ None → here.node.next ≡ None → IsPlace size bucket key state (end_place room here)
+pub walk_ends : (size bucket key : ℕ) (state : State) (room : Option Link) (here : Link) → Walked size bucket key state room here → position (λ pair. eqb pair.0 key) (pairs_of here.words) ≡ None → here.next ≡ None → IsPlace size bucket key state (end_place room here)
 walk_ends size bucket key state room here walked absent ends = end_by room size bucket key state here walked.reaches walked.first_room absent ends
 
 -- the walk comes to a record that is no node at its place
-pub walk_tears : (size bucket key next : ℕ) (state : State) (room : Option Link) (here : Link) → Walked size bucket key state room here → position (λ pair. eqb pair.0 key) here.node.pairs.items ≡ None → here.node.next ≡ Some next → ((words : List ℕ) → state next ≡ Some words → IsNode size (here.node.position + 1) words → ⊥) → Tears size bucket key state next
+pub walk_tears : (size bucket key next : ℕ) (state : State) (room : Option Link) (here : Link) → Walked size bucket key state room here → position (λ pair. eqb pair.0 key) (pairs_of here.words) ≡ None → here.next ≡ Some next → ((words : List ℕ) → state next ≡ Some words → IsNode size (here.position + 1) words → ⊥) → Tears size bucket key state next
 walk_tears size bucket key next state room here walked absent names torn =
     let r = walked.reaches in
     let place = place_is size (length r.before) state here r.words r.stands in
@@ -175,7 +175,7 @@ walk_tears size bucket key next state room here walked absent names torn =
     record {
       nodes = passed;
       reached = Leads-to size state 0 (start_of state bucket) (next_of r.words) (Some next) passed (sym r.stands.held.next ∙ names) (Leads-push size state 0 (start_of state bucket) here.at r.words r.before r.reached r.stands.here (at_place size (length r.before) (0 + length r.before) r.words (omega arith) r.stands.node));
-      no_node = λ words is node. torn words is (at_place size (length passed) (here.node.position + 1) words (omega (arith, length_push r.before (here.at, r.words))) node);
+      no_node = λ words is node. torn words is (at_place size (length passed) (here.position + 1) words (omega (arith, length_push r.before (here.at, r.words))) node);
       not_before = not_there_push r.before here.at key r.words r.not_before (not_in_node size (length r.before) key state here r.words r.stands absent);
     }
 
@@ -194,18 +194,18 @@ bucket_tears size bucket key state torn = record {
   not_before = refl;
 }
 
-room_or_none : (test : Bool) (size : ℕ) (here : Link) → ltb (length here.node.pairs.items) 14 ≡ test → IsInStore size here → IfSome (cond test (Some here) None) (IsRoom size)
-room_or_none true size here is stored = record { in_store = stored; has_room = ltb-true (length here.node.pairs.items) 14 is }
+room_or_none : (test : Bool) (size : ℕ) (here : Link) → ltb (length (pairs_of here.words)) 14 ≡ test → IsInStore size here → IfSome (cond test (Some here) None) (IsRoom size)
+room_or_none true size here is stored = record { in_store = stored; has_room = ltb-true (length (pairs_of here.words)) 14 is }
 room_or_none false size here is stored = tt
 
 pub room_in_store : (size : ℕ) (room : Option Link) (here : Link) → IfSome room (IsRoom size) → IsInStore size here → IfSome (first_room room here) (IsRoom size)
 room_in_store size (Some link) here room stored = room
-room_in_store size None here room stored = room_or_none (ltb (length here.node.pairs.items) 14) size here refl stored
+room_in_store size None here room stored = room_or_none (ltb (length (pairs_of here.words)) 14) size here refl stored
 
-within_last : (test : Bool) (size bucket key : ℕ) (here : Link) → ltb (length here.node.pairs.items) 14 ≡ test → IsInStore size here → IsWithin size bucket key (cond test (Room here) (Full here))
-within_last true size bucket key here is stored = record { in_store = stored; has_room = ltb-true (length here.node.pairs.items) 14 is }
+within_last : (test : Bool) (size bucket key : ℕ) (here : Link) → ltb (length (pairs_of here.words)) 14 ≡ test → IsInStore size here → IsWithin size bucket key (cond test (Room here) (Full here))
+within_last true size bucket key here is stored = record { in_store = stored; has_room = ltb-true (length (pairs_of here.words)) 14 is }
 within_last false size bucket key here is stored = stored
 
 pub place_in_store : (size bucket key : ℕ) (room : Option Link) (here : Link) → IfSome room (IsRoom size) → IsInStore size here → IsWithin size bucket key (end_place room here)
 place_in_store size bucket key (Some link) here room stored = room
-place_in_store size bucket key None here room stored = within_last (ltb (length here.node.pairs.items) 14) size bucket key here refl stored
+place_in_store size bucket key None here room stored = within_last (ltb (length (pairs_of here.words)) 14) size bucket key here refl stored

@@ -45,6 +45,12 @@ pair_is words i whole within counted =
     let long = length-paired (drop 2 words) i (omega (arith, length-drop 2 words)) in
     (omega (arith, long, length-take (slice_index words 0) (paired (drop 2 words))), get_or-take (slice_index words 0) (paired (drop 2 words)) i (0, 0) counted ∙ pair_at words i (0, 0) whole within)
 
+-- as many pairs as the first word says
+pub length-pairs_of : (words : List ℕ) → length words ≡ 32 → slice_index words 0 ≤ 14 → length (pairs_of words) ≡ slice_index words 0
+length-pairs_of words whole few =
+    let long = length-paired (drop 2 words) 14 (omega (arith, length-drop 2 words)) in
+    omega (arith, long, length-take (slice_index words 0) (paired (drop 2 words)))
+
 -- what the words of a node say
 length-pair_words : (pairs : List (ℕ × ℕ)) → length (pair_words pairs) ≡ 2 * length pairs
 length-pair_words [] = refl
@@ -105,6 +111,3 @@ words_all words pairs next position i all written =
     ∙ ap (λ ps. length pairs ∷ link_word next ∷ (pair_words ps ++ (replicate (28 - 2 * i) 0 ++ position ∷ 0 ∷ []))) whole
     ∙ ap (λ k. length pairs ∷ link_word next ∷ (pair_words pairs ++ (replicate (28 - 2 * k) 0 ++ position ∷ 0 ∷ []))) all
     ∙ ap (λ ws. length pairs ∷ link_word next ∷ ws) (sym (append_assoc (pair_words pairs) zeros (position ∷ 0 ∷ [])))
-
-pub words_alike : (pairs pairs' : List (ℕ × ℕ)) (next next' : Option ℕ) (position position' : ℕ) → pairs ≡ pairs' → next ≡ next' → position ≡ position' → words_of pairs next position ≡ words_of pairs' next' position'
-words_alike pairs pairs' next next' position position' a b c = ap (λ ps. words_of ps next position) a ∙ ap (λ n. words_of pairs' n position) b ∙ ap (λ p. words_of pairs' next' p) c

@@ -16,13 +16,24 @@ with_next node rid = (node.0, words_of (pairs_of node.1) (Some rid) (position_of
 abbrev pub IsFull : ℕ × List ℕ → Type 0
 IsFull node = length (pairs_of node.1) ≡ 14
 
+-- no node of a row has the key
+abbrev pub Misses : ℕ → List (ℕ × List ℕ) → Type 0
+Misses key row = record_at (row_pairs row) key ≡ None
+
+-- a node with one pair, behind another one
+abbrev pub node_behind : ℕ × List ℕ → ℕ → ℕ → ℕ → ℕ × List ℕ
+node_behind last fresh key rid = (fresh, words_of ((key, rid) ∷ []) None (position_of last.1 + 1))
+
 -- a pair is put into a row: in place of the key's pair; else behind the pairs of the first node with room; else into a new
 -- node, the bucket itself where it was absent, else a fresh record behind the last node
 pub data Puts (bucket key rid : ℕ) : Option ℕ → List (ℕ × List ℕ) → List (ℕ × List ℕ) → Type 0 where
-  replaced : (before after : List (ℕ × List ℕ)) (node : ℕ × List ℕ) (index old : ℕ) → slice_get (pairs_of node.1) index ≡ Some (key, old) → Puts bucket key rid None (before ++ node ∷ after) (before ++ with_pairs node (slice_set (pairs_of node.1) index (key, rid)) ∷ after)
-  added : (before after : List (ℕ × List ℕ)) (node : ℕ × List ℕ) → record_at (row_pairs (before ++ node ∷ after)) key ≡ None → All IsFull before → length (pairs_of node.1) < 14 → Puts bucket key rid None (before ++ node ∷ after) (before ++ with_pairs node (pairs_of node.1 ++ (key, rid) ∷ []) ∷ after)
+  replaced : (before after : List (ℕ × List ℕ)) (node : ℕ × List ℕ) (index old : ℕ) → slice_get (pairs_of node.1) index ≡ Some (key, old)
+      → Puts bucket key rid None (before ++ node ∷ after) (before ++ with_pairs node (slice_set (pairs_of node.1) index (key, rid)) ∷ after)
+  added : (before after : List (ℕ × List ℕ)) (node : ℕ × List ℕ) → Misses key (before ++ node ∷ after) → All IsFull before → length (pairs_of node.1) < 14
+      → Puts bucket key rid None (before ++ node ∷ after) (before ++ with_pairs node (pairs_of node.1 ++ (key, rid) ∷ []) ∷ after)
   began : Puts bucket key rid None [] ((bucket, words_of ((key, rid) ∷ []) None 0) ∷ [])
-  linked : (before : List (ℕ × List ℕ)) (last : ℕ × List ℕ) (fresh : ℕ) → record_at (row_pairs (before ++ last ∷ [])) key ≡ None → All IsFull (before ++ last ∷ []) → Puts bucket key rid (Some fresh) (before ++ last ∷ []) (before ++ with_next last fresh ∷ (fresh, words_of ((key, rid) ∷ []) None (position_of last.1 + 1)) ∷ [])
+  linked : (before : List (ℕ × List ℕ)) (last : ℕ × List ℕ) (fresh : ℕ) → Misses key (before ++ last ∷ []) → All IsFull (before ++ last ∷ [])
+      → Puts bucket key rid (Some fresh) (before ++ last ∷ []) (before ++ with_next last fresh ∷ node_behind last fresh key rid ∷ [])
 
 -- a pair is removed from a row: the last pair of its node fills its place, and the node stays
 pub data Removes (key : ℕ) : List (ℕ × List ℕ) → List (ℕ × List ℕ) → Type 0 where

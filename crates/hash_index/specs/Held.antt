@@ -1,9 +1,9 @@
--- A node in memory and the words that it was read from.
+-- A node that was read, and the words of its record.
 use Rattle.std.specs.Prelude.{◌≡◌, ℕ, List}
-use Rattle.hash_index.specs.declared.node.Node.{Node}
-use Rattle.hash_index.specs.Node.{pairs_of, next_of, position_of}
+use Rattle.hash_index.specs.declared.search.Link.{Link}
+use Rattle.hash_index.specs.Node.{next_of, position_of}
 
-pub record Holds (node : Node) (words : List ℕ) : Type 0 where
-  pub pairs : node.pairs.items ≡ pairs_of words
-  pub next : node.next ≡ next_of words
-  pub position : node.position ≡ position_of words
+pub record Holds (link : Link) (held : List ℕ) : Type 0 where
+  pub words : link.words ≡ held
+  pub next : link.next ≡ next_of held
+  pub position : link.position ≡ position_of held

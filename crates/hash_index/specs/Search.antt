@@ -1,12 +1,12 @@
 -- Where a search for a key ends.
-use Rattle.std.specs.Prelude.{◌≡◌, ℕ, ◌+◌, ◌<◌, ◌==◌, List, [], ◌∷◌, ◌++◌, length, position, nat_lt, if◌then◌else◌, All, Option, None, Some, IfSome}
+use Rattle.std.specs.Prelude.{◌≡◌, ℕ, ◌+◌, ◌<◌, ◌≤◌, ◌==◌, List, [], ◌∷◌, ◌++◌, length, position, nat_lt, slice_index, if◌then◌else◌, All, Option, None, Some, IfSome}
 use Rattle.plain_data.specs.State.{State}
 use Rattle.record_store.specs.Meaning.{Meaning, after_write, after_fresh}
 use Rattle.record_store.specs.Store.{IsFresh}
 use Rattle.hash_index.specs.declared.search.Link.{Link}
 use Rattle.hash_index.specs.declared.search.Place.{Place}
 use Rattle.hash_index.specs.declared.search.Place.TheVariants.{Found, Room, Full, Empty}
-use Rattle.hash_index.specs.Node.{IsNode, words_of}
+use Rattle.hash_index.specs.Node.{IsNode, pairs_of, words_of}
 use Rattle.hash_index.specs.Held.{Holds}
 use Rattle.hash_index.specs.Chain.{Leads, start_of, record_at, row_pairs}
 use Rattle.hash_index.specs.Changes.{IsFull}
@@ -14,21 +14,22 @@ use Rattle.hash_index.specs.Changes.{IsFull}
 -- a node in memory that was read from a store of this size
 pub record IsInStore (size : ℕ) (link : Link) : Type 0 where
   pub record_number : link.at < size
-  pub position : link.node.position < size
-  pub next : IfSome link.node.next (λ next. next < size)
-  pub pairs : All (λ pair. pair.1 < size) link.node.pairs.items
+  pub few : slice_index link.words 0 ≤ 14
+  pub position : link.position < size
+  pub next : IfSome link.next (λ next. next < size)
+  pub pairs : All (λ pair. pair.1 < size) (pairs_of link.words)
 
 -- it was read at this record and this position
 pub record IsLink (size rid position : ℕ) (link : Link) : Type 0 where
   pub at : link.at ≡ rid
-  pub placed : link.node.position ≡ position
+  pub placed : link.position ≡ position
   pub in_store : IsInStore size link
 
 -- the state has the node
 pub record Stands (size position : ℕ) (state : State) (link : Link) (words : List ℕ) : Type 0 where
   pub here : state link.at ≡ Some words
   pub node : IsNode size position words
-  pub held : Holds link.node words
+  pub held : Holds link words
 
 abbrev pub ReadAs : ℕ → ℕ → ℕ → State → Option Link → Type 0
 ReadAs size rid position state None = state rid ≡ None
@@ -59,18 +60,18 @@ pub record InRow (size bucket key : ℕ) (state : State) (link : Link) : Type 0 
 -- a node that is not full
 pub record IsRoom (size : ℕ) (link : Link) : Type 0 where
   pub in_store : IsInStore size link
-  pub has_room : length link.node.pairs.items < 14
+  pub has_room : length (pairs_of link.words) < 14
 
 -- what holds of a place in a state
 abbrev pub IsPlace : ℕ → ℕ → ℕ → State → Place → Type 0
 IsPlace size bucket key state (Found link index) = Reaches size bucket key state link
 IsPlace size bucket key state (Room link) = InRow size bucket key state link
-IsPlace size bucket key state (Full link) = (row : InRow size bucket key state link) × (row.after ≡ []) × (length link.node.pairs.items ≡ 14)
+IsPlace size bucket key state (Full link) = (row : InRow size bucket key state link) × (row.after ≡ []) × (length (pairs_of link.words) ≡ 14)
 IsPlace size bucket key state (Empty rid) = state bucket ≡ None
 
 -- and whatever the state
 abbrev pub IsWithin : ℕ → ℕ → ℕ → Place → Type 0
-IsWithin size bucket key (Found link index) = IsInStore size link × (position (λ pair. pair.0 == key) link.node.pairs.items ≡ Some index)
+IsWithin size bucket key (Found link index) = IsInStore size link × (position (λ pair. pair.0 == key) (pairs_of link.words) ≡ Some index)
 IsWithin size bucket key (Room link) = IsRoom size link
 IsWithin size bucket key (Full link) = IsInStore size link
 IsWithin size bucket key (Empty rid) = rid ≡ bucket
@@ -78,15 +79,15 @@ IsWithin size bucket key (Empty rid) = rid ≡ bucket
 -- the first node with room, once one more was passed
 abbrev pub first_room : Option Link → Link → Option Link
 first_room (Some link) passed = Some link
-first_room None passed = if nat_lt (length passed.node.pairs.items) 14 then Some passed else None
+first_room None passed = if nat_lt (length (pairs_of passed.words)) 14 then Some passed else None
 
 -- the place of a key that no node has, from the first node with room before the last one, and the last one
 abbrev pub end_place : Option Link → Link → Place
 end_place (Some link) last = Room link
-end_place None last = if nat_lt (length last.node.pairs.items) 14 then Room last else Full last
+end_place None last = if nat_lt (length (pairs_of last.words)) 14 then Room last else Full last
 
 -- a pair is written to a new node, and the last node of the row to name it
 pub record AddsNode (key rid : ℕ) (last : Link) (before after : Meaning) : Type 0 where
   pub fresh : ℕ
   pub is_fresh : IsFresh before fresh
-  pub written : after ≡ after_write (after_write (after_fresh before fresh) fresh (Some (words_of ((key, rid) ∷ []) None (last.node.position + 1)))) last.at (Some (words_of last.node.pairs.items (Some fresh) last.node.position))
+  pub written : after ≡ after_write (after_write (after_fresh before fresh) fresh (Some (words_of ((key, rid) ∷ []) None (last.position + 1)))) last.at (Some (words_of (pairs_of last.words) (Some fresh) last.position))

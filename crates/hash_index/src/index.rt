@@ -9,10 +9,10 @@ ghost use Rattle.record_store.specs.Writes.{WritesAtMost, WritesOnly, EachWrites
 ghost use Rattle.record_store.specs.Meaning.{after_write};
 ghost use Rattle.hash_index.specs.Node.{words_of};
 ghost use Rattle.hash_index.specs.Chain.{EachChain, EndsWell, bucket_of, record_of};
-ghost use Rattle.hash_index.specs.Search.{AddsNode};
+ghost use Rattle.hash_index.specs.Search.{AddsNode, IsInStore};
 ghost use Rattle.hash_index.specs.Answers.{IsTorn, MayAsk, Asks, PutsPair, RemovesPair};
 
-use crate::node::Node;
+use crate::node::{Pairs, all_pairs, node_cells, one_pair, pair_record};
 use crate::search::{Link, Place, search};
 use record_store::{RecordRead, RecordStore, Walk};
 
@@ -34,7 +34,7 @@ pub fn get<S: RecordRead>(store: &mut S, base: u32, key: u64) -> Result<Option<u
     let size = store.size();
     let place = search(store, size, base, key)?;
     match place {
-        Place::Found(link, index) => Ok(Some(link.node.pairs[index].1)),
+        Place::Found(link, index) => Ok(Some(pair_record(&link.words, index, size))),
         Place::Room(_) | Place::Full(_) | Place::Empty(_) => Ok(None),
     }
 }
@@ -66,50 +66,59 @@ pub fn put<S: RecordStore>(
 {
     let size = store.size();
     match search(store, size, base, key)? {
-        Place::Found(mut link, index) => {
-            link.node.pairs[index].1 = rid;
-            write_node(store, link.at, &link.node)
+        Place::Found(link, index) => {
+            let mut pairs = all_pairs(&link.words, size);
+            pairs[index].1 = rid;
+            write_node(store, link.at, &pairs, link.next, link.position)
         }
-        Place::Room(mut link) => {
-            link.node.pairs.push((key, rid));
-            write_node(store, link.at, &link.node)
+        Place::Room(link) => {
+            let mut pairs = all_pairs(&link.words, size);
+            pairs.push((key, rid));
+            write_node(store, link.at, &pairs, link.next, link.position)
         }
-        Place::Full(link) => add_node(store, link, key, rid),
-        Place::Empty(bucket) => write_node(store, bucket, &Node::with_pair(key, rid, 0)),
+        Place::Full(link) => add_node(store, size, &link, key, rid),
+        Place::Empty(bucket) => write_node(store, bucket, &one_pair(key, rid), None, 0),
     }
 }
 
 /// Puts a pair into a new node behind the last one.
 fn add_node<S: RecordStore>(
     store: &mut S,
-    mut last: Link,
+    size: u32,
+    last: &Link,
     key: u64,
     rid: u32,
 ) -> Result<(), Walk<S::Fault>>
-    requires last { last.at < (S.meaning store.old).size }
-    requires position { last.node.position < record_limit }
-    ensures ok { OnOk result (AddsNode key rid last (S.meaning store.old) (S.meaning store.new)) }
+    requires size { size ≡ (S.meaning store.old).size }
+    requires at_most { size ≤ record_limit }
+    requires last { IsInStore size last.now }
+    ensures ok { OnOk result (AddsNode key rid last.now (S.meaning store.old) (S.meaning store.new)) }
     ensures torn { IfTorn result (λ _. ⊥) }
     ensures fault { IfStore result (CallFault S.read_gives S.write_gives S.fresh_gives (λ asks. (asks ≤ 1) × GivesFewer asks (S.meaning store.old) (S.meaning store.new)) store.old store.new) }
     ensures memory { IfNoMemory result ⊥ }
     ensures calls { Calls S.read_gives S.write_gives S.fresh_gives store.old 1 store.new }
-    ensures writes { WritesOnly (λ rid. rid ≡ last.at) (S.meaning store.old) (S.meaning store.new) }
+    ensures writes { WritesOnly (λ rid. rid ≡ last.now.at) (S.meaning store.old) (S.meaning store.new) }
     ensures given { GivesAtMost 1 (S.meaning store.old) (S.meaning store.new) }
     ensures few { WritesAtMost 2 (S.meaning store.old) (S.meaning store.new) }
     ensures after { ReadsGrow (S.meaning store.old) (S.meaning store.new) }
     ensures rest { S.rest store.new ≡ S.rest store.old }
 {
     let fresh = store.fresh()?;
-    let node = Node::with_pair(key, rid, last.node.position + 1);
-    write_node(store, fresh, &node)?;
-    last.node.next = Some(fresh);
-    write_node(store, last.at, &last.node)
+    write_node(store, fresh, &one_pair(key, rid), None, last.position + 1)?;
+    let pairs = all_pairs(&last.words, size);
+    write_node(store, last.at, &pairs, Some(fresh), last.position)
 }
 
 /// Writes a node to its record.
-fn write_node<S: RecordStore>(store: &mut S, rid: u32, node: &Node) -> Result<(), Walk<S::Fault>>
+fn write_node<S: RecordStore>(
+    store: &mut S,
+    rid: u32,
+    pairs: &Pairs,
+    next: Option<u32>,
+    position: u32,
+) -> Result<(), Walk<S::Fault>>
     requires { rid < (S.meaning store.old).size }
-    ensures ok { OnOk result (S.meaning store.new ≡ after_write (S.meaning store.old) rid (Some (words_of node.now.pairs.items node.now.next node.now.position))) }
+    ensures ok { OnOk result (S.meaning store.new ≡ after_write (S.meaning store.old) rid (Some (words_of pairs.now.items next position))) }
     ensures err { OnErr result (S.meaning store.new ≡ S.meaning store.old) }
     ensures torn { IfTorn result (λ _. ⊥) }
     ensures fault { IfStore result (CallFault S.read_gives S.write_gives S.fresh_gives (λ _. ⊥) store.old store.new) }
@@ -117,7 +126,7 @@ fn write_node<S: RecordStore>(store: &mut S, rid: u32, node: &Node) -> Result<()
     ensures calls { Calls S.read_gives S.write_gives S.fresh_gives store.old 0 store.new }
     ensures rest { S.rest store.new ≡ S.rest store.old }
 {
-    store.write(rid, Some(node.cells()))?;
+    store.write(rid, Some(node_cells(pairs, next, position)))?;
     Ok(())
 }
 
@@ -144,9 +153,10 @@ pub fn remove<S: RecordStore>(store: &mut S, base: u32, key: u64) -> Result<bool
 {
     let size = store.size();
     match search(store, size, base, key)? {
-        Place::Found(mut link, index) => {
-            link.node.pairs.swap_remove(index);
-            write_node(store, link.at, &link.node)?;
+        Place::Found(link, index) => {
+            let mut pairs = all_pairs(&link.words, size);
+            pairs.swap_remove(index);
+            write_node(store, link.at, &pairs, link.next, link.position)?;
             Ok(true)
         }
         Place::Room(_) | Place::Full(_) | Place::Empty(_) => Ok(false),

@@ -1,25 +1,29 @@
 //! The walk over the nodes of a bucket.
 
-ghost use Rattle.std.specs.Prelude.{◌≡◌, ℕ, ◌+◌, ◌<◌, ◌≤◌, IfOk, IfSome, OnOk};
+ghost use Rattle.std.specs.Prelude.{◌≡◌, ℕ, ◌+◌, ◌<◌, ◌≤◌, IfNone, IfOk, IfSome, OnOk, slice_index};
 ghost use Rattle.record_store.specs.Calls.{Reads, ReadFault};
 ghost use Rattle.record_store.specs.Limits.{record_limit};
 ghost use Rattle.record_store.specs.States.{EachState};
 ghost use Rattle.record_store.specs.Walks.{IfTorn, IfStore, IfNoMemory, OnlyReads};
 ghost use Rattle.hash_index.specs.Chain.{EndsWell, Tears, bucket_of};
+ghost use Rattle.hash_index.specs.Held.{Holds};
+ghost use Rattle.hash_index.specs.Node.{IsNode};
 ghost use Rattle.hash_index.specs.Search.{IsLink, ReadAs, IsUnfit, IsPlace, IsWithin, first_room, end_place};
 
-use crate::node::Node;
-use record_store::{RecordRead, Walk};
-use std::mem;
+use crate::node::{are_within, find, has_room};
+use plain_data::Cells;
+use record_store::{RecordRead, Walk, named_record};
 
 /// The buckets of a base.
 const BUCKETS: u64 = 511;
 
-/// A node that was read, with its record.
-#[derive(Drop)]
+/// A node that was read: its record, its position in the row, the next one, and its words.
+#[derive(Clone, Copy)]
 pub struct Link {
     pub at: u32,
-    pub node: Node,
+    pub position: u32,
+    pub next: Option<u32>,
+    pub words: [u64; 32],
 }
 
 /// Where a search for a key ends.
@@ -61,17 +65,17 @@ pub fn search<S: RecordRead>(
     };
     let mut room = None;
     loop {
-        if let Some(index) = here.node.find(key) {
+        if let Some(index) = find(&here.words, key) {
             return Ok(Place::Found(here, index));
         }
-        let Some(next) = here.node.next else {
+        let Some(next) = here.next else {
             return Ok(end_of_row(room, here));
         };
-        let Some(link) = read_link(store, size, next, here.node.position + 1)? else {
+        let Some(link) = read_link(store, size, next, here.position + 1)? else {
             return Err(Walk::Torn(next));
         };
-        let passed = mem::replace(&mut here, link);
-        room = first_with_room(room, passed);
+        room = first_with_room(room, here);
+        here = link;
     }
 }
 
@@ -97,17 +101,40 @@ fn read_link<S: RecordRead>(
     let Some(cells) = store.read(rid)? else {
         return Ok(None);
     };
-    match Node::read(&cells, position, size) {
-        Some(node) => Ok(Some(Link { at: rid, node })),
+    match node_at(rid, &cells, position, size) {
+        Some(link) => Ok(Some(link)),
         None => Err(Walk::Torn(rid)),
     }
 }
 
+/// The node of these cells, if they are one at this position of a store of this size.
+fn node_at(at: u32, cells: &Cells, position: u32, size: u32) -> Option<Link>
+    requires { size ≤ record_limit }
+    ensures node { IfSome result (λ link. (link.at ≡ at) × IsNode size position cells.now × Holds link cells.now) }
+    ensures no_node { IfNone result (IsNode size position cells.now → ⊥) }
+{
+    let words = cells.words();
+    if words[0] > 14 || words[30] != u64::from(position) || position >= size {
+        return None;
+    }
+    let next = named_record(words[1], size)?;
+    if !are_within(&words, size) {
+        return None;
+    }
+    Some(Link {
+        at,
+        position,
+        next,
+        words,
+    })
+}
+
 /// The first node with room, once one more was passed.
 fn first_with_room(room: Option<Link>, passed: Link) -> Option<Link>
+    requires { slice_index passed.words 0 ≤ 14 }
     ensures { result ≡ first_room room passed }
 {
-    if room.is_none() && !passed.node.pairs.is_full() {
+    if room.is_none() && has_room(&passed.words) {
         Some(passed)
     } else {
         room
@@ -116,11 +143,12 @@ fn first_with_room(room: Option<Link>, passed: Link) -> Option<Link>
 
 /// The place of a key that no node has, from the first node with room before the last one, and the last one.
 fn end_of_row(room: Option<Link>, last: Link) -> Place
+    requires { slice_index last.words 0 ≤ 14 }
     ensures { result ≡ end_place room last }
 {
     match room {
         Some(link) => Place::Room(link),
-        None if last.node.pairs.is_full() => Place::Full(last),
-        None => Place::Room(last),
+        None if has_room(&last.words) => Place::Room(last),
+        None => Place::Full(last),
     }
 }

@@ -15,7 +15,8 @@ use Rattle.lane_runner.specs.Lanes.{AreEntries}
 use Rattle.lane_runner.specs.Lanes.AreEntries.{none, result, other}
 use Rattle.lane_runner.specs.Rows.{stands}
 use Rattle.lane_runner.specs.Weighs.{LeavesTables}
-use Rattle.lane_runner.specs.Whole.{ComesBehind, RunsWhole}
+use Rattle.lane_runner.specs.Behind.{ComesBehind}
+use Rattle.lane_threads.specs.Whole.{RunsWhole}
 
 -- it leaves the tables as they were
 pub snapshot_leaves : (records : ℕ) (entry : Entry) → IsEntry records entry → entry.snapshot ≡ true → LeavesTables records entry

@@ -7,10 +7,10 @@ use Rattle.std.proofs.Math.Nat.{mul-le-mul_left}
 use Rattle.stamp_base.specs.Limits.{greatest_clock, greatest_adopted_clock}
 use Rattle.replay_model.specs.declared.input.Block.{Block}
 use Rattle.txn_engine.specs.Pass.{PassView}
-use Rattle.lane_runner.specs.All.{all_draws, latest_clock}
+use Rattle.lane_threads.specs.All.{all_draws, latest_clock}
 use Rattle.lane_runner.specs.Lanes.{lane_draws}
 use Rattle.lane_runner.specs.Room.{HasRoom}
-use Rattle.lane_runner.specs.Whole.{blocks_of}
+use Rattle.lane_threads.specs.Whole.{blocks_of}
 
 -- each block of a lane has at most 1,002 draws where there are 1,000 tries
 lane_at_most : (n tries : ℕ) → tries ≤ 1000 → n * (tries + 2) ≤ n * 1002

@@ -8,7 +8,7 @@ use Rattle.txn_script.specs.Grammar.{IsWithinLimits, counts, is_indexed, command
 use Rattle.word_layout.specs.Size.{IsSize, size_of}
 use Rattle.lane_runner.specs.Loading.{rows_add}
 use Rattle.lane_runner.specs.Weighs.{blocks_add}
-use Rattle.lane_runner.specs.Whole.{blocks_of}
+use Rattle.lane_threads.specs.Whole.{blocks_of}
 
 -- how many commands of blocks may bring a row, or change one
 abbrev pub count_in : (changes : Bool) → List Block → ℕ

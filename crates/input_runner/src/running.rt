@@ -13,9 +13,9 @@ use crate::copying::copy_lanes;
 use crate::reading::read_tables;
 use crate::sizes::{FIXED, sizes_are_enough, sizes_of};
 use history_replay::sort_results;
-use lane_runner::{
-    LaneDone, LaneRun, RowTables, finish_alone, load_rows, run_all_by, runs_become_whole,
-    runs_can_finish, shares_are_all, whole_runs_are_results,
+use lane_runner::{LaneDone, RowTables, finish_alone, load_rows};
+use lane_threads::{
+    LaneRun, run_all_by, runs_become_whole, runs_can_finish, shares_are_all, whole_runs_are_results,
 };
 use outside_io::{Clock, Gate};
 use replay_model::{Input, NoMemory, Outcome, Pairs, Placed};

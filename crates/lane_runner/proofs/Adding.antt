@@ -4,11 +4,11 @@ use Rattle.plain_data.specs.declared.entry.Entry.{Entry}
 use Rattle.stamp_base.specs.Stamp.{bound_of_clock}
 use Rattle.core_rule.specs.Views.{Among}
 use Rattle.core_rule.proofs.Among.{Among-left, Among-right, Among-split}
-use Rattle.txn_engine.specs.Pass.{PassView, IsIdle, IsAlone}
+use Rattle.txn_engine.specs.Pass.{PassView, IsIdle, IsAlone, engine_of}
 use Rattle.lane_runner.specs.Adds.{IsNext, IsLater, AreInOrder, Adds}
 
 -- no entry is added
-pub Adds-no_entry : (p q : PassView) → q.engine ≡ p.engine → q.seat ≡ p.seat → q.others ≡ p.others → IsIdle q → q.log ≡ p.log → p.clock ≤ q.clock → p.met ≤ q.met → p.refusals ≤ q.refusals → Adds p q []
+pub Adds-no_entry : (p q : PassView) → engine_of q ≡ engine_of p → q.seat ≡ p.seat → q.others ≡ p.others → IsIdle q → q.log ≡ p.log → p.clock ≤ q.clock → p.met ≤ q.met → p.refusals ≤ q.refusals → Adds p q []
 Adds-no_entry p q engine seat others idle log clock met refusals = record {
   engine = engine;
   seat = seat;
@@ -27,7 +27,7 @@ pub Adds-none : (p : PassView) → IsIdle p → Adds p p []
 Adds-none p idle = Adds-no_entry p p refl refl refl idle refl (omega arith) (omega arith) (omega arith)
 
 -- one entry is added
-pub Adds-one : (p q : PassView) (entry : Entry) → IsNext p entry → q.engine ≡ p.engine → q.seat ≡ p.seat → q.others ≡ p.others → IsIdle q → q.log ≡ p.log ++ entry ∷ [] → p.clock ≤ q.clock → p.met ≤ q.met → p.refusals ≤ q.refusals → Adds p q (entry ∷ [])
+pub Adds-one : (p q : PassView) (entry : Entry) → IsNext p entry → engine_of q ≡ engine_of p → q.seat ≡ p.seat → q.others ≡ p.others → IsIdle q → q.log ≡ p.log ++ entry ∷ [] → p.clock ≤ q.clock → p.met ≤ q.met → p.refusals ≤ q.refusals → Adds p q (entry ∷ [])
 Adds-one p q entry next engine seat others idle log clock met refusals = record {
   engine = engine;
   seat = seat;

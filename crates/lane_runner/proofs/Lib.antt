@@ -1,5 +1,5 @@
-mod Paired
-mod Answered
+pub mod Answered
+pub mod Elements
 pub mod Entries
 pub mod Adding
 pub mod Begun
@@ -13,27 +13,13 @@ mod Within
 mod Held
 mod Asked
 mod Looked
-mod Rests
+pub mod Rests
 mod Loaded
 mod Settled
 mod Clocks
 mod Ran
 mod Again
-pub mod Merging
 pub mod Attempted
 mod NextBlock
-pub mod LaneLists
-pub mod Gathered
-pub mod Together
-mod ReadBeside
-pub mod Shared
-pub mod WholeRun
 pub mod Weighing
-pub mod Remaining
 pub mod Granted
-pub mod BecomingLists
-pub mod BecomingLanes
-pub mod BecomingRan
-pub mod BecomingLog
-pub mod BecomingOrder
-pub mod Becoming

@@ -26,8 +26,8 @@ use Rattle.lane_runner.specs.Lanes.{AreEntries}
 use Rattle.lane_runner.specs.Lanes.AreEntries.{none, result, other}
 use Rattle.lane_runner.specs.Weighs.{WeighsAtMost, blocks_add}
 use Rattle.lane_runner.specs.Holding.{LeavesWithin}
-use Rattle.lane_runner.specs.Whole.{WeighsAfter, RunsWeigh}
-use Rattle.lane_runner.proofs.WholeRun.{contains_of, among_of}
+use Rattle.lane_runner.specs.Behind.{WeighsAfter, RunsWeigh}
+use Rattle.lane_runner.proofs.Elements.{contains_of, among_of}
 
 -- ---- entries, each with its commands
 

@@ -1,5 +1,6 @@
 -- What a lane comes to.
-use Rattle.std.specs.Prelude.{◌≡◌}
+use Rattle.std.specs.Prelude.{◌≡◌, ℕ, List, [], ◌∷◌}
+use Rattle.replay_model.specs.declared.input.Block.{Block}
 use Rattle.lane_queue.specs.declared.lane.Lane.{Lane}
 use Rattle.txn_engine.specs.Pass.{PassView}
 use Rattle.lane_runner.specs.declared.done.LaneDone.{LaneDone}
@@ -10,3 +11,8 @@ pub record DoesLane (lane : Lane) (done : LaneDone) (before after' : PassView) :
   pub lane_is : done.lane ≡ lane.number
   pub runs : Runs lane.blocks done.results done.rest before after'
   pub order : KeepOrder done.results
+
+-- so many tries of a lane with a rest
+abbrev pub tries_of_rest : (tries : ℕ) → List Block → ℕ
+tries_of_rest tries [] = 0
+tries_of_rest tries (block ∷ rest) = tries

@@ -1,5 +1,6 @@
 //! One block at the seat that is alone.
 
+ghost use Rattle.txn_engine.specs.Pass.{engine_of};
 ghost use Rattle.std.specs.Prelude.{◌≡◌, ◌≤◌, [], true, false, All, IfOk, OnOk, length};
 ghost use Rattle.histories.specs.History.{Lawful};
 ghost use Rattle.history_replay.specs.Results.{StandsForSome};
@@ -25,10 +26,10 @@ use txn_engine::{Alone, AloneFault, BeginFault, Engine};
 
 /// Tells that the log is lawful, and collects.
 pub(crate) fn close(engine: &Engine<RowsLawful>, alone: &mut Alone<RowsLawful>)
-    requires engine { alone.old.pass.engine ≡ engine.now }
+    requires engine { engine_of alone.old.pass ≡ engine.now }
     requires awaits { Awaits alone.old }
     ensures holds { Holds alone.new.pass }
-    ensures lawful { Lawful (StandsForSome stands) alone.old.pass.engine.size.records alone.old.pass.log }
+    ensures lawful { Lawful (StandsForSome stands) alone.old.pass.shared.size.records alone.old.pass.log }
     ensures adds { Adds alone.old.pass alone.new.pass [] }
     ensures clock { alone.new.pass.clock ≡ alone.old.pass.clock }
     ensures shared { alone.new.shared ≡ alone.old.shared }
@@ -46,7 +47,7 @@ fn commit_commands(
     alone: &mut Alone<RowsLawful>,
     commands: &Commands,
 ) -> Result<(u64, Outcome), NoMemory>
-    requires engine { alone.old.pass.engine ≡ engine.now }
+    requires engine { engine_of alone.old.pass ≡ engine.now }
     requires holds { Holds alone.old.pass }
     requires commands { AreCommands 8 commands.now }
     requires short { All IsShort commands.now }
@@ -105,7 +106,7 @@ pub(crate) fn run_commands(
     alone: &mut Alone<RowsLawful>,
     commands: &Commands,
 ) -> Result<(u64, Outcome), NoMemory>
-    requires engine { alone.old.pass.engine ≡ engine.now }
+    requires engine { engine_of alone.old.pass ≡ engine.now }
     requires holds { Holds alone.old.pass }
     requires commands { AreCommands 8 commands.now }
     requires short { All IsShort commands.now }
@@ -132,7 +133,7 @@ fn see_commands(
     alone: &mut Alone<RowsLawful>,
     commands: &Commands,
 ) -> Result<(u64, Outcome), NoMemory>
-    requires engine { alone.old.pass.engine ≡ engine.now }
+    requires engine { engine_of alone.old.pass ≡ engine.now }
     requires holds { Holds alone.old.pass }
     requires commands { AreCommands 8 commands.now }
     requires short { All IsShort commands.now }
@@ -165,7 +166,7 @@ fn look_up(
     alone: &mut Alone<RowsLawful>,
     commands: &Commands,
 ) -> Result<(u64, Outcome), NoMemory>
-    requires engine { alone.old.pass.engine ≡ engine.now }
+    requires engine { engine_of alone.old.pass ≡ engine.now }
     requires holds { Holds alone.old.pass }
     requires commands { AreCommands 8 commands.now }
     requires short { All IsShort commands.now }
@@ -190,7 +191,7 @@ pub(crate) fn run_block(
     alone: &mut Alone<RowsLawful>,
     block: &Block,
 ) -> Result<(Placed, Outcome), NoMemory>
-    requires engine { alone.old.pass.engine ≡ engine.now }
+    requires engine { engine_of alone.old.pass ≡ engine.now }
     requires holds { Holds alone.old.pass }
     requires block { MayFinish block.now }
     requires fixed { 4112 ≤ engine.now.fixed }

@@ -1,5 +1,6 @@
 //! The loading of an input's rows and indexes.
 
+ghost use Rattle.txn_engine.specs.Pass.{engine_of};
 ghost use Rattle.std.specs.Prelude.{◌≡◌, ◌+◌, ◌<◌, ◌≤◌, [], All, AllPairs, None, OnOk, length};
 ghost use Rattle.replay_model.specs.Input.{IsWellFormed, IsColumn, IsIndex, RowsDiffer, AreIndexes};
 ghost use Rattle.replay_model.specs.TableMap.{loaded, index_of};
@@ -27,7 +28,7 @@ fn put_row(
     key: u64,
     values: Columns,
 ) -> Result<(), NoMemory>
-    requires engine { alone.old.pass.engine ≡ engine.now }
+    requires engine { engine_of alone.old.pass ≡ engine.now }
     requires holds { Holds alone.old.pass }
     requires table { table < 8 }
     requires fixed { 4112 ≤ engine.now.fixed }
@@ -52,7 +53,7 @@ fn put_rows(
     rows: &[(u32, u64, Columns)],
     indexes: &[(u32, u32)],
 ) -> Result<(), NoMemory>
-    requires engine { alone.old.pass.engine ≡ engine.now }
+    requires engine { engine_of alone.old.pass ≡ engine.now }
     requires loaded { HasLoaded (loaded [] indexes.now) 0 alone.old.pass alone.old.pass }
     requires rows { AreRowsOf rows.now }
     requires differ { RowsDiffer rows.now }
@@ -78,7 +79,7 @@ fn commit_index(
     table: u32,
     column: u32,
 ) -> Result<(), NoMemory>
-    requires engine { alone.old.pass.engine ≡ engine.now }
+    requires engine { engine_of alone.old.pass ≡ engine.now }
     requires lacks { LacksRows table alone.old.pass }
     requires table { table < 8 }
     requires column { IsColumn column }
@@ -134,7 +135,7 @@ fn declare(
     table: u32,
     column: u32,
 ) -> Result<(), NoMemory>
-    requires engine { alone.old.pass.engine ≡ engine.now }
+    requires engine { engine_of alone.old.pass ≡ engine.now }
     requires lacks { LacksRows table alone.old.pass }
     requires table { table < 8 }
     requires column { IsColumn column }
@@ -157,7 +158,7 @@ fn declare_indexes(
     alone: &mut Alone<RowsLawful>,
     indexes: &[(u32, u32)],
 ) -> Result<(), NoMemory>
-    requires engine { alone.old.pass.engine ≡ engine.now }
+    requires engine { engine_of alone.old.pass ≡ engine.now }
     requires blank { IsBlank alone.old.pass }
     requires indexes { AreIndexesOf indexes.now }
     requires fixed { 4112 ≤ engine.now.fixed }
@@ -184,7 +185,7 @@ pub fn load_rows(
     alone: &mut Alone<RowsLawful>,
     input: &Input,
 ) -> Result<(), NoMemory>
-    requires engine { alone.old.pass.engine ≡ engine.now }
+    requires engine { engine_of alone.old.pass ≡ engine.now }
     requires blank { IsBlank alone.old.pass }
     requires input { IsWellFormed input.now }
     requires rows { AreRowsOf input.now.rows }

@@ -2,7 +2,7 @@
 
 ghost use Rattle.std.specs.Prelude.{◌≡◌, ◌<◌, ◌≤◌, List, [], ◌∷◌, IfOk, IfSome, IfNone, IsSome, OnOk, OnErr};
 ghost use Rattle.replay_model.specs.declared.input.Block.{Block};
-ghost use Rattle.txn_engine.specs.Pass.{IsIdle, IsAlone};
+ghost use Rattle.txn_engine.specs.Pass.{IsIdle, IsAlone, engine_of};
 ghost use Rattle.lane_runner.specs.Room.{HasRoom, clock_after};
 ghost use Rattle.lane_runner.specs.Blocks.{IsPlaceOf, Commits, IsRefused, CountsOnce};
 ghost use Rattle.lane_runner.specs.Lanes.{MayRun, AddsSome};
@@ -20,7 +20,7 @@ use txn_engine::{Engine, Pass};
 /// Synchronises the pass before a further try: behind the first refusal with the seat behind its own, then with the next one, and so on,
 /// round and without its own. With one seat there is none.
 fn sync_in_turn(engine: &Engine<RowsLawful>, pass: &mut Pass<RowsLawful>, refused: u32)
-    requires engine { pass.old.engine ≡ engine.now }
+    requires engine { engine_of pass.old ≡ engine.now }
     requires idle { IsIdle pass.old }
     ensures first { refused ≡ 0 → pass.new ≡ pass.old }
     ensures none { IsRefused 0 pass.old pass.new }
@@ -46,7 +46,7 @@ pub(crate) fn try_block<C: Reads, G: Meets>(
     gate: &G,
     refused: u32,
 ) -> Result<Option<BlockDone>, NoMemory>
-    requires engine { pass.old.engine ≡ engine.now }
+    requires engine { engine_of pass.old ≡ engine.now }
     requires idle { IsIdle pass.old }
     requires block { MayRun block.now }
     requires fixed { 4112 ≤ engine.now.fixed }

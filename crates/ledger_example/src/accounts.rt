@@ -19,7 +19,6 @@ pub struct Transfer {
 /// Moves the amount, or what the account has where that is less. Whether it did: both accounts are there, and the other one can hold the
 /// sum.
 pub fn make_transfer<S: RecordStore>(
-    alloc: Global,
     store: &mut S,
     transfer: Transfer,
 ) -> Result<bool, TypedFault<S::Fault>>
@@ -39,15 +38,14 @@ pub fn make_transfer<S: RecordStore>(
         return Ok(false);
     };
     if from != to {
-        set_balance(alloc, store, from, payer, payer.balance - moved)?;
-        set_balance(alloc, store, to, payee, sum)?;
+        set_balance(store, from, payer, payer.balance - moved)?;
+        set_balance(store, to, payee, sum)?;
     }
     Ok(true)
 }
 
 // Sets the balance of an account, whose owner stays.
 fn set_balance<S: RecordStore>(
-    alloc: Global,
     store: &mut S,
     key: u64,
     account: Account,
@@ -57,12 +55,11 @@ fn set_balance<S: RecordStore>(
     ensures fixed { (S.meaning store.new).fixed ≡ (S.meaning store.old).fixed }
     ensures rest { S.rest store.new ≡ S.rest store.old }
 {
-    typed_put(alloc, store, ACCOUNTS, key, &Account { balance, ..account })
+    typed_put(store, ACCOUNTS, key, &Account { balance, ..account })
 }
 
 /// Opens an account with this balance for each of the first owners, so many of them; an owner's number is the key.
 pub fn open_all<S: RecordStore>(
-    alloc: Global,
     store: &mut S,
     owners: u32,
     balance: u64,
@@ -72,7 +69,7 @@ pub fn open_all<S: RecordStore>(
 {
     for owner in 0..owners {
         let account = Account { owner, balance };
-        set_balance(alloc, store, u64::from(owner), account, balance)?;
+        set_balance(store, u64::from(owner), account, balance)?;
     }
     Ok(())
 }

@@ -54,11 +54,11 @@ fn run<R: Threads + Sync + Print>(
     requires not_shared { alone.shared ≡ false }
     requires tables { HoldsTables engine.now }
 {
-    if !fill(alloc, engine, &mut alone) {
+    if !fill(engine, &mut alone) {
         return println!(rt; "the accounts were not opened");
     }
     let mut passes = alone.share(engine);
-    run_all(rt, alloc, engine, &mut passes);
+    run_all(rt, engine, &mut passes);
     match sum(alloc, engine, &mut passes) {
         Some(sum) => println!(rt; "the accounts have {sum}"),
         None => println!(rt; "an account was not read"),

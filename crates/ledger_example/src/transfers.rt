@@ -16,7 +16,7 @@ const TRANSFERS: u32 = 200;
 const MOST_TRIES: u32 = 1_000;
 
 /// Opens all accounts in one transaction of the seat that is alone; whether it committed.
-pub fn fill(alloc: Global, engine: &Engine<AnyState>, alone: &mut Alone<AnyState>) -> bool
+pub fn fill(engine: &Engine<AnyState>, alone: &mut Alone<AnyState>) -> bool
     requires seat { IsIdleOf engine.now alone.old.pass }
     requires tables { HoldsTables engine.now }
     ensures seat { IsIdleOf engine.now alone.new.pass }
@@ -25,7 +25,7 @@ pub fn fill(alloc: Global, engine: &Engine<AnyState>, alone: &mut Alone<AnyState
     let Ok(mut txn) = alone.begin(engine, 0) else {
         return false;
     };
-    if open_all(alloc, &mut txn, ACCOUNTS, FIRST).is_err() {
+    if open_all(&mut txn, ACCOUNTS, FIRST).is_err() {
         txn.abort();
         return false;
     }
@@ -34,7 +34,6 @@ pub fn fill(alloc: Global, engine: &Engine<AnyState>, alone: &mut Alone<AnyState
 
 // Makes a transfer in one transaction; whether it committed.
 fn try_once(
-    alloc: Global,
     engine: &Engine<AnyState>,
     pass: &mut Pass<AnyState>,
     moved: Transfer,
@@ -47,7 +46,7 @@ fn try_once(
     let Ok(mut txn) = pass.begin(engine, reading) else {
         return false;
     };
-    if let Ok(true) = make_transfer(alloc, &mut txn, moved) {
+    if let Ok(true) = make_transfer(&mut txn, moved) {
         return txn.commit().is_ok();
     }
     txn.abort();
@@ -57,7 +56,6 @@ fn try_once(
 // Tries a transfer again until it commits, so often at most: after a conflict, and where no place is left, nothing has changed. Whether
 // it committed.
 fn try_until(
-    alloc: Global,
     engine: &Engine<AnyState>,
     pass: &mut Pass<AnyState>,
     moved: Transfer,
@@ -68,7 +66,7 @@ fn try_until(
     ensures { IsIdleOf engine.now pass.new }
 {
     for _ in 0..MOST_TRIES {
-        if try_once(alloc, engine, pass, moved, reading) {
+        if try_once(engine, pass, moved, reading) {
             return true;
         }
         pass.collect(engine);
@@ -77,7 +75,7 @@ fn try_until(
 }
 
 // The transfers of one thread. Each takes back the versions that no reader can reach any more.
-fn work(alloc: Global, engine: &Engine<AnyState>, pass: &mut Pass<AnyState>)
+fn work(engine: &Engine<AnyState>, pass: &mut Pass<AnyState>)
     requires seat { IsIdleOf engine.now pass.old }
     requires tables { HoldsTables engine.now }
     ensures { IsIdleOf engine.now pass.new }
@@ -89,7 +87,7 @@ fn work(alloc: Global, engine: &Engine<AnyState>, pass: &mut Pass<AnyState>)
             to: u64::from(first.wrapping_mul(3).wrapping_add(turn / 2) % ACCOUNTS),
             amount: 1 + u64::from(turn % 7),
         };
-        try_until(alloc, engine, pass, moved, u64::from(turn));
+        try_until(engine, pass, moved, u64::from(turn));
         pass.collect(engine);
     }
 }
@@ -97,7 +95,6 @@ fn work(alloc: Global, engine: &Engine<AnyState>, pass: &mut Pass<AnyState>)
 /// Each pass makes its transfers in a thread of its own.
 pub fn run_all<R: Threads + Sync>(
     rt: &R,
-    alloc: Global,
     engine: &Engine<AnyState>,
     passes: &mut Vec<Pass<AnyState>>,
 )
@@ -114,7 +111,7 @@ pub fn run_all<R: Threads + Sync>(
             requires tables { HoldsTables engine.now }
             ensures { IsIdleOf engine.entry.now pass.new }
         {
-            work(alloc, engine, pass);
+            work(engine, pass);
         },
     );
 }

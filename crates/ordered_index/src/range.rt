@@ -18,8 +18,8 @@ use record_store::{RecordRead, Walk};
 
 /// Appends to `out` the first `limit` pairs of the tree of `root` whose keys lie from `lo` to `hi`, both taken in, by rising key.
 ///
-/// Room for `limit` pairs is taken first, and `NoMemory` comes of that alone. After a refusal `out` is as it was. Where the
-/// arguments alone say that there is no such pair, nothing is read.
+/// `NoMemory` comes only where `out` has no room for `limit` pairs more, and then nothing was read. After a refusal `out` is as it was.
+/// Where the arguments alone say that there is no such pair, nothing is read.
 pub fn scan<S: RecordRead>(
     store: &mut S,
     root: u32,

@@ -5,7 +5,7 @@ ghost use Rattle.std.specs.Borrow.{sem, RestsIfErr};
 ghost use Rattle.histories.specs.contracts.AnyState.{the_row as any_state};
 ghost use Rattle.txn_engine.specs.contracts.alone.Alone.{the_row as alone_row};
 ghost use Rattle.txn_engine.specs.contracts.pass.Pass.{the_row};
-ghost use Rattle.txn_engine.specs.Pass.{IsIdleOf};
+ghost use Rattle.txn_engine.specs.Pass.{IsIdleOf, engine_of};
 ghost use Rattle.pass_rows.specs.Seats.{IsOpen};
 
 use histories::AnyState;
@@ -24,7 +24,7 @@ pub fn open<'a>(
     ensures* rests { sem 𝓛 (RestsIfErr (the_row any_state) pass.entry (λ t. t.pass.ghost_name) result (λ p. IsIdleOf engine.now p)) }
     ensures same_reference { IfOk result (λ t. t.pass.ghost_name ≡ pass.entry.ghost_name) }
     ensures open { IfOk result (λ t. IsOpen t.pass.now) }
-    ensures of_engine { IfOk result (λ t. t.pass.now.engine ≡ engine.now) }
+    ensures of_engine { IfOk result (λ t. engine_of t.pass.now ≡ engine.now) }
 {
     pass.begin(engine, reading)
 }
@@ -55,7 +55,7 @@ pub fn open_alone<'a>(
     ensures* rests { sem 𝓛 (RestsIfErr (alone_row any_state) alone.entry (λ t. t.alone.ghost_name) result (λ a. IsIdleOf engine.now a.pass × (a.shared ≡ alone.old.shared))) }
     ensures same_reference { IfOk result (λ t. t.alone.ghost_name ≡ alone.entry.ghost_name) }
     ensures open { IfOk result (λ t. IsOpen t.alone.now.pass) }
-    ensures of_engine { IfOk result (λ t. t.alone.now.pass.engine ≡ engine.now) }
+    ensures of_engine { IfOk result (λ t. engine_of t.alone.now.pass ≡ engine.now) }
     ensures shared { IfOk result (λ t. t.alone.now.shared ≡ alone.old.shared) }
 {
     alone.begin(engine, reading)
@@ -64,7 +64,7 @@ pub fn open_alone<'a>(
 /// Ends a transaction of the seat that is alone without an entry.
 pub fn stop_alone<E: Lent<AnyState>>(txn: AloneOver<'_, AnyState, E>)
     requires { IsOpen txn.alone.now.pass }
-    ensures seat { IsIdleOf txn.entry.alone.now.pass.engine txn.exit.0.now.pass }
+    ensures seat { IsIdleOf (engine_of txn.entry.alone.now.pass) txn.exit.0.now.pass }
     ensures shared { txn.exit.0.now.shared ≡ txn.entry.alone.now.shared }
 {
     txn.abort();
@@ -73,7 +73,7 @@ pub fn stop_alone<E: Lent<AnyState>>(txn: AloneOver<'_, AnyState, E>)
 /// Commits a transaction of the seat that is alone; how many versions took a place of the pool, if it committed.
 pub fn end_alone<E: Lent<AnyState>>(txn: AloneOver<'_, AnyState, E>) -> Option<u32>
     requires { IsOpen txn.alone.now.pass }
-    ensures seat { IsIdleOf txn.entry.alone.now.pass.engine txn.exit.0.now.pass }
+    ensures seat { IsIdleOf (engine_of txn.entry.alone.now.pass) txn.exit.0.now.pass }
     ensures shared { txn.exit.0.now.shared ≡ txn.entry.alone.now.shared }
 {
     match txn.commit() {

@@ -13,6 +13,7 @@ pub mod Listed
 pub mod Looking
 pub mod MarkWords
 pub mod Marked
+pub mod Noting
 pub mod NumberLists
 pub mod Observed
 pub mod Over

@@ -56,10 +56,12 @@ pub(crate) fn search<J: Keeps>(
             absent: false,
         } => {
             let cells = load_value(core, hand, place);
+            // Its type tells contracts how long it is.
+            let _words = cells.words();
             Ok(Read {
                 place,
                 wts,
-                value: Some(Cells::new(cells.words())),
+                value: Some(cells),
             })
         }
     }

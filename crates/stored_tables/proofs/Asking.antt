@@ -1,5 +1,5 @@
 -- Parts of a run that ask for no new record.
-use Rattle.std.proofs.Common.{◌≡◌, ℕ, List, Option, Result, Ok, Err, sym, subst}
+use Rattle.std.proofs.Common.{◌≡◌, ℕ, List, Option, Result, Ok, Err, subst}
 use Rattle.std.specs.Prelude.{IsErrAnd}
 use Rattle.record_store.specs.Calls.{Reads, ReadFault}
 use Rattle.record_store.specs.Calls.Calls.{none, write}
@@ -9,8 +9,6 @@ use Rattle.record_store.specs.declared.walk.Walk.{Walk}
 use Rattle.record_store.specs.declared.walk.Walk.TheVariants.{Torn}
 use Rattle.record_store.proofs.Paths.{Calls-reads, Calls-trans, CallFault-read, CallFault-never}
 use Rattle.record_store.proofs.Refusals.{IfStore-map, fault_moved}
-use Rattle.read_once.specs.Kept.{AnswersBelow}
-use Rattle.read_once.proofs.Below.{Calls-below, CallFault-below}
 use Rattle.stored_tables.specs.Runs.{AsksNothing}
 
 module _ {S F : Type 0} {read_gives : S → ℕ → Result (Option (List ℕ)) F → S → Type 0} {write_gives : S → ℕ → Option (List ℕ)
@@ -60,23 +58,3 @@ module _ {S F : Type 0} {read_gives : S → ℕ → Result (Option (List ℕ)) F
 
   pub asks_none : {T : Type 0} (first : S) (value : T) → AsksNothing {F = F} read_gives write_gives fresh_gives first first (Ok value)
   asks_none first value = record { calls = none first; fault = tt }
-
-  -- from one store to another, which are the first and the last
-  pub asks_ends : {T : Type 0} (first begin end last : S) (result : Result T (Walk F)) → begin ≡ first → last ≡ end
-      → AsksNothing read_gives write_gives fresh_gives begin end result → AsksNothing read_gives write_gives fresh_gives first last result
-  asks_ends first begin end last result begins ends asks =
-      let P : S → S → Type 0 = λ a b. AsksNothing read_gives write_gives fresh_gives a b result in
-      subst (P first) (sym ends) (subst (λ a. P a end) begins asks)
-
--- told of the store below one that keeps what it reads
-module _ {O S F : Type 0} (below : O → S) (once : O → ℕ → Result (Option (List ℕ)) F → O → Type 0) (read_gives : S → ℕ
-    → Result (Option (List ℕ)) F → S → Type 0) (write_gives : S → ℕ → Option (List ℕ) → Result (Unit {0}) F → S → Type 0)
-    (fresh_gives : S → Result ℕ F → S → Type 0) (answers : (a : O) (rid : ℕ) (answer : Result (Option (List ℕ)) F) (b : O)
-    → once a rid answer b → AnswersBelow read_gives (below a) rid answer (below b)) where
-  pub asks_below : {T : Type 0} (first last : O) (result : Result T (Walk F))
-      → AsksNothing once (λ a rid value answer b. write_gives (below a) rid value answer (below b)) (λ a answer b. fresh_gives (below a) answer (below b)) first last result
-      → AsksNothing read_gives write_gives fresh_gives (below first) (below last) result
-  asks_below first last result asks = record {
-    calls = Calls-below below once read_gives write_gives fresh_gives answers first last 0 asks.calls;
-    fault = IfStore-map result (λ f fault. CallFault-below below once read_gives write_gives fresh_gives answers _ first last f fault) asks.fault;
-  }

@@ -48,7 +48,6 @@ pub mod Commands
 pub mod Listed
 pub mod ScanRows
 pub mod ReadingCommands
-pub mod Once
 pub mod OneRow
 pub mod Asking
 pub mod Running

@@ -1,19 +1,16 @@
 -- A row that is read, set or taken out by itself.
-use Rattle.std.proofs.Common.{◌≡◌, ℕ, Bool, true, false, List, Option, None, Some, Result, Ok, Err, refl, sym, ap, subst}
-use Rattle.std.specs.Prelude.{IfOk, IsSome, is_some, if◌then◌else◌}
+use Rattle.std.proofs.Common.{◌≡◌, ℕ, Bool, true, false, Option, None, Some, Result, Ok, Err, refl, sym, ap, subst}
+use Rattle.std.specs.Prelude.{IsSome, is_some, if◌then◌else◌}
 use Rattle.plain_data.specs.State.{State}
 use Rattle.record_store.specs.Meaning.{Meaning}
-use Rattle.record_store.specs.Walks.{OnlyReads}
-use Rattle.record_store.specs.declared.walk.Walk.{Walk}
 use Rattle.replay_model.specs.declared.command.Command.TheVariants.{Put, Del}
 use Rattle.replay_model.specs.declared.outcome.Answer.{Answer}
 use Rattle.replay_model.specs.declared.outcome.Answer.TheVariants.{Nothing}
 use Rattle.replay_model.specs.declared.outcome.Cause.{Cause}
 use Rattle.replay_model.specs.declared.outcome.Cause.TheVariants.{Missing}
 use Rattle.replay_model.specs.TableMap.{TableMap, Row, value_at, with_value, without}
-use Rattle.stored_tables.specs.Answers.{Held, Stands, Becomes, Does, IsFound, MayAsk}
+use Rattle.stored_tables.specs.Answers.{Held, Becomes, Does, IsFound}
 use Rattle.stored_tables.specs.Plan.{plan}
-use Rattle.stored_tables.specs.Runs.{Runs}
 use Rattle.stored_tables.specs.OneRow.{IsRowAt, SetsRow, TakesRow}
 use Rattle.stored_tables.specs.declared.reading.Found.{Found}
 use Rattle.stored_tables.proofs.Commands.{del_missing}
@@ -84,24 +81,3 @@ taken_does table key now asked state held taken = (
 pub missing_does : (table key : ℕ) (now : Meaning) (asked : ℕ) (state : State) (held : Held)
     → TakesRow table key now false asked state held → Does (Del table key) now (Err Missing) asked state held
 missing_does table key now asked state held taken = del_missing held.1 table key taken.0
-
-module _ {S F : Type 0} {read_gives : S → ℕ → Result (Option (List ℕ)) F → S → Type 0} {write_gives : S → ℕ → Option (List ℕ)
-    → Result (Unit {0}) F → S → Type 0} {fresh_gives : S → Result ℕ F → S → Type 0} where
-  -- it was taken from one store to another, which are the first and the last
-  pub take_runs : (meaning : S → Meaning) (table key : ℕ) (first begin end last : S) (result : Result Bool (Walk F))
-      → begin ≡ first → last ≡ end → Runs read_gives write_gives fresh_gives meaning (Stands (meaning begin)) (MayAsk (plan (Del table key)))
-      (λ taken. TakesRow table key (meaning end) taken) 4 begin end result
-      → Runs read_gives write_gives fresh_gives meaning (Stands (meaning first)) (MayAsk (plan (Del table key)))
-      (λ taken. TakesRow table key (meaning last) taken) 4 first last result
-  take_runs meaning table key first begin end last result begins ends runs =
-      let P : S → S → Type 0 = λ a b. Runs read_gives write_gives fresh_gives meaning (Stands (meaning a)) (MayAsk (plan (Del table key)))
-      (λ taken. TakesRow table key (meaning b) taken) 4 a b result in
-      subst (P first) (sym ends) (subst (λ a. P a end) begins runs)
-
--- where none was there the last store has only more reads than the first
-pub kept_ends : {S F : Type 0} (meaning : S → Meaning) (first begin end last : S) (result : Result Bool (Walk F)) → begin ≡ first → last ≡ end
-    → IfOk result (λ taken. taken ≡ false → OnlyReads (meaning begin) (meaning end))
-    → IfOk result (λ taken. taken ≡ false → OnlyReads (meaning first) (meaning last))
-kept_ends {S} meaning first begin end last result begins ends kept =
-    let P : S → S → Type 0 = λ a b. IfOk result (λ taken. taken ≡ false → OnlyReads (meaning a) (meaning b)) in
-    subst (P first) (sym ends) (subst (λ a. P a end) begins kept)

@@ -1,12 +1,12 @@
 -- Commands that read alone leave the tables where they are.
-use Rattle.std.proofs.Common.{◌≡◌, ◌⊎◌, ℕ, Result, Ok, Err, sym, subst, inl, inr}
+use Rattle.std.proofs.Common.{◌≡◌, ◌⊎◌, ℕ, Result, Ok, Err, refl, sym, subst, inl, inr}
 use Rattle.plain_data.specs.State.{State}
 use Rattle.record_store.specs.Meaning.{Meaning}
 use Rattle.replay_model.specs.declared.command.Command.{Command}
 use Rattle.replay_model.specs.declared.command.Command.TheVariants.{Get, Put, Ins, Del, Add, Sub, Scan, Find}
 use Rattle.replay_model.specs.declared.outcome.Answer.{Answer}
 use Rattle.replay_model.specs.declared.outcome.Cause.{Cause}
-use Rattle.stored_tables.specs.Answers.{Held, Stands, Answers, Does, ReadsAlone}
+use Rattle.stored_tables.specs.Answers.{Held, Stands, Answers, Does, ReadsAlone, IsIdle}
 use Rattle.stored_tables.specs.Plan.Follows.{stays}
 
 pub reads_by : (command : Command) → ((t : ℕ) × (k : ℕ) × (c : ℕ) × (command ≡ Get t k c)) ⊎
@@ -33,3 +33,14 @@ read_does (Ins t k row) value now state held reads stands answers = absurd reads
 read_does (Del t k) value now state held reads stands answers = absurd reads
 read_does (Add t k c by) value now state held reads stands answers = absurd reads
 read_does (Sub t k c by) value now state held reads stands answers = absurd reads
+
+-- a command that is no scan lists something
+pub not_idle : (command : Command) → ((t lo hi limit : ℕ) → command ≡ Scan t lo hi limit → ⊥) → IsIdle command → ⊥
+not_idle (Get t k c) never idle = idle
+not_idle (Put t k row) never idle = idle
+not_idle (Ins t k row) never idle = idle
+not_idle (Del t k) never idle = idle
+not_idle (Add t k c by) never idle = idle
+not_idle (Sub t k c by) never idle = idle
+not_idle (Scan t lo hi limit) never idle = never t lo hi limit refl
+not_idle (Find t c lo hi limit) never idle = idle

@@ -13,15 +13,12 @@ ghost use Rattle.stored_tables.specs.Runs.{Looks, Runs};
 ghost use Rattle.stored_tables.specs.Tables.{EachTables};
 
 use crate::command::{read_command, run_command};
-use read_once::Kept;
 use record_store::{RecordRead, RecordStore, Walk};
 use replay_model::{Commands, Outcome, Sequence};
 use std::alloc::Global;
 
 /// Runs a block's commands in order, up to the first that is refused. A refused block is taken back by `undo`, which drops all
 /// writes, also those before this call. After a fault what was read and written may have grown.
-///
-/// Room is taken for the answers and for each list.
 pub fn exec_txn<S: RecordStore>(
     alloc: Global,
     store: &mut S,
@@ -72,9 +69,8 @@ fn run_commands<S: RecordStore>(
     if answers.reserve(commands.len()).is_err() {
         return Err(Walk::NoMemory);
     }
-    let mut kept = Kept::new(alloc);
     for (i, command) in commands.as_slice().iter().enumerate() {
-        match run_command(alloc, store, &mut kept, command)? {
+        match run_command(alloc, store, command)? {
             Ok(answer) => {
                 if answers.push(answer).is_err() {
                     return Err(Walk::NoMemory);
@@ -90,8 +86,6 @@ fn run_commands<S: RecordStore>(
 }
 
 /// Runs a block of commands that read alone. After a fault what was read may have grown.
-///
-/// Room is taken for the answers and for each list.
 pub fn exec_snap<S: RecordRead>(
     alloc: Global,
     store: &mut S,

@@ -17,7 +17,7 @@ use record_store::{RecordRead, RecordStore, Walk};
 use std::alloc::Global;
 
 /// Declares an index of a table on a column, where the table has no row and no index, and answers whether it did. After `false`
-/// or a refusal nothing was written. It never asks for a new record. Room is taken for one entry.
+/// or a refusal nothing was written. It never asks for a new record.
 pub fn declare_index<S: RecordStore>(
     alloc: Global,
     store: &mut S,

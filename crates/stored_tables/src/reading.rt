@@ -129,7 +129,7 @@ fn part_of(key: Key, part: KeyPart) -> u64
     }
 }
 
-/// The rows of these records, each with its key. Room for them is taken first.
+/// The rows of these records, each with its key.
 fn read_rows<S: RecordRead>(
     alloc: Global,
     store: &mut S,

@@ -9,15 +9,14 @@ ghost use Rattle.stored_tables.specs.OneRow.{IsRowAt, SetsRow, TakesRow};
 ghost use Rattle.stored_tables.specs.Plan.{plan};
 ghost use Rattle.stored_tables.specs.Runs.{AsksNothing, Looks, Runs};
 
-use crate::command::run_command;
+use crate::command;
 use crate::leaving::take_row;
 use crate::reading::{find_row, scan_rows};
-use read_once::{Kept, ReadOnce};
 use record_store::{RecordRead, RecordStore, Walk};
-use replay_model::{Columns, Command, Pairs};
+use replay_model::{Columns, Pairs};
 use std::alloc::Global;
 
-/// The row of a table at a key, if there is one. It takes no memory.
+/// The row of a table at a key, if there is one. It never answers `NoMemory`.
 pub fn get_row<S: RecordRead>(
     store: &mut S,
     table: u32,
@@ -35,7 +34,7 @@ pub fn get_row<S: RecordRead>(
     }
 }
 
-/// The first `limit` rows of a table whose keys lie from `lo` to `hi`, by rising key. Room for so many is taken first.
+/// The first `limit` rows of a table whose keys lie from `lo` to `hi`, by rising key.
 pub fn list_rows<S: RecordRead>(
     alloc: Global,
     store: &mut S,
@@ -55,7 +54,6 @@ pub fn list_rows<S: RecordRead>(
 
 /// Sets the row at a key, whether there is one or not. It asks for new records as the command does.
 pub fn put_row<S: RecordStore>(
-    alloc: Global,
     store: &mut S,
     table: u32,
     key: u64,
@@ -68,20 +66,13 @@ pub fn put_row<S: RecordStore>(
 {
     // The records that are never given out lie in the store: its size says so.
     let _size = store.size();
-    let mut kept = Kept::new(alloc);
-    let put = Command::Put {
-        table,
-        key,
-        values: *row,
-    };
     // A put is never refused.
-    let _ran = run_command(alloc, store, &mut kept, &put)?;
+    let _ran = command::put_row(store, table, key, row)?;
     Ok(())
 }
 
 /// Takes the row at a key out, and answers whether there was one. Without one nothing is written. It asks for no new record.
 pub fn remove_row<S: RecordStore>(
-    alloc: Global,
     store: &mut S,
     table: u32,
     key: u64,
@@ -97,27 +88,5 @@ pub fn remove_row<S: RecordStore>(
 {
     // The records that are never given out lie in the store: its size says so.
     let _size = store.size();
-    let mut kept = Kept::new(alloc);
-    let mut once = ReadOnce::new(store, &mut kept);
-    let taken = take_once(&mut once, table, key);
-    once.end();
-    taken
-}
-
-/// Takes a row out over a store that keeps what it reads. What is said is of the store below.
-fn take_once<S: RecordStore>(
-    once: &mut ReadOnce<'_, S>,
-    table: u32,
-    key: u64,
-) -> Result<bool, Walk<S::Fault>>
-    requires table { table < 8 }
-    requires size { 4112 ≤ (S.meaning once.old.store.now).size }
-    requires fixed { 4112 ≤ (S.meaning once.old.store.now).fixed }
-    ensures same_reference { once.new.store.ghost_name ≡ once.old.store.ghost_name }
-    ensures runs { Runs S.read_gives S.write_gives S.fresh_gives S.meaning (Stands (S.meaning once.old.store.now)) (MayAsk (plan (Del table key))) (λ taken. TakesRow table key (S.meaning once.new.store.now) taken) 4 once.old.store.now once.new.store.now result }
-    ensures asks_nothing { AsksNothing S.read_gives S.write_gives S.fresh_gives once.old.store.now once.new.store.now result }
-    ensures kept { IfOk result (λ taken. taken ≡ false → OnlyReads (S.meaning once.old.store.now) (S.meaning once.new.store.now)) }
-    ensures rest { S.rest once.new.store.now ≡ S.rest once.old.store.now }
-{
-    take_row(once, table, key)
+    take_row(store, table, key)
 }

@@ -1,4 +1,4 @@
-//! Commands that run one by one, of which none reads a record twice.
+//! Commands that run one by one, beside the plain tables; of those that read alone none reads a record twice.
 
 ghost use Rattle.std.specs.Prelude.{◌<◌};
 ghost use Rattle.replay_model.specs.Input.{NamesColumn};
@@ -238,7 +238,7 @@ fn run_all(alloc: Global, beside: &mut Beside) -> Result<(), Fail> {
 }
 
 #[test]
-fn no_command_reads_a_record_twice(rt: HostRuntime) -> Result<(), Fail> {
+fn no_command_that_reads_alone_reads_a_record_twice(rt: HostRuntime) -> Result<(), Fail> {
     let mut beside = Beside::new(rt.alloc(), 30_000)?;
     let ran = run_all(rt.alloc(), &mut beside);
     drop(beside);

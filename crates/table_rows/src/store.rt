@@ -8,7 +8,7 @@ ghost use Rattle.stored_tables.specs.Answers.{IsShort, ReadsAlone};
 use crate::counted::Counted;
 use crate::outcomes::{compare, is_done};
 use record_store::{MapFault, RecordRead, RecordStore, Walk};
-use replay_model::{Cells, Commands, Outcome};
+use replay_model::{Cells, Command, Commands, Outcome};
 use std::alloc::Global;
 use std::mem::replace;
 use std::test::Fail;
@@ -78,10 +78,10 @@ impl Store {
         self.map.count()
     }
 
-    /// Refuses a block of one command that read a record again.
+    /// Refuses a block of one command that reads alone and read a record again.
     fn is_read_once(&self, commands: &Commands) -> Result<(), Fail> {
-        if commands.len() == 1 && self.map.is_read_again() {
-            return Err("a command read a record again".into());
+        if is_reading(commands) && self.map.is_read_again() {
+            return Err("a command that reads alone read a record again".into());
         }
         Ok(())
     }
@@ -165,4 +165,13 @@ impl Store {
         }
         self.map.read(rid)
     }
+}
+
+/// Whether a block has one command, and this one reads alone.
+fn is_reading(commands: &Commands) -> bool {
+    commands.len() == 1
+        && matches!(
+            commands.as_slice().first(),
+            Some(Command::Get { .. } | Command::Scan { .. } | Command::Find { .. })
+        )
 }

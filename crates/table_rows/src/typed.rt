@@ -88,7 +88,7 @@ fn comes_to(alloc: Global, store: &mut MapStore, call: Call) -> Result<bool, Fai
 {
     match call {
         Puts => {
-            typed_put(alloc, store, 0, 1, &SAVED)?;
+            typed_put(store, 0, 1, &SAVED)?;
             Ok(true)
         }
         PutsOther => put_other(alloc, store),
@@ -96,7 +96,7 @@ fn comes_to(alloc: Global, store: &mut MapStore, call: Call) -> Result<bool, Fai
         GetsForeign => Ok(is_foreign(typed_get::<Account, MapStore>(store, 0, 2))),
         ScansFirst => scans(alloc, store, 1),
         ScansForeign => scans(alloc, store, 5),
-        Removes(due) => Ok(typed_remove(alloc, store, 0, 1)? == due),
+        Removes(due) => Ok(typed_remove(store, 0, 1)? == due),
     }
 }
 

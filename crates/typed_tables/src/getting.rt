@@ -13,7 +13,7 @@ use crate::typed_row::Row;
 use record_store::RecordRead;
 use stored_tables::get_row;
 
-/// The row of a typed table at a key, if there is one. It takes no memory, and writes nothing.
+/// The row of a typed table at a key, if there is one. It never answers `NoMemory`, and writes nothing.
 pub fn typed_get<R: Row, S: RecordRead>(
     store: &mut S,
     table: u32,

@@ -11,7 +11,6 @@ ghost use Rattle.typed_tables.specs.Typed.{IfForeign, LeavesTyped, SetsTyped, wa
 use crate::fault::TypedFault;
 use crate::typed_row::Row;
 use record_store::RecordStore;
-use std::alloc::Global;
 use stored_tables::put_row;
 
 /// Sets the row of a typed table at a key, whether there is one or not, and one of this type or not. Indexes and all other rows stay.
@@ -19,7 +18,6 @@ use stored_tables::put_row;
 ///
 /// After a fault what was read and written may have grown; what was written before stays.
 pub fn typed_put<R: Row, S: RecordStore>(
-    alloc: Global,
     store: &mut S,
     table: u32,
     key: u64,
@@ -35,6 +33,6 @@ pub fn typed_put<R: Row, S: RecordStore>(
     ensures runs { Runs S.read_gives S.write_gives S.fresh_gives S.meaning (Stands (S.meaning store.old)) (MayAsk (plan (Put table key (R.columns_of row.now)))) (SetsTyped table key (R.columns_of row.now) (S.meaning store.new)) 128 store.old store.new (walked result) }
     ensures rest { S.rest store.new ≡ S.rest store.old }
 {
-    put_row(alloc, store, table, key, &row.encode())?;
+    put_row(store, table, key, &row.encode())?;
     Ok(())
 }

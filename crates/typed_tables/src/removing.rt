@@ -14,7 +14,6 @@ ghost use Rattle.typed_tables.specs.Typed.{IfForeign, Removes, TakesTyped, typed
 use crate::fault::TypedFault;
 use crate::typed_row::Row;
 use record_store::RecordStore;
-use std::alloc::Global;
 use stored_tables::remove_row;
 
 /// Takes the row at a key out of a table, whatever its columns are, and answers whether there was one. Indexes and all other rows stay,
@@ -22,7 +21,6 @@ use stored_tables::remove_row;
 ///
 /// After a fault what was read and written may have grown; what was written before stays.
 pub fn typed_remove<S: RecordStore>(
-    alloc: Global,
     store: &mut S,
     table: u32,
     key: u64,
@@ -42,7 +40,7 @@ pub fn typed_remove<S: RecordStore>(
     ensures kept { IfOk result (λ removed. removed ≡ false → OnlyReads (S.meaning store.old) (S.meaning store.new)) }
     ensures rest { S.rest store.new ≡ S.rest store.old }
 {
-    let removed = remove_row(alloc, store, table, key)?;
+    let removed = remove_row(store, table, key)?;
     Ok(removed)
 }
 

@@ -15,8 +15,6 @@ use stored_tables::list_rows;
 
 /// Appends the first `limit` rows of a typed table whose keys lie from `lo` to `hi`, by rising key. A row among them whose columns are
 /// those of no row of this type is answered in place of them all. After a refusal `out` is as it was.
-///
-/// Room for `limit` rows is taken first.
 pub fn typed_scan<R: Row, S: RecordRead>(
     alloc: Global,
     store: &mut S,
@@ -66,7 +64,7 @@ fn read_all<R: Row, F>(pairs: &Pairs, out: &mut Vec<(u64, R)>) -> Result<(), Typ
     read
 }
 
-/// Appends the rows of these columns, up to the first that are refused. Room for them was taken.
+/// Appends the rows of these columns, up to the first that are refused.
 fn read_typed<R: Row, F>(pairs: &Pairs, out: &mut Vec<(u64, R)>) -> Result<(), TypedFault<F>>
     ensures typed { OnOk result ((rows : List (ℕ × R)) × (out.new.items ≡ out.old.items ++ rows) × AllTyped R.row_of R.columns_of pairs.now rows) }
     ensures grown { OnErr result ((rows : List (ℕ × R)) × (out.new.items ≡ out.old.items ++ rows)) }

@@ -1,4 +1,4 @@
-use Rattle.std.proofs.Common.{◌≡◌, Some, ap, refl, ◌∙◌, arith}
+use Rattle.std.proofs.Common.{◌≡◌, ◌+◌, None, Some, ap, refl, ◌∙◌, arith}
 use Rattle.record_store.specs.Meaning.{after_write, after_fresh}
 use Rattle.record_store.specs.Calls.Calls.{none, fresh}
 use Rattle.record_store.specs.Calls.CallFault.{by_fresh}
@@ -6,8 +6,7 @@ use Rattle.record_store.proofs.Known.{few-same, few-fresh, tries, fewer-refused,
 use Rattle.record_store.proofs.Writes.{writes-trans}
 use Rattle.record_store.proofs.Refusals.{store_fault, fault_moved, IfStore-map, OnOk-map}
 use Rattle.record_store.proofs.Paths.{Calls-trans, CallFault-never}
-use Rattle.hash_index.specs.Node.{words_of}
-use Rattle.hash_index.proofs.Words.{words_alike}
+use Rattle.hash_index.specs.Node.{pairs_of, words_of}
 use Rattle.record_store.proofs.Agreement.{ReadsGrow-refl, ReadsGrow-same, ReadsGrow-fresh, ReadsGrow-write, ReadsGrow-tried}
 use Rattle.hash_index.proofs.index.add_node.Goals as goal
 
@@ -32,10 +31,11 @@ returns-clause-ok g c = OnOk-map c.write_node-2.result (λ wrote. record {
   is_fresh = c.in_ok-fresh.ensures.fresh;
   written =
       wrote
-      ∙ ap (λ m. after_write m c.args.last.at (Some (words_of c.args.last.node.pairs.items (Some c.in_ok-fresh.fresh) c.args.last.node.position)))
+      ∙ ap (λ ps. after_write (g.S.RecordRead.meaning c.write_node.new.store) c.args.last.now.at (Some (words_of ps (Some c.in_ok-fresh.fresh) c.args.last.now.position))) c.all_pairs-pairs.ensures
+      ∙ ap (λ m. after_write m c.args.last.now.at (Some (words_of (pairs_of c.args.last.now.words) (Some c.in_ok-fresh.fresh) c.args.last.now.position)))
       (c.in_ok-write_node.ensures.ok
-      ∙ ap (λ m. after_write m c.in_ok-fresh.fresh (Some (words_of c.with_pair-node.result.pairs.items c.with_pair-node.result.next c.with_pair-node.result.position))) c.in_ok-fresh.ensures.ok
-      ∙ ap (λ ws. after_write (after_fresh (g.S.RecordRead.meaning c.args.store.now) c.in_ok-fresh.fresh) c.in_ok-fresh.fresh (Some ws)) (words_alike _ _ _ _ _ _ c.with_pair-node.ensures.pairs c.with_pair-node.ensures.next c.with_pair-node.ensures.position));
+      ∙ ap (λ m. after_write m c.in_ok-fresh.fresh (Some (words_of c.one_pair.result.items None (c.args.last.now.position + 1)))) c.in_ok-fresh.ensures.ok
+      ∙ ap (λ ps. after_write (after_fresh (g.S.RecordRead.meaning c.args.store.now) c.in_ok-fresh.fresh) c.in_ok-fresh.fresh (Some (words_of ps None (c.args.last.now.position + 1)))) c.one_pair.ensures);
 }) c.write_node-2.ensures.ok
 
 pub returns-clause-fault : goal.returns-clause-fault
@@ -48,25 +48,25 @@ returns-clause-calls g c = Calls-trans _ _ _ 1 0 (Calls-trans _ _ _ 1 0 (fresh _
 -- what is written and given: the new node, then the last one
 pub returns-in_err-write_node-clause-writes : goal.returns-in_err-write_node-clause-writes
 returns-in_err-write_node-clause-writes g c =
-    (goes-added (λ rid. rid ≡ c.args.last.at) (g.S.RecordRead.meaning c.args.store.now) (g.S.RecordRead.meaning c.fresh.new.self) (g.S.RecordRead.meaning c.write_node.new.store) c.in_ok-fresh.fresh c.in_ok-fresh.ensures.ok (tries c.write_node.result (g.S.RecordRead.meaning c.fresh.new.self) (g.S.RecordRead.meaning c.write_node.new.store) c.in_ok-fresh.fresh _ c.write_node.ensures.ok c.write_node.ensures.err)).only
+    (goes-added (λ rid. rid ≡ c.args.last.now.at) (g.S.RecordRead.meaning c.args.store.now) (g.S.RecordRead.meaning c.fresh.new.self) (g.S.RecordRead.meaning c.write_node.new.store) c.in_ok-fresh.fresh c.in_ok-fresh.ensures.ok (tries c.write_node.result (g.S.RecordRead.meaning c.fresh.new.self) (g.S.RecordRead.meaning c.write_node.new.store) c.in_ok-fresh.fresh _ c.write_node.ensures.ok c.write_node.ensures.err)).only
 
 pub returns-in_err-write_node-clause-given : goal.returns-in_err-write_node-clause-given
 returns-in_err-write_node-clause-given g c =
-    (goes-added (λ rid. rid ≡ c.args.last.at) (g.S.RecordRead.meaning c.args.store.now) (g.S.RecordRead.meaning c.fresh.new.self) (g.S.RecordRead.meaning c.write_node.new.store) c.in_ok-fresh.fresh c.in_ok-fresh.ensures.ok (tries c.write_node.result (g.S.RecordRead.meaning c.fresh.new.self) (g.S.RecordRead.meaning c.write_node.new.store) c.in_ok-fresh.fresh _ c.write_node.ensures.ok c.write_node.ensures.err)).given
+    (goes-added (λ rid. rid ≡ c.args.last.now.at) (g.S.RecordRead.meaning c.args.store.now) (g.S.RecordRead.meaning c.fresh.new.self) (g.S.RecordRead.meaning c.write_node.new.store) c.in_ok-fresh.fresh c.in_ok-fresh.ensures.ok (tries c.write_node.result (g.S.RecordRead.meaning c.fresh.new.self) (g.S.RecordRead.meaning c.write_node.new.store) c.in_ok-fresh.fresh _ c.write_node.ensures.ok c.write_node.ensures.err)).given
 
 pub returns-clause-writes : goal.returns-clause-writes
 returns-clause-writes g c =
-    (goes-trans 1 0 (λ rid. rid ≡ c.args.last.at) (g.S.RecordRead.meaning c.args.store.now) (g.S.RecordRead.meaning c.write_node.new.store) (g.S.RecordRead.meaning c.write_node-2.new.store) (goes-added (λ rid. rid ≡ c.args.last.at) (g.S.RecordRead.meaning c.args.store.now) (g.S.RecordRead.meaning c.fresh.new.self) (g.S.RecordRead.meaning c.write_node.new.store) c.in_ok-fresh.fresh c.in_ok-fresh.ensures.ok (tries c.write_node.result (g.S.RecordRead.meaning c.fresh.new.self) (g.S.RecordRead.meaning c.write_node.new.store) c.in_ok-fresh.fresh _ c.write_node.ensures.ok c.write_node.ensures.err)) (goes-tried (λ rid. rid ≡ c.args.last.at) (g.S.RecordRead.meaning c.write_node.new.store) (g.S.RecordRead.meaning c.write_node-2.new.store) c.args.last.at (tries c.write_node-2.result (g.S.RecordRead.meaning c.write_node.new.store) (g.S.RecordRead.meaning c.write_node-2.new.store) c.args.last.at _ c.write_node-2.ensures.ok c.write_node-2.ensures.err) refl)).only
+    (goes-trans 1 0 (λ rid. rid ≡ c.args.last.now.at) (g.S.RecordRead.meaning c.args.store.now) (g.S.RecordRead.meaning c.write_node.new.store) (g.S.RecordRead.meaning c.write_node-2.new.store) (goes-added (λ rid. rid ≡ c.args.last.now.at) (g.S.RecordRead.meaning c.args.store.now) (g.S.RecordRead.meaning c.fresh.new.self) (g.S.RecordRead.meaning c.write_node.new.store) c.in_ok-fresh.fresh c.in_ok-fresh.ensures.ok (tries c.write_node.result (g.S.RecordRead.meaning c.fresh.new.self) (g.S.RecordRead.meaning c.write_node.new.store) c.in_ok-fresh.fresh _ c.write_node.ensures.ok c.write_node.ensures.err)) (goes-tried (λ rid. rid ≡ c.args.last.now.at) (g.S.RecordRead.meaning c.write_node.new.store) (g.S.RecordRead.meaning c.write_node-2.new.store) c.args.last.now.at (tries c.write_node-2.result (g.S.RecordRead.meaning c.write_node.new.store) (g.S.RecordRead.meaning c.write_node-2.new.store) c.args.last.now.at _ c.write_node-2.ensures.ok c.write_node-2.ensures.err) refl)).only
 
 pub returns-clause-given : goal.returns-clause-given
 returns-clause-given g c =
-    (goes-trans 1 0 (λ rid. rid ≡ c.args.last.at) (g.S.RecordRead.meaning c.args.store.now) (g.S.RecordRead.meaning c.write_node.new.store) (g.S.RecordRead.meaning c.write_node-2.new.store) (goes-added (λ rid. rid ≡ c.args.last.at) (g.S.RecordRead.meaning c.args.store.now) (g.S.RecordRead.meaning c.fresh.new.self) (g.S.RecordRead.meaning c.write_node.new.store) c.in_ok-fresh.fresh c.in_ok-fresh.ensures.ok (tries c.write_node.result (g.S.RecordRead.meaning c.fresh.new.self) (g.S.RecordRead.meaning c.write_node.new.store) c.in_ok-fresh.fresh _ c.write_node.ensures.ok c.write_node.ensures.err)) (goes-tried (λ rid. rid ≡ c.args.last.at) (g.S.RecordRead.meaning c.write_node.new.store) (g.S.RecordRead.meaning c.write_node-2.new.store) c.args.last.at (tries c.write_node-2.result (g.S.RecordRead.meaning c.write_node.new.store) (g.S.RecordRead.meaning c.write_node-2.new.store) c.args.last.at _ c.write_node-2.ensures.ok c.write_node-2.ensures.err) refl)).given
+    (goes-trans 1 0 (λ rid. rid ≡ c.args.last.now.at) (g.S.RecordRead.meaning c.args.store.now) (g.S.RecordRead.meaning c.write_node.new.store) (g.S.RecordRead.meaning c.write_node-2.new.store) (goes-added (λ rid. rid ≡ c.args.last.now.at) (g.S.RecordRead.meaning c.args.store.now) (g.S.RecordRead.meaning c.fresh.new.self) (g.S.RecordRead.meaning c.write_node.new.store) c.in_ok-fresh.fresh c.in_ok-fresh.ensures.ok (tries c.write_node.result (g.S.RecordRead.meaning c.fresh.new.self) (g.S.RecordRead.meaning c.write_node.new.store) c.in_ok-fresh.fresh _ c.write_node.ensures.ok c.write_node.ensures.err)) (goes-tried (λ rid. rid ≡ c.args.last.now.at) (g.S.RecordRead.meaning c.write_node.new.store) (g.S.RecordRead.meaning c.write_node-2.new.store) c.args.last.now.at (tries c.write_node-2.result (g.S.RecordRead.meaning c.write_node.new.store) (g.S.RecordRead.meaning c.write_node-2.new.store) c.args.last.now.at _ c.write_node-2.ensures.ok c.write_node-2.ensures.err) refl)).given
 
 pub returns-in_err-fresh-clause-writes : goal.returns-in_err-fresh-clause-writes
-returns-in_err-fresh-clause-writes g c = (goes-same (λ rid. rid ≡ c.args.last.at) (g.S.RecordRead.meaning c.args.store.now) (g.S.RecordRead.meaning c.fresh.new.self) c.in_err-fresh.ensures.err).only
+returns-in_err-fresh-clause-writes g c = (goes-same (λ rid. rid ≡ c.args.last.now.at) (g.S.RecordRead.meaning c.args.store.now) (g.S.RecordRead.meaning c.fresh.new.self) c.in_err-fresh.ensures.err).only
 
 pub returns-in_err-fresh-clause-given : goal.returns-in_err-fresh-clause-given
-returns-in_err-fresh-clause-given g c = gives-weaken 0 1 (g.S.RecordRead.meaning c.args.store.now) (g.S.RecordRead.meaning c.fresh.new.self) (omega arith) (goes-same (λ rid. rid ≡ c.args.last.at) (g.S.RecordRead.meaning c.args.store.now) (g.S.RecordRead.meaning c.fresh.new.self) c.in_err-fresh.ensures.err).given
+returns-in_err-fresh-clause-given g c = gives-weaken 0 1 (g.S.RecordRead.meaning c.args.store.now) (g.S.RecordRead.meaning c.fresh.new.self) (omega arith) (goes-same (λ rid. rid ≡ c.args.last.now.at) (g.S.RecordRead.meaning c.args.store.now) (g.S.RecordRead.meaning c.fresh.new.self) c.in_err-fresh.ensures.err).given
 
 -- what is left of the store
 pub returns-in_err-write_node-clause-after : goal.returns-in_err-write_node-clause-after
@@ -98,4 +98,4 @@ returns-in_err-write_node-clause-few g c =
 pub returns-clause-few : goal.returns-clause-few
 returns-clause-few g c =
     let wrote = writes-trans 0 1 (g.S.RecordRead.meaning c.args.store.now) (g.S.RecordRead.meaning c.fresh.new.self) (g.S.RecordRead.meaning c.write_node.new.store) (few-fresh (g.S.RecordRead.meaning c.args.store.now) (g.S.RecordRead.meaning c.fresh.new.self) _ c.in_ok-fresh.ensures.ok) (tries c.write_node.result (g.S.RecordRead.meaning c.fresh.new.self) (g.S.RecordRead.meaning c.write_node.new.store) c.in_ok-fresh.fresh _ c.write_node.ensures.ok c.write_node.ensures.err).few in
-    writes-trans 1 1 (g.S.RecordRead.meaning c.args.store.now) (g.S.RecordRead.meaning c.write_node.new.store) (g.S.RecordRead.meaning c.write_node-2.new.store) wrote (tries c.write_node-2.result (g.S.RecordRead.meaning c.write_node.new.store) (g.S.RecordRead.meaning c.write_node-2.new.store) c.args.last.at _ c.write_node-2.ensures.ok c.write_node-2.ensures.err).few
+    writes-trans 1 1 (g.S.RecordRead.meaning c.args.store.now) (g.S.RecordRead.meaning c.write_node.new.store) (g.S.RecordRead.meaning c.write_node-2.new.store) wrote (tries c.write_node-2.result (g.S.RecordRead.meaning c.write_node.new.store) (g.S.RecordRead.meaning c.write_node-2.new.store) c.args.last.now.at _ c.write_node-2.ensures.ok c.write_node-2.ensures.err).few

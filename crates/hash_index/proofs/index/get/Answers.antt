@@ -1,6 +1,7 @@
-use Rattle.std.proofs.Common.{sym, arith}
+use Rattle.std.proofs.Common.{Some, sym, ap, ◌∙◌}
 use Rattle.record_store.proofs.Refusals.{torn_moved, IfTorn-map}
 use Rattle.plain_data.specs.State.{overlay}
+use Rattle.hash_index.specs.Node.{pairs_of}
 use Rattle.hash_index.proofs.Pairs.{position-found}
 use Rattle.hash_index.proofs.Chains.{is_torn, found_in, each_absent}
 use Rattle.hash_index.proofs.index.get.Goals as goal
@@ -10,20 +11,23 @@ returns-in_err-place-clause-torn g c =
     torn_moved c.from_residual.result c.search.result c.in_err-place.field-0.0 _ c.in_err-place.was c.from_residual.ensures.1
     (IfTorn-map c.search.result (λ rid. is_torn c.args.base c.args.key c.size-size.result rid _ _ c.size-size.ensures.size) c.search.ensures.torn)
 
-pub bounds-deref-index : goal.bounds-deref-index
-bounds-deref-index g c =
-    let within = rw c.in-Found.is at c.in_ok-place.ensures.within in
-    let found = position-found c.in-Found.link.node.pairs.items c.args.key c.in-Found.index within.1 in
-    rw c.deref.ensures.0 found.within
+pub pair_record-requires-clause-few : goal.pair_record-requires-clause-few
+pair_record-requires-clause-few g c = (let within = rw c.in-Found.is at c.in_ok-place.ensures.within in within.0.few)
 
-pub offset_bounds-deref-index : goal.offset_bounds-deref-index
-offset_bounds-deref-index g c = let low = bounds-deref-index g c in omega arith
+pub pair_record-requires-clause-within : goal.pair_record-requires-clause-within
+pair_record-requires-clause-within g c =
+    let within = rw c.in-Found.is at c.in_ok-place.ensures.within in
+    (position-found (pairs_of c.in-Found.link.words) c.args.key c.in-Found.index within.1).within
+
+pub pair_record-requires-clause-records : goal.pair_record-requires-clause-records
+pair_record-requires-clause-records g c = (let within = rw c.in-Found.is at c.in_ok-place.ensures.within in within.0.pairs)
 
 pub returns-in-Found-clause-ok : goal.returns-in-Found-clause-ok
 returns-in-Found-clause-ok g c = λ state rows agrees chain.
     let within = rw c.in-Found.is at c.in_ok-place.ensures.within in
     let place = rw c.in-Found.is at (c.in_ok-place.ensures.place state agrees) in
-    rw c.deref.ensures.0 (sym (found_in c.size-size.result c.args.base c.args.key c.in-Found.index (overlay (g.S.RecordRead.meaning c.args.store.now).writes state) rows c.in-Found.link (rw c.size-size.ensures.size chain) place within.1))
+    ap (λ rid. Some rid) c.pair_record.ensures
+    ∙ sym (found_in c.size-size.result c.args.base c.args.key c.in-Found.index (overlay (g.S.RecordRead.meaning c.args.store.now).writes state) rows c.in-Found.link (rw c.size-size.ensures.size chain) place within.1)
 
 pub returns-in-Room-clause-ok : goal.returns-in-Room-clause-ok
 returns-in-Room-clause-ok g c = λ state rows agrees chain. sym (each_absent c.in_ok-place.place c.size-size.result c.args.base c.args.key (g.S.RecordRead.meaning c.args.store.now) (g.S.RecordRead.meaning c.search.new.store) c.size-size.ensures.size c.in-Room.is c.in_ok-place.ensures.place state rows agrees chain)
@@ -31,5 +35,5 @@ returns-in-Room-clause-ok g c = λ state rows agrees chain. sym (each_absent c.i
 pub returns-in-Found-clause-stored : goal.returns-in-Found-clause-stored
 returns-in-Found-clause-stored g c =
     let within = rw c.in-Found.is at c.in_ok-place.ensures.within in
-    let found = position-found c.in-Found.link.node.pairs.items c.args.key c.in-Found.index within.1 in
-    rw (c.deref.ensures.0, ← c.size-size.ensures.size) (within.0.pairs c.in-Found.index (0, 0) found.within)
+    let found = position-found (pairs_of c.in-Found.link.words) c.args.key c.in-Found.index within.1 in
+    rw (c.pair_record.ensures, ← c.size-size.ensures.size) (within.0.pairs c.in-Found.index (0, 0) found.within)

@@ -1,8 +1,9 @@
-use Rattle.std.proofs.Common.{arith}
+use Rattle.std.proofs.Common.{◌≡◌, ℕ, List, [], ◌∷◌, ◌++◌, get_or, None, ap, ◌∙◌, arith}
+use Rattle.std.specs.Prelude.{slice_set}
 use Rattle.record_store.proofs.Refusals.{fault_moved, torn_moved, IfStore-map, IfTorn-map, OnOk-map}
 use Rattle.record_store.proofs.Paths.{Calls-reads, Calls-trans, CallFault-read, CallFault-behind, CallFault-never}
 use Rattle.record_store.proofs.Known.{few-reads, few-behind, few-tried, tries, gives-reads, gives-tried, gives-trans, fewer-behind, known-reads, known-found, known-fixed}
-use Rattle.hash_index.proofs.Words.{words_alike}
+use Rattle.hash_index.specs.Node.{pairs_of, words_of}
 use Rattle.hash_index.proofs.Pairs.{position-found}
 use Rattle.hash_index.proofs.Chains.{bucket_below, is_torn}
 use Rattle.hash_index.proofs.Stored.{puts_found, puts_room, puts_empty, puts_full, needs_node, edited_pairs}
@@ -28,9 +29,12 @@ returns-in_err-link-clause-calls g c = (0, Calls-reads _ _ c.search.ensures.call
 pub returns-in-Found-clause-ok : goal.returns-in-Found-clause-ok
 returns-in-Found-clause-ok g c =
     let within = rw c.in-Found.is at c.in_ok-link.ensures.within in
-    let found = position-found c.in-Found.link.node.pairs.items c.args.key c.in-Found.index within.1 in
+    let found = position-found (pairs_of c.in-Found.link.words) c.args.key c.in-Found.index within.1 in
+    let items : List (ℕ × ℕ) = c.all_pairs-pairs.result.items in
+    let at : get_or items c.in-Found.index (0, 0) ≡ (c.args.key, found.rid) = ap (λ ps. get_or ps c.in-Found.index (0, 0)) c.all_pairs-pairs.ensures ∙ found.at_index in
     OnOk-map c.write_node.result (λ wrote. puts_found c.size-size.result c.args.base c.args.key c.args.rid c.in-Found.index (g.S.RecordRead.meaning c.args.store.now) (g.S.RecordRead.meaning c.search.new.store) (g.S.RecordRead.meaning c.write_node.new.store) c.in-Found.link _
-    c.size-size.ensures.size c.requires.rid c.in_ok-link.ensures.after (λ state agrees. rw c.in-Found.is at (c.in_ok-link.ensures.place state agrees)) within.1 (edited_pairs c.in-Found.link.node.pairs.items c.deref_mut.result.now c.in-Found.index c.args.key found.rid c.args.rid c.deref_mut.ensures.value found.at_index) wrote) c.write_node.ensures.ok
+    c.size-size.ensures.size c.requires.rid c.in_ok-link.ensures.after (λ state agrees. rw c.in-Found.is at (c.in_ok-link.ensures.place state agrees)) within.1
+    (edited_pairs items c.deref_mut.result.now c.in-Found.index c.args.key found.rid c.args.rid c.deref_mut.ensures.value at ∙ ap (λ ps. slice_set ps c.in-Found.index (c.args.key, c.args.rid)) c.all_pairs-pairs.ensures) wrote) c.write_node.ensures.ok
 
 pub returns-in-Found-clause-fault : goal.returns-in-Found-clause-fault
 returns-in-Found-clause-fault g c = IfStore-map c.write_node.result (λ fault. CallFault-never _ _ _ _ 0 fault (Calls-reads _ _ c.search.ensures.calls)) c.write_node.ensures.fault
@@ -44,7 +48,7 @@ pub returns-in-Room-clause-ok : goal.returns-in-Room-clause-ok
 returns-in-Room-clause-ok g c =
     let within = rw c.in-Room.is at c.in_ok-link.ensures.within in
     OnOk-map c.write_node-in-Room.result (λ wrote. puts_room c.size-size.result c.args.base c.args.key c.args.rid (g.S.RecordRead.meaning c.args.store.now) (g.S.RecordRead.meaning c.search.new.store) (g.S.RecordRead.meaning c.write_node-in-Room.new.store) c.in-Room.link c.push.new.self.items
-    c.size-size.ensures.size c.requires.rid c.in_ok-link.ensures.after (λ state agrees. rw c.in-Room.is at (c.in_ok-link.ensures.place state agrees)) within.has_room c.push.ensures.items wrote) c.write_node-in-Room.ensures.ok
+    c.size-size.ensures.size c.requires.rid c.in_ok-link.ensures.after (λ state agrees. rw c.in-Room.is at (c.in_ok-link.ensures.place state agrees)) within.has_room (c.push.ensures.items ∙ ap (λ ps. ps ++ (c.args.key, c.args.rid) ∷ []) c.all_pairs-pairs-in-Room.ensures) wrote) c.write_node-in-Room.ensures.ok
 
 pub returns-in-Room-clause-fault : goal.returns-in-Room-clause-fault
 returns-in-Room-clause-fault g c = IfStore-map c.write_node-in-Room.result (λ fault. CallFault-never _ _ _ _ 0 fault (Calls-reads _ _ c.search.ensures.calls)) c.write_node-in-Room.ensures.fault
@@ -74,7 +78,7 @@ pub returns-in-Empty-clause-ok : goal.returns-in-Empty-clause-ok
 returns-in-Empty-clause-ok g c =
     let within = rw c.in-Empty.is at c.in_ok-link.ensures.within in
     OnOk-map c.write_node-in-Empty.result (λ wrote. puts_empty c.size-size.result c.args.base c.args.key c.args.rid c.in-Empty.bucket (g.S.RecordRead.meaning c.args.store.now) (g.S.RecordRead.meaning c.search.new.store) (g.S.RecordRead.meaning c.write_node-in-Empty.new.store) _
-    c.size-size.ensures.size c.requires.rid c.in_ok-link.ensures.after within (λ state agrees. rw c.in-Empty.is at (c.in_ok-link.ensures.place state agrees)) (words_alike _ _ _ _ _ _ c.with_pair.ensures.pairs c.with_pair.ensures.next c.with_pair.ensures.position) wrote) c.write_node-in-Empty.ensures.ok
+    c.size-size.ensures.size c.requires.rid c.in_ok-link.ensures.after within (λ state agrees. rw c.in-Empty.is at (c.in_ok-link.ensures.place state agrees)) (ap (λ ps. words_of ps None 0) c.one_pair.ensures) wrote) c.write_node-in-Empty.ensures.ok
 
 pub returns-in-Empty-clause-fault : goal.returns-in-Empty-clause-fault
 returns-in-Empty-clause-fault g c = IfStore-map c.write_node-in-Empty.result (λ fault. CallFault-never _ _ _ _ 0 fault (Calls-reads _ _ c.search.ensures.calls)) c.write_node-in-Empty.ensures.fault

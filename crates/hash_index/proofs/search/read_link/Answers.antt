@@ -1,4 +1,5 @@
-use Rattle.std.proofs.Common.{refl, ◌∙◌}
+use Rattle.std.proofs.Common.{refl, ap, ◌∙◌}
+use Rattle.plain_data.specs.State.{overlay}
 use Rattle.record_store.specs.Calls.Reads.{none, read}
 use Rattle.record_store.proofs.Agreement.{answered, OnlyReads-refl, OnlyReads-after_read}
 use Rattle.record_store.proofs.Refusals.{store_fault}
@@ -17,18 +18,18 @@ returns-in_default-clause-read g c = λ state agrees. answered _ _ c.args.rid _ 
 pub returns-in_default-clause-calls : goal.returns-in_default-clause-calls
 returns-in_default-clause-calls g c = read _ _ _ c.args.rid _ (none _) c.read.ensures.gives
 
-pub returns-in-Some-read-clause-read : goal.returns-in-Some-read-clause-read
-returns-in-Some-read-clause-read g c = λ state agrees. (
+pub returns-in-Some-node_at-clause-read : goal.returns-in-Some-node_at-clause-read
+returns-in-Some-node_at-clause-read g c = λ state agrees. (
   c.in-Some.cells,
   record {
-    here = answered _ _ c.args.rid _ c.in_ok-cells.ensures.ok c.in_ok-cells.ensures.answer state agrees ∙ c.in-Some.is;
-    node = c.in-Some-read.ensures.node.0;
-    held = c.in-Some-read.ensures.node.1;
+    here = ap (overlay (g.S.RecordRead.meaning c.args.store.now).writes state) c.in-Some-node_at.ensures.node.0 ∙ answered _ _ c.args.rid _ c.in_ok-cells.ensures.ok c.in_ok-cells.ensures.answer state agrees ∙ c.in-Some.is;
+    node = c.in-Some-node_at.ensures.node.1;
+    held = c.in-Some-node_at.ensures.node.2;
   },
 )
 
-pub returns-in-Some-read-clause-calls : goal.returns-in-Some-read-clause-calls
-returns-in-Some-read-clause-calls g c = read _ _ _ c.args.rid _ (none _) c.read.ensures.gives
+pub returns-in-Some-node_at-clause-calls : goal.returns-in-Some-node_at-clause-calls
+returns-in-Some-node_at-clause-calls g c = read _ _ _ c.args.rid _ (none _) c.read.ensures.gives
 
 pub returns-in-None-clause-torn : goal.returns-in-None-clause-torn
 returns-in-None-clause-torn g c =
@@ -37,17 +38,21 @@ returns-in-None-clause-torn g c =
 pub returns-in-None-clause-calls : goal.returns-in-None-clause-calls
 returns-in-None-clause-calls g c = read _ _ _ c.args.rid _ (none _) c.read.ensures.gives
 
-pub returns-in-Some-read-clause-link : goal.returns-in-Some-read-clause-link
-returns-in-Some-read-clause-link g c = record {
-  at = refl;
-  placed = c.in-Some-read.ensures.node.1.position ∙ c.in-Some-read.ensures.node.0.placed;
-  in_store = record {
-    record_number = c.requires.rid;
-    position = rw (c.in-Some-read.ensures.node.1.position ∙ c.in-Some-read.ensures.node.0.placed) c.in-Some-read.ensures.node.0.in_store;
-    next = rw c.in-Some-read.ensures.node.1.next c.in-Some-read.ensures.node.0.next;
-    pairs = rw c.in-Some-read.ensures.node.1.pairs c.in-Some-read.ensures.node.0.records;
-  };
-}
+pub returns-in-Some-node_at-clause-link : goal.returns-in-Some-node_at-clause-link
+returns-in-Some-node_at-clause-link g c =
+    let node = c.in-Some-node_at.ensures.node.1 in
+    let held = c.in-Some-node_at.ensures.node.2 in
+    record {
+      at = c.in-Some-node_at.ensures.node.0;
+      placed = held.position ∙ node.placed;
+      in_store = record {
+        record_number = rw c.in-Some-node_at.ensures.node.0 c.requires.rid;
+        few = rw held.words node.few;
+        position = rw (held.position ∙ node.placed) node.in_store;
+        next = rw held.next node.next;
+        pairs = rw held.words node.records;
+      };
+    }
 
 -- what is left of the store
 pub returns-in_err-cells-clause-after : goal.returns-in_err-cells-clause-after
@@ -56,8 +61,8 @@ returns-in_err-cells-clause-after g c = rw c.in_err-cells.ensures.err (OnlyReads
 pub returns-in_default-clause-after : goal.returns-in_default-clause-after
 returns-in_default-clause-after g c = OnlyReads-after_read _ _ c.args.rid _ c.in_ok-cells.ensures.ok
 
-pub returns-in-Some-read-clause-after : goal.returns-in-Some-read-clause-after
-returns-in-Some-read-clause-after g c = OnlyReads-after_read _ _ c.args.rid _ c.in_ok-cells.ensures.ok
+pub returns-in-Some-node_at-clause-after : goal.returns-in-Some-node_at-clause-after
+returns-in-Some-node_at-clause-after g c = OnlyReads-after_read _ _ c.args.rid _ c.in_ok-cells.ensures.ok
 
 pub returns-in-None-clause-after : goal.returns-in-None-clause-after
 returns-in-None-clause-after g c = OnlyReads-after_read _ _ c.args.rid _ c.in_ok-cells.ensures.ok

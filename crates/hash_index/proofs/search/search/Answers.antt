@@ -56,10 +56,10 @@ loop-index-preserved g c =
       calls = Reads-trans _ _ _ c.loop-index.invariant.calls c.read_link-in-loop-index.ensures.calls;
       rest = c.read_link-in-loop-index.ensures.rest ∙ c.loop-index.invariant.rest;
       after = OnlyReads-trans _ _ _ c.loop-index.invariant.after c.read_link-in-loop-index.ensures.after;
-      here = rw c.replace-passed.ensures.after link.in_store;
-      room = rw (c.first_with_room-room.ensures, c.replace-passed.ensures.value) (room_in_store c.args.size c.loop-index.room c.loop-index.here c.loop-index.invariant.room c.loop-index.invariant.here);
+      here = link.in_store;
+      room = rw c.first_with_room-room.ensures (room_in_store c.args.size c.loop-index.room c.loop-index.here c.loop-index.invariant.room c.loop-index.invariant.here);
       walked =
-          rw (c.first_with_room-room.ensures, c.replace-passed.ensures.value, c.replace-passed.ensures.after)
+          rw c.first_with_room-room.ensures
           (each_steps _ _ _ c.args.size _ c.args.key c.in-Some-next.next c.loop-index.room c.loop-index.here c.in-Some-2.link c.in_ok-link.field-0 c.loop-index.invariant.after c.in_ok-link.ensures.after c.loop-index.invariant.walked (sym c.find.ensures ∙ c.in_default-find.is) c.in-Some-next.is link.at c.in-Some-2.is c.in_ok-link.ensures.read);
     }
 

@@ -21,4 +21,4 @@ invariant-loop-index g l = record {
 
 -- positions rise, and lie below the size
 abbrev pub decreases-loop-index : goal.decreases-loop-index
-decreases-loop-index g l = l.size - l.here.node.position
+decreases-loop-index g l = l.size - l.here.position

@@ -1,8 +1,7 @@
-use Rattle.std.proofs.Common.{rules}
+use Rattle.std.proofs.Common.{arith}
 use Rattle.stored_tables.proofs.Finding.{stands_on}
-use Rattle.stored_tables.proofs.Once.{command_runs, not_idle}
-use Rattle.stored_tables.proofs.ReadingCommands.{reads_by, read_does}
-use Rattle.stored_tables.proofs.Runs.{looks_runs}
+use Rattle.stored_tables.proofs.ReadingCommands.{not_idle, reads_by, read_does}
+use Rattle.stored_tables.proofs.Runs.{looks_runs, runs_did}
 use Rattle.stored_tables.proofs.command.run_command.Goals as goal
 
 pub returns-in-Get-clause-runs : goal.returns-in-Get-clause-runs
@@ -13,12 +12,13 @@ returns-in-Get-clause-runs g c =
     (stands_on (g.S.RecordRead.meaning c.args.store.now) (g.S.RecordRead.meaning c.read_command.new.store) state held
     c.read_command.ensures.looks.only stands) answers)
 
--- the store below is the one that is left
-pub returns-in_default : goal.returns-in_default
-returns-in_default g c = record {
-  runs = command_runs g.S.RecordRead.meaning c.args.command.now c.args.store.now c.new-once.result.store.now
-      c.change_once-ran.new.once.store.now _ c.change_once-ran.result c.new-once.ensures.same (search rules) c.change_once-ran.ensures.runs;
-  idle = λ idle. absurd (not_idle c.args.command.now c.in_default.not-Scan idle);
-  answered = λ idle. absurd (not_idle c.args.command.now c.in_default.not-Scan idle);
-  rest = search rules;
-}
+pub returns-in_default-clause-runs : goal.returns-in_default-clause-runs
+returns-in_default-clause-runs g c =
+    runs_did _ 105 128 c.args.store.now c.change_command.new.store c.change_command.result (omega arith) c.change_command.ensures.runs
+    (λ value asked state held stands did. did)
+
+pub returns-in_default-clause-idle : goal.returns-in_default-clause-idle
+returns-in_default-clause-idle g c = λ idle. absurd (not_idle c.args.command.now c.in_default.not-Scan idle)
+
+pub returns-in_default-clause-answered : goal.returns-in_default-clause-answered
+returns-in_default-clause-answered g c = λ idle. absurd (not_idle c.args.command.now c.in_default.not-Scan idle)

@@ -1,0 +1,70 @@
+-- THE CONTRACT OF A RUN: what is answered, what was read and what was written, between two states of a source and a sink.
+use Rattle.std.specs.Prelude.{◌≡◌, ◌⊎◌, ◌↔◌, ℕ, List, length, Option, IsSome, IfSome, All}
+use Rattle.outside_io.specs.Faults.{HasRisen}
+use Rattle.replay_model.specs.declared.input.Input.{Input}
+use Rattle.replay_model.specs.TableMap.{TableMap}
+use Rattle.input_runner.specs.Ran.{IsSeenIn}
+use Rattle.cicada_top.specs.declared.finish.Finish.{Finish}
+use Rattle.cicada_top.specs.declared.finish.Status.{Status}
+use Rattle.cicada_top.specs.declared.finish.Status.TheVariants.{Done, Usage, ReadFault, WriteFault, NoMemory, Differs}
+use Rattle.cicada_top.specs.declared.mode.Mode.{Mode}
+use Rattle.cicada_top.specs.Words.{AreAccepted, AreRefused, mode_of}
+use Rattle.cicada_top.specs.Ending.{RunsBlocks, ChecksReport, IsInputFor, IsLawfulEnd, IsHistoryOf}
+use Rattle.cicada_top.specs.Received.{HoldsFor, ReadsAtMostFor}
+use Rattle.cicada_top.specs.Due.{Causes, IsJudged}
+use Rattle.cicada_top.specs.Delivery.{EndsAs}
+
+-- What contracts see of a source and a sink: which bytes the one has left and the other has taken, where they tell them, and how often
+-- each has failed.
+pub record Streams : Type 0 where
+  pub left : Option (List ℕ)
+  pub taken : Option (List ℕ)
+  pub read_faults : ℕ
+  pub write_faults : ℕ
+
+abbrev pub streams : (left taken : Option (List ℕ)) → (read_faults write_faults : ℕ) → Streams
+streams left taken read_faults write_faults = record { left = left; taken = taken; read_faults = read_faults; write_faults = write_faults }
+
+-- where neither of them fails, what the source holds decides the status, want of memory aside
+abbrev pub IsDecided : Mode → Status → (before after : Streams) → Type 0
+IsDecided mode status before after =
+    ¬ HasRisen before.read_faults after.read_faults
+    → ¬ HasRisen before.write_faults after.write_faults
+    → (bytes : List ℕ) → HoldsFor mode before.left bytes
+    → (cause : Status) → Causes mode bytes cause
+    → (status ≡ cause) ⊎ (status ≡ NoMemory)
+
+-- What comes of a run that is asked for so.
+pub record RunsAs (mode : Mode) (finish : Finish) (before after : Streams) : Type 0 where
+  -- the table of statuses; at `Done`, where blocks are run, it is the report theorem
+  pub ends : EndsAs finish.status mode finish.order.items finish.fault before.left after.left before.taken after.taken
+  -- the causes of faults
+  pub read_cause : finish.status ≡ ReadFault → HasRisen before.read_faults after.read_faults
+  pub write_cause : finish.status ≡ WriteFault → HasRisen before.write_faults after.write_faults
+  -- The seat that is alone at the end is there exactly where blocks were run and all was written. The log of all transactions is a lawful
+  -- history, and over a source that tells its bytes it is that of the input: an entry for each block of the order, and at each of them
+  -- the tables of the replay.
+  pub end : IsSome finish.end ↔ ((finish.status ≡ Done) × RunsBlocks mode)
+  pub lawful : IfSome finish.end (λ end. IsLawfulEnd end.pass)
+  pub history : (bytes : List ℕ) → HoldsFor mode before.left bytes
+      → IfSome finish.end (λ end. (input : Input) → IsInputFor mode bytes input → IsHistoryOf input finish.order.items end.pass)
+  -- the verdict on a report is there exactly where it was written whole
+  pub told : IsSome finish.verdict ↔ (((finish.status ≡ Done) ⊎ (finish.status ≡ Differs)) × ChecksReport mode)
+  pub judged : (bytes : List ℕ) → HoldsFor mode before.left bytes → IfSome finish.verdict (λ verdict. (input : Input) × IsJudged bytes input verdict)
+  -- at every outcome, at most one byte more than a text may have was read
+  pub reads : ReadsAtMostFor mode before.left after.left
+
+-- What comes of a run that words ask for: where they are refused, that is said; where they are accepted, what the source holds decides.
+pub record RunsBy (words : List (List ℕ)) (finish : Finish) (before after : Streams) : Type 0 where
+  pub asked : RunsAs (mode_of words) finish before after
+  pub usage : finish.status ≡ Usage → AreRefused words
+  pub refused : AreRefused words → (finish.status ≡ Usage) ⊎ (finish.status ≡ NoMemory)
+  pub usage_text : IsSome finish.usage ↔ (finish.status ≡ Usage)
+  pub complete : AreAccepted words → IsDecided (mode_of words) finish.status before after
+
+-- Where blocks were run and all was written, all rows were read so often beside the lanes, and what was read at a stamp are the rows that
+-- the transaction blocks of the order up to it leave.
+pub record Sees (mode : Mode) (finish : Finish) (left : Option (List ℕ)) (due : ℕ) (seen : List (ℕ × TableMap)) : Type 0 where
+  pub count : IfSome finish.end (λ _. length seen ≡ due)
+  pub each : (bytes : List ℕ) → HoldsFor mode left bytes
+      → IfSome finish.end (λ _. (input : Input) → IsInputFor mode bytes input → All (IsSeenIn input finish.order.items) seen)

@@ -1,0 +1,110 @@
+//! The sessions of a pass, as they run.
+
+ghost use Rattle.std.specs.Prelude.{◌≡◌, ◌≢◌, ◌<◌, ◌≤◌, true, false, All, IfOk, IfSome, IfNone, OnOk, map};
+ghost use Rattle.lane_runner.specs.Session.{done_of};
+ghost use Rattle.lane_runner.specs.Lanes.{AddsSome};
+ghost use Rattle.lane_futures.specs.Lanes.{AreOver, HasOne, HasRoomLeft, IsInTurn, TakesTurn, MakesTurn, Leads, all_tries_left};
+
+use crate::seat::Seat;
+use lane_runner::{LaneDone, Session};
+use outside_io::{Meets, Reads};
+use replay_model::NoMemory;
+use std::marker::Model;
+use stored_tables::RowsLawful;
+use txn_engine::Engine;
+
+/// Sessions on one pass, and with what they run.
+#[derive(Drop)]
+pub(crate) struct Running<'a, C, G> {
+    pub(crate) engine: &'a Engine<RowsLawful>,
+    pub(crate) seat: Seat<C>,
+    pub(crate) sessions: Vec<Session>,
+    /// Room for what the sessions come to.
+    pub(crate) done: Vec<LaneDone>,
+    pub(crate) gate: &'a G,
+    /// The place behind that of the session that was tried last.
+    pub(crate) next: usize,
+}
+
+impl<'a, C, G> Model for Running<'a, C, G> {
+    ghost use Rattle.std.specs.Prelude.{◌≡◌, ◌≤◌, [], length};
+    ghost use Rattle.std.specs.Vec.{vec_capacity};
+    ghost use Rattle.txn_engine.specs.Pass.{IsIdle, engine_of};
+    ghost use Rattle.lane_futures.specs.Lanes.{LanesView};
+
+    ghost Value = { LanesView };
+
+    ghost view = { λ r. record { pass = r.seat.pass; sessions = r.sessions.items; next = r.next } };
+
+    ghost invariant = { λ r. (engine_of r.seat.pass ≡ r.engine.now) × IsIdle r.seat.pass × (4112 ≤ r.seat.pass.fixed) × (r.next ≤ length r.sessions.items) × (r.done.items ≡ []) × (length r.sessions.items ≤ vec_capacity r.done) };
+}
+
+impl<'a, C: Reads + Drop, G: Meets> Running<'a, C, G> {
+    /// The place of the session whose turn it is.
+    fn in_turn(&self) -> Option<usize>
+        ensures some { IfSome result (IsInTurn self.now.next self.now.sessions) }
+        ensures none { IfNone result (AreOver self.now) }
+    {
+        for place in self.next..self.sessions.len() {
+            if self.sessions[place].has_next() {
+                return Some(place);
+            }
+        }
+        for place in 0..self.next {
+            if self.sessions[place].has_next() {
+                return Some(place);
+            }
+        }
+        None
+    }
+
+    /// One try, of the session at this place, whose turn it is.
+    fn attempt_at(&mut self, place: usize) -> Result<(), NoMemory>
+        requires in_turn { IsInTurn self.old.next self.old.sessions place }
+        requires room { HasRoomLeft self.old }
+        ensures takes { OnOk result (TakesTurn self.old self.new) }
+        ensures adds { AddsSome self.old.pass self.new.pass }
+    {
+        self.sessions[place].attempt(
+            self.engine,
+            &mut self.seat.pass,
+            &mut self.seat.clock,
+            self.gate,
+            &mut self.seat.commits,
+        )?;
+        self.next = place + 1;
+        Ok(())
+    }
+
+    /// One try, of the session whose turn it is. Says whether a session then has a block to try.
+    pub(crate) fn turn(&mut self) -> Result<bool, NoMemory>
+        requires { HasRoomLeft self.old }
+        ensures turns { OnOk result (MakesTurn self.old self.new) }
+        ensures leads { OnOk result (Leads self.old self.new) }
+        ensures adds { AddsSome self.old.pass self.new.pass }
+        ensures more { IfOk result (λ more. more ≡ true → HasOne self.new.sessions) }
+        ensures over { IfOk result (λ more. more ≡ false → AreOver self.new) }
+        ensures fewer { IfOk result (λ more. more ≡ true → all_tries_left self.new.sessions < all_tries_left self.old.sessions) }
+    {
+        let _ = &self.engine;
+        let Some(place) = self.in_turn() else {
+            return Ok(false);
+        };
+        self.attempt_at(place)?;
+        Ok(self.in_turn().is_some())
+    }
+
+    /// What it ran with, and what each session has come to. It takes no memory.
+    pub(crate) fn finish(self) -> (Seat<C>, Vec<LaneDone>)
+        ensures pass { result.0.pass ≡ self.entry.pass }
+        ensures done { result.1.items ≡ map done_of self.entry.sessions }
+    {
+        let mut done = self.done;
+        for session in self.sessions {
+            let Ok(()) = done.push(session.finish()) else {
+                unreachable!()
+            };
+        }
+        (self.seat, done)
+    }
+}

@@ -1,0 +1,12 @@
+//! What a worker goes on with from group to group.
+
+use stored_tables::RowsLawful;
+use txn_engine::Pass;
+
+/// A pass, its clock, and how often it has committed.
+#[derive(Drop)]
+pub(crate) struct Seat<C> {
+    pub(crate) pass: Pass<RowsLawful>,
+    pub(crate) clock: C,
+    pub(crate) commits: u32,
+}

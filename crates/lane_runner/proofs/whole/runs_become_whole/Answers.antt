@@ -1,5 +1,0 @@
-use Rattle.lane_runner.proofs.Becoming.{runs_become_whole}
-use Rattle.lane_runner.proofs.whole.runs_become_whole.Goals as goal
-
-pub returns : goal.returns
-returns c = runs_become_whole

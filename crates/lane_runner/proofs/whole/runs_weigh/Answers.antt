@@ -1,5 +1,0 @@
-use Rattle.lane_runner.proofs.Weighing.{runs_weigh}
-use Rattle.lane_runner.proofs.whole.runs_weigh.Goals as goal
-
-pub returns : goal.returns
-returns c = runs_weigh c.adds_after.ensures

@@ -1,0 +1,7 @@
+pub mod Merges
+pub mod Seen
+pub mod All
+pub mod Workers
+pub mod Gathers
+pub mod Shares
+pub mod Whole

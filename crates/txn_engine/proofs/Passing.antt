@@ -1,9 +1,7 @@
 -- The numbers of a spare list that were passed.
-use Rattle.std.proofs.Common.{◌≡◌, ℕ, ◌+◌, zero, suc, List, [], ◌∷◌, ◌++◌, Option, None, Some, refl, sym, ap, subst, ◌∙◌, inl, inr, arith, take, drop, remove, append_assoc}
+use Rattle.std.proofs.Common.{◌≡◌, ℕ, ◌+◌, zero, suc, List, [], ◌∷◌, ◌++◌, None, Some, refl, sym, ap, subst, ◌∙◌, inl, inr, arith, take, drop, remove, append_assoc, append-nil}
 use Rattle.std.specs.Prelude.{IsSome, slice_get}
-use Rattle.std.proofs.Math.Seq.{drop-nil}
 use Rattle.record_store.specs.Meaning.{value_at}
-use Rattle.seat_post.specs.Seats.{Observed}
 use Rattle.txn_engine.specs.Pass.{PassView, observing}
 use Rattle.txn_engine.specs.Fresh.{IsMetAbsent, IsMetPresent, PassesOver, none_yet, one_stays, one_leaves, GivesFirst, PassesAll, Asks}
 use Rattle.txn_engine.specs.declared.fresh.Asked.{Asked}
@@ -11,15 +9,15 @@ use Rattle.txn_engine.specs.declared.fresh.Asked.TheVariants.{Given, Next}
 
 -- ---- lists
 
-drop_at : (xs : List ℕ) (i r : ℕ) → slice_get xs i ≡ Some r → drop i xs ≡ r ∷ drop (i + 1) xs
+drop_at : (xs : List ℕ) (i r : ℕ) → slice_get xs i ≡ Some r → drop i xs ≡ r ∷ drop (suc i) xs
 drop_at [] i r at = cc
 drop_at (x ∷ xs) zero r at = let same : x ≡ r = cc in ap (λ (y : ℕ). y ∷ xs) same
-drop_at (x ∷ xs) (suc i) r at = let behind : suc (i + 1) ≡ suc i + 1 = omega arith in drop_at xs i r at ∙ ap (λ (n : ℕ). r ∷ drop n (x ∷ xs)) behind
+drop_at (x ∷ xs) (suc i) r at = drop_at xs i r at
 
-take_at : (xs : List ℕ) (i r : ℕ) → slice_get xs i ≡ Some r → take (i + 1) xs ≡ take i xs ++ r ∷ []
+take_at : (xs : List ℕ) (i r : ℕ) → slice_get xs i ≡ Some r → take (suc i) xs ≡ take i xs ++ r ∷ []
 take_at [] i r at = cc
 take_at (x ∷ xs) zero r at = let same : x ≡ r = cc in ap (λ (y : ℕ). y ∷ []) same
-take_at (x ∷ xs) (suc i) r at = let behind : suc i + 1 ≡ suc (i + 1) = omega arith in ap (λ (n : ℕ). take n (x ∷ xs)) behind ∙ ap (λ (ys : List ℕ). x ∷ ys) (take_at xs i r at)
+take_at (x ∷ xs) (suc i) r at = ap (λ (ys : List ℕ). x ∷ ys) (take_at xs i r at)
 
 take_removed : (xs : List ℕ) (i : ℕ) → take i (remove xs i) ≡ take i xs
 take_removed [] zero = refl
@@ -27,17 +25,11 @@ take_removed [] (suc i) = refl
 take_removed (x ∷ xs) zero = refl
 take_removed (x ∷ xs) (suc i) = ap (λ (ys : List ℕ). x ∷ ys) (take_removed xs i)
 
-drop_removed : (xs : List ℕ) (i : ℕ) → drop i (remove xs i) ≡ drop (i + 1) xs
+drop_removed : (xs : List ℕ) (i : ℕ) → drop i (remove xs i) ≡ drop (suc i) xs
 drop_removed [] zero = refl
-drop_removed [] (suc i) = sym (drop-nil (suc i + 1))
+drop_removed [] (suc i) = refl
 drop_removed (x ∷ xs) zero = refl
-drop_removed (x ∷ xs) (suc i) = let behind : suc (i + 1) ≡ suc i + 1 = omega arith in drop_removed xs i ∙ ap (λ (n : ℕ). drop n (x ∷ xs)) behind
-
-whole_removed : (xs : List ℕ) (i : ℕ) → remove xs i ≡ take i xs ++ drop (i + 1) xs
-whole_removed [] zero = refl
-whole_removed [] (suc i) = sym (drop-nil (suc i + 1))
-whole_removed (x ∷ xs) zero = refl
-whole_removed (x ∷ xs) (suc i) = let behind : suc (i + 1) ≡ suc i + 1 = omega arith in ap (λ (ys : List ℕ). x ∷ ys) (whole_removed xs i) ∙ ap (λ (n : ℕ). x ∷ (take i xs ++ drop n (x ∷ xs))) behind
+drop_removed (x ∷ xs) (suc i) = drop_removed xs i
 
 take_all : (xs : List ℕ) (i : ℕ) → slice_get xs i ≡ None → take i xs ≡ xs
 take_all [] zero none = refl
@@ -51,10 +43,6 @@ drop_all [] (suc i) none = refl
 drop_all (x ∷ xs) zero none = cc
 drop_all (x ∷ xs) (suc i) none = drop_all xs i none
 
-append_none : (xs : List ℕ) → xs ++ [] ≡ xs
-append_none [] = refl
-append_none (x ∷ xs) = ap (λ (ys : List ℕ). x ∷ ys) (append_none xs)
-
 -- ---- passing them
 
 -- numbers were passed, of which so many stand at the head of the list that is left
@@ -66,10 +54,10 @@ pub record HasPassed (i : ℕ) (before after' : PassView) : Type 0 where
 pub none_passed : (p : PassView) → HasPassed 0 p p
 none_passed p = record { numbers = []; over = none_yet p.observed; list = refl }
 
-passed_one : (numbers xs : List ℕ) (i rid : ℕ) → slice_get xs i ≡ Some rid → numbers ++ drop i xs ≡ (numbers ++ rid ∷ []) ++ drop (i + 1) xs
-passed_one numbers xs i rid at = ap (λ (ys : List ℕ). numbers ++ ys) (drop_at xs i rid at) ∙ sym (append_assoc numbers (rid ∷ []) (drop (i + 1) xs))
+passed_one : (numbers xs : List ℕ) (i rid : ℕ) → slice_get xs i ≡ Some rid → numbers ++ drop i xs ≡ (numbers ++ rid ∷ []) ++ drop (suc i) xs
+passed_one numbers xs i rid at = ap (λ (ys : List ℕ). numbers ++ ys) (drop_at xs i rid at) ∙ sym (append_assoc numbers (rid ∷ []) (drop (suc i) xs))
 
-pub stays_passed : (p q : PassView) (i rid : ℕ) → HasPassed i p q → slice_get q.spare i ≡ Some rid → IsSome (value_at p.writes rid) → HasPassed (i + 1) p q
+pub stays_passed : (p q : PassView) (i rid : ℕ) → HasPassed i p q → slice_get q.spare i ≡ Some rid → IsSome (value_at p.writes rid) → HasPassed (suc i) p q
 stays_passed p q i rid h at written = record {
   numbers = h.numbers ++ rid ∷ [];
   over = subst (λ (xs : List ℕ). PassesOver p (h.numbers ++ rid ∷ []) xs p.observed q.observed) (sym (take_at q.spare i rid at)) (one_stays h.numbers (take i q.spare) rid p.observed q.observed h.over written);
@@ -87,25 +75,25 @@ pub gives_first : (p q r : PassView) (i rid : ℕ) → HasPassed i p q → slice
 gives_first p q r i rid h at less given absent = record {
   numbers = h.numbers;
   stayed = take i q.spare;
-  rest = drop (i + 1) q.spare;
+  rest = drop (suc i) q.spare;
   list = h.list ∙ ap (λ (ys : List ℕ). h.numbers ++ ys) (drop_at q.spare i rid at);
   between = q.observed;
   over = h.over;
   absent = absent;
-  left = less ∙ whole_removed q.spare i;
+  left = less;
   given = given;
 }
 
 pub all_passed : (p q : PassView) (i : ℕ) → HasPassed i p q → slice_get q.spare i ≡ None → PassesAll p q
 all_passed p q i h none =
-    let whole : h.numbers ≡ p.spare = sym (append_none h.numbers) ∙ ap (λ (ys : List ℕ). h.numbers ++ ys) (sym (drop_all q.spare i none)) ∙ sym h.list in
+    let whole : h.numbers ≡ p.spare = sym (append-nil h.numbers) ∙ ap (λ (ys : List ℕ). h.numbers ++ ys) (sym (drop_all q.spare i none)) ∙ sym h.list in
     subst (λ (xs : List ℕ). PassesOver p xs q.spare p.observed q.observed) whole (subst (λ (ys : List ℕ). PassesOver p h.numbers ys p.observed q.observed) (take_all q.spare i none) h.over)
 
 -- ---- asking
 
 pub asks_passed : (p q r : PassView) (i rid next : ℕ) (told : Asked) → q ≡ observing (record p { spare = q.spare }) q.observed → HasPassed i p q → slice_get q.spare i ≡ Some rid → told ≡ Next next → Asks i rid q r told → HasPassed next p r
 asks_passed p q r i rid next told same h at is asks = elim (subst (λ (a : Asked). Asks i rid q r a) is asks) as (λ _. HasPassed next p r) [
-  | inl s ↦ subst (λ (n : ℕ). HasPassed n p r) (sym s.2) (subst (λ (x : PassView). HasPassed (i + 1) p x) (sym s.0) (stays_passed p q i rid h at (subst (λ (x : PassView). IsSome (value_at x.writes rid)) same s.1)))
+  | inl s ↦ (let at_next : suc i ≡ next = let is_next = s.2 in omega arith in subst (λ (n : ℕ). HasPassed n p r) at_next (subst (λ (x : PassView). HasPassed (suc i) p x) (sym s.0) (stays_passed p q i rid h at (subst (λ (x : PassView). IsSome (value_at x.writes rid)) same s.1))))
   | inr s ↦ subst (λ (n : ℕ). HasPassed n p r) (sym s.1) (leaves_passed p q r i rid h at (ap (λ (x : PassView). x.spare) s.0) (subst (λ (x : PassView). IsMetPresent x rid q.observed r.observed) same s.2))
 ]
 

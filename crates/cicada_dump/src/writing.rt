@@ -1,0 +1,41 @@
+//! Writing dumps behind a report.
+
+ghost use Rattle.std.specs.Prelude.{◌≡◌, ◌^◌, ◌<◌, ◌≤◌, ℕ, List, ◌++◌, All, length, map, IfErr, OnOk};
+ghost use Rattle.std.specs.Io.KnownBytes.{append_known};
+ghost use Rattle.outside_io.specs.Faults.{HasRisen, count_end};
+ghost use Rattle.replay_model.specs.Input.{IsColumn};
+ghost use Rattle.snap_dump.specs.Dumps.{seen_in};
+ghost use Rattle.cicada_dump.specs.Texts.{readings_text};
+
+use crate::texts::text_of_dump;
+use cicada_top::write_all;
+use outside_io::{Sink, SinkFault};
+use replay_model::Names;
+use snap_dump::Dump;
+use std::alloc::Global;
+
+/// Writes dumps one behind the other. Where that fails, a part of their text was written.
+pub(crate) fn write_dumps<K: Sink>(
+    alloc: Global,
+    sink: &mut K,
+    declared: &Names,
+    dumps: &[Dump],
+) -> Result<(), SinkFault>
+    requires columns { All (λ table. IsColumn table.1) declared.now }
+    requires few { length declared.now < 2 ^ 32 }
+    ensures all { OnOk result (K.taken sink.new ≡ append_known (K.taken sink.old) (readings_text declared.now (seen_in dumps.now))) }
+    ensures part { IfErr result (λ _. (sent : List ℕ) × (rest : List ℕ) × (readings_text declared.now (seen_in dumps.now) ≡ sent ++ rest) × (0 < length rest) × (K.taken sink.new ≡ append_known (K.taken sink.old) sent)) }
+    ensures never_falls { K.faults sink.old ≤ K.faults sink.new }
+    ensures stays_ended { K.faults sink.old ≡ count_end → K.faults sink.new ≡ count_end }
+    ensures failed { IfErr result (λ fault. fault ≡ SinkFault.Failed → HasRisen (K.faults sink.old) (K.faults sink.new)) }
+{
+    for dump in dumps {
+        let Ok(text) = text_of_dump(alloc, declared, dump) else {
+            return Err(SinkFault::NoMemory);
+        };
+        if let Err(stop) = write_all(sink, &text) {
+            return Err(stop.fault);
+        }
+    }
+    Ok(())
+}

@@ -80,7 +80,7 @@ module _ (p t s q : PassView) (clock : ℕ) (ticks : t ≡ ticked p clock) (begi
       )
 
   -- what holds of each state that agrees with what it read and stands for tables
-  pub each_state : (P : TableMap → Type 0) → EachTables (meaning_of_glance s) (meaning_of_glance q) (λ _ _ tables. P tables)
+  each_state : (P : TableMap → Type 0) → EachTables (meaning_of_glance s) (meaning_of_glance q) (λ _ _ tables. P tables)
       → (state : State) (places : Places) (tables : TableMap) → Agrees state has_seen.0.reads → StandsFor p.engine.size.records state places tables → P tables
   each_state P each state places tables agrees holds =
       let after : meaning_of_glance q ≡ sees p has_seen.0.reads = ap meaning_of_glance has_seen.1.same in
@@ -112,7 +112,7 @@ module _ (p t s q : PassView) (clock : ℕ) (ticks : t ≡ ticked p clock) (begi
     ends : f ≡ finished (with_glance (looking (ticked p clock) has_seen.0.stamp) (Some has_seen.0)) has_seen.0
     ends = same ∙ subst (λ (x : PassView). IfSome x.glance (λ g. r ≡ finished x g)) has_seen.1.same after
 
-    pub at_clock : f.clock ≡ clock
+    at_clock : f.clock ≡ clock
     at_clock = ap (λ (x : PassView). x.clock) ends
 
     pub Adds-finished : Adds p f (entry_of_glance has_seen.0 ∷ [])

@@ -1,3 +1,4 @@
 pub mod Tagged
 pub mod Dumped
 pub mod Made
+pub mod Placed

@@ -10,8 +10,11 @@ use Rattle.std.proofs.lemmas.Bool.Decides.{nat_tests}
 use Rattle.std.proofs.lemmas.Cmp.{tied_itself}
 use Rattle.std.proofs.lemmas.List.{append_assoc, append-nil, take_more}
 use Rattle.replay_model.specs.TableMap.{TableMap, Row, RowMap, entry_of, pair_at, pair_cmp, pairs_of, value_at}
-use Rattle.replay_model.proofs.RowMap.{Entries, pair_cmp_total, pair_cmp-IsAntisymmetric}
+use Rattle.stored_tables.proofs.Maps.{pair_cmp_total, pair_cmp-IsAntisymmetric}
 use Rattle.snap_dump.specs.Tagged.{StandInOrder, TableRows, all_rows, map_of, row_of, tag, tagged}
+
+abbrev pub Entries : Type 0
+Entries = List ((ℕ × ℕ) × Row)
 
 -- ---- one list more
 

@@ -4,7 +4,9 @@
 mod at_alone;
 mod at_pass;
 mod dump;
+mod dumping;
 mod lanes;
 
 pub use at_pass::dump_at_pass;
 pub use dump::Dump;
+pub use dumping::Dumping;

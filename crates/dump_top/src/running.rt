@@ -1,21 +1,24 @@
 //! The top call.
 
-ghost use Rattle.std.specs.Prelude.{◌≡◌, ◌⊎◌, ℕ, ◌↔◌, ◌≤◌, List, [], None, IsSome, IfSome, map, string_bytes, length};
+ghost use Rattle.std.specs.Prelude.{◌≡◌, ◌⊎◌, ℕ, ◌↔◌, ◌<◌, ◌≤◌, ◌^◌, List, IsSome, IfSome, All, map, string_bytes, length};
 ghost use Rattle.replay_model.specs.declared.input.Input.{Input as InputValue};
-ghost use Rattle.outside_io.specs.Faults.{HasRisen};
+ghost use Rattle.outside_io.specs.Faults.{HasRisen, count_end};
+ghost use Rattle.replay_model.specs.Input.{IsColumn};
+ghost use Rattle.snap_dump.specs.Dumps.{seen_in};
 ghost use Rattle.cicada_top.specs.declared.finish.Status.{Status as StatusValue};
 ghost use Rattle.cicada_top.specs.Words.{AreAccepted, mode_of};
 ghost use Rattle.cicada_top.specs.Ending.{IsInputFor, IsLawfulEnd, IsHistoryOf};
 ghost use Rattle.cicada_top.specs.Received.{most_input, ReadsAtMost};
 ghost use Rattle.cicada_top.specs.Due.{Causes};
-ghost use Rattle.cicada_dump.specs.Words.{AreRefusedHere, AreTaken, AsksFor};
-ghost use Rattle.cicada_dump.specs.Endings.{EndsWithDumps};
+ghost use Rattle.dump_top.specs.Words.{AreRefusedHere, AreTaken, AsksFor};
+ghost use Rattle.dump_top.specs.Endings.{DeliversDumps, EndsWithDumps};
+ghost use Rattle.dump_top.specs.Texts.{readings_text};
 
 use crate::words::{behind_first, read_dump_words};
 use crate::writing::write_dumps;
 use cicada_top::{Finish, Refusal, Status, run_with};
 use outside_io::{Clock, Gate, Sink, SinkFault, Source};
-use snap_dump::Dumping;
+use snap_dump::{Dump, Dumping};
 use std::alloc::Global;
 use std::sync::Wait;
 use std::thread::Threads;
@@ -80,5 +83,71 @@ pub fn run_dumps<R: Threads + Wait + Sync, S: Source, K: Sink, C: Clock, G: Gate
             ..Finish::bare(alloc, Status::Usage)
         },
         Err(Refusal::NoMemory) => Finish::bare(alloc, Status::NoMemory),
+    }
+}
+
+/// Runs with so many dumps, where the words of the run are accepted and ask to run what the source holds.
+fn run_asked<R: Threads + Wait + Sync, S: Source, K: Sink, C: Clock, G: Gate>(
+    rt: &R,
+    alloc: Global,
+    dumps: u32,
+    others: &[String],
+    source: &mut S,
+    sink: &mut K,
+    clocks: Vec<C>,
+    gate: &G,
+) -> Finish
+    requires few { dumps ≤ 64 }
+    requires accepted { AreAccepted (map string_bytes others.now) }
+    requires runs { mode_of (map string_bytes others.now) ≡ Mode.Run }
+    requires clocks { length clocks.items ≡ 64 }
+    ensures ends { (given : List (List ℕ)) → AsksFor given dumps → EndsWithDumps result.status given result.order.items result.fault
+        (S.left source.old) (S.left source.new) (K.taken sink.old) (K.taken sink.new) }
+    ensures no_usage { result.status ≡ Status.Usage → ⊥ }
+    ensures usage_text { IsSome result.usage ↔ (result.status ≡ Status.Usage) }
+    ensures read_cause { result.status ≡ Status.ReadFault → HasRisen (S.faults source.old) (S.faults source.new) }
+    ensures write_cause { result.status ≡ Status.WriteFault → HasRisen (K.faults sink.old) (K.faults sink.new) }
+    ensures complete { ¬ HasRisen (S.faults source.old) (S.faults source.new)
+        → ¬ HasRisen (K.faults sink.old) (K.faults sink.new)
+        → (bytes : List ℕ) → S.left source.old ≡ Some bytes
+        → (status : StatusValue) → Causes Mode.Run bytes status
+        → (result.status ≡ status) ⊎ (result.status ≡ Status.NoMemory) }
+    ensures end { IsSome result.end ↔ (result.status ≡ Status.Done) }
+    ensures lawful { IfSome result.end (λ end. IsLawfulEnd end.pass) }
+    ensures history { (bytes : List ℕ) → S.left source.old ≡ Some bytes
+        → IfSome result.end (λ end. (input : InputValue) → IsInputFor Mode.Run bytes input
+        → IsHistoryOf input result.order.items end.pass) }
+    ensures reads { ReadsAtMost most_input (S.left source.old) (S.left source.new) }
+{
+    let Ok(mut dumping) = Dumping::new(alloc, dumps) else {
+        return Finish::bare(alloc, Status::NoMemory);
+    };
+    let finish = run_with(rt, alloc, others, source, sink, clocks, gate, &mut dumping);
+    if finish.status != Status::Done {
+        return finish;
+    }
+    deliver_dumps(alloc, finish, dumping.dumps(), sink)
+}
+
+/// Writes dumps behind the report of a run that is done, and says how that ended.
+fn deliver_dumps<K: Sink>(alloc: Global, finish: Finish, dumps: &[Dump], sink: &mut K) -> Finish
+    requires done { finish.status ≡ Status.Done }
+    requires columns { All (λ table. IsColumn table.1) finish.tables }
+    requires few { length finish.tables < 2 ^ 32 }
+    ensures delivers { DeliversDumps finish result (readings_text finish.tables (seen_in dumps.now)) (K.taken sink.old) (K.taken sink.new) }
+    ensures failed { result.status ≡ Status.WriteFault → HasRisen (K.faults sink.old) (K.faults sink.new) }
+    ensures never_falls { K.faults sink.old ≤ K.faults sink.new }
+    ensures stays_ended { K.faults sink.old ≡ count_end → K.faults sink.new ≡ count_end }
+{
+    match write_dumps(alloc, sink, &finish.tables, dumps) {
+        Ok(()) => finish,
+        Err(SinkFault::Failed) => Finish {
+            order: finish.order,
+            ..Finish::bare(alloc, Status::WriteFault)
+        },
+        Err(SinkFault::NoMemory) => Finish {
+            order: finish.order,
+            ..Finish::bare(alloc, Status::NoMemory)
+        },
     }
 }

@@ -2,7 +2,7 @@
 
 ghost use Rattle.std.specs.Prelude.{◌≡◌, ℕ, ◌≤◌, true, false, [], map, drop, decimal, string_bytes, All, Any, IfOk, IfErr, IfSome, IfNone};
 ghost use Rattle.std.specs.Str.{bytes_eq};
-ghost use Rattle.cicada_dump.specs.Words.{AreTaken, AsksFor, IsBarred, IsOption, NoneBelow, RefusesHere};
+ghost use Rattle.dump_top.specs.Words.{AreTaken, AsksFor, IsBarred, IsOption, NoneBelow, RefusesHere};
 
 use cicada_top::{Mode, Refusal, read_words};
 use itoa::Buffer;

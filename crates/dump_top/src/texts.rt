@@ -4,8 +4,8 @@ ghost use Rattle.std.specs.Prelude.{◌≡◌, ◌^◌, ◌<◌, ◌∷◌, [], 
 ghost use Rattle.replay_model.specs.Input.{IsColumn};
 ghost use Rattle.replay_model.specs.Report.{tables_text};
 ghost use Rattle.snap_dump.specs.Dumps.{seen_of};
-ghost use Rattle.cicada_dump.specs.Rows.{pairs_in};
-ghost use Rattle.cicada_dump.specs.Texts.{dump_text};
+ghost use Rattle.dump_top.specs.Rows.{pairs_in};
+ghost use Rattle.dump_top.specs.Texts.{dump_text};
 
 use itoa::Buffer;
 use replay_model::{Columns, Names, NoMemory, Rows, text_of_table};

@@ -7,14 +7,16 @@ use Rattle.replay_model.specs.Order.{IsOrder}
 use Rattle.replay_model.specs.Report.{report}
 use Rattle.txn_script.specs.declared.fault.InputFault.{InputFault}
 use Rattle.txn_script.specs.Grammar.{IsInput}
+use Rattle.cicada_top.specs.declared.finish.Finish.{Finish}
 use Rattle.cicada_top.specs.declared.finish.Status.{Status}
 use Rattle.cicada_top.specs.declared.finish.Status.TheVariants.{Done, Usage, Input, TooLong, ReadFault, WriteFault, NoMemory, Differs}
 use Rattle.cicada_top.specs.declared.mode.Mode.TheVariants.{Run}
 use Rattle.cicada_top.specs.Received.{most_input, Receives}
 use Rattle.cicada_top.specs.Due.{IsDueAt}
 use Rattle.cicada_top.specs.Delivery.{EndsAs, WritesNothing}
-use Rattle.cicada_dump.specs.Texts.{dumps_text}
-use Rattle.cicada_dump.specs.Words.{Text, AsksFor}
+use Rattle.dump_top.specs.Parts.{IsWrittenInPart}
+use Rattle.dump_top.specs.Texts.{dumps_text}
+use Rattle.dump_top.specs.Words.{Text, AsksFor}
 
 -- THE TEXT: the report of the input in the order, and behind it exactly the asked number of dumps, each of the tables that the transaction
 -- blocks of the order leave whose stamps are not above its own, in that order, over the loaded rows
@@ -66,3 +68,18 @@ EndsWithDumps NoMemory words order fault left left' before after =
     ((sent : List ℕ) × (rest : List ℕ) × WritesPart words order left left' before after sent rest × (0 < length sent) × (fault ≡ None))
     ⊎ WritesNothing order fault before after
 EndsWithDumps Differs words order fault left left' before after = ⊥
+
+-- ---- the dumps behind a report
+
+-- the dumps of a run that is done were written in part, and the order alone is answered beside the status
+pub record StopsInDumps (before after' : Finish) (text : List ℕ) (taken taken' : Option (List ℕ)) : Type 0 where
+  pub status : (after'.status ≡ WriteFault) ⊎ (after'.status ≡ NoMemory)
+  pub order : after'.order.items ≡ before.order.items
+  pub fault : after'.fault ≡ None
+  pub usage : after'.usage ≡ None
+  pub no_end : after'.end ≡ None
+  pub part : IsWrittenInPart text taken taken'
+
+-- they were written whole, and nothing else is changed; or in part
+abbrev pub DeliversDumps : (before after' : Finish) (text : List ℕ) (taken taken' : Option (List ℕ)) → Type 0
+DeliversDumps before after' text taken taken' = ((after' ≡ before) × (taken' ≡ append_known taken text)) ⊎ StopsInDumps before after' text taken taken'

@@ -19,7 +19,7 @@ run_words words = drop 1 words
 
 -- a word is this option: its name, or its name with `=` and a value behind it
 abbrev pub IsOption : Text → Text → Type 0
-IsOption name word = (word ≡ name) ⊎ ((value : Text) × (word ≡ name ++ codes "=" ++ value))
+IsOption name word = (word ≡ name) ⊎ ((value : Text) × (word ≡ name ++ (codes "=" ++ value)))
 
 -- no dump goes with a generated input, nor with a check
 abbrev pub IsBarred : Text → Type 0

@@ -7,6 +7,8 @@ use Rattle.plain_data.specs.declared.entry.Entry.{Entry}
 use Rattle.plain_data.specs.State.{overlay}
 use Rattle.core_rule.specs.Views.{Among}
 use Rattle.core_rule.proofs.Among.{Among-split}
+use Rattle.replay_model.specs.declared.outcome.Outcome.{Outcome}
+use Rattle.replay_model.specs.declared.outcome.Placed.{Placed}
 use Rattle.replay_model.specs.TableMap.{TableMap}
 use Rattle.stamp_base.specs.Stamp.{stamp_of}
 use Rattle.seat_post.specs.Glance.{GlanceView}
@@ -15,14 +17,16 @@ use Rattle.txn_engine.specs.Pass.{PassView, EngineView, IsIdle}
 use Rattle.txn_engine.specs.Snapshot.{finished}
 use Rattle.lane_runner.specs.Adds.{Adds, IsNext}
 use Rattle.lane_runner.specs.Blocks.{AddsOthers}
-use Rattle.lane_runner.specs.Lanes.{AddsSome}
-use Rattle.lane_runner.specs.Lanes.AreEntries.{none}
+use Rattle.lane_queue.specs.declared.lane.Lane.{Lane}
+use Rattle.lane_runner.specs.Done.{DoesLane}
+use Rattle.lane_runner.specs.Lanes.{AddsSome, AreEntries, KeepOrder}
 use Rattle.lane_runner.specs.Room.{HasRoom, clock_after}
 use Rattle.lane_runner.specs.Rows.{stands}
-use Rattle.lane_runner.specs.Session.{SessionView, GoesOn, draws_left, to_try}
+use Rattle.lane_runner.specs.Session.{SessionView, GoesOn, done_of, draws_left, new_session, to_try}
 use Rattle.lane_runner.specs.Weighs.{LeavesTables}
 use Rattle.lane_runner.proofs.Adding.{Adds-none, Adds-trans}
-use Rattle.lane_runner.proofs.Attempted.{Steps, goes_trans, room_for_try}
+use Rattle.lane_runner.proofs.Attempted.{Steps, goes_trans, room_for_try, steps_none}
+use Rattle.lane_runner.proofs.Results.{keep_order}
 use Rattle.lane_runner.proofs.Run.{AreEntries-others}
 use Rattle.snap_dump.specs.declared.dump.Dump.{Dump}
 use Rattle.snap_dump.specs.Dumps.{Dumps, DumpsMade, IsDumpOf, IsReadingOf, KeepsOthers, how_many, seen_of}
@@ -195,12 +199,28 @@ pub room_left : (p q : PassView) (s t : SessionView) (old mid : List Dump) (draw
     → HasRoom p.clock (draws + (due - length old)) → HasRoom q.clock (draws_left t + (due - length mid))
 room_left p q s t old mid draws due so_far few low high room = let to = so_far.clock in omega (arith, to, few, low, high, room)
 
-pub room_to_try : (q : PassView) (t : SessionView) (more : ℕ) → to_try t ≢ [] → HasRoom q.clock (draws_left t + more) → HasRoom q.clock 2
-room_to_try q t more some room = room_for_try q t some (omega (arith, room))
+pub room_to_try : (q : PassView) (t : SessionView) (more : ℕ) → IsIdle q → to_try t ≢ [] → HasRoom q.clock (draws_left t + more) → HasRoom q.clock 2
+room_to_try q t more idle some room = room_for_try q q t t (draws_left t) (steps_none q t idle) some (omega arith) (omega (arith, room))
 
 -- behind a try
 pub room_behind : (q r : PassView) (t u : SessionView) (more : ℕ) → Steps q r t u → HasRoom q.clock (draws_left t + more) → HasRoom r.clock more
 room_behind q r t u more try room = let to = try.clock in omega (arith, to, room)
+
+-- a whole lane
+pub does_lane_dumping : (lane : Lane) (tries : ℕ) (p q : PassView) (s : SessionView) (dumps : ℕ) → StepsDumping p q (new_session lane tries) s dumps → DoesLane lane (done_of s) p q
+does_lane_dumping lane tries p q s dumps steps =
+    let done_is : steps.goes.more ≡ s.results = sym steps.goes.results_are in
+    record {
+      lane_is = steps.goes.lane;
+      runs = record {
+        done = steps.goes.done;
+        blocks_are = steps.goes.left_is;
+        entries = steps.entries;
+        are_entries = subst (λ (xs : List (Placed × Outcome)). AreEntries p.engine.size.records steps.entries steps.goes.done xs) done_is steps.goes.are_entries;
+        adds = steps.adds;
+      };
+      order = subst KeepOrder done_is (keep_order p.engine.size.records steps.entries steps.goes.done steps.goes.more steps.goes.are_entries steps.adds.in_order);
+    }
 
 -- ---- at the seat that is alone
 

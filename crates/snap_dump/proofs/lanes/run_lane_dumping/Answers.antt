@@ -3,9 +3,10 @@ use Rattle.lane_runner.specs.declared.done.LaneDone.{LaneDone}
 use Rattle.lane_runner.specs.Done.{DoesLane}
 use Rattle.lane_runner.specs.Lanes.{lane_draws}
 use Rattle.lane_runner.specs.Room.{HasRoom}
-use Rattle.lane_runner.specs.Session.{SessionView, GoesOn, to_try, draws_left}
-use Rattle.lane_runner.proofs.Attempted.{Steps, steps_none, steps_attempt, tries_attempt, draws_new, does_lane}
-use Rattle.snap_dump.proofs.Made.{StepsDumping, made_more, made_none, made_then, others_some, room_behind, room_left, room_to_try, some_then, steps_alone, steps_more}
+use Rattle.lane_runner.specs.Session.{SessionView, to_try, draws_left}
+use Rattle.lane_runner.proofs.Attempted.{steps_none, steps_attempt, tries_attempt, draws_new}
+use Rattle.snap_dump.specs.Dumps.{how_many}
+use Rattle.snap_dump.proofs.Made.{StepsDumping, does_lane_dumping, made_more, made_none, made_then, others_some, room_behind, room_left, room_to_try, some_then, steps_alone, steps_more}
 use Rattle.snap_dump.proofs.lanes.run_lane_dumping.Goals as goal
 
 pub loop-session-init : goal.loop-session-init
@@ -30,7 +31,7 @@ attempt-requires-clause-room g c =
     let room = room_left c.args.pass.now c.loop-session.pass c.new-session.result c.loop-session.session c.args.made.now.items c.loop-session.made.items (lane_draws c.args.lane.blocks c.args.tries) c.args.due i.steps few
     (made_more c.args.pass.now c.loop-session.pass c.args.made.now.items c.loop-session.made.items i.made) i.within c.requires.room in
     let left = c.args.due - length c.loop-session.made.items in
-    room_to_try c.loop-session.pass c.loop-session.session left (c.has_next.ensures.yes c.loop-session-test.true) room
+    room_to_try c.loop-session.pass c.loop-session.session left i.steps.adds.idle (c.has_next.ensures.yes c.loop-session-test.true) room
 
 pub dump_behind-requires-clause-engine : goal.dump_behind-requires-clause-engine
 dump_behind-requires-clause-engine g c = c.attempt.ensures.adds.1.engine ∙ c.loop-session.invariant.engine
@@ -82,7 +83,7 @@ returns-in_err-dump_behind-clause-adds g c =
 
 pub returns-clause-does : goal.returns-clause-does
 returns-clause-does g c =
-    let steps = c.loop-session.invariant.steps in
+    let dumps = how_many c.args.made.now.items c.loop-session.made.items in
     subst (λ (done : LaneDone). DoesLane c.args.lane done c.args.pass.now c.loop-session.pass) (sym c.finish.ensures)
-    (does_lane c.args.lane c.args.tries c.args.pass.now c.loop-session.pass c.loop-session.session steps.entries steps.adds
-    (subst (λ (s : SessionView). GoesOn c.args.pass.now.engine.size.records steps.entries s c.loop-session.session) c.new-session.ensures steps.goes))
+    (does_lane_dumping c.args.lane c.args.tries c.args.pass.now c.loop-session.pass c.loop-session.session dumps
+    (subst (λ (s : SessionView). StepsDumping c.args.pass.now c.loop-session.pass s c.loop-session.session dumps) c.new-session.ensures c.loop-session.invariant.steps))

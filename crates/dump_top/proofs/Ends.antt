@@ -1,6 +1,6 @@
 -- How a run with dumps ends, by how its run ends and how the dumps are written.
-use Rattle.std.proofs.Common.{◌≡◌, ◌≢◌, ◌⊎◌, ℕ, ◌+◌, ◌<◌, ◌≤◌, List, [], ◌∷◌, ◌++◌, All, length, map, Option, None, Some, append_assoc, append-nil, length-append, inl, inr, refl, sym, ap, subst, ◌∙◌, arith}
-use Rattle.std.specs.Prelude.{IfSome, IsSome}
+use Rattle.std.proofs.Common.{◌≡◌, ◌≢◌, ◌⊎◌, ℕ, ◌+◌, ◌<◌, ◌≤◌, List, [], ◌∷◌, ◌++◌, All, length, map, Option, None, Some, true, false, append_assoc, append-nil, length-append, inl, inr, refl, sym, ap, subst, ◌∙◌, arith}
+use Rattle.std.specs.Prelude.{IfSome, IsSome, codes}
 use Rattle.std.specs.List.{range_with_len}
 use Rattle.std.specs.Io.KnownBytes.{append_known, IsAtEnd}
 use Rattle.std.proofs.lemmas.List.{length-map}
@@ -8,10 +8,12 @@ use Rattle.std.proofs.lemmas.List.FromFn.{length-map-range_with_len}
 use Rattle.replay_model.specs.declared.input.Input.{Input as InputValue}
 use Rattle.replay_model.specs.declared.outcome.Placed.{Placed}
 use Rattle.replay_model.specs.Order.{IsOrder}
-use Rattle.replay_model.specs.Report.{report}
+use Rattle.replay_model.specs.Report.{line, report}
 use Rattle.replay_model.specs.TableMap.{TableMap}
 use Rattle.txn_script.specs.declared.fault.InputFault.{InputFault}
 use Rattle.txn_script.proofs.Unique.{one_input}
+use Rattle.outside_io.specs.Faults.{HasRisen, count_end}
+use Rattle.cicada_top.specs.declared.finish.Finish.{Finish}
 use Rattle.cicada_top.specs.declared.finish.Status.{Status}
 use Rattle.cicada_top.specs.declared.finish.Status.TheVariants.{Done, Usage, Input, TooLong, ReadFault, WriteFault, NoMemory, Differs}
 use Rattle.cicada_top.specs.declared.mode.Mode.TheVariants.{Run}
@@ -21,7 +23,7 @@ use Rattle.cicada_top.specs.Reported.{TellsRun}
 use Rattle.input_runner.specs.Ran.{IsSeenIn}
 use Rattle.snap_dump.specs.declared.dump.Dump.{Dump}
 use Rattle.snap_dump.specs.Dumps.{seen_in}
-use Rattle.dump_top.specs.Endings.{EndsWithDumps, IsDueHere, IsReportWithDumps, WritesDumps, WritesPart}
+use Rattle.dump_top.specs.Endings.{DeliversDumps, EndsWithDumps, IsDueHere, IsReportWithDumps, StopsInDumps, WritesDumps, WritesPart}
 use Rattle.dump_top.specs.Texts.{dumps_text, readings_text}
 use Rattle.dump_top.specs.Words.{AsksFor, Text}
 use Rattle.dump_top.proofs.Readings.{append_known-append, shown, stamps_of}
@@ -130,3 +132,56 @@ module _ (words : List Text) (order : List Placed) (tables : List (List ℕ × �
     is_due = inl (is_report ((tells.due ++ sent) ++ rest) (append_assoc tells.due sent rest ∙ ap (λ text. tells.due ++ text) (sym split ∙ text_is)));
     written = written ∙ ap (λ o. append_known o sent) tells.written ∙ sym (append_known-append before tells.due sent);
   }
+
+-- ---- the dumps of a run that is done
+
+some_of : {X : Type 0} (o : Option X) (P : Type 0) → IsSome o → IfSome o (λ _. P) → P
+some_of None P some told = absurd (let no : false ≡ true = some in cc)
+some_of (Some x) P some told = told
+
+report_some : (input : InputValue) (order : List Placed) (due : List ℕ) → due ≡ report input order → 0 < length due
+report_some input order due is = subst (λ (text : List ℕ). 0 < length text) (sym is) (some _ (line (codes "done")) (omega (arith, length-append (codes "done") (10 ∷ [])))) where
+  some : (a b : List ℕ) → 0 < length b → 0 < length (a ++ b)
+  some a b low = omega (arith, length-append a b, low)
+
+module _ (words : List Text) (dumps : ℕ) (asks : AsksFor words dumps) (finish result : Finish) (made : List Dump) (left left' before mid after : Option (List ℕ))
+    (done : finish.status ≡ Done) (ends : EndsAs finish.status Run finish.order.items finish.fault left left' before mid) (there : IsSome finish.end)
+    (told : IfSome finish.end (λ _. TellsRun Run finish.order.items finish.tables (seen_in made) left left' before mid)) (count : length (seen_in made) ≡ dumps) where
+  tells : TellsRun Run finish.order.items finish.tables (seen_in made) left left' before mid
+  tells = some_of finish.end (TellsRun Run finish.order.items finish.tables (seen_in made) left left' before mid) there told
+
+  whole : EndsAs Done Run finish.order.items finish.fault left left' before mid
+  whole = subst (λ (s : Status). EndsAs s Run finish.order.items finish.fault left left' before mid) done ends
+
+  asked_made : AsksFor words (length (seen_in made))
+  asked_made = subst (AsksFor words) (sym count) asks
+
+  stopped_here : StopsInDumps finish result (readings_text finish.tables (seen_in made)) mid after → EndsWithDumps result.status words result.order.items result.fault left left' before after
+  stopped_here stop =
+      let sent = stop.part.sent in
+      let rest = stop.part.rest in
+      let part : WritesPart words result.order.items left left' before after (tells.due ++ sent) rest =
+      subst (λ (o : List Placed). WritesPart words o left left' before after (tells.due ++ sent) rest) (sym stop.order)
+      (writes_part words finish.order.items finish.tables made left left' before mid after asked_made tells sent rest stop.part.text_is stop.part.written) in
+      let begun : 0 < length (tells.due ++ sent) = (let some = report_some tells.answers.input finish.order.items tells.due tells.answers.reported in omega (arith, length-append tells.due sent, some)) in
+      elim stop.status as (λ _. EndsWithDumps result.status words result.order.items result.fault left left' before after) [
+        | inl failed ↦ subst (λ (s : Status). EndsWithDumps s words result.order.items result.fault left left' before after) (sym failed) (tells.due ++ sent, rest, part, stop.part.unfinished, stop.fault)
+        | inr memory ↦ subst (λ (s : Status). EndsWithDumps s words result.order.items result.fault left left' before after) (sym memory) (inl (tells.due ++ sent, rest, part, begun, stop.fault))
+      ]
+
+  pub ends_delivered : DeliversDumps finish result (readings_text finish.tables (seen_in made)) mid after → EndsWithDumps result.status words result.order.items result.fault left left' before after
+  ends_delivered (inl same) =
+      subst (λ (r : Finish). EndsWithDumps r.status words r.order.items r.fault left left' before after) (sym same.0)
+      (subst (λ (s : Status). EndsWithDumps s words finish.order.items finish.fault left left' before after) (sym done)
+      (writes_whole words finish.order.items finish.tables made left left' before mid after asked_made tells whole.1 same.1, whole.0.writes.is_due.1))
+  ends_delivered (inr stop) = stopped_here stop
+
+-- ---- faults, one part behind the other
+
+pub risen_still : (a b c : ℕ) → b ≤ c → (b ≡ count_end → c ≡ count_end) → HasRisen a b → HasRisen a c
+risen_still a b c later ended (inl more) = inl (omega (arith, later, more))
+risen_still a b c later ended (inr end) = inr (ended end)
+
+pub risen_later : (a b c : ℕ) → a ≤ b → HasRisen b c → HasRisen a c
+risen_later a b c later (inl more) = inl (omega (arith, later, more))
+risen_later a b c later (inr end) = inr end

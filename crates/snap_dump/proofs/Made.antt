@@ -190,9 +190,10 @@ pub steps_more : (p q r v : PassView) (s t u : SessionView) (old mid new : List 
     → StepsDumping p q s t (how_many old mid) → Steps q r t u → AddsOthers r v → v.clock ≤ clock_after r.clock (how_many mid new) → StepsDumping p v s u (how_many old new)
 steps_more p q r v s t u old mid new low high so_far try others clock =
     let sum : how_many old mid + how_many mid new ≡ how_many old new = omega (arith, low, high) in
+    let none_more : 0 + how_many mid new ≡ how_many mid new = omega arith in
     subst (StepsDumping p v s u) sum
     (steps_then p q v s t u (how_many old mid) (how_many mid new) so_far
-    (steps_then q r v t u u 0 (how_many mid new) (steps_alone q r t u try) (steps_dumps r v u (how_many mid new) others clock)))
+    (subst (StepsDumping q v t u) none_more (steps_then q r v t u u 0 (how_many mid new) (steps_alone q r t u try) (steps_dumps r v u (how_many mid new) others clock))))
 
 -- there is room for the draws that are left, and for the dumps that are
 pub room_left : (p q : PassView) (s t : SessionView) (old mid : List Dump) (draws due : ℕ) → StepsDumping p q s t (how_many old mid) → draws_left s ≤ draws → length old ≤ length mid → length mid ≤ due

@@ -51,3 +51,14 @@ returns-in_err-rows-clause-fault c =
     let rest : unread q ≡ unread s = ap (λ (x : GlanceRest). x.of_pass) c.list_tables-told.ensures.rest in
     let seen = has_seen p c.tick.new.self s q (next_clock p c.args.reading) c.in-Ok.ensures.ok c.snapshot-snapshot.ensures.begins rest in
     on_err c.from_residual-in_err-rows.result (entry_of_glance seen.0 ∷ [], Adds-finished p c.tick.new.self s q (next_clock p c.args.reading) c.in-Ok.ensures.ok c.snapshot-snapshot.ensures.begins rest c.finish-stamp.new.self.0 _ c.finish-stamp.ensures.after (search rules) c.requires.idle (omega arith))
+
+pub invariant_of-result : goal.invariant_of-result
+invariant_of-result c =
+    let p = c.args.pass.now in
+    let s = c.snapshot-snapshot.result.pass.now in
+    let q = c.list_tables-told.new.store.pass.now in
+    let rest : unread q ≡ unread s = ap (λ (x : GlanceRest). x.of_pass) c.list_tables-told.ensures.rest in
+    record {
+      in_order = read_in_order p c.tick.new.self s q (next_clock p c.args.reading) c.in-Ok.ensures.ok c.snapshot-snapshot.ensures.begins rest _ c.in_ok-lists.lists.items c.in_ok-rows.rows c.keeps_tables.ensures c.finish-stamp.ensures.stood
+          (rw c.in_ok-lists.ensures at c.list_tables-told.ensures.rows) (c.in_ok-rows.ensures ∙ ap (tagged 0) c.deref.ensures.value);
+    }

@@ -4,7 +4,7 @@ ghost use Rattle.std.specs.Prelude.{None};
 
 use crate::finish::{Finish, Status};
 use outside_io::{Sink, SinkFault, StdSink};
-use std::io::Eprint;
+use std::io::{self, Eprint};
 
 /// Tells the user why words are refused, what is wrong with the line at which an input is refused, and which test the order of a report
 /// failed.
@@ -54,6 +54,15 @@ fn test_sentence(verdict: &[u8; 10]) -> Option<&'static str> {
         b"no order 6" => Some("lanes: the blocks of a lane are out of their order"),
         _ => None,
     }
+}
+
+/// What comes of words that can't be had: one that is not UTF-8 is refused.
+pub fn refuse_words<R: Eprint>(rt: &R, name: &str, error: &io::Error) -> Status {
+    if error.kind() == io::ErrorKind::OutOfMemory {
+        return Status::NoMemory;
+    }
+    let _ = eprintln!(rt; "{name}: the words cannot be read: {error}");
+    Status::Usage
 }
 
 /// Standard output, with the first bytes that it took.

@@ -4,6 +4,7 @@ use crate::calls::{Answer, bytes_of, words_of};
 use crate::due::{hold, same};
 use cicada_top::Status;
 use dump_top::run_dumps;
+use load_gen::generate;
 use outside_io::{CleanSink, CleanSource, CountClock, MemSink, MemSource, OpenGate, Sink, Source};
 use std::alloc::{AllocError, Global};
 use std::process::Abort;
@@ -133,5 +134,46 @@ fn each_write_that_fails_ends_the_run_with_dumps(rt: HostRuntime) -> Result<(), 
         );
         hold(&rt, whole.written.starts_with(&answer.written), written);
     }
+    Ok(())
+}
+
+/// The sum of the values of each dump behind a report, in the order of the dumps.
+fn sums_of(alloc: Global, written: &[u8]) -> Result<Vec<u64>, AllocError> {
+    let mut sums = Vec::new(alloc);
+    let Ok(text) = std::str::from_utf8(written) else {
+        return Ok(sums);
+    };
+    for line in text.lines() {
+        if line.starts_with("dump ") {
+            sums.push(0)?;
+        } else {
+            add_row(&mut sums, line);
+        }
+    }
+    Ok(sums)
+}
+
+/// Adds the value of a row to the last sum, where there is one and the line is a row.
+fn add_row(sums: &mut Vec<u64>, line: &str) {
+    let Some((_, value)) = line.split_once(' ') else {
+        return;
+    };
+    let Ok(value) = value.parse::<u64>() else {
+        return;
+    };
+    if let Some(sum) = sums.last_mut() {
+        *sum = sum.saturating_add(value);
+    }
+}
+
+#[test]
+fn dumps_beside_eight_workers_have_one_sum(rt: HostRuntime) -> Result<(), Fail> {
+    let text = generate(rt.alloc(), 1)?;
+    let mut source = CleanSource::new(text);
+    let mut sink = CleanSink::new(rt.alloc());
+    let answer = run_over(&rt, rt.alloc(), "8|--workers|8", &mut source, &mut sink)?;
+    same(&rt, answer.status, Status::Done, 0);
+    let sums = sums_of(rt.alloc(), sink.taken())?;
+    same(&rt, sums.as_slice(), [64_000_000u64; 8].as_slice(), 1);
     Ok(())
 }

@@ -79,7 +79,7 @@ pub(crate) fn run_lane_dumping<C: Reads, G: Meets>(
     ensures clock { OnOk result (pass.new.clock ≤ clock_after pass.old.clock (lane_draws lane.blocks tries + how_many made.old.items made.new.items)) }
 {
     let mut session = Session::new(alloc, lane, tries);
-    'blocks: while session.has_next() {
+    'attempts: while session.has_next() {
         let turn = session.attempt(engine, pass, clock, gate, commits)?;
         dump_behind(alloc, engine, pass, clock, turn, due, made)?;
     }

@@ -79,11 +79,11 @@ module _ (p t s q : PassView) (clock : ℕ) (ticks : t ≡ ticked p clock) (begi
           reading = record {
             stamp = sym (subst (λ (x : PassView). IfSome x.glance (λ g. dump.stamp ≡ g.stamp)) seen.1.same stamp);
             kind = refl;
-            no_writes = refl;
             rows = λ state tables is_state holds agrees.
                 let here = fits record_limit p.engine.size.records state holds.0 tables is_state holds.1 in
                 let listed = each_table (λ tables. AreRows 8 tables lists) told state holds.0 tables agrees here in
                 sym (map_of-all_rows tables.rows) ∙ ap map_of (sym (rows_listed p.engine.size.records state holds.0 tables lists dump.rows here listed rows));
           };
+          no_writes = refl;
           below = below;
         }

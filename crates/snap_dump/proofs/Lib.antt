@@ -2,3 +2,4 @@ pub mod Tagged
 pub mod Dumped
 pub mod Made
 pub mod Placed
+pub mod Worked

@@ -1,12 +1,12 @@
 -- Dumps that are made between the blocks of a lane, and at the seat that is alone.
-use Rattle.std.proofs.Common.{◌≡◌, ◌≢◌, inl, inr, ⊎_elim, ℕ, ◌+◌, ◌-◌, ◌<◌, ◌≤◌, true, false, List, [], ◌∷◌, ◌++◌, length, Option, None, Some, Contains, refl, sym, ap, subst, ◌∙◌, arith}
+use Rattle.std.proofs.Common.{◌≡◌, ◌≢◌, inl, inr, ⊎_elim, ℕ, ◌+◌, ◌-◌, ◌<◌, ◌≤◌, true, false, List, [], ◌∷◌, ◌++◌, length, Option, None, Some, refl, sym, ap, subst, ◌∙◌, arith}
 use Rattle.std.specs.Prelude.{All, IfSome}
 use Rattle.std.proofs.lemmas.List.{append-nil, append_assoc, length-append}
-use Rattle.std.proofs.lemmas.List.Elements.{All-nil, All-cons, All-append, All-weaker, Contains-push, Contains-append_left}
+use Rattle.std.proofs.lemmas.List.Elements.{All-nil, All-cons, All-append, All-weaker}
 use Rattle.plain_data.specs.declared.entry.Entry.{Entry}
 use Rattle.plain_data.specs.State.{overlay}
 use Rattle.core_rule.specs.Views.{Among}
-use Rattle.core_rule.proofs.Among.{Among-split}
+use Rattle.core_rule.proofs.Among.{Among-left, Among-right, Among-split}
 use Rattle.replay_model.specs.declared.outcome.Outcome.{Outcome}
 use Rattle.replay_model.specs.declared.outcome.Placed.{Placed}
 use Rattle.replay_model.specs.TableMap.{TableMap}
@@ -28,16 +28,17 @@ use Rattle.lane_runner.proofs.Adding.{Adds-none, Adds-trans}
 use Rattle.lane_runner.proofs.Attempted.{Steps, goes_trans, room_for_try, steps_none}
 use Rattle.lane_runner.proofs.Results.{keep_order}
 use Rattle.lane_runner.proofs.Run.{AreEntries-others}
+use Rattle.lane_threads.specs.Seen.{IsRead, IsReadingOf}
 use Rattle.snap_dump.specs.declared.dump.Dump.{Dump}
-use Rattle.snap_dump.specs.Dumps.{Dumps, DumpsMade, IsDumpOf, IsReadingOf, KeepsOthers, how_many, seen_of}
+use Rattle.snap_dump.specs.Dumps.{Dumps, DumpsMade, KeepsOthers, how_many, seen_of}
 
 -- ---- the entry of a dump leaves the tables
 
-pub entry_leaves : (records : ℕ) (seen : ℕ × TableMap) (entry : Entry) → IsReadingOf records seen entry → LeavesTables records entry
-entry_leaves records seen entry is = record {
+pub entry_leaves : (records : ℕ) (seen : ℕ × TableMap) (entry : Entry) → IsReadingOf records seen entry → entry.writes ≡ [] → LeavesTables records entry
+entry_leaves records seen entry is no_writes = record {
   keeps = λ state tables is_state holds agrees.
       let P : List (ℕ × Option (List ℕ)) → Type 0 = λ ws. stands (overlay ws state) tables in
-      subst P (sym is.no_writes) holds;
+      subst P (sym no_writes) holds;
   weighs = λ commit. let both : true ≡ false = sym is.kind ∙ commit in cc;
 }
 
@@ -48,7 +49,7 @@ dump_others p q dump made = record {
   keep = only;
 } where
   only : (entry : Entry) → Among entry (made.entry ∷ []) → LeavesTables p.engine.size.records entry
-  only entry (inl is) = subst (λ (e : Entry). LeavesTables p.engine.size.records e) is (entry_leaves p.engine.size.records (seen_of dump) made.entry made.reading)
+  only entry (inl is) = subst (λ (e : Entry). LeavesTables p.engine.size.records e) is (entry_leaves p.engine.size.records (seen_of dump) made.entry made.reading made.no_writes)
   only entry (inr among) = absurd among
 
 pub none_others : (p : PassView) → IsIdle p → AddsOthers p p
@@ -75,24 +76,27 @@ stamp_later : (a b seat : ℕ) → a ≤ b → stamp_of a seat ≤ stamp_of b se
 stamp_later a b seat less = omega arith
 
 -- what was made stays as the log goes on
-goes_on : (p q r : PassView) (entries : List Entry) (dump : Dump) → Adds q r entries → IsDumpOf p q dump → IsDumpOf p r dump
-goes_on p q r entries dump adds is = record {
+goes_on : (minimum : ℕ) (q r : PassView) (entries : List Entry) (seen : ℕ × TableMap) → Adds q r entries → IsRead minimum q seen → IsRead minimum r seen
+goes_on minimum q r entries seen adds is = record {
   entry = is.entry;
-  there = subst (λ (log : List Entry). Contains log is.entry) (sym adds.log) (Contains-append_left q.log entries is.entry is.there);
-  reading = is.reading;
-  below = (let later = stamp_later q.clock r.clock q.seat adds.clock in let seat : stamp_of r.clock r.seat ≡ stamp_of r.clock q.seat = ap (stamp_of r.clock) adds.seat in let low = is.below in omega (arith, later, seat, low));
-  met = is.met;
+  in_log = subst (Among is.entry) (sym adds.log) (Among-left is.entry q.log entries is.in_log);
+  is_reading = subst (λ (e : EngineView). IsReadingOf e.size.records seen is.entry) (sym adds.engine) is.is_reading;
+  up_to = (let later = stamp_later q.clock r.clock q.seat adds.clock in let seat : stamp_of r.clock r.seat ≡ stamp_of r.clock q.seat = ap (stamp_of r.clock) adds.seat in let low = is.up_to in omega (arith, later, seat, low));
+  behind = is.behind;
 }
 
 -- it was made behind an earlier pass too
-begins_earlier : (p q r : PassView) (entries : List Entry) (dump : Dump) → Adds p q entries → IsDumpOf q r dump → IsDumpOf p r dump
-begins_earlier p q r entries dump adds is = record {
+begins_earlier : (p q r : PassView) (entries : List Entry) (seen : ℕ × TableMap) → Adds p q entries → IsRead q.met r seen → IsRead p.met r seen
+begins_earlier p q r entries seen adds is = record {
   entry = is.entry;
-  there = is.there;
-  reading = subst (λ (e : EngineView). IsReadingOf e.size.records (seen_of dump) is.entry) adds.engine is.reading;
-  below = is.below;
-  met = (let m = adds.met in let low = is.met in omega (arith, m, low));
+  in_log = is.in_log;
+  is_reading = is.is_reading;
+  up_to = is.up_to;
+  behind = (let m = adds.met in let low = is.behind in omega (arith, m, low));
 }
+
+abbrev IsDumpOf : PassView → PassView → Dump → Type 0
+IsDumpOf p q dump = IsRead p.met q (seen_of dump)
 
 -- none was made, whatever was added
 pub made_none : (p q : PassView) (old : List Dump) → DumpsMade p q old old
@@ -110,10 +114,10 @@ made_one p q old new dump made grown = record {
   is : IsDumpOf p q dump
   is = record {
     entry = made.entry;
-    there = subst (λ (log : List Entry). Contains log made.entry) (sym made.adds.log) (Contains-push p.log made.entry);
-    reading = made.reading;
-    below = made.below;
-    met = next.snapshot_met made.reading.kind;
+    in_log = subst (Among made.entry) (sym made.adds.log) (Among-right made.entry p.log (made.entry ∷ []) (inl refl));
+    is_reading = subst (λ (e : EngineView). IsReadingOf e.size.records (seen_of dump) made.entry) (sym made.adds.engine) made.reading;
+    up_to = (let low = made.below in let stamp = made.reading.stamp in omega (arith, low, stamp));
+    behind = (let low = next.snapshot_met made.reading.kind in let stamp = made.reading.stamp in omega (arith, low, stamp));
   }
 
 -- one part behind the other
@@ -122,8 +126,8 @@ made_then p q r old mid new before after first second = record {
   more = first.more ++ second.more;
   grown = second.grown ∙ ap (λ ds. ds ++ second.more) first.grown ∙ append_assoc old first.more second.more;
   each = All-append (IsDumpOf p r) first.more second.more
-      (All-weaker (IsDumpOf p q) (IsDumpOf p r) (λ dump is. goes_on p q r after.0 dump after.1 is) first.more first.each)
-      (All-weaker (IsDumpOf q r) (IsDumpOf p r) (λ dump is. begins_earlier p q r before.0 dump before.1 is) second.more second.each);
+      (All-weaker (IsDumpOf p q) (IsDumpOf p r) (λ dump is. goes_on p.met q r after.0 (seen_of dump) after.1 is) first.more first.each)
+      (All-weaker (IsDumpOf q r) (IsDumpOf p r) (λ dump is. begins_earlier p q r before.0 (seen_of dump) before.1 is) second.more second.each);
 }
 
 -- dumps do not become fewer

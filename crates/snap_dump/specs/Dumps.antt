@@ -1,13 +1,12 @@
 -- Dumps: what a snapshot has read of all tables.
-use Rattle.std.specs.Prelude.{◌≡◌, ℕ, ◌+◌, ◌-◌, ◌<◌, ◌≤◌, true, List, [], ◌∷◌, ◌++◌, length, map, All, Contains}
+use Rattle.std.specs.Prelude.{◌≡◌, ℕ, ◌-◌, ◌<◌, List, [], ◌∷◌, ◌++◌, length, map, All}
 use Rattle.plain_data.specs.declared.entry.Entry.{Entry}
-use Rattle.plain_data.specs.State.{State, IsState, Agrees}
 use Rattle.replay_model.specs.TableMap.{TableMap, loaded}
 use Rattle.stamp_base.specs.Stamp.{stamp_of}
 use Rattle.txn_engine.specs.Alone.{AloneView}
 use Rattle.txn_engine.specs.Pass.{PassView}
 use Rattle.lane_runner.specs.Adds.{Adds}
-use Rattle.lane_runner.specs.Rows.{stands}
+use Rattle.lane_threads.specs.Seen.{IsRead, IsReadingOf}
 use Rattle.snap_dump.specs.declared.dump.Dump.{Dump}
 
 -- a dump as what was read: its stamp, and tables with its rows
@@ -17,35 +16,19 @@ seen_of dump = (dump.stamp, loaded dump.rows [])
 abbrev pub seen_in : List Dump → List (ℕ × TableMap)
 seen_in dumps = map seen_of dumps
 
--- the entry of a snapshot that has read these rows at this stamp: each state that agrees with its reads and stands for tables stands for
--- tables with these rows
-pub record IsReadingOf (records : ℕ) (seen : ℕ × TableMap) (entry : Entry) : Type 0 where
-  pub stamp : entry.stamp ≡ seen.0
-  pub kind : entry.snapshot ≡ true
-  pub no_writes : entry.writes ≡ []
-  pub rows : (state : State) (tables : TableMap) → IsState records state → stands state tables → Agrees state entry.reads → tables.rows ≡ seen.1.rows
-
--- a dump was made at a pass: one entry was added, and it is below the stamp that was drawn for it
+-- a dump was made at a pass: one entry was added, which writes nothing, and it is below the stamp that was drawn for it
 pub record Dumps (before after' : PassView) (dump : Dump) : Type 0 where
   pub entry : Entry
   pub adds : Adds before after' (entry ∷ [])
   pub reading : IsReadingOf before.engine.size.records (seen_of dump) entry
+  pub no_writes : entry.writes ≡ []
   pub below : entry.stamp < stamp_of after'.clock after'.seat
-
--- A dump that was made behind the pass `before`, and whose entry stands in the log of the pass `now`. It is below the last stamp there, and at
--- least one less than what was met before.
-pub record IsDumpOf (before now : PassView) (dump : Dump) : Type 0 where
-  pub entry : Entry
-  pub there : Contains now.log entry
-  pub reading : IsReadingOf before.engine.size.records (seen_of dump) entry
-  pub below : entry.stamp < stamp_of now.clock now.seat
-  pub met : before.met ≤ entry.stamp + 1
 
 -- the dumps that were made on the way from one pass to the other
 pub record DumpsMade (before now : PassView) (old new : List Dump) : Type 0 where
   pub more : List Dump
   pub grown : new ≡ old ++ more
-  pub each : All (IsDumpOf before now) more
+  pub each : All (λ (dump : Dump). IsRead before.met now (seen_of dump)) more
 
 -- how many they are
 abbrev pub how_many : List Dump → List Dump → ℕ

@@ -6,7 +6,8 @@ mod at_pass;
 mod dump;
 mod dumping;
 mod lanes;
+mod work;
 
 pub use at_pass::dump_at_pass;
 pub use dump::Dump;
-pub use dumping::Dumping;
+pub use dumping::{Dumping, DumpsDue};

@@ -1,20 +1,18 @@
 //! The calls of the index.
 
-ghost use Rattle.std.specs.Prelude.{◌≡◌, ℕ, ◌+◌, ◌<◌, ◌≤◌, IfOk, IfSome, OnOk, OnErr, true, Some, ⊤};
+ghost use Rattle.std.specs.Prelude.{◌≡◌, ℕ, ◌+◌, ◌<◌, ◌≤◌, IfOk, IfSome, OnOk};
 ghost use Rattle.record_store.specs.Calls.{Reads, ReadFault, Calls, CallFault};
 ghost use Rattle.record_store.specs.Limits.{record_limit};
 ghost use Rattle.record_store.specs.States.{EachState};
 ghost use Rattle.record_store.specs.Walks.{IfTorn, IfStore, IfNoMemory, OnlyReads, ReadsGrow};
 ghost use Rattle.record_store.specs.Writes.{WritesAtMost, WritesOnly, EachWritesKnown, GivesAtMost, GivesFewer};
-ghost use Rattle.record_store.specs.Meaning.{after_write};
-ghost use Rattle.hash_index.specs.Node.{words_of};
 ghost use Rattle.hash_index.specs.Chain.{EachChain, EndsWell, bucket_of, record_of};
 ghost use Rattle.hash_index.specs.Search.{AddsNode, IsInStore};
 ghost use Rattle.hash_index.specs.Answers.{IsTorn, MayAsk, Asks, PutsPair, RemovesPair};
 
-use crate::node::{Pairs, all_pairs, node_cells, one_pair, pair_record};
+use crate::node::{all_pairs, node_cells, one_pair, pair_record};
 use crate::search::{Link, Place, search};
-use record_store::{RecordRead, RecordStore, Walk};
+use record_store::{RecordRead, RecordStore, Walk, write_node};
 
 /// The record number beside a key in the chain of `base`.
 pub fn get<S: RecordRead>(store: &mut S, base: u32, key: u64) -> Result<Option<u32>, Walk<S::Fault>>
@@ -69,15 +67,20 @@ pub fn put<S: RecordStore>(
         Place::Found(link, index) => {
             let mut pairs = all_pairs(&link.words, size);
             pairs[index].1 = rid;
-            write_node(store, link.at, &pairs, link.next, link.position)
+            let cells = node_cells(&pairs, link.next, link.position);
+            write_node(store, link.at, cells)
         }
         Place::Room(link) => {
             let mut pairs = all_pairs(&link.words, size);
             pairs.push((key, rid));
-            write_node(store, link.at, &pairs, link.next, link.position)
+            let cells = node_cells(&pairs, link.next, link.position);
+            write_node(store, link.at, cells)
         }
         Place::Full(link) => add_node(store, size, &link, key, rid),
-        Place::Empty(bucket) => write_node(store, bucket, &one_pair(key, rid), None, 0),
+        Place::Empty(bucket) => {
+            let cells = node_cells(&one_pair(key, rid), None, 0);
+            write_node(store, bucket, cells)
+        }
     }
 }
 
@@ -104,30 +107,11 @@ fn add_node<S: RecordStore>(
     ensures rest { S.rest store.new ≡ S.rest store.old }
 {
     let fresh = store.fresh()?;
-    write_node(store, fresh, &one_pair(key, rid), None, last.position + 1)?;
+    let first = node_cells(&one_pair(key, rid), None, last.position + 1);
+    write_node(store, fresh, first)?;
     let pairs = all_pairs(&last.words, size);
-    write_node(store, last.at, &pairs, Some(fresh), last.position)
-}
-
-/// Writes a node to its record.
-fn write_node<S: RecordStore>(
-    store: &mut S,
-    rid: u32,
-    pairs: &Pairs,
-    next: Option<u32>,
-    position: u32,
-) -> Result<(), Walk<S::Fault>>
-    requires { rid < (S.meaning store.old).size }
-    ensures ok { OnOk result (S.meaning store.new ≡ after_write (S.meaning store.old) rid (Some (words_of pairs.now.items next position))) }
-    ensures err { OnErr result (S.meaning store.new ≡ S.meaning store.old) }
-    ensures torn { IfTorn result (λ _. ⊥) }
-    ensures fault { IfStore result (CallFault S.read_gives S.write_gives S.fresh_gives (λ _. ⊥) store.old store.new) }
-    ensures memory { IfNoMemory result ⊥ }
-    ensures calls { Calls S.read_gives S.write_gives S.fresh_gives store.old 0 store.new }
-    ensures rest { S.rest store.new ≡ S.rest store.old }
-{
-    store.write(rid, Some(node_cells(pairs, next, position)))?;
-    Ok(())
+    let cells = node_cells(&pairs, Some(fresh), last.position);
+    write_node(store, last.at, cells)
 }
 
 /// Removes a key from the chain of `base`, and answers whether it was there.
@@ -156,7 +140,8 @@ pub fn remove<S: RecordStore>(store: &mut S, base: u32, key: u64) -> Result<bool
         Place::Found(link, index) => {
             let mut pairs = all_pairs(&link.words, size);
             pairs.swap_remove(index);
-            write_node(store, link.at, &pairs, link.next, link.position)?;
+            let cells = node_cells(&pairs, link.next, link.position);
+            write_node(store, link.at, cells)?;
             Ok(true)
         }
         Place::Room(_) | Place::Full(_) | Place::Empty(_) => Ok(false),

@@ -15,11 +15,10 @@ ghost use Rattle.ordered_index.specs.Written.{WritesNodes};
 ghost use Rattle.record_store.specs.States.{EachState};
 ghost use Rattle.ordered_index.specs.Enter.{EachEntered, IsLeafEntered, IfTakes, IfThere, IsRank, TearsBelow, ReachesBelow, PutsEntry, PutsRoot, with_entry};
 
-use crate::index::write_node;
 use crate::key::Key;
 use crate::node::Node;
 use crate::walk::{Link, MOST_DEPTH, read_node};
-use record_store::{RecordStore, Walk};
+use record_store::{RecordStore, Walk, write_node};
 
 /// What comes of an entry below a node.
 #[derive(Drop)]
@@ -114,14 +113,14 @@ fn put_entry<S: RecordStore>(
 {
     link.node.entries.insert(rank, entry);
     if !link.node.entries.is_full() {
-        write_node(store, link.at, &link.node)?;
+        write_node(store, link.at, link.node.cells())?;
         return Ok(None);
     }
     let fresh = store.fresh()?;
     let right = link.node.part(fresh);
     let low = right.low;
-    write_node(store, fresh, &right)?;
-    write_node(store, link.at, &link.node)?;
+    write_node(store, fresh, right.cells())?;
+    write_node(store, link.at, link.node.cells())?;
     Ok(Some((low, fresh)))
 }
 
@@ -146,7 +145,7 @@ pub fn put_root<S: RecordStore>(
 {
     top.node.entries.insert(rank, entry);
     if !top.node.entries.is_full() {
-        write_node(store, top.at, &top.node)?;
+        write_node(store, top.at, top.node.cells())?;
         return Ok(());
     }
     split_root(store, top)
@@ -171,8 +170,8 @@ fn split_root<S: RecordStore>(store: &mut S, mut top: Link) -> Result<(), Walk<S
     let low = top.node.low;
     let right_node = top.node.part(right);
     let over = Node::over(low, left, right_node.low, right);
-    write_node(store, left, &top.node)?;
-    write_node(store, right, &right_node)?;
-    write_node(store, top.at, &over)?;
+    write_node(store, left, top.node.cells())?;
+    write_node(store, right, right_node.cells())?;
+    write_node(store, top.at, over.cells())?;
     Ok(())
 }

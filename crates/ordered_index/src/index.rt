@@ -1,10 +1,7 @@
 //! The calls of the index.
 
-ghost use Rattle.std.specs.Prelude.{◌≡◌, ℕ, ◌+◌, ◌<◌, ◌≤◌, length, IfOk, IfSome, OnOk, OnErr, true, Some, ⊤};
+ghost use Rattle.std.specs.Prelude.{◌≡◌, ℕ, ◌<◌, IfOk, IfSome, OnOk};
 ghost use Rattle.record_store.specs.Calls.{Reads, ReadFault, Calls, CallFault};
-ghost use Rattle.record_store.specs.Meaning.{after_write};
-ghost use Rattle.ordered_index.specs.Node.{words_of};
-ghost use Rattle.ordered_index.specs.Held.{content_of};
 ghost use Rattle.ordered_index.specs.Changes.{RemovesEntry, InsertsEntry};
 ghost use Rattle.record_store.specs.Writes.{EachWritesKnown, GivesAtMost, GivesFewer};
 ghost use Rattle.ordered_index.specs.Asks.{MayAsk, Asks};
@@ -18,7 +15,7 @@ use crate::enter::{Entering, enter, put_root};
 use crate::key::Key;
 use crate::node::Node;
 use crate::walk::{FIRST, leaf_for, read_node};
-use record_store::{RecordRead, RecordStore, Walk};
+use record_store::{RecordRead, RecordStore, Walk, write_node};
 
 /// The record number beside a key in the tree of `root`.
 pub fn get<S: RecordRead>(store: &mut S, root: u32, key: Key) -> Result<Option<u32>, Walk<S::Fault>>
@@ -75,7 +72,7 @@ pub fn remove<S: RecordStore>(store: &mut S, root: u32, key: Key) -> Result<bool
         return Ok(false);
     };
     leaf.node.entries.remove(index);
-    write_node(store, leaf.at, &leaf.node)?;
+    write_node(store, leaf.at, leaf.node.cells())?;
     Ok(true)
 }
 
@@ -108,7 +105,7 @@ pub fn insert<S: RecordStore>(
 {
     let size = store.size();
     let Some(top) = read_node(store, size, root, FIRST)? else {
-        write_node(store, root, &Node::leaf(key, rid))?;
+        write_node(store, root, Node::leaf(key, rid).cells())?;
         return Ok(true);
     };
     let rank = top.node.rank(key);
@@ -120,24 +117,4 @@ pub fn insert<S: RecordStore>(
             Ok(true)
         }
     }
-}
-
-/// Writes a node to its record.
-pub fn write_node<S: RecordStore>(
-    store: &mut S,
-    rid: u32,
-    node: &Node,
-) -> Result<(), Walk<S::Fault>>
-    requires rid { rid < (S.meaning store.old).size }
-    requires few { length node.now.entries.items ≤ 9 }
-    ensures ok { OnOk result (S.meaning store.new ≡ after_write (S.meaning store.old) rid (Some (words_of (content_of node.now)))) }
-    ensures err { OnErr result (S.meaning store.new ≡ S.meaning store.old) }
-    ensures torn { IfTorn result (λ _. ⊥) }
-    ensures fault { IfStore result (CallFault S.read_gives S.write_gives S.fresh_gives (λ _. ⊥) store.old store.new) }
-    ensures memory { IfNoMemory result ⊥ }
-    ensures calls { Calls S.read_gives S.write_gives S.fresh_gives store.old 0 store.new }
-    ensures rest { S.rest store.new ≡ S.rest store.old }
-{
-    store.write(rid, Some(node.cells()))?;
-    Ok(())
 }

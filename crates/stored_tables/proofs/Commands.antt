@@ -12,9 +12,9 @@ use Rattle.replay_model.specs.declared.outcome.Cause.{Cause}
 use Rattle.replay_model.specs.declared.outcome.Cause.TheVariants.{Exists, Missing, Over, Short, Unindexed}
 use Rattle.replay_model.specs.Effect.{effect, change_at, store_at, sum_of, difference_of, found}
 use Rattle.replay_model.specs.TableMap.{TableMap, Row, column_in, with_column, value_at, index_of, with_value, without}
-use Rattle.stored_tables.specs.Answers.{Held, Stands, IsIndexed, IsFound, IsSearched, Becomes, Does, MayAsk, enter_moves, leave_moves}
+use Rattle.stored_tables.specs.Answers.{Held, Stands, IsIndexed, IsFound, IsSearched, Becomes, Does, DueBy, enter_moves, leave_moves}
 use Rattle.stored_tables.specs.declared.reading.Found.{Found}
-use Rattle.stored_tables.specs.Plan.{Move, MayAskIn, plan, moves_at, moves_entry}
+use Rattle.stored_tables.specs.Plan.{Move, MayAsk, plan, moves_at, moves_entry}
 use Rattle.stored_tables.specs.Runs.{Looks, Runs}
 use Rattle.stored_tables.proofs.Finding.{stands_on}
 use Rattle.stored_tables.proofs.Maps.{with_value_rows, without_rows}
@@ -183,11 +183,11 @@ module _ {S F : Type 0} {read_gives : S → ℕ → Result (Option (List ℕ)) F
         λ index indexed. (indexed, is),
       ))
 
-ask_as : (command : Command) (held : Held) (moves : List Move) (n m : ℕ) → plan command held.1 ≡ moves → n ≡ m → MayAskIn moves held.0 n
-    → MayAskIn (plan command held.1) held.0 m
+ask_as : (command : Command) (held : Held) (moves : List Move) (n m : ℕ) → plan command held.1 ≡ moves → n ≡ m → MayAsk moves held.0 n
+    → MayAsk (plan command held.1) held.0 m
 ask_as command held moves n m is same may =
-    let P : List Move → Type 0 = λ l. MayAskIn l held.0 m in
-    let Q : ℕ → Type 0 = λ k. MayAskIn moves held.0 k in
+    let P : List Move → Type 0 = λ l. MayAsk l held.0 m in
+    let Q : ℕ → Type 0 = λ k. MayAsk moves held.0 k in
     subst P (sym is) (subst Q same may)
 
 does_as : (command : Command) (held : Held) (moves : List Move) (tables : TableMap) (now : Meaning) (n m : ℕ) (state : State)
@@ -204,17 +204,17 @@ module _ {S F : Type 0} {read_gives : S → ℕ → Result (Option (List ℕ)) F
       (moves : List Move) (tables : Held → TableMap) (n most : ℕ) (first middle last : S) (early : Result T (Walk F)) (value : T)
       (result : Result (Unit {0}) (Walk F)) → Looks read_gives meaning (Stands (meaning first)) Found' first middle early
       → early ≡ Ok value → n ≤ most
-      → Runs read_gives write_gives fresh_gives meaning Inner (MayAsk (λ _. moves)) (λ _ asked state held. Becomes moves (tables held)
+      → Runs read_gives write_gives fresh_gives meaning Inner (DueBy (λ _. moves)) (λ _ asked state held. Becomes moves (tables held)
       (meaning last) asked state held) n middle last result
       → ((state : State) (held : Held) → Stands (meaning middle) state held → Found' value state held → Inner state held
       × (plan command held.1 ≡ moves) × (effect command held.1 ≡ Ok (Nothing, tables held)))
-      → Runs read_gives write_gives fresh_gives meaning (Stands (meaning first)) (MayAsk (plan command))
+      → Runs read_gives write_gives fresh_gives meaning (Stands (meaning first)) (DueBy (plan command))
       (λ _. Does command (meaning last) (Ok Nothing)) most first last result
   then_command {T} {Found'} {Inner} command moves tables n most first middle last early value result look was less runs facts =
       let Saw : T → ℕ → State → Held → Type 0 = λ v asked state held. (asked ≡ 0) × Found' v state held in
       runs_did (λ _. Does command (meaning last) (Ok Nothing)) (0 + n) most first last result (omega (arith, less))
       (runs_then (λ _. Does command (meaning last) (Ok Nothing)) 0 n first middle last early value result
-      (looks_runs (MayAsk (plan command)) Saw 0 first middle early look (λ v state held agrees stands found. (refl, found))) was runs
+      (looks_runs (DueBy (plan command)) Saw 0 first middle early look (λ v state held agrees stands found. (refl, found))) was runs
       (λ before state held agrees stands saw. (
       let fact = facts state held (stands_on (meaning first) (meaning middle) state held look.only stands) saw.1 in (
         held,

@@ -15,10 +15,10 @@ use Rattle.replay_model.specs.declared.outcome.Outcome.{Outcome}
 use Rattle.replay_model.specs.declared.outcome.Outcome.TheVariants.{Done, Refused}
 use Rattle.replay_model.specs.Running.{run_from, outcome_from, outcome_of, tables_from, tables_after}
 use Rattle.replay_model.specs.TableMap.{TableMap}
-use Rattle.stored_tables.specs.Answers.{Held, Stands, Becomes, MayAsk}
-use Rattle.stored_tables.specs.Blocks.{Called, Left, IfDone, IfRefused, LeavesTables, MayAskOnce, RanTo, SawTo}
+use Rattle.stored_tables.specs.Answers.{Held, Stands, Becomes, DueBy}
+use Rattle.stored_tables.specs.Blocks.{Called, Left, IfDone, IfRefused, LeavesTables, RanTo, SawTo}
 use Rattle.stored_tables.specs.Places.{Places}
-use Rattle.stored_tables.specs.Plan.{run_plan}
+use Rattle.stored_tables.specs.Plan.{MayAsk, run_plan}
 use Rattle.stored_tables.specs.Runs.{Each, Runs}
 use Rattle.stored_tables.specs.Tables.{EachTables}
 use Rattle.stored_tables.proofs.Runs.{IfOk-map, ok_of, fault_map}
@@ -75,13 +75,14 @@ leaves commands answers now asked state places tables left =
     let P : TableMap → Type 0 = λ t. Becomes (run_plan commands tables) t now asked state (places, tables) in
     subst P (sym same) left.2
 
-may_tables : (commands : List Command) (first last : Meaning) (asks : ℕ) → Each (Stands first) last (MayAsk (run_plan commands) asks)
-    → MayAskOnce commands first last asks
+may_tables : (commands : List Command) (first last : Meaning) (asks : ℕ) → Each (Stands first) last (DueBy (run_plan commands) asks)
+    → EachTables first last (λ _ places tables. MayAsk (run_plan commands tables) places asks)
 may_tables commands first last asks each = λ state places tables agrees stands. each state (places, tables) agrees stands
 
 -- told of the same reads
 may_after : (commands : List Command) (first last now : Meaning) (asks : ℕ) → now.reads ≡ last.reads
-    → MayAskOnce commands first last asks → MayAskOnce commands first now asks
+    → EachTables first last (λ _ places tables. MayAsk (run_plan commands tables) places asks)
+    → EachTables first now (λ _ places tables. MayAsk (run_plan commands tables) places asks)
 may_after commands first last now asks same may = λ state places tables agrees stands. (let A : List (ℕ × Option (List ℕ))
     → Type 0 = Agrees state in may state places tables (subst A same agrees) stands)
 
@@ -111,9 +112,9 @@ pub fault_tables : {S F : Type 0} (read_gives : S → ℕ → Result (Option (Li
     → Result (Unit {0}) F → S → Type 0) (fresh_gives : S → Result ℕ F → S → Type 0) (meaning : S → Meaning) (commands : List Command)
     (first last : S) (result other : Result Outcome (Walk F)) (walk : Walk F) → other ≡ Err walk → IsErrAnd result (λ w. w ≡ walk)
     → IfStore other (CallFault read_gives write_gives fresh_gives (λ asks. Each (Stands (meaning first)) (meaning last)
-    (MayAsk (run_plan commands) asks) × GivesFewer asks (meaning first) (meaning last)) first last)
-    → IfStore result (CallFault read_gives write_gives fresh_gives (λ asks. MayAskOnce commands (meaning first) (meaning last) asks
-    × GivesFewer asks (meaning first) (meaning last)) first last)
+    (DueBy (run_plan commands) asks) × GivesFewer asks (meaning first) (meaning last)) first last)
+    → IfStore result (CallFault read_gives write_gives fresh_gives (λ asks. EachTables (meaning first) (meaning last)
+    (λ _ places tables. MayAsk (run_plan commands tables) places asks) × GivesFewer asks (meaning first) (meaning last)) first last)
 fault_tables read_gives write_gives fresh_gives meaning commands first last result other walk was is fault =
     fault_moved result other walk _ was is
     (IfStore-map other (λ f. fault_map _ _ first last f
@@ -123,7 +124,7 @@ module _ {S F : Type 0} {read_gives : S → ℕ → Result (Option (List ℕ)) F
     → Result (Unit {0}) F → S → Type 0} {fresh_gives : S → Result ℕ F → S → Type 0} {meaning : S → Meaning} (commands : List Command)
     (first last : S) where
   pub called_err : (result other : Result Outcome (Walk F)) (walk : Walk F) → Runs read_gives write_gives fresh_gives meaning
-      (Stands (meaning first)) (MayAsk (run_plan commands)) (RanTo commands (meaning last)) (128 * length commands) first last other
+      (Stands (meaning first)) (DueBy (run_plan commands)) (RanTo commands (meaning last)) (128 * length commands) first last other
       → IsErrAnd result (λ w. w ≡ walk) → Called read_gives write_gives fresh_gives meaning commands first last result
   called_err result other walk r is = record {
     before = last;
@@ -139,7 +140,7 @@ module _ {S F : Type 0} {read_gives : S → ℕ → Result (Option (List ℕ)) F
   }
 
   pub called_done : (answers : List Answer) (other : Result Outcome (Walk F)) → other ≡ Ok (Done answers)
-      → Runs read_gives write_gives fresh_gives meaning (Stands (meaning first)) (MayAsk (run_plan commands)) (RanTo commands (meaning last))
+      → Runs read_gives write_gives fresh_gives meaning (Stands (meaning first)) (DueBy (run_plan commands)) (RanTo commands (meaning last))
       (128 * length commands) first last other → Called {F = F} read_gives write_gives fresh_gives meaning commands first last
       (Ok (Done answers))
   called_done answers other was r =
@@ -165,7 +166,7 @@ module _ {S F : Type 0} {read_gives : S → ℕ → Result (Option (List ℕ)) F
 
   pub called_refused : (now : S) (command : ℕ) (cause : Cause) (other : Result Outcome (Walk F)) → other ≡ Ok (Refused command cause)
       → meaning now ≡ after_undo (meaning last) → Runs read_gives write_gives fresh_gives meaning (Stands (meaning first))
-      (MayAsk (run_plan commands)) (RanTo commands (meaning last)) (128 * length commands) first last other
+      (DueBy (run_plan commands)) (RanTo commands (meaning last)) (128 * length commands) first last other
       → Called {F = F} read_gives write_gives fresh_gives meaning commands first now (Ok (Refused command cause))
   called_refused now command cause other was undone r = record {
     before = last;

@@ -9,10 +9,10 @@ use Rattle.record_store.proofs.Agreement.{extends-refl, OnlyReads-refl}
 use Rattle.record_store.proofs.Known.{gives-none, known-reads}
 use Rattle.record_store.proofs.Writes.{writes-none}
 use Rattle.ordered_index.specs.Keys.{is_same}
-use Rattle.stored_tables.specs.Answers.{Held, AddsRow, HasRow, DropsRow, MayAsk}
+use Rattle.stored_tables.specs.Answers.{Held, AddsRow, HasRow, DropsRow, DueBy}
 use Rattle.stored_tables.specs.Moved.{Maps, HasMaps, maps_of, moved, all_moved, OthersStay, Shaped, Step, Midway}
 use Rattle.stored_tables.specs.Places.{Places, with_row, table_limit}
-use Rattle.stored_tables.specs.Plan.{Move, Moves, Follows, MayAskIn, IsDue}
+use Rattle.stored_tables.specs.Plan.{Move, Moves, Follows, MayAsk, IsDue}
 use Rattle.stored_tables.specs.Plan.Follows.{stays, moves}
 use Rattle.stored_tables.specs.Plan.Move.{row_added, row_dropped, pair_put, pair_removed, entry_inserted, entry_removed}
 use Rattle.stored_tables.specs.Plan.Moves.{row_added_at, row_dropped_at}
@@ -174,7 +174,7 @@ midway_as table key rid words done same before now asked state places is m = let
 
 -- a move of the plan is due behind these
 pub may_ask : (planned done rest : List Move) (move : Move) (places between : Places) (earlier asks : ℕ) → planned ≡ done ++ move ∷ rest
-    → Follows done places earlier between → IsDue move between asks → MayAskIn planned places (earlier + asks)
+    → Follows done places earlier between → IsDue move between asks → MayAsk planned places (earlier + asks)
 may_ask planned done rest move places between earlier asks is follows due = record {
   before = done;
   move = move;
@@ -212,7 +212,7 @@ module _ {S F : Type 0} {read_gives : S → ℕ → Result (Option (List ℕ)) F
       (table key rid : ℕ) (words : List ℕ) (planned done rest : List Move) (move : Move) (n m : ℕ) (first middle last : S)
       (early : Result T (Walk F)) (value : T) (result : Result (Unit {0}) (Walk F)) → table < table_limit → planned ≡ done ++ move ∷ rest
       → ((maps : Maps) (t k : ℕ) → (moved rid move maps).row_at t k ≡ maps.row_at t k)
-      → Runs read_gives write_gives fresh_gives meaning Stands (MayAsk (λ _. planned)) (λ _ asked state held. Midway table key rid words done
+      → Runs read_gives write_gives fresh_gives meaning Stands (DueBy (λ _. planned)) (λ _ asked state held. Midway table key rid words done
       (meaning first) (meaning middle) asked state held.0) n first middle early → early ≡ Ok value
       → Runs read_gives write_gives fresh_gives meaning Inner Later (λ _. Step rid move (meaning middle) (meaning last)) m middle last
       result
@@ -220,7 +220,7 @@ module _ {S F : Type 0} {read_gives : S → ℕ → Result (Option (List ℕ)) F
       → ((before : ℕ) (state : State) (held : Held) → Stands state held
       → (middle_of : Midway table key rid words done (meaning first) (meaning middle) before state held.0)
       → Inner state middle_of.between)
-      → Runs read_gives write_gives fresh_gives meaning Stands (MayAsk (λ _. planned)) (λ _ asked state held. Midway table key rid words
+      → Runs read_gives write_gives fresh_gives meaning Stands (DueBy (λ _. planned)) (λ _ asked state held. Midway table key rid words
       (done ++ move ∷ []) (meaning first) (meaning last) asked state held.0) (n + m) first last result
   then_step table key rid words planned done rest move n m first middle last early value result low is keeps a was b due inner =
       runs_then _ n m first middle last early value result a was b

@@ -5,7 +5,7 @@ use Rattle.record_store.specs.Meaning.{Meaning}
 use Rattle.record_store.specs.declared.walk.Walk.{Walk}
 use Rattle.ordered_index.specs.declared.key.Key.{Key}
 use Rattle.replay_model.specs.TableMap.{Row, column_in, with_value}
-use Rattle.stored_tables.specs.Answers.{Held, Has, Becomes, MayAsk, HasRow, Rewrites, TreeHas}
+use Rattle.stored_tables.specs.Answers.{Held, Has, Becomes, DueBy, HasRow, Rewrites, TreeHas}
 use Rattle.stored_tables.specs.declared.reading.Found.{Found}
 use Rattle.stored_tables.specs.Moved.{Step, Midway}
 use Rattle.stored_tables.specs.Places.{index_tree, table_limit}
@@ -35,10 +35,10 @@ module _ {S F : Type 0} {read_gives : S → ℕ → Result (Option (List ℕ)) F
       (λ _ asked state places. (asked ≡ 0) × Rewrites table key found.rid (row_words row) (meaning first) (meaning last) state
       places) 1 first last result
       → Runs read_gives write_gives fresh_gives meaning (Has (meaning first) table key index found)
-      (MayAsk (λ _. moves_entry table key index found.row row)) (λ _. Changed table key found row [] (meaning first) (meaning last)) 1
+      (DueBy (λ _. moves_entry table key index found.row row)) (λ _. Changed table key found row [] (meaning first) (meaning last)) 1
       first last result
   changed_row table key index found row first last result low wrote =
-      runs_map (Has (meaning first) table key index found) (MayAsk (λ _. moves_entry table key index found.row row))
+      runs_map (Has (meaning first) table key index found) (DueBy (λ _. moves_entry table key index found.row row))
       (λ _. Changed table key found row [] (meaning first) (meaning last)) 1 1 first last result (omega arith) wrote
       (λ state held agrees has. (
         held.0,
@@ -52,10 +52,10 @@ module _ {S F : Type 0} {read_gives : S → ℕ → Result (Option (List ℕ)) F
       (early : Result (Unit {0}) (Walk F)) → table < table_limit → key < 2 ^ 64 → length row ≡ 6
       → moves_entry table key index found.row row ≡ []
       → Runs read_gives write_gives fresh_gives meaning (Has (meaning first) table key index found)
-      (MayAsk (λ _. moves_entry table key index found.row row)) (λ _. Changed table key found row [] (meaning first) (meaning last)) 1
+      (DueBy (λ _. moves_entry table key index found.row row)) (λ _. Changed table key found row [] (meaning first) (meaning last)) 1
       first last early → early ≡ Ok tt
       → Runs {F = F} read_gives write_gives fresh_gives meaning (Has (meaning first) table key index found)
-      (MayAsk (λ _. moves_entry table key index found.row row))
+      (DueBy (λ _. moves_entry table key index found.row row))
       (λ _ asked state held. Becomes (moves_entry table key index found.row row) (with_value held.1 table key row)
       (meaning last) asked state held) 53 first last (Ok (tt {0}))
   changed_stays table key index found row first last early low below six none acc was =
@@ -70,13 +70,13 @@ module _ {S F : Type 0} {read_gives : S → ℕ → Result (Option (List ℕ)) F
       (early result : Result (Unit {0}) (Walk F)) → table < table_limit → index ≡ Some column → was ≡ column_in column found.row
       → high ≡ column_in column row → was ≢ high
       → Runs read_gives write_gives fresh_gives meaning (Has (meaning first) table key index found)
-      (MayAsk (λ _. moves_entry table key index found.row row)) (λ _. Changed table key found row [] (meaning first)
+      (DueBy (λ _. moves_entry table key index found.row row)) (λ _. Changed table key found row [] (meaning first)
       (meaning middle)) 1 first middle early → early ≡ Ok tt
       → Runs read_gives write_gives fresh_gives meaning (TreeHas (meaning middle) (index_tree table) (record { high = was; low = key })
       (Some found.rid)) (λ _ _ _. ⊥) (λ _. Step found.rid (entry_removed (index_tree table) (record { high = was; low = key }))
       (meaning middle) (meaning last)) 1 middle last result
       → Runs read_gives write_gives fresh_gives meaning (Has (meaning first) table key index found)
-      (MayAsk (λ _. moves_entry table key index found.row row))
+      (DueBy (λ _. moves_entry table key index found.row row))
       (λ _. Changed table key found row (entry_removed (index_tree table) (record { high = was; low = key }) ∷ []) (meaning first)
       (meaning last)) 2 first last result
   changed_removed table key column was high index found row first middle last early result low is before after differs acc done step =
@@ -93,7 +93,7 @@ module _ {S F : Type 0} {read_gives : S → ℕ → Result (Option (List ℕ)) F
       (early result : Result (Unit {0}) (Walk F)) → table < table_limit → key < 2 ^ 64 → length row ≡ 6 → index ≡ Some column
       → was ≡ column_in column found.row → high ≡ column_in column row → was ≢ high
       → Runs read_gives write_gives fresh_gives meaning (Has (meaning first) table key index found)
-      (MayAsk (λ _. moves_entry table key index found.row row))
+      (DueBy (λ _. moves_entry table key index found.row row))
       (λ _. Changed table key found row (entry_removed (index_tree table) (record { high = was; low = key }) ∷ []) (meaning first)
       (meaning middle)) 2 first middle early → early ≡ Ok tt
       → Runs read_gives write_gives fresh_gives meaning (TreeHas (meaning middle) (index_tree table) (record { high = high; low = key })
@@ -101,7 +101,7 @@ module _ {S F : Type 0} {read_gives : S → ℕ → Result (Option (List ℕ)) F
       (λ _. Step found.rid (entry_inserted (index_tree table) (record { high = high; low = key })) (meaning middle)
       (meaning last)) 51 middle last result
       → Runs read_gives write_gives fresh_gives meaning (Has (meaning first) table key index found)
-      (MayAsk (λ _. moves_entry table key index found.row row))
+      (DueBy (λ _. moves_entry table key index found.row row))
       (λ _ asked state held. Becomes (moves_entry table key index found.row row) (with_value held.1 table key row)
       (meaning last) asked state held) 53 first last result
   changed_moves table key column was high index found row first middle last early result low below six is before after differs acc done

@@ -5,10 +5,10 @@ use Rattle.record_store.specs.Meaning.{Meaning}
 use Rattle.record_store.specs.declared.walk.Walk.{Walk}
 use Rattle.ordered_index.specs.declared.key.Key.{Key}
 use Rattle.replay_model.specs.TableMap.{Row, column_in, with_value}
-use Rattle.stored_tables.specs.Answers.{Held, Lacks, Becomes, MayAsk, AddsRow, LacksRow, ChainHas, TreeHas, enter_moves}
+use Rattle.stored_tables.specs.Answers.{Held, Lacks, Becomes, DueBy, AddsRow, LacksRow, ChainHas, TreeHas, enter_moves}
 use Rattle.stored_tables.specs.Moved.{Step, Midway}
 use Rattle.stored_tables.specs.Places.{Places, index_tree, table_limit}
-use Rattle.stored_tables.specs.Plan.{Move, MayAskIn, IsDue}
+use Rattle.stored_tables.specs.Plan.{Move, MayAsk, IsDue}
 use Rattle.stored_tables.specs.Plan.Move.{row_added, pair_put, entry_inserted}
 use Rattle.stored_tables.specs.Plan.Follows.{stays}
 use Rattle.stored_tables.specs.Runs.{Runs}
@@ -30,10 +30,10 @@ abbrev three_in : ℕ → ℕ → List Move
 three_in table key = row_added table key ∷ pair_put table key ∷ entry_inserted table (row_key key) ∷ []
 
 first_ask : (planned rest : List Move) (move : Move) (places : Places) (asks : ℕ) → planned ≡ move ∷ rest → IsDue move places asks
-    → MayAskIn planned places asks
+    → MayAsk planned places asks
 first_ask planned rest move places asks is due =
     let same : 0 + asks ≡ asks = omega arith in
-    let P : ℕ → Type 0 = λ n. MayAskIn planned places n in
+    let P : ℕ → Type 0 = λ n. MayAsk planned places n in
     subst P same (may_ask planned [] rest move places places 0 asks is (stays places) due)
 
 module _ {S F : Type 0} {read_gives : S → ℕ → Result (Option (List ℕ)) F → S → Type 0} {write_gives : S → ℕ → Option (List ℕ)
@@ -42,10 +42,10 @@ module _ {S F : Type 0} {read_gives : S → ℕ → Result (Option (List ℕ)) F
       → Runs read_gives write_gives fresh_gives meaning (LacksRow (meaning first) table key) (λ asks _ _. asks ≤ 1)
       (λ rid. AddsRow table key rid (row_words row) (meaning first) (meaning last)) 1 first last result
       → Runs read_gives write_gives fresh_gives meaning (Lacks (meaning first) table key index)
-      (MayAsk (λ _. enter_moves table key index row)) (λ rid. In table key rid row (one_in table key) (meaning first) (meaning last)) 1
+      (DueBy (λ _. enter_moves table key index row)) (λ rid. In table key rid row (one_in table key) (meaning first) (meaning last)) 1
       first last result
   entered_row table key index row first last result low adds =
-      runs_map (Lacks (meaning first) table key index) (MayAsk (λ _. enter_moves table key index row))
+      runs_map (Lacks (meaning first) table key index) (DueBy (λ _. enter_moves table key index row))
       (λ rid. In table key rid row (one_in table key) (meaning first) (meaning last)) 1 1 first last result (omega arith) adds
       (λ state held agrees lacks. (
         held.0,
@@ -57,13 +57,13 @@ module _ {S F : Type 0} {read_gives : S → ℕ → Result (Option (List ℕ)) F
   pub entered_pair : (table key rid : ℕ) (index : Option ℕ) (row : Row) (first middle last : S) (early : Result ℕ (Walk F))
       (result : Result (Unit {0}) (Walk F)) → table < table_limit
       → Runs read_gives write_gives fresh_gives meaning (Lacks (meaning first) table key index)
-      (MayAsk (λ _. enter_moves table key index row)) (λ new. In table key new row (one_in table key) (meaning first)
+      (DueBy (λ _. enter_moves table key index row)) (λ new. In table key new row (one_in table key) (meaning first)
       (meaning middle)) 1 first middle early → early ≡ Ok rid
       → Runs read_gives write_gives fresh_gives meaning (ChainHas (meaning middle) table key None)
       (λ asks _ places. IsDue (pair_put table key) places asks) (λ _. Step rid (pair_put table key) (meaning middle)
       (meaning last)) 2 middle last result
       → Runs read_gives write_gives fresh_gives meaning (Lacks (meaning first) table key index)
-      (MayAsk (λ _. enter_moves table key index row)) (λ _. In table key rid row (two_in table key) (meaning first) (meaning last)) 3
+      (DueBy (λ _. enter_moves table key index row)) (λ _. In table key rid row (two_in table key) (meaning first) (meaning last)) 3
       first last result
   entered_pair table key rid index row first middle last early result low acc was step =
       then_step table key rid (row_words row) (enter_moves table key index row) (one_in table key) _ (pair_put table key) 1 2 first
@@ -76,13 +76,13 @@ module _ {S F : Type 0} {read_gives : S → ℕ → Result (Option (List ℕ)) F
   pub entered_tree : (table key rid : ℕ) (index : Option ℕ) (row : Row) (first middle last : S)
       (early result : Result (Unit {0}) (Walk F)) → table < table_limit
       → Runs read_gives write_gives fresh_gives meaning (Lacks (meaning first) table key index)
-      (MayAsk (λ _. enter_moves table key index row)) (λ _. In table key rid row (two_in table key) (meaning first) (meaning middle)) 3
+      (DueBy (λ _. enter_moves table key index row)) (λ _. In table key rid row (two_in table key) (meaning first) (meaning middle)) 3
       first middle early → early ≡ Ok tt
       → Runs read_gives write_gives fresh_gives meaning (TreeHas (meaning middle) table (row_key key) None)
       (λ asks _ places. IsDue (entry_inserted table (row_key key)) places asks) (λ _. Step rid (entry_inserted table (row_key key))
       (meaning middle) (meaning last)) 51 middle last result
       → Runs read_gives write_gives fresh_gives meaning (Lacks (meaning first) table key index)
-      (MayAsk (λ _. enter_moves table key index row)) (λ _. In table key rid row (three_in table key) (meaning first)
+      (DueBy (λ _. enter_moves table key index row)) (λ _. In table key rid row (three_in table key) (meaning first)
       (meaning last)) 54 first last result
   entered_tree table key rid index row first middle last early result low acc was step =
       then_step table key rid (row_words row) (enter_moves table key index row) (two_in table key) _
@@ -95,10 +95,10 @@ module _ {S F : Type 0} {read_gives : S → ℕ → Result (Option (List ℕ)) F
   pub entered_none : (table key rid : ℕ) (index : Option ℕ) (row : Row) (first last : S) (early : Result (Unit {0}) (Walk F))
       → table < table_limit → key < 2 ^ 64 → length row ≡ 6 → index ≡ None
       → Runs read_gives write_gives fresh_gives meaning (Lacks (meaning first) table key index)
-      (MayAsk (λ _. enter_moves table key index row)) (λ _. In table key rid row (three_in table key) (meaning first)
+      (DueBy (λ _. enter_moves table key index row)) (λ _. In table key rid row (three_in table key) (meaning first)
       (meaning last)) 54 first last early → early ≡ Ok tt
       → Runs {F = F} read_gives write_gives fresh_gives meaning (Lacks (meaning first) table key index)
-      (MayAsk (λ _. enter_moves table key index row)) (λ _ asked state held. Becomes (enter_moves table key index row)
+      (DueBy (λ _. enter_moves table key index row)) (λ _ asked state held. Becomes (enter_moves table key index row)
       (with_value held.1 table key row) (meaning last) asked state held) 105 first last (Ok (tt {0}))
   entered_none table key rid index row first last early low below six is acc was =
       runs_value (λ _ asked state held. Becomes (enter_moves table key index row) (with_value held.1 table key row) (meaning last) asked
@@ -113,14 +113,14 @@ module _ {S F : Type 0} {read_gives : S → ℕ → Result (Option (List ℕ)) F
       (early result : Result (Unit {0}) (Walk F)) → table < table_limit → key < 2 ^ 64 → length row ≡ 6 → index ≡ Some column
       → high ≡ column_in column row
       → Runs read_gives write_gives fresh_gives meaning (Lacks (meaning first) table key index)
-      (MayAsk (λ _. enter_moves table key index row)) (λ _. In table key rid row (three_in table key) (meaning first)
+      (DueBy (λ _. enter_moves table key index row)) (λ _. In table key rid row (three_in table key) (meaning first)
       (meaning middle)) 54 first middle early → early ≡ Ok tt
       → Runs read_gives write_gives fresh_gives meaning (TreeHas (meaning middle) (index_tree table) (record { high = high; low = key })
       None) (λ asks _ places. IsDue (entry_inserted (index_tree table) (record { high = high; low = key })) places asks)
       (λ _. Step rid (entry_inserted (index_tree table) (record { high = high; low = key })) (meaning middle) (meaning last)) 51
       middle last result
       → Runs read_gives write_gives fresh_gives meaning (Lacks (meaning first) table key index)
-      (MayAsk (λ _. enter_moves table key index row)) (λ _ asked state held. Becomes (enter_moves table key index row)
+      (DueBy (λ _. enter_moves table key index row)) (λ _ asked state held. Becomes (enter_moves table key index row)
       (with_value held.1 table key row) (meaning last) asked state held) 105 first last result
   entered_index table key rid column high index row first middle last early result low below six is same acc was step =
       let I : Key = record { high = high; low = key } in

@@ -6,7 +6,7 @@ use Rattle.record_store.specs.Meaning.{Meaning}
 use Rattle.record_store.specs.declared.walk.Walk.{Walk}
 use Rattle.ordered_index.specs.declared.key.Key.{Key}
 use Rattle.replay_model.specs.TableMap.{column_in, value_at, without}
-use Rattle.stored_tables.specs.Answers.{Held, Has, Becomes, MayAsk, HasRow, DropsRow, ChainHas, TreeHas, leave_moves}
+use Rattle.stored_tables.specs.Answers.{Held, Has, Becomes, DueBy, HasRow, DropsRow, ChainHas, TreeHas, leave_moves}
 use Rattle.stored_tables.specs.declared.reading.Found.{Found}
 use Rattle.stored_tables.specs.Moved.{Step, Midway}
 use Rattle.stored_tables.specs.Places.{index_tree, table_limit}
@@ -41,16 +41,16 @@ module _ {S F : Type 0} {read_gives : S → ℕ → Result (Option (List ℕ)) F
     → Result (Unit {0}) F → S → Type 0} {fresh_gives : S → Result ℕ F → S → Type 0} {meaning : S → Meaning} where
   begun : (table key : ℕ) (index : Option ℕ) (found : Found) (first : S) → table < table_limit
       → Runs {F = F} read_gives write_gives fresh_gives meaning (Has (meaning first) table key index found)
-      (MayAsk (λ _. leave_moves table key index found.row)) (λ _. Left table key found [] (meaning first) (meaning first)) 0 first first
+      (DueBy (λ _. leave_moves table key index found.row)) (λ _. Left table key found [] (meaning first) (meaning first)) 0 first first
       (Ok (tt {0}))
   begun table key index found first low =
-      runs_begin (Has (meaning first) table key index found) (MayAsk (λ _. leave_moves table key index found.row))
+      runs_begin (Has (meaning first) table key index found) (DueBy (λ _. leave_moves table key index found.row))
       (λ _. Left table key found [] (meaning first) (meaning first)) first
       (λ state held has. leave_begins table key index found (meaning first) state held low has)
 
   pub left_none : (table key : ℕ) (index : Option ℕ) (found : Found) (first : S) → table < table_limit → index ≡ None
       → Runs {F = F} read_gives write_gives fresh_gives meaning (Has (meaning first) table key index found)
-      (MayAsk (λ _. leave_moves table key index found.row)) (λ _. Left table key found (leaves_index table key index found.row)
+      (DueBy (λ _. leave_moves table key index found.row)) (λ _. Left table key found (leaves_index table key index found.row)
       (meaning first) (meaning first)) 1 first first (Ok (tt {0}))
   left_none table key index found first low is =
       runs_did (λ _. Left table key found (leaves_index table key index found.row) (meaning first) (meaning first)) 0 1 first first
@@ -64,7 +64,7 @@ module _ {S F : Type 0} {read_gives : S → ℕ → Result (Option (List ℕ)) F
       (Some found.rid)) (λ _ _ _. ⊥) (λ _. Step found.rid (entry_removed (index_tree table) (record { high = high; low = key }))
       (meaning first) (meaning last)) 1 first last result
       → Runs read_gives write_gives fresh_gives meaning (Has (meaning first) table key index found)
-      (MayAsk (λ _. leave_moves table key index found.row)) (λ _. Left table key found (leaves_index table key index found.row)
+      (DueBy (λ _. leave_moves table key index found.row)) (λ _. Left table key found (leaves_index table key index found.row)
       (meaning first) (meaning last)) 1 first last result
   left_index table key column high index found first last result low is same step =
       let I : Key = record { high = high; low = key } in
@@ -82,12 +82,12 @@ module _ {S F : Type 0} {read_gives : S → ℕ → Result (Option (List ℕ)) F
   pub left_pair : (table key : ℕ) (index : Option ℕ) (found : Found) (first middle last : S) (early result : Result (Unit {0}) (Walk F))
       → table < table_limit
       → Runs read_gives write_gives fresh_gives meaning (Has (meaning first) table key index found)
-      (MayAsk (λ _. leave_moves table key index found.row)) (λ _. Left table key found (leaves_index table key index found.row)
+      (DueBy (λ _. leave_moves table key index found.row)) (λ _. Left table key found (leaves_index table key index found.row)
       (meaning first) (meaning middle)) 1 first middle early → early ≡ Ok tt
       → Runs read_gives write_gives fresh_gives meaning (ChainHas (meaning middle) table key (Some found.rid)) (λ _ _ _. ⊥)
       (λ _. Step found.rid (pair_removed table key) (meaning middle) (meaning last)) 1 middle last result
       → Runs read_gives write_gives fresh_gives meaning (Has (meaning first) table key index found)
-      (MayAsk (λ _. leave_moves table key index found.row))
+      (DueBy (λ _. leave_moves table key index found.row))
       (λ _. Left table key found (leaves_index table key index found.row ++ pair_removed table key ∷ []) (meaning first)
       (meaning last)) 2 first last result
   left_pair table key index found first middle last early result low acc was step =
@@ -101,13 +101,13 @@ module _ {S F : Type 0} {read_gives : S → ℕ → Result (Option (List ℕ)) F
   pub left_tree : (table key : ℕ) (index : Option ℕ) (found : Found) (first middle last : S) (early result : Result (Unit {0}) (Walk F))
       → table < table_limit
       → Runs read_gives write_gives fresh_gives meaning (Has (meaning first) table key index found)
-      (MayAsk (λ _. leave_moves table key index found.row))
+      (DueBy (λ _. leave_moves table key index found.row))
       (λ _. Left table key found (leaves_index table key index found.row ++ pair_removed table key ∷ []) (meaning first)
       (meaning middle)) 2 first middle early → early ≡ Ok tt
       → Runs read_gives write_gives fresh_gives meaning (TreeHas (meaning middle) table (row_key key) (Some found.rid)) (λ _ _ _. ⊥)
       (λ _. Step found.rid (entry_removed table (row_key key)) (meaning middle) (meaning last)) 1 middle last result
       → Runs read_gives write_gives fresh_gives meaning (Has (meaning first) table key index found)
-      (MayAsk (λ _. leave_moves table key index found.row))
+      (DueBy (λ _. leave_moves table key index found.row))
       (λ _. Left table key found (leaves_index table key index found.row ++ pair_removed table key ∷ entry_removed table
       (row_key key) ∷ []) (meaning first) (meaning last)) 3 first last result
   left_tree table key index found first middle last early result low acc was step =
@@ -127,13 +127,13 @@ module _ {S F : Type 0} {read_gives : S → ℕ → Result (Option (List ℕ)) F
   pub left_row : (table key : ℕ) (index : Option ℕ) (found : Found) (first middle last : S) (early result : Result (Unit {0}) (Walk F))
       → table < table_limit → key < 2 ^ 64
       → Runs read_gives write_gives fresh_gives meaning (Has (meaning first) table key index found)
-      (MayAsk (λ _. leave_moves table key index found.row))
+      (DueBy (λ _. leave_moves table key index found.row))
       (λ _. Left table key found (leaves_index table key index found.row ++ pair_removed table key ∷ entry_removed table
       (row_key key) ∷ []) (meaning first) (meaning middle)) 3 first middle early → early ≡ Ok tt
       → Runs read_gives write_gives fresh_gives meaning (HasRow (meaning middle) table key found.rid) (λ _ _ _. ⊥)
       (λ _ asked state places. (asked ≡ 0) × DropsRow table key (meaning middle) (meaning last) state places) 1 middle last result
       → Runs read_gives write_gives fresh_gives meaning (Has (meaning first) table key index found)
-      (MayAsk (λ _. leave_moves table key index found.row)) (λ _ asked state held. Becomes (leave_moves table key index found.row)
+      (DueBy (λ _. leave_moves table key index found.row)) (λ _ asked state held. Becomes (leave_moves table key index found.row)
       (without held.1 table key) (meaning last) asked state held) 4 first last result
   left_row table key index found first middle last early result low below acc was drop =
       let L : List Move = leaves_index table key index found.row in

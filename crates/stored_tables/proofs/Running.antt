@@ -12,10 +12,10 @@ use Rattle.replay_model.specs.Effect.{effect}
 use Rattle.replay_model.specs.Running.{run_from, step_then, answer_before}
 use Rattle.replay_model.specs.TableMap.{TableMap}
 use Rattle.replay_model.proofs.RunLaws.{run_from-take_more, run_from-refused_at}
-use Rattle.stored_tables.specs.Answers.{Held, IsIdle, Stands, Does, MayAsk, Becomes, Answers}
+use Rattle.stored_tables.specs.Answers.{Held, IsIdle, Stands, Does, DueBy, Becomes, Answers}
 use Rattle.stored_tables.specs.Blocks.{Left, Saw}
 use Rattle.stored_tables.specs.Places.{Places}
-use Rattle.stored_tables.specs.Plan.{Move, Follows, MayAskIn, plan, plan_then, run_plan}
+use Rattle.stored_tables.specs.Plan.{Move, Follows, MayAsk, plan, plan_then, run_plan}
 use Rattle.stored_tables.specs.Plan.Follows.{stays, moves}
 use Rattle.stored_tables.specs.Runs.{Looks, Runs}
 use Rattle.stored_tables.proofs.Finding.{stands_on}
@@ -91,7 +91,7 @@ follows_append (x ∷ xs) ys places between after n m (moves move more p middle 
     (follows_append xs ys middle between after asked m first rest))
 
 pub may_behind : (planned first mine rest : List Move) (places between : Places) (earlier asks : ℕ) → planned ≡ first ++ (mine ++ rest)
-    → Follows first places earlier between → MayAskIn mine between asks → MayAskIn planned places (earlier + asks)
+    → Follows first places earlier between → MayAsk mine between asks → MayAsk planned places (earlier + asks)
 may_behind planned first mine rest places between earlier asks is follows may = record {
   before = first ++ may.before;
   move = may.move;
@@ -147,7 +147,7 @@ step_to commands command i answers left between now (Err cause) before asked sta
 may_next : (commands : List Command) (command : Command) (i : ℕ) (answers : List Answer) (left : TableMap) (between : Places)
     (before asks : ℕ) (held : Held) → i < length commands → command ≡ get_or commands i command
     → run_from 1 (take i commands) held.1 ≡ Ok (answers, left) → Follows (run_plan (take i commands) held.1) held.0 before between
-    → MayAskIn (plan command left) between asks → MayAskIn (run_plan commands held.1) held.0 (before + asks)
+    → MayAsk (plan command left) between asks → MayAsk (run_plan commands held.1) held.0 (before + asks)
 may_next commands command i answers left between before asks held within here ran follows may =
     let all = plan_all commands i command held.1 left answers within ran in
     may_behind (run_plan commands held.1) (run_plan (take i commands) held.1) (plan command left) all.0 held.0 between before asks
@@ -229,11 +229,11 @@ module _ {S F : Type 0} {read_gives : S → ℕ → Result (Option (List ℕ)) F
     → Result (Unit {0}) F → S → Type 0} {fresh_gives : S → Result ℕ F → S → Type 0} {meaning : S → Meaning} where
   pub next_runs : (commands : List Command) (command : Command) (i : ℕ) (answers : List Answer) (first middle last : S)
       (result : Result (Result Answer Cause) (Walk F)) → i < length commands → command ≡ get_or commands i command
-      → Runs read_gives write_gives fresh_gives meaning (Stands (meaning first)) (MayAsk (run_plan commands))
+      → Runs read_gives write_gives fresh_gives meaning (Stands (meaning first)) (DueBy (run_plan commands))
       (λ _. Left (take i commands) answers (meaning middle)) (128 * i) first middle (Ok (tt {0}))
-      → Runs read_gives write_gives fresh_gives meaning (Stands (meaning middle)) (MayAsk (plan command)) (Does command (meaning last)) 128
+      → Runs read_gives write_gives fresh_gives meaning (Stands (meaning middle)) (DueBy (plan command)) (Does command (meaning last)) 128
       middle last result
-      → Runs read_gives write_gives fresh_gives meaning (Stands (meaning first)) (MayAsk (run_plan commands))
+      → Runs read_gives write_gives fresh_gives meaning (Stands (meaning first)) (DueBy (run_plan commands))
       (StepTo commands i answers (meaning last)) (128 * i + 128) first last result
   next_runs commands command i answers first middle last result within here acc step =
       runs_then (StepTo commands i answers (meaning last)) (128 * i) 128 first middle last (Ok (tt {0})) tt result acc refl step

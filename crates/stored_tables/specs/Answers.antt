@@ -13,7 +13,7 @@ use Rattle.replay_model.specs.TableMap.{TableMap, Row, value_at, index_of, with_
 use Rattle.replay_model.specs.Effect.{effect, scanned, found}
 use Rattle.stored_tables.specs.Places.{Places, with_row, table_limit}
 use Rattle.stored_tables.specs.Tables.{StandsFor, row_words}
-use Rattle.stored_tables.specs.Plan.{Move, Follows, MayAskIn, plan, enters_index, leaves_index, moves_entry}
+use Rattle.stored_tables.specs.Plan.{Move, Follows, MayAsk, plan, enters_index, leaves_index, moves_entry}
 use Rattle.stored_tables.specs.Plan.Move.{row_added, row_dropped, pair_put, pair_removed, entry_inserted, entry_removed}
 use Rattle.stored_tables.specs.Moved.{Midway, Shaped, RowsStay, OthersStay}
 use Rattle.stored_tables.specs.Steps.{IsDeclared}
@@ -131,9 +131,9 @@ Does command now (Ok answer) asked state held = (tables : TableMap) × (effect c
     × Becomes (plan command held.1) tables now asked state held
 Does command now (Err cause) asked state held = effect command held.1 ≡ Err cause
 
--- how often a part whose moves are planned so may ask for a new record
-abbrev pub MayAsk : (TableMap → List Move) → ℕ → State → Held → Type 0
-MayAsk planned asks state held = MayAskIn (planned held.1) held.0 asks
+-- so often `fresh` may be asked by a part whose moves the tables tell
+abbrev pub DueBy : (TableMap → List Move) → ℕ → State → Held → Type 0
+DueBy planned asks state held = MayAsk (planned held.1) held.0 asks
 
 -- ---- rows that enter, leave and change
 

@@ -13,12 +13,8 @@ use Rattle.replay_model.specs.Running.{run_from, tables_after}
 use Rattle.replay_model.specs.TableMap.{TableMap}
 use Rattle.stored_tables.specs.Answers.{Held, Becomes}
 use Rattle.stored_tables.specs.Places.{Places}
-use Rattle.stored_tables.specs.Plan.{MayAskIn, run_plan}
+use Rattle.stored_tables.specs.Plan.{MayAsk, run_plan}
 use Rattle.stored_tables.specs.Tables.{EachTables}
-
--- `fresh` may be asked so often by a block
-abbrev pub MayAskOnce : List Command → Meaning → Meaning → ℕ → Type 0
-MayAskOnce commands before after asks = EachTables before after (λ _ places tables. MayAskIn (run_plan commands tables) places asks)
 
 -- the writes leave the tables after the block, at places to which so many asks led
 abbrev pub LeavesTables : List Command → Meaning → ℕ → State → Places → TableMap → Type 0
@@ -44,7 +40,7 @@ pub record Called {S F : Type 0} (read_gives : S → ℕ → Result (Option (Lis
   pub before : S
   pub asked : ℕ
   pub calls : Calls read_gives write_gives fresh_gives first asked before
-  pub may : 0 < asked → MayAskOnce commands (meaning first) (meaning last) asked
+  pub may : 0 < asked → EachTables (meaning first) (meaning last) (λ _ places tables. MayAsk (run_plan commands tables) places asked)
   pub few : WritesAtMost (128 * length commands) (meaning first) (meaning before)
   pub given : GivesAtMost asked (meaning first) (meaning before)
   pub writes : EachTables (meaning first) (meaning last) (λ state _ _. WritesKnown (meaning first) (meaning before) state)

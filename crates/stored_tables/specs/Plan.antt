@@ -117,7 +117,7 @@ IsDue (entry_inserted tree key) places asks = (record_of_key (places.leaves tree
 IsDue (entry_removed tree key) places asks = asks ≡ 0
 
 -- a move of a plan for which `fresh` may be asked once more, when it was asked so often for those before
-pub record MayAskIn (planned : List Move) (places : Places) (asked : ℕ) : Type 0 where
+pub record MayAsk (planned : List Move) (places : Places) (asked : ℕ) : Type 0 where
   pub before : List Move
   pub move : Move
   pub after : List Move

@@ -8,7 +8,7 @@ use Rattle.replay_model.specs.Running.{tables_after}
 use Rattle.replay_model.specs.TableMap.{TableMap, index_of}
 use Rattle.stored_tables.specs.Places.{Places, fixed_records, table_limit}
 use Rattle.stored_tables.specs.Tables.{StandsFor}
-use Rattle.stored_tables.specs.Plan.{Follows, MayAskIn, plan, run_plan}
+use Rattle.stored_tables.specs.Plan.{Follows, MayAsk, plan, run_plan}
 use Rattle.stored_tables.specs.Weight.{AtMostSpare, weight, adds, all_add}
 
 -- tables use no more new records than they weigh
@@ -70,7 +70,7 @@ AreKnown commands = All (λ command. table_named command < table_limit) commands
 -- whenever a run asks once more
 abbrev pub RoomToAsk : Type 0
 RoomToAsk =
-    (size : ℕ) (state : State) (places : Places) (tables : TableMap) (commands : List Command) (asked : ℕ) → StandsFor size state places tables → AreKnown commands → MayAskIn (run_plan commands tables) places asked
+    (size : ℕ) (state : State) (places : Places) (tables : TableMap) (commands : List Command) (asked : ℕ) → StandsFor size state places tables → AreKnown commands → MayAsk (run_plan commands tables) places asked
     → AtMostWith fixed_records state asked (weight places + all_add commands tables)
 
 -- and once it is over
@@ -90,7 +90,7 @@ pub record IsLeft (state : State) (given : List ℕ) (rid : ℕ) : Type 0 where
 -- the run began and has not been given since.
 abbrev pub RecordLeft : Type 0
 RecordLeft =
-    (size fixed records : ℕ) (state : State) (places : Places) (tables : TableMap) (commands : List Command) (asked : ℕ) (given : List ℕ) → StandsFor size state places tables → AreKnown commands → MayAskIn (run_plan commands tables) places asked
+    (size fixed records : ℕ) (state : State) (places : Places) (tables : TableMap) (commands : List Command) (asked : ℕ) (given : List ℕ) → StandsFor size state places tables → AreKnown commands → MayAsk (run_plan commands tables) places asked
     → fixed_records ≤ fixed → fixed + (weight places + all_add commands tables) ≤ records → length given < asked → (rid : ℕ) × (fixed ≤ rid) × (rid < records) × IsLeft state given rid
 
 -- ---- where nothing is present

@@ -6,9 +6,9 @@ ghost use Rattle.record_store.specs.Walks.{IfTorn, IfStore, OnlyReads, ReadsGrow
 ghost use Rattle.record_store.specs.Writes.{GivesFewer};
 ghost use Rattle.replay_model.specs.Input.{AreCommands};
 ghost use Rattle.replay_model.specs.Running.{outcome_of};
-ghost use Rattle.stored_tables.specs.Answers.{IsIdle, IsShort, MayAsk, ReadsAlone, Stands};
-ghost use Rattle.stored_tables.specs.Blocks.{Called, IfRefused, MayAskOnce, RanTo, SawTo};
-ghost use Rattle.stored_tables.specs.Plan.{run_plan};
+ghost use Rattle.stored_tables.specs.Answers.{DueBy, IsIdle, IsShort, ReadsAlone, Stands};
+ghost use Rattle.stored_tables.specs.Blocks.{Called, IfRefused, RanTo, SawTo};
+ghost use Rattle.stored_tables.specs.Plan.{MayAsk, run_plan};
 ghost use Rattle.stored_tables.specs.Runs.{Looks, Runs};
 ghost use Rattle.stored_tables.specs.Tables.{EachTables};
 
@@ -32,7 +32,7 @@ pub fn exec_txn<S: RecordStore>(
     ensures torn { IfTorn result (λ _. EachTables (S.meaning store.old) (S.meaning store.new) (λ _ _ _. ⊥)) }
 
     // each ask of `fresh` is counted, and may be made; one that is refused gave nothing
-    ensures fault { IfStore result (CallFault S.read_gives S.write_gives S.fresh_gives (λ asks. MayAskOnce commands.now (S.meaning store.old) (S.meaning store.new) asks × GivesFewer asks (S.meaning store.old) (S.meaning store.new)) store.old store.new) }
+    ensures fault { IfStore result (CallFault S.read_gives S.write_gives S.fresh_gives (λ asks. EachTables (S.meaning store.old) (S.meaning store.new) (λ _ places tables. MayAsk (run_plan commands.now tables) places asks) × GivesFewer asks (S.meaning store.old) (S.meaning store.new)) store.old store.new) }
     ensures after { ReadsGrow (S.meaning store.old) (S.meaning store.new) }
 
     // a scan that lists nothing by its arguments reads nothing
@@ -60,7 +60,7 @@ fn run_commands<S: RecordStore>(
     requires short { All IsShort commands.now }
     requires size { 4112 ≤ (S.meaning store.old).size }
     requires fixed { 4112 ≤ (S.meaning store.old).fixed }
-    ensures runs { Runs S.read_gives S.write_gives S.fresh_gives S.meaning (Stands (S.meaning store.old)) (MayAsk (run_plan commands.now)) (RanTo commands.now (S.meaning store.new)) (128 * length commands.now) store.old store.new result }
+    ensures runs { Runs S.read_gives S.write_gives S.fresh_gives S.meaning (Stands (S.meaning store.old)) (DueBy (run_plan commands.now)) (RanTo commands.now (S.meaning store.new)) (128 * length commands.now) store.old store.new result }
     ensures idle { All IsIdle commands.now → store.new ≡ store.old }
     ensures unrefused { All IsIdle commands.now → IfRefused result ⊥ }
     ensures rest { S.rest store.new ≡ S.rest store.old }

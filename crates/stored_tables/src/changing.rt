@@ -2,7 +2,7 @@
 
 ghost use Rattle.std.specs.Prelude.{◌≡◌, ◌≤◌, ◌<◌, IfSome};
 ghost use Rattle.replay_model.specs.Input.{IsColumn};
-ghost use Rattle.stored_tables.specs.Answers.{Has, Changes, MayAsk};
+ghost use Rattle.stored_tables.specs.Answers.{Has, Changes, DueBy};
 ghost use Rattle.stored_tables.specs.Plan.{moves_entry};
 ghost use Rattle.stored_tables.specs.Runs.{Runs};
 
@@ -25,7 +25,7 @@ pub fn change_row<S: RecordStore>(
     requires fixed { 4112 ≤ (S.meaning store.old).fixed }
     requires rid { found.now.rid < (S.meaning store.old).size }
     requires column { IfSome index IsColumn }
-    ensures runs { Runs S.read_gives S.write_gives S.fresh_gives S.meaning (Has (S.meaning store.old) table key index found.now) (MayAsk (λ _. moves_entry table key index found.now.row row.now)) (λ _. Changes table key index found.now.row row.now (S.meaning store.new)) 53 store.old store.new result }
+    ensures runs { Runs S.read_gives S.write_gives S.fresh_gives S.meaning (Has (S.meaning store.old) table key index found.now) (DueBy (λ _. moves_entry table key index found.now.row row.now)) (λ _. Changes table key index found.now.row row.now (S.meaning store.new)) 53 store.old store.new result }
     ensures rest { S.rest store.new ≡ S.rest store.old }
 {
     let rid = found.rid;

@@ -2,7 +2,7 @@
 
 ghost use Rattle.std.specs.Prelude.{◌≡◌, ◌≤◌, ◌<◌, ◌^◌, IfSome};
 ghost use Rattle.replay_model.specs.Input.{IsColumn};
-ghost use Rattle.stored_tables.specs.Answers.{Lacks, Enters, MayAsk, enter_moves};
+ghost use Rattle.stored_tables.specs.Answers.{Lacks, Enters, DueBy, enter_moves};
 ghost use Rattle.stored_tables.specs.Runs.{Runs};
 
 use crate::steps::{add_row, insert_entry, put_pair};
@@ -21,7 +21,7 @@ pub fn enter_row<S: RecordStore>(
     requires table { table < 8 }
     requires fixed { 4112 ≤ (S.meaning store.old).fixed }
     requires column { IfSome index IsColumn }
-    ensures runs { Runs S.read_gives S.write_gives S.fresh_gives S.meaning (Lacks (S.meaning store.old) table key index) (MayAsk (λ _. enter_moves table key index row.now)) (λ _. Enters table key index row.now (S.meaning store.new)) 105 store.old store.new result }
+    ensures runs { Runs S.read_gives S.write_gives S.fresh_gives S.meaning (Lacks (S.meaning store.old) table key index) (DueBy (λ _. enter_moves table key index row.now)) (λ _. Enters table key index row.now (S.meaning store.new)) 105 store.old store.new result }
     ensures rest { S.rest store.new ≡ S.rest store.old }
 {
     let rid = add_row(store, row)?;

@@ -4,7 +4,7 @@ ghost use Rattle.std.specs.Prelude.{◌≡◌, ◌≤◌, ◌<◌, false, IfOk, 
 ghost use Rattle.record_store.specs.Walks.{OnlyReads};
 ghost use Rattle.replay_model.specs.Input.{IsColumn};
 ghost use Rattle.replay_model.specs.declared.command.Command.TheVariants.{Del};
-ghost use Rattle.stored_tables.specs.Answers.{Has, IndexLeft, Leaves, MayAsk, Stands, leave_moves};
+ghost use Rattle.stored_tables.specs.Answers.{DueBy, Has, IndexLeft, Leaves, Stands, leave_moves};
 ghost use Rattle.stored_tables.specs.OneRow.{TakesRow};
 ghost use Rattle.stored_tables.specs.Plan.{plan};
 ghost use Rattle.stored_tables.specs.Runs.{AsksNothing, Runs};
@@ -20,7 +20,7 @@ pub fn take_row<S: RecordStore>(store: &mut S, table: u32, key: u64) -> Result<b
     requires table { table < 8 }
     requires size { 4112 ≤ (S.meaning store.old).size }
     requires fixed { 4112 ≤ (S.meaning store.old).fixed }
-    ensures runs { Runs S.read_gives S.write_gives S.fresh_gives S.meaning (Stands (S.meaning store.old)) (MayAsk (plan (Del table key))) (λ taken. TakesRow table key (S.meaning store.new) taken) 4 store.old store.new result }
+    ensures runs { Runs S.read_gives S.write_gives S.fresh_gives S.meaning (Stands (S.meaning store.old)) (DueBy (plan (Del table key))) (λ taken. TakesRow table key (S.meaning store.new) taken) 4 store.old store.new result }
     ensures asks_nothing { AsksNothing S.read_gives S.write_gives S.fresh_gives store.old store.new result }
 
     // nothing is written where there is no row
@@ -47,7 +47,7 @@ pub fn leave_row<S: RecordStore>(
     requires fixed { 4112 ≤ (S.meaning store.old).fixed }
     requires rid { found.now.rid < (S.meaning store.old).size }
     requires column { IfSome index IsColumn }
-    ensures runs { Runs S.read_gives S.write_gives S.fresh_gives S.meaning (Has (S.meaning store.old) table key index found.now) (MayAsk (λ _. leave_moves table key index found.now.row)) (λ _. Leaves table key index found.now.row (S.meaning store.new)) 4 store.old store.new result }
+    ensures runs { Runs S.read_gives S.write_gives S.fresh_gives S.meaning (Has (S.meaning store.old) table key index found.now) (DueBy (λ _. leave_moves table key index found.now.row)) (λ _. Leaves table key index found.now.row (S.meaning store.new)) 4 store.old store.new result }
     ensures asks_nothing { AsksNothing S.read_gives S.write_gives S.fresh_gives store.old store.new result }
     ensures rest { S.rest store.new ≡ S.rest store.old }
 {
@@ -68,7 +68,7 @@ fn leave_index<S: RecordStore>(
     requires table { table < 8 }
     requires fixed { 4112 ≤ (S.meaning store.old).fixed }
     requires column { IfSome index IsColumn }
-    ensures runs { Runs S.read_gives S.write_gives S.fresh_gives S.meaning (Has (S.meaning store.old) table key index found.now) (MayAsk (λ _. leave_moves table key index found.now.row)) (λ _. IndexLeft table key index found.now (S.meaning store.old) (S.meaning store.new)) 1 store.old store.new result }
+    ensures runs { Runs S.read_gives S.write_gives S.fresh_gives S.meaning (Has (S.meaning store.old) table key index found.now) (DueBy (λ _. leave_moves table key index found.now.row)) (λ _. IndexLeft table key index found.now (S.meaning store.old) (S.meaning store.new)) 1 store.old store.new result }
     ensures asks_nothing { AsksNothing S.read_gives S.write_gives S.fresh_gives store.old store.new result }
     ensures rest { S.rest store.new ≡ S.rest store.old }
 {

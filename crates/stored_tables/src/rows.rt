@@ -4,7 +4,7 @@
 ghost use Rattle.std.specs.Prelude.{◌≡◌, ◌⊎◌, ◌<◌, ◌≤◌, false, IfOk};
 ghost use Rattle.record_store.specs.Walks.{IfNoMemory, OnlyReads};
 ghost use Rattle.replay_model.specs.declared.command.Command.TheVariants.{Put, Del};
-ghost use Rattle.stored_tables.specs.Answers.{IsScanned, MayAsk, Stands};
+ghost use Rattle.stored_tables.specs.Answers.{DueBy, IsScanned, Stands};
 ghost use Rattle.stored_tables.specs.OneRow.{IsRowAt, SetsRow, TakesRow};
 ghost use Rattle.stored_tables.specs.Plan.{plan};
 ghost use Rattle.stored_tables.specs.Runs.{AsksNothing, Looks, Runs};
@@ -61,7 +61,7 @@ pub fn put_row<S: RecordStore>(
 ) -> Result<(), Walk<S::Fault>>
     requires table { table < 8 }
     requires fixed { 4112 ≤ (S.meaning store.old).fixed }
-    ensures runs { Runs S.read_gives S.write_gives S.fresh_gives S.meaning (Stands (S.meaning store.old)) (MayAsk (plan (Put table key row.now))) (λ _. SetsRow table key row.now (S.meaning store.new)) 128 store.old store.new result }
+    ensures runs { Runs S.read_gives S.write_gives S.fresh_gives S.meaning (Stands (S.meaning store.old)) (DueBy (plan (Put table key row.now))) (λ _. SetsRow table key row.now (S.meaning store.new)) 128 store.old store.new result }
     ensures rest { S.rest store.new ≡ S.rest store.old }
 {
     // The records that are never given out lie in the store: its size says so.
@@ -79,7 +79,7 @@ pub fn remove_row<S: RecordStore>(
 ) -> Result<bool, Walk<S::Fault>>
     requires table { table < 8 }
     requires fixed { 4112 ≤ (S.meaning store.old).fixed }
-    ensures runs { Runs S.read_gives S.write_gives S.fresh_gives S.meaning (Stands (S.meaning store.old)) (MayAsk (plan (Del table key))) (λ taken. TakesRow table key (S.meaning store.new) taken) 4 store.old store.new result }
+    ensures runs { Runs S.read_gives S.write_gives S.fresh_gives S.meaning (Stands (S.meaning store.old)) (DueBy (plan (Del table key))) (λ taken. TakesRow table key (S.meaning store.new) taken) 4 store.old store.new result }
     ensures asks_nothing { AsksNothing S.read_gives S.write_gives S.fresh_gives store.old store.new result }
 
     // nothing is written where there is no row

@@ -5,7 +5,7 @@ ghost use Rattle.std.specs.FinMap.{remove};
 ghost use Rattle.record_store.specs.Walks.{OnlyReads};
 ghost use Rattle.replay_model.specs.TableMap.{TableMap, without};
 ghost use Rattle.replay_model.specs.declared.command.Command.TheVariants.{Del};
-ghost use Rattle.stored_tables.specs.Answers.{MayAsk, Stands};
+ghost use Rattle.stored_tables.specs.Answers.{DueBy, Stands};
 ghost use Rattle.stored_tables.specs.Plan.{plan};
 ghost use Rattle.stored_tables.specs.Runs.{AsksNothing, Runs};
 ghost use Rattle.stored_tables.specs.Tables.{EachTables};
@@ -31,7 +31,7 @@ pub fn typed_remove<S: RecordStore>(
     ensures never_foreign { IfForeign result (λ _ _. ⊥) }
 
     // whatever it answers: its calls on the store, where each fault comes from, and how many records it writes
-    ensures runs { Runs S.read_gives S.write_gives S.fresh_gives S.meaning (Stands (S.meaning store.old)) (MayAsk (plan (Del table key))) (TakesTyped table key (S.meaning store.new)) 4 store.old store.new (walked result) }
+    ensures runs { Runs S.read_gives S.write_gives S.fresh_gives S.meaning (Stands (S.meaning store.old)) (DueBy (plan (Del table key))) (TakesTyped table key (S.meaning store.new)) 4 store.old store.new (walked result) }
 
     // `fresh` is never asked, whatever the state is
     ensures asks_nothing { AsksNothing S.read_gives S.write_gives S.fresh_gives store.old store.new (walked result) }

@@ -7,7 +7,7 @@ use Rattle.record_store.proofs.Writes.{writes-trans}
 use Rattle.record_store.proofs.Refusals.{store_fault, fault_moved, IfStore-map, OnOk-map}
 use Rattle.record_store.proofs.Paths.{Calls-trans, CallFault-never}
 use Rattle.hash_index.specs.Node.{pairs_of, words_of}
-use Rattle.record_store.proofs.Agreement.{ReadsGrow-refl, ReadsGrow-same, ReadsGrow-fresh, ReadsGrow-write, ReadsGrow-tried}
+use Rattle.record_store.proofs.Agreement.{ReadsGrow-refl, ReadsGrow-same, ReadsGrow-fresh, ReadsGrow-write, ReadsGrow-tried, written_as}
 use Rattle.hash_index.proofs.index.add_node.Goals as goal
 
 pub returns-in_err-fresh-clause-fault : goal.returns-in_err-fresh-clause-fault
@@ -30,10 +30,10 @@ returns-clause-ok g c = OnOk-map c.write_node-2.result (λ wrote. record {
   fresh = c.in_ok-fresh.fresh;
   is_fresh = c.in_ok-fresh.ensures.fresh;
   written =
-      wrote
+      written_as (g.S.RecordRead.meaning c.write_node.new.store) c.args.last.now.at c.node_cells-cells.ensures wrote
       ∙ ap (λ ps. after_write (g.S.RecordRead.meaning c.write_node.new.store) c.args.last.now.at (Some (words_of ps (Some c.in_ok-fresh.fresh) c.args.last.now.position))) c.all_pairs-pairs.ensures
       ∙ ap (λ m. after_write m c.args.last.now.at (Some (words_of (pairs_of c.args.last.now.words) (Some c.in_ok-fresh.fresh) c.args.last.now.position)))
-      (c.in_ok-write_node.ensures.ok
+      (written_as (g.S.RecordRead.meaning c.fresh.new.self) c.in_ok-fresh.fresh c.node_cells-first.ensures c.in_ok-write_node.ensures.ok
       ∙ ap (λ m. after_write m c.in_ok-fresh.fresh (Some (words_of c.one_pair.result.items None (c.args.last.now.position + 1)))) c.in_ok-fresh.ensures.ok
       ∙ ap (λ ps. after_write (after_fresh (g.S.RecordRead.meaning c.args.store.now) c.in_ok-fresh.fresh) c.in_ok-fresh.fresh (Some (words_of ps None (c.args.last.now.position + 1)))) c.one_pair.ensures);
 }) c.write_node-2.ensures.ok

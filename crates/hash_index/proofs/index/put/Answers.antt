@@ -9,7 +9,7 @@ use Rattle.hash_index.proofs.Chains.{bucket_below, is_torn}
 use Rattle.hash_index.proofs.Stored.{puts_found, puts_room, puts_empty, puts_full, needs_node, edited_pairs}
 use Rattle.hash_index.proofs.Ends.{walked_on, walked_written}
 use Rattle.hash_index.proofs.Asked.{never_ok, asked_none, asked_one}
-use Rattle.record_store.proofs.Agreement.{ReadsGrow-only, ReadsGrow-behind, ReadsGrow-tried}
+use Rattle.record_store.proofs.Agreement.{ReadsGrow-only, ReadsGrow-behind, ReadsGrow-tried, written_as}
 use Rattle.hash_index.proofs.index.put.Goals as goal
 
 pub returns-in_err-link-clause-torn : goal.returns-in_err-link-clause-torn
@@ -34,7 +34,7 @@ returns-in-Found-clause-ok g c =
     let at : get_or items c.in-Found.index (0, 0) ≡ (c.args.key, found.rid) = ap (λ ps. get_or ps c.in-Found.index (0, 0)) c.all_pairs-pairs.ensures ∙ found.at_index in
     OnOk-map c.write_node.result (λ wrote. puts_found c.size-size.result c.args.base c.args.key c.args.rid c.in-Found.index (g.S.RecordRead.meaning c.args.store.now) (g.S.RecordRead.meaning c.search.new.store) (g.S.RecordRead.meaning c.write_node.new.store) c.in-Found.link _
     c.size-size.ensures.size c.requires.rid c.in_ok-link.ensures.after (λ state agrees. rw c.in-Found.is at (c.in_ok-link.ensures.place state agrees)) within.1
-    (edited_pairs items c.deref_mut.result.now c.in-Found.index c.args.key found.rid c.args.rid c.deref_mut.ensures.value at ∙ ap (λ ps. slice_set ps c.in-Found.index (c.args.key, c.args.rid)) c.all_pairs-pairs.ensures) wrote) c.write_node.ensures.ok
+    (edited_pairs items c.deref_mut.result.now c.in-Found.index c.args.key found.rid c.args.rid c.deref_mut.ensures.value at ∙ ap (λ ps. slice_set ps c.in-Found.index (c.args.key, c.args.rid)) c.all_pairs-pairs.ensures) (written_as (g.S.RecordRead.meaning c.search.new.store) c.in-Found.link.at c.node_cells-cells.ensures wrote)) c.write_node.ensures.ok
 
 pub returns-in-Found-clause-fault : goal.returns-in-Found-clause-fault
 returns-in-Found-clause-fault g c = IfStore-map c.write_node.result (λ fault. CallFault-never _ _ _ _ 0 fault (Calls-reads _ _ c.search.ensures.calls)) c.write_node.ensures.fault
@@ -48,7 +48,7 @@ pub returns-in-Room-clause-ok : goal.returns-in-Room-clause-ok
 returns-in-Room-clause-ok g c =
     let within = rw c.in-Room.is at c.in_ok-link.ensures.within in
     OnOk-map c.write_node-in-Room.result (λ wrote. puts_room c.size-size.result c.args.base c.args.key c.args.rid (g.S.RecordRead.meaning c.args.store.now) (g.S.RecordRead.meaning c.search.new.store) (g.S.RecordRead.meaning c.write_node-in-Room.new.store) c.in-Room.link c.push.new.self.items
-    c.size-size.ensures.size c.requires.rid c.in_ok-link.ensures.after (λ state agrees. rw c.in-Room.is at (c.in_ok-link.ensures.place state agrees)) within.has_room (c.push.ensures.items ∙ ap (λ ps. ps ++ (c.args.key, c.args.rid) ∷ []) c.all_pairs-pairs-in-Room.ensures) wrote) c.write_node-in-Room.ensures.ok
+    c.size-size.ensures.size c.requires.rid c.in_ok-link.ensures.after (λ state agrees. rw c.in-Room.is at (c.in_ok-link.ensures.place state agrees)) within.has_room (c.push.ensures.items ∙ ap (λ ps. ps ++ (c.args.key, c.args.rid) ∷ []) c.all_pairs-pairs-in-Room.ensures) (written_as (g.S.RecordRead.meaning c.search.new.store) c.in-Room.link.at c.node_cells-cells-in-Room.ensures wrote)) c.write_node-in-Room.ensures.ok
 
 pub returns-in-Room-clause-fault : goal.returns-in-Room-clause-fault
 returns-in-Room-clause-fault g c = IfStore-map c.write_node-in-Room.result (λ fault. CallFault-never _ _ _ _ 0 fault (Calls-reads _ _ c.search.ensures.calls)) c.write_node-in-Room.ensures.fault
@@ -78,7 +78,7 @@ pub returns-in-Empty-clause-ok : goal.returns-in-Empty-clause-ok
 returns-in-Empty-clause-ok g c =
     let within = rw c.in-Empty.is at c.in_ok-link.ensures.within in
     OnOk-map c.write_node-in-Empty.result (λ wrote. puts_empty c.size-size.result c.args.base c.args.key c.args.rid c.in-Empty.bucket (g.S.RecordRead.meaning c.args.store.now) (g.S.RecordRead.meaning c.search.new.store) (g.S.RecordRead.meaning c.write_node-in-Empty.new.store) _
-    c.size-size.ensures.size c.requires.rid c.in_ok-link.ensures.after within (λ state agrees. rw c.in-Empty.is at (c.in_ok-link.ensures.place state agrees)) (ap (λ ps. words_of ps None 0) c.one_pair.ensures) wrote) c.write_node-in-Empty.ensures.ok
+    c.size-size.ensures.size c.requires.rid c.in_ok-link.ensures.after within (λ state agrees. rw c.in-Empty.is at (c.in_ok-link.ensures.place state agrees)) (c.node_cells-cells-in-Empty.ensures ∙ ap (λ ps. words_of ps None 0) c.one_pair.ensures) wrote) c.write_node-in-Empty.ensures.ok
 
 pub returns-in-Empty-clause-fault : goal.returns-in-Empty-clause-fault
 returns-in-Empty-clause-fault g c = IfStore-map c.write_node-in-Empty.result (λ fault. CallFault-never _ _ _ _ 0 fault (Calls-reads _ _ c.search.ensures.calls)) c.write_node-in-Empty.ensures.fault

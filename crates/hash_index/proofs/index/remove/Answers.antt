@@ -2,7 +2,7 @@ use Rattle.std.proofs.Common.{get_or, ap, ◌∙◌}
 use Rattle.std.specs.Prelude.{swap_remove}
 use Rattle.record_store.proofs.Refusals.{fault_moved, torn_moved, IfStore-map, IfTorn-map}
 use Rattle.record_store.proofs.Paths.{Calls-reads, Calls-trans, CallFault-read, CallFault-never}
-use Rattle.record_store.proofs.Agreement.{ReadsGrow-only}
+use Rattle.record_store.proofs.Agreement.{ReadsGrow-only, written_as}
 use Rattle.record_store.proofs.Known.{few-reads, few-tried, tries, gives-reads, gives-tried, known-reads, known-found}
 use Rattle.hash_index.proofs.Chains.{each_absent, is_torn}
 use Rattle.hash_index.proofs.Removed.{removes_pair, removes_nothing}
@@ -30,7 +30,7 @@ returns-in_ok-write_node-in-Found-clause-ok g c =
     let within = rw c.in-Found.is at c.in_ok-link.ensures.within in
     removes_pair c.size-size.result c.args.base c.args.key c.in-Found.index (g.S.RecordRead.meaning c.args.store.now) (g.S.RecordRead.meaning c.search.new.store) (g.S.RecordRead.meaning c.write_node.new.store) c.in-Found.link c.swap_remove.result c.swap_remove.new.self.items
     c.size-size.ensures.size c.in_ok-link.ensures.after (λ state agrees. rw c.in-Found.is at (c.in_ok-link.ensures.place state agrees)) within.1 (c.swap_remove.ensures.value ∙ ap (λ ps. get_or ps c.in-Found.index c.swap_remove.result) c.all_pairs-pairs.ensures)
-    (c.swap_remove.ensures.items ∙ ap (λ ps. swap_remove ps c.in-Found.index c.swap_remove.result) c.all_pairs-pairs.ensures) c.in_ok-write_node-in-Found.ensures.ok
+    (c.swap_remove.ensures.items ∙ ap (λ ps. swap_remove ps c.in-Found.index c.swap_remove.result) c.all_pairs-pairs.ensures) (written_as (g.S.RecordRead.meaning c.search.new.store) c.in-Found.link.at c.node_cells-cells.ensures c.in_ok-write_node-in-Found.ensures.ok)
 
 pub returns-in_ok-write_node-in-Found-clause-calls : goal.returns-in_ok-write_node-in-Found-clause-calls
 returns-in_ok-write_node-in-Found-clause-calls g c = Calls-trans _ _ _ 0 0 (Calls-reads _ _ c.search.ensures.calls) c.write_node.ensures.calls

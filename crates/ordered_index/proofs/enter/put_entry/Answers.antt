@@ -9,7 +9,7 @@ use Rattle.ordered_index.specs.Asks.{asks_at}
 use Rattle.ordered_index.proofs.Counting.{asks_nine}
 use Rattle.ordered_index.proofs.Asking.{asks_few, had_nine}
 use Rattle.ordered_index.proofs.Wrote.{nodes-none, nodes-weaken, wrote_fresh, wrote_none, wrote_one}
-use Rattle.record_store.proofs.Agreement.{ReadsGrow-refl, ReadsGrow-same, ReadsGrow-fresh, ReadsGrow-write}
+use Rattle.record_store.proofs.Agreement.{ReadsGrow-refl, ReadsGrow-same, ReadsGrow-fresh, ReadsGrow-write, written_as}
 use Rattle.ordered_index.proofs.Parting.{left_few, right_few}
 use Rattle.ordered_index.specs.Held.{content_of}
 use Rattle.ordered_index.proofs.enter.put_entry.Goals as goal
@@ -37,7 +37,7 @@ pub returns-then-not-is_full-clause-few : goal.returns-then-not-is_full-clause-f
 returns-then-not-is_full-clause-few g c =
     let m0 = g.S.RecordRead.meaning c.args.store.now in
     let m1 = g.S.RecordRead.meaning c.write_node.new.store in
-    nodes-weaken (0 + 1) (2 * asks_at c.args.link.node.entries.items + 1) m0 m1 (omega arith) (wrote_one 0 m0 m0 m1 _ _ (nodes-none m0 m0 refl) c.in_ok-write_node.ensures.ok)
+    nodes-weaken (0 + 1) (2 * asks_at c.args.link.node.entries.items + 1) m0 m1 (omega arith) (wrote_one 0 m0 m0 m1 _ _ (nodes-none m0 m0 refl) (written_as m0 c.args.link.at c.cells.ensures c.in_ok-write_node.ensures.ok))
 
 pub returns-in_err-fresh-clause-fault : goal.returns-in_err-fresh-clause-fault
 returns-in_err-fresh-clause-fault g c =
@@ -86,7 +86,7 @@ returns-in_err-write_node-3-clause-few g c =
     let m1 = g.S.RecordRead.meaning c.fresh.new.self in
     let m2 = g.S.RecordRead.meaning c.write_node-2.new.store in
     let m3 = g.S.RecordRead.meaning c.write_node-3.new.store in
-    nodes-weaken (0 + 1) (2 * asks_at c.args.link.node.entries.items + 1) m0 m3 (omega arith) (wrote_none (0 + 1) m0 m2 m3 (wrote_one 0 m0 m1 m2 _ _ (wrote_fresh m0 m1 _ c.in_ok-fresh.ensures.ok) c.in_ok-write_node-2.ensures.ok) c.in_err-write_node-3.ensures.err)
+    nodes-weaken (0 + 1) (2 * asks_at c.args.link.node.entries.items + 1) m0 m3 (omega arith) (wrote_none (0 + 1) m0 m2 m3 (wrote_one 0 m0 m1 m2 _ _ (wrote_fresh m0 m1 _ c.in_ok-fresh.ensures.ok) (written_as m1 c.in_ok-fresh.fresh c.cells-2.ensures c.in_ok-write_node-2.ensures.ok)) c.in_err-write_node-3.ensures.err)
 
 pub returns-clause-calls : goal.returns-clause-calls
 returns-clause-calls g c =
@@ -100,7 +100,7 @@ returns-clause-few g c =
     let m1 = g.S.RecordRead.meaning c.fresh.new.self in
     let m2 = g.S.RecordRead.meaning c.write_node-2.new.store in
     let m3 = g.S.RecordRead.meaning c.write_node-3.new.store in
-    nodes-weaken (0 + 1 + 1) (2 * asks_at c.args.link.node.entries.items + 1) m0 m3 (omega (arith, asks_nine c.args.link.node.entries.items nine)) (wrote_one (0 + 1) m0 m2 m3 _ _ (wrote_one 0 m0 m1 m2 _ _ (wrote_fresh m0 m1 _ c.in_ok-fresh.ensures.ok) c.in_ok-write_node-2.ensures.ok) c.in_ok-write_node-3.ensures.ok)
+    nodes-weaken (0 + 1 + 1) (2 * asks_at c.args.link.node.entries.items + 1) m0 m3 (omega (arith, asks_nine c.args.link.node.entries.items nine)) (wrote_one (0 + 1) m0 m2 m3 _ _ (wrote_one 0 m0 m1 m2 _ _ (wrote_fresh m0 m1 _ c.in_ok-fresh.ensures.ok) (written_as m1 c.in_ok-fresh.fresh c.cells-2.ensures c.in_ok-write_node-2.ensures.ok)) (written_as m2 c.args.link.at c.cells-3.ensures c.in_ok-write_node-3.ensures.ok))
 
 pub returns-clause-parted : goal.returns-clause-parted
 returns-clause-parted g c =
@@ -109,7 +109,7 @@ returns-clause-parted g c =
     let m1 = g.S.RecordRead.meaning c.fresh.new.self in
     let m2 = g.S.RecordRead.meaning c.write_node-2.new.store in
     let m3 = g.S.RecordRead.meaning c.write_node-3.new.store in
-    nodes-weaken (0 + 1 + 1) (2 * asks_at c.args.link.node.entries.items) m0 m3 (omega (arith, asks_nine c.args.link.node.entries.items nine)) (wrote_one (0 + 1) m0 m2 m3 _ _ (wrote_one 0 m0 m1 m2 _ _ (wrote_fresh m0 m1 _ c.in_ok-fresh.ensures.ok) c.in_ok-write_node-2.ensures.ok) c.in_ok-write_node-3.ensures.ok)
+    nodes-weaken (0 + 1 + 1) (2 * asks_at c.args.link.node.entries.items) m0 m3 (omega (arith, asks_nine c.args.link.node.entries.items nine)) (wrote_one (0 + 1) m0 m2 m3 _ _ (wrote_one 0 m0 m1 m2 _ _ (wrote_fresh m0 m1 _ c.in_ok-fresh.ensures.ok) (written_as m1 c.in_ok-fresh.fresh c.cells-2.ensures c.in_ok-write_node-2.ensures.ok)) (written_as m2 c.args.link.at c.cells-3.ensures c.in_ok-write_node-3.ensures.ok))
 
 -- what is written and given
 pub returns-in_err-write_node-clause-writes : goal.returns-in_err-write_node-clause-writes
@@ -199,8 +199,8 @@ returns-clause-after g c =
     ReadsGrow-write m0 m2 m3 _ _ right c.in_ok-write_node-3.ensures.ok
 
 -- nine entries at most are written
-pub write_node-requires-2-clause-few : goal.write_node-requires-2-clause-few
-write_node-requires-2-clause-few g c = right_few (content_of c.args.link.node) (content_of c.part-right.result) c.insert.new.self.items c.is_full.ensures.fits c.part-right.ensures.right
+pub cells-requires-2 : goal.cells-requires-2
+cells-requires-2 g c = right_few (content_of c.args.link.node) (content_of c.part-right.result) c.insert.new.self.items c.is_full.ensures.fits c.part-right.ensures.right
 
-pub write_node-requires-3-clause-few : goal.write_node-requires-3-clause-few
-write_node-requires-3-clause-few g c = left_few (content_of c.args.link.node) (content_of c.part-right.new.self) c.insert.new.self.items c.in_ok-fresh.fresh c.part-right.ensures.left
+pub cells-requires-3 : goal.cells-requires-3
+cells-requires-3 g c = left_few (content_of c.args.link.node) (content_of c.part-right.new.self) c.insert.new.self.items c.in_ok-fresh.fresh c.part-right.ensures.left

@@ -1,6 +1,7 @@
 use Rattle.std.proofs.Common.{Some, length, refl, ap, ◌∙◌, arith}
 use Rattle.record_store.specs.Calls.Calls.{none}
 use Rattle.record_store.specs.Meaning.{after_write}
+use Rattle.record_store.proofs.Agreement.{written_as}
 use Rattle.record_store.proofs.Refusals.{fault_moved, IfStore-map, OnOk-map}
 use Rattle.record_store.proofs.Paths.{CallFault-behind, CallFault-never}
 use Rattle.record_store.proofs.Known.{tries, gives-none, fewer-behind}
@@ -23,12 +24,12 @@ pub returns-then-not-is_full-clause-ok : goal.returns-then-not-is_full-clause-ok
 returns-then-not-is_full-clause-ok g c =
     let items = c.insert.ensures.items in
     let few = not_full (length c.insert.new.self.items) c.is_full.result c.is_full.ensures.value c.if-not-is_full.true c.is_full.ensures.fits in
-    whole (omega (arith, few, ap length items)) (c.in_ok-write_node.ensures.ok ∙ ap (λ es. after_write (g.S.RecordRead.meaning c.args.store.now) c.args.top.at (Some (words_of (let n : Content = record { kind = c.args.top.node.kind; low = c.args.top.node.low; entries = es; next = c.args.top.node.next } in n)))) items)
+    whole (omega (arith, few, ap length items)) (written_as (g.S.RecordRead.meaning c.args.store.now) c.args.top.at c.cells.ensures c.in_ok-write_node.ensures.ok ∙ ap (λ es. after_write (g.S.RecordRead.meaning c.args.store.now) c.args.top.at (Some (words_of (let n : Content = record { kind = c.args.top.node.kind; low = c.args.top.node.low; entries = es; next = c.args.top.node.next } in n)))) items)
 
 pub returns-then-not-is_full-clause-calls : goal.returns-then-not-is_full-clause-calls
 returns-then-not-is_full-clause-calls g c =
     let few = asks_few c.args.top.node.entries.items c.args.rank c.args.entry c.insert.new.self.items c.is_full.result c.insert.ensures.items c.is_full.ensures.value c.if-not-is_full.true c.is_full.ensures.fits in
-    (0, c.write_node.ensures.calls, root_whole c.args.top.node.entries.items (g.S.RecordRead.meaning c.args.store.now) (g.S.RecordRead.meaning c.write_node.new.store) _ _ few c.in_ok-write_node.ensures.ok, (tries c.write_node.result (g.S.RecordRead.meaning c.args.store.now) (g.S.RecordRead.meaning c.write_node.new.store) c.args.top.at _ c.write_node.ensures.ok c.write_node.ensures.err).given)
+    (0, c.write_node.ensures.calls, root_whole c.args.top.node.entries.items (g.S.RecordRead.meaning c.args.store.now) (g.S.RecordRead.meaning c.write_node.new.store) _ _ few (written_as (g.S.RecordRead.meaning c.args.store.now) c.args.top.at c.cells.ensures c.in_ok-write_node.ensures.ok), (tries c.write_node.result (g.S.RecordRead.meaning c.args.store.now) (g.S.RecordRead.meaning c.write_node.new.store) c.args.top.at _ c.write_node.ensures.ok c.write_node.ensures.err).given)
 
 pub returns-clause-ok : goal.returns-clause-ok
 returns-clause-ok g c = OnOk-map c.split_root.result (puts_same (g.S.RecordRead.meaning c.args.store.now) (g.S.RecordRead.meaning c.split_root.new.store) c.args.top.at c.args.top.node.kind c.args.top.node.low c.insert.new.self.items c.args.top.node.entries.items c.insert.new.self.items _ c.args.top.node.next c.insert.ensures.items) c.split_root.ensures.ok

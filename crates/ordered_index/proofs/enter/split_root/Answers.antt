@@ -12,7 +12,7 @@ use Rattle.record_store.proofs.Known.{tries, gives-weaken, fewer-refused, goes-s
 use Rattle.ordered_index.proofs.Going.{left_goes, right_goes, over_goes}
 use Rattle.ordered_index.proofs.Asking.{on_err}
 use Rattle.ordered_index.proofs.Wrote.{nodes-none, nodes-trans, nodes-weaken, wrote_fresh, wrote_none, wrote_one}
-use Rattle.record_store.proofs.Agreement.{ReadsGrow-refl, ReadsGrow-same, ReadsGrow-fresh, ReadsGrow-write}
+use Rattle.record_store.proofs.Agreement.{ReadsGrow-refl, ReadsGrow-same, ReadsGrow-fresh, ReadsGrow-write, written_as}
 use Rattle.ordered_index.proofs.Parting.{left_few, right_few}
 use Rattle.ordered_index.proofs.enter.split_root.Goals as goal
 
@@ -65,10 +65,10 @@ returns-clause-ok g c =
     let first : Meaning = after_fresh (after_fresh (g.S.RecordRead.meaning c.args.store.now) c.in_ok-left.left) c.in_ok-right.right in
     let left : Content = left_of (content_of c.args.top.node) c.args.top.node.entries.items c.in_ok-right.right in
     let right : Content = right_of (content_of c.args.top.node) c.args.top.node.entries.items in
-    let one : g.S.RecordRead.meaning c.write_node.new.store ≡ after_write first c.in_ok-left.left (Some (words_of left)) = c.in_ok-write_node.ensures.ok ∙ ap (λ n. after_write (g.S.RecordRead.meaning c.fresh-2.new.self) c.in_ok-left.left (Some (words_of n))) c.part-right_node.ensures.left ∙ ap (λ m. after_write m c.in_ok-left.left (Some (words_of left))) base in
-    let two : g.S.RecordRead.meaning c.write_node-2.new.store ≡ after_write (after_write first c.in_ok-left.left (Some (words_of left))) c.in_ok-right.right (Some (words_of right)) = c.in_ok-write_node-2.ensures.ok ∙ ap (λ n. after_write (g.S.RecordRead.meaning c.write_node.new.store) c.in_ok-right.right (Some (words_of n))) c.part-right_node.ensures.right ∙ ap (λ m. after_write m c.in_ok-right.right (Some (words_of right))) one in
+    let one : g.S.RecordRead.meaning c.write_node.new.store ≡ after_write first c.in_ok-left.left (Some (words_of left)) = (written_as (g.S.RecordRead.meaning c.fresh-2.new.self) c.in_ok-left.left c.cells.ensures c.in_ok-write_node.ensures.ok) ∙ ap (λ n. after_write (g.S.RecordRead.meaning c.fresh-2.new.self) c.in_ok-left.left (Some (words_of n))) c.part-right_node.ensures.left ∙ ap (λ m. after_write m c.in_ok-left.left (Some (words_of left))) base in
+    let two : g.S.RecordRead.meaning c.write_node-2.new.store ≡ after_write (after_write first c.in_ok-left.left (Some (words_of left))) c.in_ok-right.right (Some (words_of right)) = (written_as (g.S.RecordRead.meaning c.write_node.new.store) c.in_ok-right.right c.cells-2.ensures c.in_ok-write_node-2.ensures.ok) ∙ ap (λ n. after_write (g.S.RecordRead.meaning c.write_node.new.store) c.in_ok-right.right (Some (words_of n))) c.part-right_node.ensures.right ∙ ap (λ m. after_write m c.in_ok-right.right (Some (words_of right))) one in
     parted c.in_ok-left.left c.in_ok-right.right c.requires.ten c.in_ok-left.ensures.fresh (rw c.in_ok-left.ensures.ok at c.in_ok-right.ensures.fresh)
-    (c.in_ok-write_node-3.ensures.ok ∙ ap (λ n. after_write (g.S.RecordRead.meaning c.write_node-2.new.store) c.args.top.at (Some (words_of n))) over ∙ ap (λ m. after_write m c.args.top.at (Some (words_of (over_of c.args.top.node.low c.in_ok-left.left (key_at c.args.top.node.entries.items 5) c.in_ok-right.right)))) two)
+    ((written_as (g.S.RecordRead.meaning c.write_node-2.new.store) c.args.top.at c.cells-3.ensures c.in_ok-write_node-3.ensures.ok) ∙ ap (λ n. after_write (g.S.RecordRead.meaning c.write_node-2.new.store) c.args.top.at (Some (words_of n))) over ∙ ap (λ m. after_write m c.args.top.at (Some (words_of (over_of c.args.top.node.low c.in_ok-left.left (key_at c.args.top.node.entries.items 5) c.in_ok-right.right)))) two)
 
 pub returns-in_err-left-clause-after : goal.returns-in_err-left-clause-after
 returns-in_err-left-clause-after g c =
@@ -157,7 +157,7 @@ returns-in_err-write_node-2-clause-few g c =
     let m2 = g.S.RecordRead.meaning c.fresh-2.new.self in
     let m3 = g.S.RecordRead.meaning c.write_node.new.store in
     let m4 = g.S.RecordRead.meaning c.write_node-2.new.store in
-    nodes-weaken 1 3 m0 m4 (omega arith) (wrote_none 1 m0 m3 m4 (wrote_one 0 m0 m2 m3 _ _ (nodes-trans 0 0 m0 m1 m2 (wrote_fresh m0 m1 _ c.in_ok-left.ensures.ok) (wrote_fresh m1 m2 _ c.in_ok-right.ensures.ok)) c.in_ok-write_node.ensures.ok) c.in_err-write_node-2.ensures.err)
+    nodes-weaken 1 3 m0 m4 (omega arith) (wrote_none 1 m0 m3 m4 (wrote_one 0 m0 m2 m3 _ _ (nodes-trans 0 0 m0 m1 m2 (wrote_fresh m0 m1 _ c.in_ok-left.ensures.ok) (wrote_fresh m1 m2 _ c.in_ok-right.ensures.ok)) (written_as m2 c.in_ok-left.left c.cells.ensures c.in_ok-write_node.ensures.ok)) c.in_err-write_node-2.ensures.err)
 
 pub returns-in_err-write_node-3-clause-few : goal.returns-in_err-write_node-3-clause-few
 returns-in_err-write_node-3-clause-few g c =
@@ -167,7 +167,7 @@ returns-in_err-write_node-3-clause-few g c =
     let m3 = g.S.RecordRead.meaning c.write_node.new.store in
     let m4 = g.S.RecordRead.meaning c.write_node-2.new.store in
     let m5 = g.S.RecordRead.meaning c.write_node-3.new.store in
-    nodes-weaken 2 3 m0 m5 (omega arith) (wrote_none 2 m0 m4 m5 (wrote_one 1 m0 m3 m4 _ _ (wrote_one 0 m0 m2 m3 _ _ (nodes-trans 0 0 m0 m1 m2 (wrote_fresh m0 m1 _ c.in_ok-left.ensures.ok) (wrote_fresh m1 m2 _ c.in_ok-right.ensures.ok)) c.in_ok-write_node.ensures.ok) c.in_ok-write_node-2.ensures.ok) c.in_err-write_node-3.ensures.err)
+    nodes-weaken 2 3 m0 m5 (omega arith) (wrote_none 2 m0 m4 m5 (wrote_one 1 m0 m3 m4 _ _ (wrote_one 0 m0 m2 m3 _ _ (nodes-trans 0 0 m0 m1 m2 (wrote_fresh m0 m1 _ c.in_ok-left.ensures.ok) (wrote_fresh m1 m2 _ c.in_ok-right.ensures.ok)) (written_as m2 c.in_ok-left.left c.cells.ensures c.in_ok-write_node.ensures.ok)) (written_as m3 c.in_ok-right.right c.cells-2.ensures c.in_ok-write_node-2.ensures.ok)) c.in_err-write_node-3.ensures.err)
 
 pub returns-clause-few : goal.returns-clause-few
 returns-clause-few g c =
@@ -177,7 +177,7 @@ returns-clause-few g c =
     let m3 = g.S.RecordRead.meaning c.write_node.new.store in
     let m4 = g.S.RecordRead.meaning c.write_node-2.new.store in
     let m5 = g.S.RecordRead.meaning c.write_node-3.new.store in
-    wrote_one 2 m0 m4 m5 _ _ (wrote_one 1 m0 m3 m4 _ _ (wrote_one 0 m0 m2 m3 _ _ (nodes-trans 0 0 m0 m1 m2 (wrote_fresh m0 m1 _ c.in_ok-left.ensures.ok) (wrote_fresh m1 m2 _ c.in_ok-right.ensures.ok)) c.in_ok-write_node.ensures.ok) c.in_ok-write_node-2.ensures.ok) c.in_ok-write_node-3.ensures.ok
+    wrote_one 2 m0 m4 m5 _ _ (wrote_one 1 m0 m3 m4 _ _ (wrote_one 0 m0 m2 m3 _ _ (nodes-trans 0 0 m0 m1 m2 (wrote_fresh m0 m1 _ c.in_ok-left.ensures.ok) (wrote_fresh m1 m2 _ c.in_ok-right.ensures.ok)) (written_as m2 c.in_ok-left.left c.cells.ensures c.in_ok-write_node.ensures.ok)) (written_as m3 c.in_ok-right.right c.cells-2.ensures c.in_ok-write_node-2.ensures.ok)) (written_as m4 c.args.top.at c.cells-3.ensures c.in_ok-write_node-3.ensures.ok)
 
 pub returns-in_err-left-clause-writes : goal.returns-in_err-left-clause-writes
 returns-in_err-left-clause-writes g c = (goes-same (λ rid. rid ≡ c.args.top.at) (g.S.RecordRead.meaning c.args.store.now) (g.S.RecordRead.meaning c.fresh.new.self) c.in_err-left.ensures.err).only
@@ -198,8 +198,8 @@ pub returns-clause-writes : goal.returns-clause-writes
 returns-clause-writes g c = (over_goes (λ rid. rid ≡ c.args.top.at) (g.S.RecordRead.meaning c.args.store.now) (g.S.RecordRead.meaning c.fresh.new.self) (g.S.RecordRead.meaning c.fresh-2.new.self) (g.S.RecordRead.meaning c.write_node.new.store) c.in_ok-left.left c.in_ok-right.right c.in_ok-left.ensures.ok c.in_ok-right.ensures.ok (tries c.write_node.result (g.S.RecordRead.meaning c.fresh-2.new.self) (g.S.RecordRead.meaning c.write_node.new.store) c.in_ok-left.left _ c.write_node.ensures.ok c.write_node.ensures.err) (g.S.RecordRead.meaning c.write_node-2.new.store) (tries c.write_node-2.result (g.S.RecordRead.meaning c.write_node.new.store) (g.S.RecordRead.meaning c.write_node-2.new.store) c.in_ok-right.right _ c.write_node-2.ensures.ok c.write_node-2.ensures.err) (g.S.RecordRead.meaning c.write_node-3.new.store) c.args.top.at refl (tries c.write_node-3.result (g.S.RecordRead.meaning c.write_node-2.new.store) (g.S.RecordRead.meaning c.write_node-3.new.store) c.args.top.at _ c.write_node-3.ensures.ok c.write_node-3.ensures.err)).only
 
 -- nine entries at most are written
-pub write_node-requires-clause-few : goal.write_node-requires-clause-few
-write_node-requires-clause-few g c = left_few (content_of c.args.top.node) (content_of c.part-right_node.new.self) c.args.top.node.entries.items c.in_ok-right.right c.part-right_node.ensures.left
+pub cells-requires : goal.cells-requires
+cells-requires g c = left_few (content_of c.args.top.node) (content_of c.part-right_node.new.self) c.args.top.node.entries.items c.in_ok-right.right c.part-right_node.ensures.left
 
-pub write_node-requires-2-clause-few : goal.write_node-requires-2-clause-few
-write_node-requires-2-clause-few g c = right_few (content_of c.args.top.node) (content_of c.part-right_node.result) c.args.top.node.entries.items (omega (arith, c.requires.ten)) c.part-right_node.ensures.right
+pub cells-requires-2 : goal.cells-requires-2
+cells-requires-2 g c = right_few (content_of c.args.top.node) (content_of c.part-right_node.result) c.args.top.node.entries.items (omega (arith, c.requires.ten)) c.part-right_node.ensures.right

@@ -9,7 +9,7 @@ use Rattle.plain_data.specs.State.{overlay}
 use Rattle.ordered_index.proofs.Trees.{is_torn}
 use Rattle.std.proofs.Common.{[], ◌∷◌}
 use Rattle.record_store.specs.Meaning.{after_write}
-use Rattle.record_store.proofs.Agreement.{OnlyReads-trans, extends-refl, ReadsGrow-behind, ReadsGrow-trans, written_after}
+use Rattle.record_store.proofs.Agreement.{OnlyReads-trans, extends-refl, ReadsGrow-behind, ReadsGrow-trans, written_after, written_as}
 use Rattle.ordered_index.specs.Keys.{first_key}
 use Rattle.ordered_index.specs.Node.{IsSound, words_of}
 use Rattle.ordered_index.specs.Held.{content_of}
@@ -50,11 +50,11 @@ returns-in_err-write_node-clause-calls g c =
 pub returns-in_default-clause-ok : goal.returns-in_default-clause-ok
 returns-in_default-clause-ok g c =
     inserts_first c.size-size.result c.args.root c.args.key c.args.rid (g.S.RecordRead.meaning c.args.store.now) (g.S.RecordRead.meaning c.read_node.new.store) (g.S.RecordRead.meaning c.write_node.new.store) c.size-size.ensures.size c.requires.rid c.in_ok-top.ensures.after (λ state agrees. rw c.in_default.is at (c.in_ok-top.ensures.read state agrees))
-    (c.in_ok-write_node.ensures.ok ∙ ap (λ n. after_write (g.S.RecordRead.meaning c.read_node.new.store) c.args.root (Some (words_of n))) c.leaf.ensures)
+    ((written_as (g.S.RecordRead.meaning c.read_node.new.store) c.args.root c.cells.ensures c.in_ok-write_node.ensures.ok) ∙ ap (λ n. after_write (g.S.RecordRead.meaning c.read_node.new.store) c.args.root (Some (words_of n))) c.leaf.ensures)
 
 pub returns-in_default-clause-calls : goal.returns-in_default-clause-calls
 returns-in_default-clause-calls g c =
-    (0, Calls-trans _ _ _ 0 0 (Calls-reads _ _ c.read_node.ensures.calls) c.write_node.ensures.calls, asks_first c.size-size.result c.args.root c.args.key (g.S.RecordRead.meaning c.args.store.now) (g.S.RecordRead.meaning c.read_node.new.store) (g.S.RecordRead.meaning c.write_node.new.store) c.args.root _ c.size-size.ensures.size c.in_ok-top.ensures.after (λ state agrees. rw c.in_default.is at (c.in_ok-top.ensures.read state agrees)) c.in_ok-write_node.ensures.ok, gives-tried (g.S.RecordRead.meaning c.args.store.now) (g.S.RecordRead.meaning c.read_node.new.store) (g.S.RecordRead.meaning c.write_node.new.store) c.args.root c.read_node.ensures.after (tries c.write_node.result (g.S.RecordRead.meaning c.read_node.new.store) (g.S.RecordRead.meaning c.write_node.new.store) c.args.root _ c.write_node.ensures.ok c.write_node.ensures.err))
+    (0, Calls-trans _ _ _ 0 0 (Calls-reads _ _ c.read_node.ensures.calls) c.write_node.ensures.calls, asks_first c.size-size.result c.args.root c.args.key (g.S.RecordRead.meaning c.args.store.now) (g.S.RecordRead.meaning c.read_node.new.store) (g.S.RecordRead.meaning c.write_node.new.store) c.args.root _ c.size-size.ensures.size c.in_ok-top.ensures.after (λ state agrees. rw c.in_default.is at (c.in_ok-top.ensures.read state agrees)) (written_as (g.S.RecordRead.meaning c.read_node.new.store) c.args.root c.cells.ensures c.in_ok-write_node.ensures.ok), gives-tried (g.S.RecordRead.meaning c.args.store.now) (g.S.RecordRead.meaning c.read_node.new.store) (g.S.RecordRead.meaning c.write_node.new.store) c.args.root c.read_node.ensures.after (tries c.write_node.result (g.S.RecordRead.meaning c.read_node.new.store) (g.S.RecordRead.meaning c.write_node.new.store) c.args.root _ c.write_node.ensures.ok c.write_node.ensures.err))
 
 pub enter-requires-clause-sound : goal.enter-requires-clause-sound
 enter-requires-clause-sound g c =

@@ -4,4 +4,4 @@ use Rattle.txn_engine.specs.Pass.{PassView, begun}
 
 -- a transaction is in flight that reads and writes
 abbrev pub IsOpen : PassView → Type 0
-IsOpen pass = pass.desk.phase ≡ (begun pass 0).desk.phase
+IsOpen pass = pass.phase ≡ (begun pass 0).phase

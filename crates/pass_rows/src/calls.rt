@@ -46,6 +46,8 @@ pub enum Act {
     Read(u32),
     /// It writes this record: 32 times the word 9.
     Write(u32),
+    /// It reads this record, drops what it has written, and reads record 0.
+    Again(u32),
     /// It asks for two new records.
     Fresh,
 }
@@ -119,6 +121,15 @@ fn write<S: RecordStore<Fault = TxnFault>>(store: &mut S, rid: u32, again: bool)
     }
 }
 
+// Reads a record, drops what is written, and reads record 0.
+fn read_again<S: RecordStore<Fault = TxnFault>>(store: &mut S, rid: u32, again: bool) -> Done
+    ensures { S.rest store.new ≡ S.rest store.old }
+{
+    read(store, rid, again);
+    store.undo();
+    read(store, 0, again)
+}
+
 // Asks for a new record.
 fn ask<S: RecordStore<Fault = TxnFault>>(store: &mut S, again: bool) -> Result<u32, TxnFault>
     ensures { S.rest store.new ≡ S.rest store.old }
@@ -138,6 +149,7 @@ pub fn act_on<S: RecordStore<Fault = TxnFault>>(store: &mut S, act: Act, again: 
         Act::Nothing => Done::Nothing,
         Act::Read(rid) => read(store, rid, again),
         Act::Write(rid) => write(store, rid, again),
+        Act::Again(rid) => read_again(store, rid, again),
         Act::Fresh => {
             let first = ask(store, again);
             Done::Given(first, ask(store, again))

@@ -146,8 +146,11 @@ fn cross<R: Abort>(
     same(rt, ended(Done::Nothing, end(late)), due.1, 5);
 }
 
-// Settles what is left, where a seat is alone again.
-fn settled(engine: &Engine<AnyState>, alone: &mut Alone<AnyState>) -> Result<Settled, ClockOut>
+/// Settles what is left, where a seat is alone.
+pub fn settled(
+    engine: &Engine<AnyState>,
+    alone: &mut Alone<AnyState>,
+) -> Result<Settled, ClockOut>
     requires { IsIdleOf engine.now alone.old.pass }
     ensures { IsIdleOf engine.now alone.new.pass }
 {

@@ -110,7 +110,7 @@ fn fill<R: process::Abort>(rt: &R, engine: &Engine<AnyState>, alone: &mut Alone<
         MOST_RECORDS,
         0,
     );
-    same(rt, end_alone(txn), Some(MOST_RECORDS), 1);
+    same(rt, end_alone(txn), Some((0, MOST_RECORDS)), 1);
 }
 
 // Changes the records from this one up to that one, in one transaction of a pass, which has to commit.

@@ -5,7 +5,7 @@ ghost use Rattle.std.specs.Borrow.{sem, RestsIfErr};
 ghost use Rattle.histories.specs.contracts.AnyState.{the_row as any_state};
 ghost use Rattle.txn_engine.specs.contracts.alone.Alone.{the_row as alone_row};
 ghost use Rattle.txn_engine.specs.contracts.pass.Pass.{the_row};
-ghost use Rattle.txn_engine.specs.Pass.{IsIdleOf};
+ghost use Rattle.txn_engine.specs.Pass.{IsIdleOf, engine_of};
 ghost use Rattle.pass_rows.specs.Seats.{IsOpen};
 
 use histories::AnyState;
@@ -24,7 +24,7 @@ pub fn open<'a>(
     ensures* rests { sem 𝓛 (RestsIfErr (the_row any_state) pass.entry (λ t. t.pass.ghost_name) result (λ p. IsIdleOf engine.now p)) }
     ensures same_reference { IfOk result (λ t. t.pass.ghost_name ≡ pass.entry.ghost_name) }
     ensures open { IfOk result (λ t. IsOpen t.pass.now) }
-    ensures of_engine { IfOk result (λ t. t.pass.now.engine ≡ engine.now) }
+    ensures of_engine { IfOk result (λ t. engine_of t.pass.now ≡ engine.now) }
 {
     pass.begin(engine, reading)
 }
@@ -32,7 +32,7 @@ pub fn open<'a>(
 /// Ends a transaction without an entry.
 pub fn stop<E: Lent<AnyState>>(txn: TxnOver<'_, AnyState, E>)
     requires { IsOpen txn.pass.now }
-    ensures { IsIdleOf txn.entry.pass.now.engine txn.exit.0.now }
+    ensures { IsIdleOf (engine_of txn.entry.pass.now) txn.exit.0.now }
 {
     txn.abort();
 }
@@ -40,7 +40,7 @@ pub fn stop<E: Lent<AnyState>>(txn: TxnOver<'_, AnyState, E>)
 /// Commits a transaction.
 pub fn end<E: Lent<AnyState>>(txn: TxnOver<'_, AnyState, E>) -> Result<Committed, CommitFault>
     requires { IsOpen txn.pass.now }
-    ensures { IsIdleOf txn.entry.pass.now.engine txn.exit.0.now }
+    ensures { IsIdleOf (engine_of txn.entry.pass.now) txn.exit.0.now }
 {
     txn.commit()
 }
@@ -55,7 +55,7 @@ pub fn open_alone<'a>(
     ensures* rests { sem 𝓛 (RestsIfErr (alone_row any_state) alone.entry (λ t. t.alone.ghost_name) result (λ a. IsIdleOf engine.now a.pass × (a.shared ≡ alone.old.shared))) }
     ensures same_reference { IfOk result (λ t. t.alone.ghost_name ≡ alone.entry.ghost_name) }
     ensures open { IfOk result (λ t. IsOpen t.alone.now.pass) }
-    ensures of_engine { IfOk result (λ t. t.alone.now.pass.engine ≡ engine.now) }
+    ensures of_engine { IfOk result (λ t. engine_of t.alone.now.pass ≡ engine.now) }
     ensures shared { IfOk result (λ t. t.alone.now.shared ≡ alone.old.shared) }
 {
     alone.begin(engine, reading)
@@ -64,20 +64,21 @@ pub fn open_alone<'a>(
 /// Ends a transaction of the seat that is alone without an entry.
 pub fn stop_alone<E: Lent<AnyState>>(txn: AloneOver<'_, AnyState, E>)
     requires { IsOpen txn.alone.now.pass }
-    ensures seat { IsIdleOf txn.entry.alone.now.pass.engine txn.exit.0.now.pass }
+    ensures seat { IsIdleOf (engine_of txn.entry.alone.now.pass) txn.exit.0.now.pass }
     ensures shared { txn.exit.0.now.shared ≡ txn.entry.alone.now.shared }
 {
     txn.abort();
 }
 
-/// Commits a transaction of the seat that is alone; how many versions took a place of the pool, if it committed.
-pub fn end_alone<E: Lent<AnyState>>(txn: AloneOver<'_, AnyState, E>) -> Option<u32>
+/// Commits a transaction of the seat that is alone; how many versions took an inline place, and how many a place of the pool, if it
+/// committed.
+pub fn end_alone<E: Lent<AnyState>>(txn: AloneOver<'_, AnyState, E>) -> Option<(u32, u32)>
     requires { IsOpen txn.alone.now.pass }
-    ensures seat { IsIdleOf txn.entry.alone.now.pass.engine txn.exit.0.now.pass }
+    ensures seat { IsIdleOf (engine_of txn.entry.alone.now.pass) txn.exit.0.now.pass }
     ensures shared { txn.exit.0.now.shared ≡ txn.entry.alone.now.shared }
 {
     match txn.commit() {
-        Ok(told) => Some(told.pooled),
+        Ok(told) => Some((told.inlined, told.pooled)),
         Err(_) => None,
     }
 }

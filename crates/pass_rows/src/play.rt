@@ -2,6 +2,7 @@
 ghost use Rattle.std.specs.Prelude.{◌≡◌, false};
 ghost use Rattle.txn_engine.specs.Pass.{IsIdleOf};
 
+use crate::alone::commit_and_settle;
 use crate::calls::{Step, Told, make_all};
 use crate::coming::{Size, begin, shared};
 use crate::flights::{Flight, cross_on, fly_and_settle, fly_on};
@@ -23,6 +24,8 @@ pub enum Piece<'a> {
     Commits(u32),
     /// Every spare number is given out, and again after deletions.
     Spare,
+    /// Commits of the seat that is alone, which then settles.
+    Alone,
     /// Four passes on few records.
     Stress,
     /// Two passes, of which the first reads one record and the second another; whether both commit is due.
@@ -68,6 +71,7 @@ fn play_on<R: Threads + Wait + Abort + Sync>(
         Piece::Largest => return limits::touch_all(rt, alloc, engine, alone),
         Piece::Commits(commits) => limits::commit_often(rt, engine, alone, commits),
         Piece::Spare => limits::give_out_all(rt, engine, alone),
+        Piece::Alone => commit_and_settle(rt, engine, alone),
         Piece::Stress => return stress::run_and_check(rt, alloc, engine, alone),
         Piece::Both(first, second, due) => {
             threads::both_commit(rt, engine, alone, (first, second), due);

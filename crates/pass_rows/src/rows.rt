@@ -99,6 +99,19 @@ fn a_pending_version_is_not_waited_for(rt: HostRuntime) -> Result<(), Fail> {
 }
 
 #[test]
+fn a_conflict_is_answered_again_after_undo(rt: HostRuntime) -> Result<(), Fail> {
+    let pending = Conflict::Pending { rid: 5, wts: 2_560 };
+    let flight = Flight {
+        act: Act::Write(5),
+        is_linked: true,
+        calls: &[(0, Call::Commit(20, Act::Again(5)), Told::Stopped(pending))],
+        due: pooled(2_560),
+        later: &[],
+    };
+    play(&rt, rt.alloc(), 2, SIX, Piece::Flies(&flight))
+}
+
+#[test]
 fn a_full_pool_has_a_place_once_one_is_collected(rt: HostRuntime) -> Result<(), Fail> {
     let steps = [
         (0, writes(0), pooled(256)),

@@ -1,6 +1,6 @@
 -- The value of a record written again: it fits, and what one version more leaves of a view.
 use Rattle.std.proofs.Common.{◌≡◌, ℕ, ◌<◌, Bool, true, false, cond, List, [], ◌∷◌, ◌++◌, Option, refl, sym, ap, ◌∙◌, subst, inl, inr, length, map, drop}
-use Rattle.std.specs.Prelude.{IfSome}
+use Rattle.std.specs.Prelude.{IfSome, slice_set}
 use Rattle.std.proofs.lemmas.Bool.Decides.{eqb_tells}
 use Rattle.std.proofs.lemmas.List.{map_push}
 use Rattle.std.proofs.lemmas.List.Elements.{All-head}
@@ -20,11 +20,12 @@ use Rattle.validate_core.specs.Installing.{SameSets, InstallsHeld}
 use Rattle.validate_core.specs.Validating as validating
 use Rattle.version_search.specs.Growing.{Grows}
 use Rattle.version_search.proofs.Grown.{grows_both}
-use Rattle.seat_post.specs.Conflicts.{ShowsOf}
+use Rattle.seat_post.specs.Conflicts.{ShowsOf, WasFound, WereFound}
+use Rattle.seat_post.specs.Seats.{Placed, placed_of}
 use Rattle.seat_post.specs.Rewriting.{rewriting, LinksOne, Rewrites, IsStopped, IsLoadedIn, others_in}
 use Rattle.seat_post.proofs.EndMore.{same_values, stood_same, another_of}
 use Rattle.seat_post.proofs.Listed.{read_value-version, value_of-cells}
-use Rattle.seat_post.proofs.Observed.{shown_loaded, loaded_before}
+use Rattle.seat_post.proofs.Observed.{shown_loaded, loaded_before, found_after}
 
 -- ---- it fits
 
@@ -74,8 +75,16 @@ module _ (z : Size) (before after' : SetsView) (rid place : ℕ) (value : Option
   pub linked_log : x.log ≡ v.log
   linked_log = ap (λ (y : View). y.log) installs.only
 
-  pub links_then : (w : View) → w ≡ record (validating.worked x w.work w.seen) { log = w.log } → Grows x.seen w.seen → Ends w.work → LinksOne rid place v.published.write v w
-  links_then w then grows ends = record {
+  -- it stands in that place
+  placed_one : placed_of after'.writes ≡ record { rid = rid; place = place } ∷ []
+  placed_one =
+      let at : List Write → List Placed = λ us. placed_of (slice_set us 0 (record installs.puts.write { place = place; stamp = v.published.write })) in
+      let alone : ℕ → List Placed = λ r. record { rid = r; place = place } ∷ [] in
+      ap (λ (us : List Write). placed_of us) installs.puts.writes ∙ ap at written ∙ ap alone record_is
+
+  pub links_then : (w : View) → w ≡ record (validating.worked x w.work w.seen) { log = w.log } → w.work.linked ≡ after'.writes → Grows x.seen w.seen → Ends w.work → LinksOne rid place v.published.write v w
+  links_then w then linked grows ends = record {
+    placed = ap (λ (us : List Write). placed_of us) linked ∙ placed_one;
     only = subst (λ (y : View). y ≡ record v { places = y.places; work = y.work; counts = counted_more v.size rid v.published.write place v.counts; tops = record { record_number = rid; stamp = v.published.write } ∷ v.tops; front = y.front; log = y.log; seen = y.seen })
         (sym (then ∙ ap (λ (y : View). record (validating.worked y w.work w.seen) { log = w.log }) linked_only)) refl;
     held = ap (λ (y : View). y.places.held) then ∙ installs.held;
@@ -106,15 +115,15 @@ has_entry t rid value s s' before log same written more =
       of_record = first.2;
     }
 
-pub rewrites_at : (kept : State → Type 0) (records rid from wts place : ℕ) (value : Option (List ℕ)) (z : Size) (s s' : SetsView) (v x y w : View) → IfSome value (λ words. length words ≡ 32) → s.reads ≡ read_version rid from wts value ∷ [] → s.writes ≡ written_version rid 0 0 value ∷ [] → SameSets s s' → InstallsHeld z place s s' v x → (t : ℕ) → t ≡ v.published.write → validating.Decides kept records t s' x y → w.log ≡ y.log → validating.Works y w → Ends w.work → Rewrites kept records rid place v.published.write value v w
-rewrites_at kept records rid from wts place value z s s' v x y w whole read written same installs t at decides log works ends =
+pub rewrites_at : (kept : State → Type 0) (records rid from wts place : ℕ) (value : Option (List ℕ)) (z : Size) (s s' : SetsView) (v x y w : View) → IfSome value (λ words. length words ≡ 32) → s.reads ≡ read_version rid from wts value ∷ [] → s.writes ≡ written_version rid 0 0 value ∷ [] → SameSets s s' → InstallsHeld z place s s' v x → (t : ℕ) → t ≡ v.published.write → validating.Decides kept records t s' x y → w.log ≡ y.log → validating.Works y w → w.work.linked ≡ s'.writes → Ends w.work → Rewrites kept records rid place v.published.write value v w
+rewrites_at kept records rid from wts place value z s s' v x y w whole read written same installs t at decides log works linked ends =
     let entry = entry_again t rid from wts value s s' whole read written same in
     let before = linked_log z s s' rid place value v x installs written in
     let more : w.log ≡ v.log ++ commit_of (writing t) s'.reads s'.writes ∷ [] = log ∙ decides.log ∙ ap (λ es. es ++ commit_of (writing t) s'.reads s'.writes ∷ []) before in
     let then : w ≡ record (validating.worked x w.work w.seen) { log = w.log } =
     works.only ∙ ap (λ (u : View). validating.worked u w.work w.seen) decides.only ∙ ap (λ es. record (validating.worked x w.work w.seen) { log = es }) (sym log) in
     subst (λ (n : ℕ). Rewrites kept records rid place n value v w) at (record {
-      links = subst (λ (n : ℕ). LinksOne rid place n v w) (sym at) (links_then z s s' rid place value v x installs written w then (grows_both x.seen y.seen w.seen decides.grows works.grows) ends);
+      links = subst (λ (n : ℕ). LinksOne rid place n v w) (sym at) (links_then z s s' rid place value v x installs written w then linked (grows_both x.seen y.seen w.seen decides.grows works.grows) ends);
       log = ap (λ es. map entry_of es) more ∙ map_push entry_of v.log (commit_of (writing t) s'.reads s'.writes) ∙ ap (λ e. map entry_of v.log ++ e ∷ []) entry;
       stood = stood_same kept records v.log (commit_of (writing t) s'.reads s'.writes) (rewriting t rid value) entry (subst (λ es. StoodAt kept records es (commit_of (writing t) s'.reads s'.writes)) before decides.stood);
       entered = has_entry t rid value s s' v.log w.log same written more;
@@ -151,17 +160,26 @@ shows_of rid from wts value s s' x y t (Overtaken at seen now) read written same
     let other = another_of x y now stands inside shown.2 in
     (read_is rid from wts value s s' at seen read same shown.3, shown.0, shown.1, other)
 
-pub stopped_at : (rid from wts place : ℕ) (value : Option (List ℕ)) (z : Size) (s s' : SetsView) (v x w : View) (t : ℕ) (conflict : Conflict) → s.reads ≡ read_version rid from wts value ∷ [] → s.writes ≡ written_version rid 0 0 value ∷ [] → SameSets s s' → InstallsHeld z place s s' v x → t ≡ v.published.write → v.number < v.size.seats → validating.Stands x w → validating.Works x w → w.log ≡ x.log → Ends w.work → validating.IsShown t s' x w conflict → IsStopped rid place v.published.write v w conflict
-stopped_at rid from wts place value z s s' v x w t conflict read written same installs at inside stands works log ends shown =
+-- the one version that was read was found
+read_found : (rid from wts : ℕ) (value : Option (List ℕ)) (s s' : SetsView) (t : ℕ) (v w : View) → s.reads ≡ read_version rid from wts value ∷ [] → SameSets s s' → Grows v.seen w.seen → WasFound t rid wts v.seen.loads → WereFound t s'.reads w.seen.loads
+read_found rid from wts value s s' t v w read same grows found d among =
+    elim (subst (λ (ds : List Read). Among d ds) (same.reads ∙ read) among) as (λ _. WasFound t d.record_number d.version w.seen.loads) [
+      | inl is ↦ subst (λ (x : Read). WasFound t x.record_number x.version w.seen.loads) is (found_after t rid wts v.seen.loads w.seen.loads grows.loaded grows.loads found)
+      | inr none ↦ absurd none
+    ]
+
+pub stopped_at : (rid from wts place : ℕ) (value : Option (List ℕ)) (z : Size) (s s' : SetsView) (v x w : View) (t : ℕ) (conflict : Conflict) → s.reads ≡ read_version rid from wts value ∷ [] → s.writes ≡ written_version rid 0 0 value ∷ [] → SameSets s s' → InstallsHeld z place s s' v x → t ≡ v.published.write → v.number < v.size.seats → validating.Stands x w → validating.Works x w → w.work.linked ≡ s'.writes → w.log ≡ x.log → Ends w.work → validating.IsShown t s' x w conflict → WasFound v.published.write rid wts v.seen.loads → IsStopped rid place v.published.write v w conflict
+stopped_at rid from wts place value z s s' v x w t conflict read written same installs at inside stands works linked log ends shown found =
     let before = linked_log z s s' rid place value v x installs written in
     let then : w ≡ record (validating.worked x w.work w.seen) { log = w.log } = works.only ∙ ap (λ es. record (validating.worked x w.work w.seen) { log = es }) (sym log) in
     let number : x.number ≡ v.number = ap (λ (y : View). y.number) installs.only in
     let size : x.size ≡ v.size = ap (λ (y : View). y.size) installs.only in
     let within : x.number < x.size.seats = rw (number, size) inside in
+    let were = read_found rid from wts value s s' t v w read same (grows_both v.seen x.seen w.seen installs.puts.linked.grows works.grows) (subst (λ (n : ℕ). WasFound n rid wts v.seen.loads) (sym at) found) in
     record {
-      links = links_then z s s' rid place value v x installs written w then works.grows ends;
+      links = links_then z s s' rid place value v x installs written w then linked works.grows ends;
       log = log ∙ before;
       shown = subst (λ (n : ℕ). ShowsOf rid v.size v.number (others_in v) n conflict) at
           (subst (λ (y : View). ShowsOf rid y.size y.number (others_in y) t conflict) installs.only (shows_of rid from wts value s s' x w t conflict read written same stands within shown));
-      loaded = loaded_before v.published.write v x w conflict installs.puts.linked.grows (subst (λ (n : ℕ). IsLoadedIn n conflict x w) at (shown_loaded t s' x w conflict shown));
+      loaded = loaded_before v.published.write v x w conflict installs.puts.linked.grows (subst (λ (n : ℕ). IsLoadedIn n conflict x w) at (shown_loaded t s' x w conflict were shown));
     }

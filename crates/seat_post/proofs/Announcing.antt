@@ -101,7 +101,7 @@ announces hand idle raised result ends whole rises unchanged alone raises view =
     let is = idles hand.view idle.view ends whole rises (λ high. ap (λ (h : Seated). h.view) (unchanged high)) in
     announces_of hand.view idle.view raised.view result is (reached hand.view idle.view raised.view result is.only (alone_told hand.view alone) raises) view
 
-pub announced_view : (hand hand' : Seated) (phase : Phase) (stamp : ℕ) (reads writes : List (ℕ × Option (List ℕ))) → hand'.table ≡ hand.table → Announces hand.view hand'.view → post_view hand' phase stamp reads writes ≡ record (announced_at (post_view hand phase stamp reads writes)) { glance = (post_view hand' phase stamp reads writes).glance; observed = observed_in hand' }
+pub announced_view : (hand hand' : Seated) (phase : Phase) (stamp : ℕ) (reads writes : List (ℕ × Option (List ℕ))) → hand'.table ≡ hand.table → Announces hand.view hand'.view → post_view hand' phase stamp reads writes ≡ record (announced_at (post_view hand phase stamp reads writes)) { placed = (post_view hand' phase stamp reads writes).placed; glance = (post_view hand' phase stamp reads writes).glance; observed = observed_in hand' }
 announced_view hand hand' phase stamp reads writes table is = rw (table, is.only) refl
 
 -- an idle post whose hand has nothing to be done

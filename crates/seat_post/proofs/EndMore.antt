@@ -27,9 +27,10 @@ use Rattle.seat_post.specs.Ends.{Stood}
 use Rattle.seat_post.specs.Post.{IsPost, AreSets, IsShownAt, entered, PostView, post_view, entry_at, observing, observed_in}
 use Rattle.seat_post.specs.declared.phase.Phase.{Phase}
 use Rattle.seat_post.specs.declared.phase.Phase.TheVariants.{Idle, Open, Installed, Decided}
+use Rattle.seat_post.proofs.Observed.{were_found}
 use Rattle.seat_post.proofs.Posts.{own_ready, none_in_range}
 use Rattle.seat_post.proofs.Listed.{length-written, few, among_written}
-use Rattle.seat_post.proofs.Placed.{each_counted, placed_kept}
+use Rattle.seat_post.proofs.Placed.{each_counted, each_fits, placed_kept}
 
 -- ---- what stands in the sets stands in the lists
 
@@ -91,6 +92,8 @@ post_installed core hand hand' stamp reads writes sets filled sets' is set_reads
           inside = rw size installs.inside;
         };
         placed = each_counted hand.view.size hand.view.published.write sets'.writes hand hand' installs.each kept installs.inside.once;
+        fit = rw size (each_fits hand.view.size hand.view.published.write sets'.writes hand.view hand'.view installs.each);
+        found = rw (same.reads ∙ set_reads) (were_found stamp sets.reads hand.view hand'.view stands.grows is.at.found);
       };
     }
 
@@ -120,8 +123,8 @@ stood_same kept records log c entry same stood = subst (λ (e : Entry). Stood ke
 })
 
 -- the post with the entry in its log
-pub decided_view : (kept : State → Type 0) (records : ℕ) (hand hand' : Seated) (phase : Phase) (stamp t t' : ℕ) (reads writes : List (ℕ × Option (List ℕ))) (sets : SetsView) → hand.view.flight ≡ writing t' → hand'.table ≡ hand.table → validating.Decides kept records t sets hand.view hand'.view → entry_of (commit_of (writing t) sets.reads sets.writes) ≡ entry_at (post_view hand phase stamp reads writes) → post_view hand' Decided stamp reads writes ≡ observing (entered (post_view hand phase stamp reads writes)) (observed_in hand')
-decided_view kept records hand hand' phase stamp t t' reads writes sets flight table decides entry =
+pub decided_view : (kept : State → Type 0) (records : ℕ) (hand hand' : Seated) (phase : Phase) (stamp t t' : ℕ) (reads writes : List (ℕ × Option (List ℕ))) (sets : SetsView) → hand.view.flight ≡ writing t' → hand.view.work.linked ≡ sets.writes → hand'.table ≡ hand.table → validating.Decides kept records t sets hand.view hand'.view → entry_of (commit_of (writing t) sets.reads sets.writes) ≡ entry_at (post_view hand phase stamp reads writes) → post_view hand' Decided stamp reads writes ≡ observing (entered (post_view hand phase stamp reads writes)) (observed_in hand')
+decided_view kept records hand hand' phase stamp t t' reads writes sets flight linked table decides entry =
     let number : hand'.view.number ≡ hand.view.number = ap (λ (v : View). v.number) decides.only in
     let size : hand'.view.size ≡ hand.view.size = ap (λ (v : View). v.size) decides.only in
     let clock : hand'.view.clock ≡ hand.view.clock = ap (λ (v : View). v.clock) decides.only in
@@ -133,7 +136,8 @@ decided_view kept records hand hand' phase stamp t t' reads writes sets flight t
     let still : hand'.view.flight ≡ writing t' = ap (λ (v : View). v.flight) decides.only ∙ flight in
     let glance' : glance_of hand'.view.flight hand'.view.published.read hand'.view.work.reads ≡ None = rw still refl in
     let glance : glance_of hand.view.flight hand.view.published.read hand.view.work.reads ≡ None = rw flight refl in
-    rw (glance', glance, table, number, size, clock, published, splitting, counts, tops, log) refl
+    let gone : hand'.view.gone ≡ hand.view.gone = ap (λ (v : View). v.gone) decides.only in
+    rw (glance', glance, table, number, size, clock, published, splitting, counts, tops, log, gone, decides.decided.linked, linked) refl
 
 -- ---- what is kept
 
@@ -150,6 +154,7 @@ post_decided core kept records hand hand' stamp reads writes sets is ready decid
         decided = decides.decided;
         are_sets = record { as_read = is.at.are_sets.as_read; as_written = is.at.are_sets.as_written; inside = rw size is.at.are_sets.inside };
         placed = placed_kept hand hand' sets.writes size (ap (λ (v : View). v.counts) decides.only) is.at.placed;
+        fit = rw size is.at.fit;
       };
     }
 

@@ -17,7 +17,13 @@ freed_none n v w none same = record { freed = []; gone = ap (λ (g : Gone). g.fr
 pub freed_from : (n : ℕ) (u v w : View) → v.gone ≡ u.gone → FreesCounted n v w → FreesCounted n u w
 freed_from n u v w same freed = record { freed = freed.freed; gone = freed.gone ∙ ap (λ (g : Gone). g.freed ++ freed.freed) same; count = freed.count }
 
-idled_gone : (v : View) → (idled v).gone ≡ v.gone
+pub idled_tops : (v : View) → (idled v).tops ≡ v.tops
+idled_tops v = by_bool (nat_lt v.published.write (bound_of_clock v.clock.clock)) where
+  by_bool : (b : Bool) → (if b then rests v else v).tops ≡ v.tops
+  by_bool true = refl
+  by_bool false = refl
+
+pub idled_gone : (v : View) → (idled v).gone ≡ v.gone
 idled_gone v = by_bool (nat_lt v.published.write (bound_of_clock v.clock.clock)) where
   by_bool : (b : Bool) → (if b then rests v else v).gone ≡ v.gone
   by_bool true = refl

@@ -9,7 +9,7 @@ use Rattle.core_rule.specs.Searching.{IsWhole, limit_of}
 use Rattle.core_rule.specs.Paths.{load}
 use Rattle.word_layout.specs.Name.{min_read}
 use Rattle.version_search.proofs.Grown.{grows_both, grows_loads}
-use Rattle.validate_core.specs.Validating.{no_more}
+use Rattle.seat_post.specs.Reading.{value_loaded}
 use Rattle.seat_post.proofs.Observed.{met_after}
 use Rattle.core_rule.specs.Deciding.{read_value, read_values}
 use Rattle.core_rule.specs.Snapshots.{is_read, firsts, AreAllWhole, AreAlike, AreLeft}
@@ -134,7 +134,7 @@ module _ (kept : State → Type 0) (rid place wts n : ℕ) (value : Option (List
       view = view_is;
       whole = finds.whole;
       inside = finds.inside;
-      met = met_after (limit_of v.flight v.published.read) rid wts _ no_more v.seen.loads mid.view.seen.loads after'.view.seen.loads _ more_loads finds.met;
+      met = met_after (limit_of v.flight v.published.read) rid wts _ (value_loaded value) v.seen.loads mid.view.seen.loads after'.view.seen.loads _ more_loads finds.met;
       grows = grows_both v.seen mid.view.seen after'.view.seen finds.grows (grows_loads mid.view.seen after'.view.seen _ more_loads (ap (λ (x : View). x.seen.lost) step.view));
       left = finds.left;
     };

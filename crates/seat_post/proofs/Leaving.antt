@@ -1,5 +1,5 @@
 -- What a log leaves of a record, as a seat that is alone finds it.
-use Rattle.std.proofs.Common.{◌≡◌, cond, Bool, eqb, eqb-true, ℕ, ◌<◌, true, false, List, [], ◌∷◌, Option, None, Some, refl, sym, ap, ◌∙◌, subst, inl, inr, ◌⊎◌, ⊎_elim, arith, length, map, Contains, suc, ◌+◌}
+use Rattle.std.proofs.Common.{◌≡◌, cond, Bool, eqb, eqb-true, ℕ, ◌<◌, true, false, List, [], ◌∷◌, ◌++◌, append-nil, Option, None, Some, refl, sym, ap, ◌∙◌, subst, inl, inr, ◌⊎◌, ⊎_elim, arith, length, map, Contains, suc, ◌+◌}
 use Rattle.std.specs.Prelude.{IfSome, is_some}
 use Rattle.std.specs.List.{Any}
 use Rattle.plain_data.specs.declared.entry.Entry.{Entry}
@@ -20,13 +20,14 @@ use Rattle.std.proofs.lemmas.List.Elements.{All-head, All-tail}
 use Rattle.histories.proofs.States.{IsValue-same, one_value}
 use Rattle.seat_post.specs.Logs.{IsAbove}
 use Rattle.version_search.specs.Finding as finding
-use Rattle.version_search.specs.Loading.{with_value, IsLeftIn}
+use Rattle.version_search.specs.Loading.{with_value, IsLeftIn, cells_loaded}
 use Rattle.version_search.specs.Growing.{Grows}
 use Rattle.version_search.proofs.Grown.{grows_both}
-use Rattle.validate_core.specs.Validating.{Met, no_more}
+use Rattle.validate_core.specs.Validating.{Met}
+use Rattle.seat_post.specs.Reading.{value_loaded}
 use Rattle.seat_post.specs.Searched.{Finds}
 use Rattle.seat_post.specs.Leaves.{StampedBelow, LeavesValue, LeavesSome, LeavesAs, AreLeft, IsPresent}
-use Rattle.seat_post.proofs.Observed.{met_found, met_after, reads_grow}
+use Rattle.seat_post.proofs.Observed.{met_next, reads_grow}
 
 -- a commit entry of the log that writes the record, below the limit
 record Found (log : List Logged) (r limit : ℕ) (other : Entry) : Type 0 where
@@ -168,7 +169,7 @@ finds_absent stamp rid place wts v x reads inside limit = record {
   view = reads.view;
   whole = inl refl;
   inside = inside;
-  met = subst (λ (n : ℕ). Met n rid wts 4 no_more v.seen.loads x.seen.loads) (sym limit) (met_found stamp rid place wts 4 v x reads);
+  met = subst (λ (n : ℕ). Met n rid wts 4 (value_loaded None) v.seen.loads x.seen.loads) (sym limit) (met_next stamp rid place wts 4 (value_loaded None) v x x reads (sym (append-nil x.seen.loads)));
   grows = reads_grow stamp rid place wts 4 v x reads;
   left = λ alone.
       let left : IsLeft v.log rid stamp wts 4 = rw reads.view at (reads.left (rw reads.view alone)) in
@@ -179,14 +180,14 @@ finds_absent stamp rid place wts v x reads inside limit = record {
 abbrev read_in : View → (rid place wts : ℕ) → Seen → View
 read_in v rid place wts seen = record v { work = record v.work { search = still; reads = finding.new_read rid place wts 3 ∷ v.work.reads }; seen = seen }
 
-pub finds_present : (stamp rid place wts : ℕ) (cells : List ℕ) (v w x : View) → finding.Reads stamp rid place wts 3 v w → x ≡ with_value w cells x.seen → IsLeftIn x cells → Grows w.seen x.seen → length cells ≡ 32 → place < places v.size → limit_in v ≡ stamp → Finds rid place wts (Some cells) v x
-finds_present stamp rid place wts cells v w x reads view left grows long inside limit =
+pub finds_present : (stamp rid place wts : ℕ) (cells : List ℕ) (v w x : View) → finding.Reads stamp rid place wts 3 v w → x ≡ with_value w cells x.seen → IsLeftIn x cells → Grows w.seen x.seen → x.seen.loads ≡ w.seen.loads ++ cells_loaded place 0 cells → length cells ≡ 32 → place < places v.size → limit_in v ≡ stamp → Finds rid place wts (Some cells) v x
+finds_present stamp rid place wts cells v w x reads view left grows loads long inside limit =
     let at : x ≡ with_value (read_in v rid place wts w.seen) cells x.seen = view ∙ ap (λ (y : View). with_value y cells x.seen) reads.view in
     record {
       view = at;
       whole = inr (refl, long);
       inside = inside;
-      met = subst (λ (n : ℕ). Met n rid wts 3 no_more v.seen.loads x.seen.loads) (sym limit) (met_after stamp rid wts 3 no_more v.seen.loads w.seen.loads x.seen.loads grows.loaded grows.loads (met_found stamp rid place wts 3 v w reads));
+      met = subst (λ (n : ℕ). Met n rid wts 3 (value_loaded (Some cells)) v.seen.loads x.seen.loads) (sym limit) (met_next stamp rid place wts 3 (value_loaded (Some cells)) v w x reads loads);
       grows = grows_both v.seen w.seen x.seen (reads_grow stamp rid place wts 3 v w reads) grows;
       left = λ alone.
           let told : IsLeftIn (with_value (read_in v rid place wts w.seen) cells x.seen) cells = subst (λ (y : View). IsLeftIn y cells) at left in

@@ -13,6 +13,7 @@ pub mod Listed
 pub mod Looking
 pub mod MarkWords
 pub mod Marked
+pub mod Noting
 pub mod NumberLists
 pub mod Observed
 pub mod Over
@@ -30,3 +31,4 @@ pub mod Steady
 pub mod Stopped
 pub mod Stuck
 pub mod WriteMore
+pub mod Dues

@@ -1,13 +1,12 @@
 -- A snapshot at a post and at a pass: what both keep while it reads, and what its end tells.
-use Rattle.std.proofs.Common.{◌≡◌, ℕ, ◌≤◌, ◌+◌, true, List, [], ◌∷◌, ◌++◌, append_assoc, Option, refl, ap, ◌∙◌, arith, map}
+use Rattle.std.proofs.Common.{◌≡◌, ℕ, ◌≤◌, ◌+◌, true, List, [], ◌∷◌, ◌++◌, Option, refl, ap, ◌∙◌, subst, arith, map}
 use Rattle.std.specs.Prelude.{IsSome, IfSome}
 use Rattle.plain_data.specs.declared.entry.Entry.{Entry}
 use Rattle.plain_data.specs.State.{State}
 use Rattle.histories.specs.History.{IsValue, UpTo}
 use Rattle.core_rule.specs.View.{View, Flight, resting, writing, Read, Logged, Seen, no_work}
-use Rattle.core_rule.specs.Paths.{load}
-use Rattle.word_layout.specs.Name.{published_write, min_write}
-use Rattle.clock_stamps.specs.Minima.{loads_from}
+use Rattle.core_rule.specs.Versions.{state_of}
+use Rattle.validate_core.specs.Validating.{Met}
 use Rattle.core_rule.specs.Views.{Among, IsAlone}
 use Rattle.core_rule.specs.Hands.{Shared, Seated, IsReady}
 use Rattle.core_rule.specs.Deciding.{entry_of, StoodAt}
@@ -18,9 +17,13 @@ use Rattle.seat_post.specs.Ends.{Stood}
 use Rattle.seat_post.specs.Glance.{glance_of, entry_of_glance}
 use Rattle.seat_post.specs.Glancing.{IsGlancing, Opens, IsLeftAt, entry_of_glances, glances_ended}
 use Rattle.seat_post.specs.Logs.{AreBelow}
-use Rattle.seat_post.specs.Observing.{ScansAll}
+use Rattle.seat_post.specs.Observing.{MeetsMinimum}
+use Rattle.seat_post.specs.Reading.{FindsValue, value_loaded}
+use Rattle.seat_post.specs.Searched.{Finds}
+use Rattle.seat_post.specs.Seats.{observed_of}
 use Rattle.seat_post.specs.Post.{IsPost, IsIdleAt, observed_in}
-use Rattle.seat_post.proofs.Queued.{entry_logged}
+use Rattle.seat_post.proofs.Leaving.{limit_rests}
+use Rattle.seat_post.proofs.Queued.{entry_logged, meets_minimum}
 use Rattle.seat_post.proofs.EndMore.{stood_same}
 use Rattle.seat_post.proofs.Posts.{post_idle}
 
@@ -93,17 +96,13 @@ stood_glance kept records v rests stood = rw rests (stood_same kept records v.lo
 pub left_glance : (v : View) (rid : ℕ) (value : Option (List ℕ)) → v.flight ≡ resting → IsLeftAt v rid value → IfSome (glance_of v.flight v.published.read v.work.reads) (λ g. IsValue (UpTo (map entry_of v.log) g.stamp) rid value)
 left_glance v rid value rests left = rw rests left
 
--- the published write words of all seats were loaded first
-pub opened_scans : (stamp : ℕ) (hand hand' : Seated) → Opens stamp hand.view hand'.view → ScansAll published_write hand.view.size.seats (observed_in hand) (observed_in hand')
-opened_scans stamp hand hand' opens =
-    let r = opens.raises in
-    let scanned = loads_from published_write 0 r.words in
-    let raised = load min_write r.found ∷ [] in
-    let bounded' = load min_write (stamp + 1) ∷ [] in
-    record {
-      words = r.words;
-      each_seat = r.each_seat;
-      later = raised ++ bounded';
-      loads = ap (λ (x : View). x.seen.loads) opens.bound ∙ ap (λ (s : Seen). s.loads ++ bounded') r.seen
-          ∙ append_assoc (hand.view.seen.loads ++ scanned) raised bounded' ∙ append_assoc hand.view.seen.loads scanned (raised ++ bounded');
-    }
+-- what was read was found by loads
+pub found_glance : (v w : View) (rid place wts : ℕ) (value : Option (List ℕ)) → v.flight ≡ resting → Finds rid place wts value v w → IfSome (glance_of v.flight v.published.read v.work.reads) (λ g. FindsValue (g.stamp + 1) rid (observed_of v) (observed_of w) value)
+found_glance v w rid place wts value rests finds = rw rests (record {
+  wts = wts;
+  met = subst (λ (n : ℕ). Met n rid wts (state_of value) (value_loaded value) v.seen.loads w.seen.loads) (limit_rests v v.published.read rests refl) finds.met;
+})
+
+-- the published write words of all seats were loaded for the minimum
+pub opened_minimum : (stamp : ℕ) (hand hand' : Seated) → Opens stamp hand.view hand'.view → MeetsMinimum hand.view.size.seats (stamp + 1) (observed_in hand) (observed_in hand')
+opened_minimum stamp hand hand' opens = meets_minimum hand.view.published.write hand.view opens.between hand'.view opens.met stamp opens.raises opens.reached opens.bound

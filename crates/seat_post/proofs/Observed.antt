@@ -3,7 +3,8 @@ use Rattle.std.proofs.Common.{◌≡◌, ℕ, ◌<◌, ◌≤◌, List, [], ◌�
 use Rattle.std.proofs.lemmas.Bool.{cases_lt}
 use Rattle.stamp_base.specs.Stamp.{bound_of_clock}
 use Rattle.word_layout.specs.Name.{Name}
-use Rattle.core_rule.specs.View.{View, Load, Seen}
+use Rattle.core_rule.specs.View.{View, Load, Read, Seen}
+use Rattle.core_rule.specs.Searching.{IsFinal}
 use Rattle.core_rule.specs.Paths.{EndsAt, load}
 use Rattle.core_rule.specs.Hands.{Seated}
 use Rattle.clock_stamps.specs.Clocks.{rests, drawn}
@@ -17,6 +18,7 @@ use Rattle.validate_core.specs.Validating.{Met, MetFinal, no_more, its_read_stam
 use Rattle.validate_core.specs.declared.conflict.Conflict.{Conflict}
 use Rattle.validate_core.specs.declared.conflict.Conflict.TheVariants.{Pending, ReadLater, Overtaken}
 use Rattle.seat_post.specs.declared.phase.Phase.{Phase}
+use Rattle.seat_post.specs.Conflicts.{WasFound, WereFound}
 use Rattle.seat_post.specs.Observing.{Grows, WasLost}
 use Rattle.seat_post.specs.Rewriting.{IsLoadedIn}
 use Rattle.seat_post.specs.Post.{PostView, post_view, observed_in}
@@ -92,21 +94,48 @@ met_found limit rid place wts status v w found = record {
   loads = sym (append-nil w.seen.loads);
 }
 
+-- with the loads that came next at its place
+pub met_next : (limit rid place wts status : ℕ) (more : ℕ → List Load) (v w x : View) → Reads limit rid place wts status v w → x.seen.loads ≡ w.seen.loads ++ more place → Met limit rid wts status more v.seen.loads x.seen.loads
+met_next limit rid place wts status more v w x found next = record {
+  place = place;
+  earlier = [];
+  met = w.seen.loads;
+  later = [];
+  path = subst (λ (xs : List Load). EndsAt limit rid place wts status xs w.seen.loads) (sym (append-nil v.seen.loads)) found.path;
+  loads = next ∙ ap (λ (xs : List Load). w.seen.loads ++ xs) (sym (append-nil (more place)));
+}
+
+-- of those loads nothing said
+pub met_alone : (limit rid wts status : ℕ) (more : ℕ → List Load) (a b : List Load) → Met limit rid wts status more a b → Met limit rid wts status no_more a b
+met_alone limit rid wts status more a b m = record { place = m.place; earlier = m.earlier; met = m.met; later = more m.place ++ m.later; path = m.path; loads = m.loads }
+
 -- where more was loaded afterwards, with its place
 pub met_then : (limit rid place wts status : ℕ) (v w x : View) → Reads limit rid place wts status v w → growing.Grows w.seen x.seen → (m : Met limit rid wts status no_more v.seen.loads x.seen.loads) × (m.place ≡ place)
 unfolding met_after met_found
 met_then limit rid place wts status v w x found g = (met_after limit rid wts status no_more v.seen.loads w.seen.loads x.seen.loads g.loaded g.loads (met_found limit rid place wts status v w found), refl)
 
+-- a version that was found, where more was loaded afterwards
+pub found_after : (stamp rid wts : ℕ) (a b ls : List Load) → b ≡ a ++ ls → WasFound stamp rid wts a → WasFound stamp rid wts b
+found_after stamp rid wts a b ls e f = record { status = f.status; final = f.final; met = met_after stamp rid wts f.status no_more [] a b ls e f.met }
+
+pub found_met : (stamp rid wts status : ℕ) (more : ℕ → List Load) (a b : List Load) → IsFinal status → Met stamp rid wts status more a b → WasFound stamp rid wts b
+found_met stamp rid wts status more a b final m = record { status = status; final = final; met = met_before stamp rid wts status no_more [] a b a refl (met_alone stamp rid wts status more a b m) }
+
+pub were_found : (stamp : ℕ) (ds : List Read) (v w : View) → growing.Grows v.seen w.seen → WereFound stamp ds v.seen.loads → WereFound stamp ds w.seen.loads
+were_found stamp ds v w g found d among = found_after stamp d.record_number d.version v.seen.loads w.seen.loads g.loaded g.loads (found d among)
+
 -- what a conflict names
-pub shown_loaded : (stamp : ℕ) (s : SetsView) (v w : View) (conflict : Conflict) → IsShown stamp s v w conflict → IsLoadedIn stamp conflict v w
-shown_loaded stamp s v w (Pending rid wts) h = h.3
-shown_loaded stamp s v w (ReadLater rid wts rts) h = h.3
-shown_loaded stamp s v w (Overtaken rid seen now) h = h.4
+pub shown_loaded : (stamp : ℕ) (s : SetsView) (v w : View) (conflict : Conflict) → WereFound stamp s.reads w.seen.loads → IsShown stamp s v w conflict → IsLoadedIn stamp conflict v w
+shown_loaded stamp s v w (Pending rid wts) found h = h.3
+shown_loaded stamp s v w (ReadLater rid wts rts) found h = h.3
+shown_loaded stamp s v w (Overtaken rid seen now) found h =
+    let r = h.3 in
+    (h.4, subst (λ (n : ℕ). WasFound stamp rid n w.seen.loads) r.at (subst (λ (n : ℕ). WasFound stamp n r.read.version w.seen.loads) r.of_record (found r.read r.among)))
 
 pub loaded_before : (stamp : ℕ) (u v w : View) (conflict : Conflict) → growing.Grows u.seen v.seen → IsLoadedIn stamp conflict v w → IsLoadedIn stamp conflict u w
 loaded_before stamp u v w (Pending rid wts) g m = met_before stamp rid wts 2 no_more u.seen.loads v.seen.loads w.seen.loads g.loaded g.loads m
 loaded_before stamp u v w (ReadLater rid wts rts) g m = final_before stamp rid wts (its_read_stamp rts) u.seen.loads v.seen.loads w.seen.loads g.loaded g.loads m
-loaded_before stamp u v w (Overtaken rid seen now) g m = final_before stamp rid now no_more u.seen.loads v.seen.loads w.seen.loads g.loaded g.loads m
+loaded_before stamp u v w (Overtaken rid seen now) g m = (final_before stamp rid now no_more u.seen.loads v.seen.loads w.seen.loads g.loaded g.loads m.0, m.1)
 
 -- a place that was met not free, where the call began earlier
 pub lost_before : (place : ℕ) (u v w x : View) → growing.Grows u.seen v.seen → WasMet place v w → x.seen ≡ w.seen → WasLost place u.seen.lost x.seen.lost

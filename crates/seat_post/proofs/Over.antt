@@ -1,7 +1,7 @@
 -- What a post shows and keeps where its transaction has ended.
 use Rattle.std.proofs.Common.{◌≡◌, ℕ, List, [], ◌∷◌, false, Option, None, Some, refl, sym, ap, ◌∙◌}
 use Rattle.std.specs.Prelude.{is_some}
-use Rattle.core_rule.specs.View.{View, Flight, resting, writing, Read, Search, still, Seen}
+use Rattle.core_rule.specs.View.{View, Flight, resting, writing, Read, Write, Search, still, Seen}
 use Rattle.core_rule.specs.Hands.{Shared, Seated, IsReady}
 use Rattle.core_rule.specs.Searching.{Ends}
 use Rattle.core_rule.specs.Snapshots.{AreAllWhole}
@@ -9,9 +9,9 @@ use Rattle.validate_core.specs.Sets.{SetsView}
 use Rattle.validate_core.specs.Validating.{Stands, Works}
 use Rattle.core_rule.specs.Versions.{read_version}
 use Rattle.seat_post.specs.Searched.{Finds, Stops}
-use Rattle.seat_post.specs.Seats.{Known}
+use Rattle.seat_post.specs.Seats.{Known, placed_of}
 use Rattle.seat_post.specs.Glance.{glance_of}
-use Rattle.seat_post.specs.Post.{IsPost, post_view, closed, knowing, observing, observed_in}
+use Rattle.seat_post.specs.Post.{IsPost, post_view, closed, knowing, placing, observing, observed_in}
 use Rattle.seat_post.specs.declared.phase.Phase.{Phase}
 use Rattle.seat_post.specs.declared.phase.Phase.TheVariants.{Idle}
 use Rattle.seat_post.proofs.Posts.{own_ready}
@@ -28,28 +28,30 @@ still_flying : (v w : View) (t : ℕ) → Stands v w → v.flight ≡ writing t 
 still_flying v w t stands flight = ap (λ (x : View). x.flight) stands.others ∙ flight
 
 -- the post of a transaction that has ended, as a word of the post before
-pub view_over : (hand hand' : Seated) (phase : Phase) (stamp stamp' t : ℕ) (reads reads' writes writes' : List (ℕ × Option (List ℕ))) → hand'.table ≡ hand.table → Stands hand.view hand'.view → hand.view.flight ≡ writing t → hand'.view.log ≡ hand.view.log → stamp' ≡ 0 → reads' ≡ [] → writes' ≡ [] → post_view hand' Idle stamp' reads' writes' ≡ observing (closed (knowing (post_view hand phase stamp reads writes) record { counts = hand'.view.counts; tops = hand'.view.tops })) (observed_in hand')
+pub view_over : (hand hand' : Seated) (phase : Phase) (stamp stamp' t : ℕ) (reads reads' writes writes' : List (ℕ × Option (List ℕ))) → hand'.table ≡ hand.table → Stands hand.view hand'.view → hand.view.flight ≡ writing t → hand'.view.log ≡ hand.view.log → stamp' ≡ 0 → reads' ≡ [] → writes' ≡ [] → post_view hand' Idle stamp' reads' writes' ≡ observing (placing (closed (knowing (post_view hand phase stamp reads writes) record { counts = hand'.view.counts; tops = hand'.view.tops })) (placed_of hand'.view.work.linked)) (observed_in hand')
 view_over hand hand' phase stamp stamp' t reads reads' writes writes' table stands flight log none no_reads no_writes =
     let size : hand'.view.size ≡ hand.view.size = ap (λ (v : View). v.size) stands.others in
     let number : hand'.view.number ≡ hand.view.number = ap (λ (v : View). v.number) stands.others in
     let splitting : hand'.view.splitting ≡ hand.view.splitting = ap (λ (v : View). v.splitting) stands.others in
+    let gone : hand'.view.gone ≡ hand.view.gone = ap (λ (v : View). v.gone) stands.others in
     let glance' = none_glanced hand'.view.flight t hand'.view.published.read hand'.view.work.reads (still_flying hand.view hand'.view t stands flight) in
     let glance = none_glanced hand.view.flight t hand.view.published.read hand.view.work.reads flight in
-    rw (glance', glance, table, size, number, splitting, stands.clock, stands.published, log, none, no_reads, no_writes) refl
+    rw (glance', glance, table, size, number, splitting, stands.clock, stands.published, log, gone, none, no_reads, no_writes) refl
 
 -- where what is known of lists stays too
-pub view_over_all : (hand hand' : Seated) (phase : Phase) (stamp stamp' t : ℕ) (reads reads' writes writes' : List (ℕ × Option (List ℕ))) → hand'.table ≡ hand.table → Stands hand.view hand'.view → Works hand.view hand'.view → hand.view.flight ≡ writing t → hand'.view.log ≡ hand.view.log → stamp' ≡ 0 → reads' ≡ [] → writes' ≡ [] → post_view hand' Idle stamp' reads' writes' ≡ observing (closed (post_view hand phase stamp reads writes)) (observed_in hand')
-view_over_all hand hand' phase stamp stamp' t reads reads' writes writes' table stands works flight log none no_reads no_writes =
+pub view_over_all : (hand hand' : Seated) (phase : Phase) (stamp stamp' t : ℕ) (reads reads' writes writes' : List (ℕ × Option (List ℕ))) → hand'.table ≡ hand.table → Stands hand.view hand'.view → Works hand.view hand'.view → hand'.view.work.linked ≡ hand.view.work.linked → hand.view.flight ≡ writing t → hand'.view.log ≡ hand.view.log → stamp' ≡ 0 → reads' ≡ [] → writes' ≡ [] → post_view hand' Idle stamp' reads' writes' ≡ observing (closed (post_view hand phase stamp reads writes)) (observed_in hand')
+view_over_all hand hand' phase stamp stamp' t reads reads' writes writes' table stands works linked flight log none no_reads no_writes =
     let counts : hand'.view.counts ≡ hand.view.counts = ap (λ (v : View). v.counts) works.only in
     let tops : hand'.view.tops ≡ hand.view.tops = ap (λ (v : View). v.tops) works.only in
     let known : record { counts = hand'.view.counts; tops = hand'.view.tops } ≡ record { counts = hand.view.counts; tops = hand.view.tops } = rw (counts, tops) refl in
     view_over hand hand' phase stamp stamp' t reads reads' writes writes' table stands flight log none no_reads no_writes
-    ∙ ap (λ (k : Known). observing (closed (knowing (post_view hand phase stamp reads writes) k)) (observed_in hand')) known
+    ∙ ap (λ (k : Known). observing (placing (closed (knowing (post_view hand phase stamp reads writes) k)) (placed_of hand'.view.work.linked)) (observed_in hand')) known
+    ∙ ap (λ (us : List Write). observing (placing (closed (post_view hand phase stamp reads writes)) (placed_of us)) (observed_in hand')) linked
 
 -- where nothing was loaded and lost
-pub view_over_same : (hand hand' : Seated) (phase : Phase) (stamp stamp' t : ℕ) (reads reads' writes writes' : List (ℕ × Option (List ℕ))) → hand'.table ≡ hand.table → Stands hand.view hand'.view → Works hand.view hand'.view → hand'.view.seen ≡ hand.view.seen → hand.view.flight ≡ writing t → hand'.view.log ≡ hand.view.log → stamp' ≡ 0 → reads' ≡ [] → writes' ≡ [] → post_view hand' Idle stamp' reads' writes' ≡ closed (post_view hand phase stamp reads writes)
-view_over_same hand hand' phase stamp stamp' t reads reads' writes writes' table stands works seen flight log none no_reads no_writes =
-    view_over_all hand hand' phase stamp stamp' t reads reads' writes writes' table stands works flight log none no_reads no_writes
+pub view_over_same : (hand hand' : Seated) (phase : Phase) (stamp stamp' t : ℕ) (reads reads' writes writes' : List (ℕ × Option (List ℕ))) → hand'.table ≡ hand.table → Stands hand.view hand'.view → Works hand.view hand'.view → hand'.view.work.linked ≡ hand.view.work.linked → hand'.view.seen ≡ hand.view.seen → hand.view.flight ≡ writing t → hand'.view.log ≡ hand.view.log → stamp' ≡ 0 → reads' ≡ [] → writes' ≡ [] → post_view hand' Idle stamp' reads' writes' ≡ closed (post_view hand phase stamp reads writes)
+view_over_same hand hand' phase stamp stamp' t reads reads' writes writes' table stands works linked seen flight log none no_reads no_writes =
+    view_over_all hand hand' phase stamp stamp' t reads reads' writes writes' table stands works linked flight log none no_reads no_writes
     ∙ ap (λ (s : Seen). observing (closed (post_view hand phase stamp reads writes)) (record { loads = s.loads; lost = s.lost })) seen
 
 -- it keeps what an idle post keeps
@@ -73,7 +75,9 @@ view_searched hand hand' phase stamp t reads writes search found table view flig
     let counts : hand'.view.counts ≡ hand.view.counts = ap (λ (v : View). v.counts) view in
     let tops : hand'.view.tops ≡ hand.view.tops = ap (λ (v : View). v.tops) view in
     let log : hand'.view.log ≡ hand.view.log = ap (λ (v : View). v.log) view in
-    rw (glance', glance, table, size, number, splitting, clock, published, counts, tops, log) refl
+    let gone : hand'.view.gone ≡ hand.view.gone = ap (λ (v : View). v.gone) view in
+    let linked : hand'.view.work.linked ≡ hand.view.work.linked = ap (λ (v : View). v.work.linked) view in
+    rw (glance', glance, table, size, number, splitting, clock, published, counts, tops, log, gone, linked) refl
 
 -- one that found a version, and one that met a pending one
 pub view_found : (hand hand' : Seated) (phase : Phase) (stamp t rid place wts : ℕ) (value : Option (List ℕ)) (reads writes : List (ℕ × Option (List ℕ))) → hand'.table ≡ hand.table → Finds rid place wts value hand.view hand'.view → hand.view.flight ≡ writing t → post_view hand' phase stamp reads writes ≡ observing (post_view hand phase stamp reads writes) (observed_in hand')

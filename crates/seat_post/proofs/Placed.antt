@@ -1,5 +1,5 @@
 -- How many of the versions that were linked stand in inline places, as what is known of lists tells.
-use Rattle.std.proofs.Common.{◌≡◌, ℕ, ◌+◌, suc, true, false, Bool, cond, not, List, [], ◌∷◌, ◌++◌, Option, None, Some, refl, sym, ap, ◌∙◌, subst, inl, inr, arith, length, length-append, lt-ltb, le-ltb}
+use Rattle.std.proofs.Common.{◌≡◌, ℕ, ◌+◌, suc, true, false, Bool, cond, not, List, [], ◌∷◌, ◌++◌, Option, None, Some, refl, sym, ap, ◌∙◌, subst, inl, inr, arith, length, length-append, lt-ltb, le-ltb, eqb, eq-eqb, ne_eqb, ◌<◌, map}
 use Rattle.std.specs.Prelude.{IsSome, nat_lt}
 use Rattle.word_layout.specs.Size.{Size}
 use Rattle.core_rule.specs.View.{View, Write, Bound, Counted, Kept}
@@ -9,9 +9,10 @@ use Rattle.core_rule.specs.Deciding.{written_values, value_of}
 use Rattle.std.proofs.lemmas.List.Sums.{sum_by-cons}
 use Rattle.core_rule.specs.Hands.{Seated}
 use Rattle.validate_core.specs.Sets.{Once, count_below}
-use Rattle.validate_core.specs.Installing.{LinksEach, none_yet, one_more as one_more_linked}
+use Rattle.validate_core.specs.Installing.{IsFor, LinksEach, none_yet, one_more as one_more_linked}
 use Rattle.validate_core.proofs.Placing.{one_view}
-use Rattle.seat_post.specs.Seats.{Known}
+use Rattle.seat_post.specs.Seats.{Known, Placed as PlacedAt, placed_of}
+use Rattle.seat_post.specs.Placing.{is_inline, count_inline, HavePlaces}
 use Rattle.seat_post.specs.Lists.{known_before, AreKnown, is_raised, count_raised}
 use Rattle.seat_post.specs.Post.{known_in, ArePlaced}
 use Rattle.seat_post.proofs.Listed.{among_written, length-written}
@@ -95,6 +96,46 @@ each_counted z stamp us hand hand' each kept once = λ known.
     ap (λ after'. is_raised o after') (each_more z stamp us hand.view hand'.view each once u among) ∙ raised_one hand.view.size u.place o (had u.record_number (among_written us u among))) in
     subst (λ (s : Size). count_below s.records us + count_raised (known_before (length us) (known_in hand')) (known_in hand') (written_values us) ≡ length us) (sym size)
     (subst (λ (k : Known). count_below hand.view.size.records us + count_raised k (known_in hand') (written_values us) ≡ length us) (sym before) all)
+
+-- ---- each in a place for its record
+
+pub each_fits : (z : Size) (stamp : ℕ) (us : List Write) (v w : View) → LinksEach z stamp us v w → (u : Write) → Among u us → IsFor z u.record_number u.place
+each_fits z stamp _ _ _ (none_yet v) u among = absurd among
+each_fits z stamp _ _ _ (one_more_linked us c v w x each l) u among =
+    elim (Among-split u us (c ∷ []) among) as (λ _. IsFor z u.record_number u.place) [
+      | inl old ↦ each_fits z stamp us v w each u old
+      | inr new ↦ elim new as (λ _. IsFor z u.record_number u.place) [
+        | inl same ↦ subst (λ (y : Write). IsFor z y.record_number y.place) same l.fits
+        | inr none ↦ absurd none
+      ]
+    ]
+
+-- of such a place, whether it is inline
+inline_below : (z : Size) (rid place : ℕ) → rid < z.records → IsFor z rid place → nat_lt place z.records ≡ eqb place rid
+inline_below z rid place within (inl same) = lt-ltb place z.records (omega arith) ∙ sym (eq-eqb place rid same)
+inline_below z rid place within (inr usable) = le-ltb place z.records usable.0 ∙ sym (ne_eqb place rid (let low = usable.0 in omega arith))
+
+pub count_placed : (z : Size) (us : List Write) → ((u : Write) → Among u us → u.record_number < z.records) → ((u : Write) → Among u us → IsFor z u.record_number u.place) → count_below z.records us ≡ count_inline (placed_of us)
+count_placed z [] within each = refl
+count_placed z (u ∷ us) within each =
+    let rest = count_placed z us (λ c among. within c (inr among)) (λ c among. each c (inr among)) in
+    let same = inline_below z u.record_number u.place (within u (inl refl)) (each u (inl refl)) in
+    sum_by-cons (λ (c : Write). cond (nat_lt c.place z.records) 1 0) u us
+    ∙ ap (λ (n : ℕ). cond (nat_lt u.place z.records) 1 0 + n) rest
+    ∙ ap (λ (b : Bool). cond b 1 0 + count_inline (placed_of us)) same
+    ∙ sym (sum_by-cons (λ (at : PlacedAt). cond (is_inline at) 1 0) (record { rid = u.record_number; place = u.place }) (placed_of us))
+
+placed_fit : (z : Size) (us : List Write) → ((u : Write) → Among u us → IsFor z u.record_number u.place) → (at : PlacedAt) → Among at (placed_of us) → IsFor z at.rid at.place
+placed_fit z [] each at among = absurd among
+placed_fit z (u ∷ us) each at (inl same) = subst (λ (p : PlacedAt). IsFor z p.rid p.place) same (each u (inl refl))
+placed_fit z (u ∷ us) each at (inr more) = placed_fit z us (λ c among. each c (inr among)) at more
+
+of_writes : (us : List Write) → map (λ (at : PlacedAt). at.rid) (placed_of us) ≡ map (λ (write : ℕ × Option (List ℕ)). write.0) (written_values us)
+of_writes [] = refl
+of_writes (u ∷ us) = ap (λ (rids : List ℕ). u.record_number ∷ rids) (of_writes us)
+
+pub have_places : (z : Size) (us : List Write) (writes : List (ℕ × Option (List ℕ))) → ((u : Write) → Among u us → IsFor z u.record_number u.place) → written_values us ≡ writes → HavePlaces z writes (placed_of us)
+have_places z us writes each values = subst (λ (ws : List (ℕ × Option (List ℕ))). HavePlaces z ws (placed_of us)) values (record { of_each = of_writes us; each = placed_fit z us each })
 
 -- nothing of it has changed
 pub placed_kept : (hand hand' : Seated) (us : List Write) → hand'.view.size ≡ hand.view.size → hand'.view.counts ≡ hand.view.counts → ArePlaced hand us → ArePlaced hand' us

@@ -18,6 +18,8 @@ use Rattle.validate_core.specs.Validating as validating
 use Rattle.seat_post.specs.declared.phase.Phase.{Phase}
 use Rattle.seat_post.specs.declared.phase.Phase.TheVariants.{Idle, Open, Installed, Decided}
 use Rattle.seat_post.specs.Post.{IsAt, IsIdleAt, IsPost, shared_of, post_view, observing, with_clock, observed_in}
+use Rattle.seat_post.proofs.Observed.{were_found}
+use Rattle.version_search.specs.Growing.{Grows}
 
 -- a hand that is ready is ready at its own table
 pub own_ready : (core : Shared) (hand : Seated) → IsReady core hand → IsReady (shared_of hand) hand
@@ -62,8 +64,8 @@ decided_turned stamp s v clock seen is = record {
 abbrev turned_hand : Seated → Seated → Clock → Seen → Seated
 turned_hand hand hand' clock seen = record hand' { view = turned hand.view clock seen }
 
-at_turned : (phase : Phase) (hand hand' : Seated) (stamp : ℕ) (reads writes : List (ℕ × Option (List ℕ))) (sets : SetsView) (clock : Clock) (seen : Seen) → clock.taken_in ≡ hand.view.clock.taken_in → IsAt phase hand stamp reads writes sets → IsAt phase (turned_hand hand hand' clock seen) stamp reads writes sets
-at_turned Idle hand hand' stamp reads writes sets clock seen taken is = record {
+at_turned : (phase : Phase) (hand hand' : Seated) (stamp : ℕ) (reads writes : List (ℕ × Option (List ℕ))) (sets : SetsView) (clock : Clock) (seen : Seen) → Grows hand.view.seen seen → clock.taken_in ≡ hand.view.clock.taken_in → IsAt phase hand stamp reads writes sets → IsAt phase (turned_hand hand hand' clock seen) stamp reads writes sets
+at_turned Idle hand hand' stamp reads writes sets clock seen grows taken is = record {
   ends = is.ends;
   whole = is.whole;
   no_stamp = is.no_stamp;
@@ -72,7 +74,7 @@ at_turned Idle hand hand' stamp reads writes sets clock seen taken is = record {
   none_read = is.none_read;
   none_written = is.none_written;
 }
-at_turned Open hand hand' stamp reads writes sets clock seen taken is = record {
+at_turned Open hand hand' stamp reads writes sets clock seen grows taken is = record {
   begun = begun_turned hand.view.size sets hand.view clock seen is.begun;
   at = is.at;
   as_read = is.as_read;
@@ -81,26 +83,30 @@ at_turned Open hand hand' stamp reads writes sets clock seen taken is = record {
   room = is.room;
   above = is.above;
   left = λ alone. is.left (subst (λ (taken_in : List ℕ). OthersTaken hand.view.size.seats hand.view.number hand.view.splitting taken_in) taken alone);
+  found = were_found stamp sets.reads hand.view (turned hand.view clock seen) grows is.found;
 }
-at_turned Installed hand hand' stamp reads writes sets clock seen taken is = record {
+at_turned Installed hand hand' stamp reads writes sets clock seen grows taken is = record {
   installed = is.installed;
   are_sets = record { as_read = is.are_sets.as_read; as_written = is.are_sets.as_written; inside = is.are_sets.inside };
   placed = is.placed;
+  fit = is.fit;
+  found = were_found stamp sets.reads hand.view (turned hand.view clock seen) grows is.found;
 }
-at_turned Decided hand hand' stamp reads writes sets clock seen taken is = record {
+at_turned Decided hand hand' stamp reads writes sets clock seen grows taken is = record {
   decided = decided_turned stamp sets hand.view clock seen is.decided;
   are_sets = record { as_read = is.are_sets.as_read; as_written = is.are_sets.as_written; inside = is.are_sets.inside };
   placed = is.placed;
+  fit = is.fit;
 }
 
 -- a call that changes the clock alone keeps what a post keeps
-pub post_turned : (core : Shared) (phase : Phase) (hand hand' : Seated) (stamp : ℕ) (reads writes : List (ℕ × Option (List ℕ))) (sets : SetsView) (clock : Clock) (seen : Seen) → IsPost hand phase stamp reads writes sets → IsReady core hand' → hand'.view ≡ turned hand.view clock seen → clock.taken_in ≡ hand.view.clock.taken_in → IsPost hand' phase stamp reads writes sets
-post_turned core phase hand hand' stamp reads writes sets clock seen is ready view taken = record {
+pub post_turned : (core : Shared) (phase : Phase) (hand hand' : Seated) (stamp : ℕ) (reads writes : List (ℕ × Option (List ℕ))) (sets : SetsView) (clock : Clock) (seen : Seen) → IsPost hand phase stamp reads writes sets → IsReady core hand' → hand'.view ≡ turned hand.view clock seen → Grows hand.view.seen hand'.view.seen → clock.taken_in ≡ hand.view.clock.taken_in → IsPost hand' phase stamp reads writes sets
+post_turned core phase hand hand' stamp reads writes sets clock seen is ready view grows taken = record {
   ready = own_ready core hand' ready;
   size = rw view is.size;
   holds_none = rw view is.holds_none;
   keeps_none = rw view is.keeps_none;
-  at = let same : turned_hand hand hand' clock seen ≡ hand' = ap (λ (v : View). record hand' { view = v }) (sym view) in subst (λ (h : Seated). IsAt phase h stamp reads writes sets) same (at_turned phase hand hand' stamp reads writes sets clock seen taken is.at);
+  at = let same : turned_hand hand hand' clock seen ≡ hand' = ap (λ (v : View). record hand' { view = v }) (sym view) in subst (λ (h : Seated). IsAt phase h stamp reads writes sets) same (at_turned phase hand hand' stamp reads writes sets clock seen (subst (λ (s : Seen). Grows hand.view.seen s) (ap (λ (v : View). v.seen) view) grows) taken is.at);
 }
 
 -- what it shows
@@ -153,6 +159,7 @@ post_opened core hand hand' stamp t clock reads writes sets idle held kept size 
     room = rw idle.no_writes (omega arith);
     above = rw (view, at) above;
     left = λ alone. rw idle.no_reads (All-nil (λ read. LeavesValue (map entry_of hand'.view.log) read.0 t read.1));
+    found = λ d among. absurd (subst (λ (ds : List Read). Among d ds) idle.none_read among);
   };
 }
 

@@ -16,7 +16,7 @@ use Rattle.version_search.specs.Growing.{Grows}
 use Rattle.version_search.specs.Finding.{Reads}
 use Rattle.version_search.proofs.Grown.{grows_none, grows_both, grows_lost}
 use Rattle.version_search.specs.Loading.{with_value}
-use Rattle.validate_core.specs.Validating.{worked}
+use Rattle.validate_core.specs.Validating.{worked, no_more}
 use Rattle.validate_core.specs.declared.conflict.Conflict.{Conflict}
 use Rattle.validate_core.specs.declared.conflict.Conflict.TheVariants.{Pending}
 use Rattle.seat_post.specs.Searched.{Stops}
@@ -25,7 +25,7 @@ use Rattle.seat_post.specs.Rewriting.{HasFound, Rewrites, IsStopped, LinksOne, I
 use Rattle.seat_post.specs.Observing.{WasLost}
 use Rattle.seat_post.specs.declared.promoting.Promotion.{Promotion}
 use Rattle.seat_post.specs.declared.promoting.Promotion.TheVariants.{Promoted, Inline, Absent, Occupied}
-use Rattle.seat_post.specs.Conflicts.{ShowsOf}
+use Rattle.seat_post.specs.Conflicts.{ShowsOf, WasFound}
 use Rattle.seat_post.specs.Post.{IsPost, post_view}
 use Rattle.stamp_base.specs.Stamp.{stamp_of, IsStamp}
 use Rattle.seat_post.specs.declared.phase.Phase.{Phase}
@@ -33,7 +33,7 @@ use Rattle.seat_post.specs.declared.phase.Phase.TheVariants.{Idle}
 use Rattle.seat_post.proofs.Posts.{at_phase, post_idle}
 use Rattle.seat_post.proofs.ReadMore.{met_at}
 use Rattle.seat_post.proofs.Over.{none_resting}
-use Rattle.seat_post.proofs.Observed.{seen_grows, reads_grow, met_found, met_then, loaded_before, drawn_grows}
+use Rattle.seat_post.proofs.Observed.{seen_grows, reads_grow, met_found, met_then, found_met, found_after, loaded_before, drawn_grows}
 
 -- nothing is left to be done where nothing is linked
 ends_none : (work : Work) → Rests work.search → work.linked ≡ [] → work.item ≡ no_work.item → Ends work
@@ -64,9 +64,9 @@ elsewhere_loaded : (words : List ℕ) (stamp rid place wts : ℕ) (v b t l : Vie
 elsewhere_loaded words stamp rid place wts v b t l loads grows elsewhere found takes = record { between = b; finds = record { place = place; elsewhere = elsewhere; wts = wts; found = found }; taken = t; takes = takes; loads = loads; grows = grows }
 
 -- what was found and loaded then
-pub has_found : (value : Option (List ℕ)) (stamp rid place wts : ℕ) (v b t l : View) → IsStamp stamp → IsDrawn stamp v → value ≢ None → IfSome value (λ words. (length words ≡ 32) × (l ≡ with_value t words l.seen)) → Reads stamp rid place wts 3 v b → TakesFree rid b t → HasFound l.published.write (read_version rid place wts value) l
-has_found None stamp rid place wts v b t l is drawn present loads found takes = absurd (present refl)
-has_found (Some words) stamp rid place wts v b t l is drawn present loads found takes =
+pub has_found : (value : Option (List ℕ)) (stamp rid place wts : ℕ) (v b t l : View) → IsStamp stamp → IsDrawn stamp v → value ≢ None → IfSome value (λ words. (length words ≡ 32) × (l ≡ with_value t words l.seen)) → Grows t.seen l.seen → Reads stamp rid place wts 3 v b → TakesFree rid b t → HasFound l.published.write (read_version rid place wts value) l
+has_found None stamp rid place wts v b t l is drawn present loads grows found takes = absurd (present refl)
+has_found (Some words) stamp rid place wts v b t l is drawn present loads grows found takes =
     let published = still_published stamp rid place wts words v b t l drawn found takes loads.1 in
     let whole = loads.1 ∙ ap (λ (y : View). with_value y words l.seen) takes.view ∙ ap (λ (y : View). with_value (after_taking y rid) words l.seen) found.view in
     record {
@@ -74,6 +74,9 @@ has_found (Some words) stamp rid place wts v b t l is drawn present loads found 
       published = refl;
       is_stamp = subst IsStamp (sym published) is;
       work = ap (λ (y : View). y.work) whole ∙ ap (λ (x : Work). record x { search = still; reads = read_version rid place wts (Some words) ∷ x.reads }) drawn.work;
+      found = subst (λ (n : ℕ). WasFound n rid wts l.seen.loads) (sym published)
+          (found_after stamp rid wts b.seen.loads l.seen.loads grows.loaded (grows.loads ∙ ap (λ (y : View). y.seen.loads ++ grows.loaded) takes.view)
+          (found_met stamp rid wts 3 no_more v.seen.loads b.seen.loads (omega arith, omega arith) (met_found stamp rid place wts 3 v b found)));
     }
 
 pub writes_inline : (kept : State → Type 0) (records : ℕ) (value : Option (List ℕ)) (stamp rid place wts : ℕ) (v b t l w : View) → IsDrawn stamp v → value ≢ None → IfSome value (λ words. (length words ≡ 32) × (l ≡ with_value t words l.seen)) → Grows t.seen l.seen → place ≢ rid → Reads stamp rid place wts 3 v b → TakesFree rid b t → Rewrites kept records rid rid l.published.write value l w → WritesInline kept records stamp rid v w

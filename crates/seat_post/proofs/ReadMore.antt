@@ -5,9 +5,9 @@ use Rattle.word_layout.specs.Size.{Size, places}
 use Rattle.core_rule.specs.View.{reads as for_reads, stands, shown, View, Read, Search, still, Seen, writing}
 use Rattle.core_rule.specs.Views.{Among, IsAlone}
 use Rattle.core_rule.specs.Hands.{Shared, Seated, IsReady}
-use Rattle.core_rule.specs.Searching.{Rests, IsWhole, limit_of}
+use Rattle.core_rule.specs.Searching.{Rests, IsWhole, IsFinal, limit_of}
 use Rattle.core_rule.specs.Deciding.{AreReads, read_values, entry_of}
-use Rattle.core_rule.specs.Versions.{read_version}
+use Rattle.core_rule.specs.Versions.{read_version, state_of}
 use Rattle.record_store.specs.Meaning.{value_at}
 use Rattle.validate_core.specs.Sets.{SetsView, MayInstall}
 use Rattle.validate_core.specs.Installing.{IsBegun}
@@ -16,7 +16,8 @@ use Rattle.version_search.proofs.Grown.{grows_loads}
 use Rattle.validate_core.proofs.Staging.{met_now}
 use Rattle.seat_post.specs.Searched.{Finds, Stops}
 use Rattle.seat_post.specs.Conflicts.{IsOfAnother}
-use Rattle.seat_post.specs.Post.{PostView, IsPost, post_view}
+use Rattle.seat_post.specs.Reading.{FindsValue, value_loaded}
+use Rattle.seat_post.specs.Post.{PostView, IsPost, post_view, observed_in}
 use Rattle.seat_post.specs.declared.phase.Phase.{Phase}
 use Rattle.seat_post.specs.declared.phase.Phase.TheVariants.{Open}
 use Rattle.seat_post.proofs.AloneSeats.{alone_told}
@@ -24,7 +25,9 @@ use Rattle.seat_post.proofs.Posts.{own_ready}
 use Rattle.std.proofs.lemmas.List.Elements.{All-push}
 use Rattle.seat_post.specs.Leaves.{LeavesValue, AreLeft}
 use Rattle.seat_post.specs.Logs.{IsAbove}
-use Rattle.seat_post.specs.Seats.{IsAloneAt}
+use Rattle.seat_post.specs.Seats.{IsAloneAt, Observed}
+use Rattle.seat_post.specs.Conflicts.{WasFound}
+use Rattle.seat_post.proofs.Observed.{met_alone, found_after, found_met, were_found}
 use Rattle.seat_post.proofs.Leaving.{post_left, limit_is}
 use Rattle.validate_core.specs.Validating.{Met, no_more}
 use Rattle.seat_post.proofs.Listed.{unread, read_values-append, read_value-version}
@@ -132,6 +135,7 @@ post_room hand stamp reads reads' writes sets sets' is same_reads set_reads set_
     room = let h : length writes ≤ sets.write_room = is.at.room in omega arith;
     above = is.at.above;
     left = λ alone. rw same_reads (is.at.left alone);
+    found = rw set_reads is.at.found;
   };
 }
 
@@ -160,6 +164,16 @@ met_at hand hand' phase stamp rid wts reads writes stops inside =
     let apart = stops.another in
     (stops.before, record { another = apart; within = within; more = omega arith; not_alone = λ alone. stops.not_alone (alone_told hand.view alone) })
 
+-- the version that was found is committed or deleted
+final_state : (value : Option (List ℕ)) → IsFinal (state_of value)
+final_state None = (omega arith, omega arith)
+final_state (Some words) = (omega arith, omega arith)
+
+pub found_at : (v w : View) (stamp rid place wts : ℕ) (value : Option (List ℕ)) → Finds rid place wts value v w → v.flight ≡ writing stamp → WasFound stamp rid wts w.seen.loads
+found_at v w stamp rid place wts value finds flight =
+    found_met stamp rid wts (state_of value) (value_loaded value) v.seen.loads w.seen.loads (final_state value)
+    (subst (λ (n : ℕ). Met n rid wts (state_of value) (value_loaded value) v.seen.loads w.seen.loads) (limit_is v stamp flight) finds.met)
+
 -- a read was noted
 pub post_read : (core : Shared) (hand hand' : Seated) (stamp rid place wts : ℕ) (value : Option (List ℕ)) (reads reads' writes : List (ℕ × Option (List ℕ))) (sets sets' : SetsView) → IsPost hand Open stamp reads writes sets → IsReady core hand' → Finds rid place wts value hand.view hand'.view → rid < hand.view.size.records → value_at reads rid ≡ None → reads' ≡ reads ++ (rid, value) ∷ [] → sets'.reads ≡ sets.reads ++ read_version rid place wts value ∷ [] → sets'.writes ≡ sets.writes → sets.write_room ≤ sets'.write_room → IsPost hand' Open stamp reads' writes sets'
 post_read core hand hand' stamp rid place wts value reads reads' writes sets sets' is ready finds within first more set_reads set_writes room =
@@ -185,6 +199,10 @@ post_read core hand hand' stamp rid place wts value reads reads' writes sets set
             let before : IsAlone hand.view = rw finds.view at alone in
             let here = post_left hand hand' stamp rid place wts value finds is.at.begun.in_flight is.at.at before in
             rw (finds.view, more) (All-push (λ read. LeavesValue (map entry_of hand.view.log) read.0 stamp read.1) reads (rid, value) (is.at.left before) here);
+        found = λ e among. elim (among_append sets.reads d e (subst (λ (ds : List Read). Among e ds) set_reads among)) as (λ _. WasFound stamp e.record_number e.version hand'.view.seen.loads) [
+            | inl earlier ↦ were_found stamp sets.reads hand.view hand'.view finds.grows is.at.found e earlier
+            | inr same ↦ subst (λ (x : Read). WasFound stamp x.record_number x.version hand'.view.seen.loads) same (found_at hand.view hand'.view stamp rid place wts value finds (is.at.begun.in_flight ∙ ap writing (sym is.at.at)))
+        ];
       };
     }
 
@@ -204,6 +222,7 @@ post_stopped core hand hand' stamp rid wts reads writes sets is ready stops = re
     room = is.at.room;
     above = rw stops.view is.at.above;
     left = rw stops.view is.at.left;
+    found = were_found stamp sets.reads hand.view hand'.view stops.grows is.at.found;
   };
 }
 
@@ -231,18 +250,24 @@ post_passed core hand hand' stamp rid place wts value reads writes sets is ready
         room = is.at.room;
         above = rw finds.view is.at.above;
         left = rw finds.view is.at.left;
+        found = were_found stamp sets.reads hand.view hand'.view finds.grows is.at.found;
       };
     }
 
--- it was met
-pub present_met : (hand hand' : Seated) (phase : Phase) (stamp rid place wts : ℕ) (value : Option (List ℕ)) (reads writes : List (ℕ × Option (List ℕ))) (sets : SetsView) (p : PostView) → IsPost hand phase stamp reads writes sets → post_view hand phase stamp reads writes ≡ p → p.phase ≡ Open → Finds rid place wts value hand.view hand'.view → is_some value ≡ true → Met p.stamp rid wts 3 no_more p.observed.loads hand'.view.seen.loads
-present_met hand hand' phase stamp rid place wts value reads writes sets p is same flying finds some =
+-- it was met, with its value
+pub found_value : (hand hand' : Seated) (phase : Phase) (stamp rid place wts : ℕ) (value : Option (List ℕ)) (reads writes : List (ℕ × Option (List ℕ))) (sets : SetsView) (p : PostView) → IsPost hand phase stamp reads writes sets → post_view hand phase stamp reads writes ≡ p → p.phase ≡ Open → Finds rid place wts value hand.view hand'.view → FindsValue p.stamp rid p.observed (observed_in hand') value
+found_value hand hand' phase stamp rid place wts value reads writes sets p is same flying finds =
     let now = is_open phase hand stamp reads writes sets (ap (λ (q : PostView). q.phase) same ∙ flying) is in
-    let before = hand.view.seen.loads in
-    let after = hand'.view.seen.loads in
-    subst (λ (q : PostView). Met q.stamp rid wts 3 no_more q.observed.loads after) same
-    (subst (λ (n : ℕ). Met n rid wts 3 no_more before after) (limit_is hand.view stamp (now.at.begun.in_flight ∙ ap writing (sym now.at.at)))
-    (subst (λ (b : Bool). Met (limit_of hand.view.flight hand.view.published.read) rid wts (cond b 3 4) no_more before after) some finds.met))
+    subst (λ (q : PostView). FindsValue q.stamp rid q.observed (observed_in hand') value) same (record {
+      wts = wts;
+      met = subst (λ (n : ℕ). Met n rid wts (state_of value) (value_loaded value) hand.view.seen.loads hand'.view.seen.loads)
+          (limit_is hand.view stamp (now.at.begun.in_flight ∙ ap writing (sym now.at.at))) finds.met;
+    })
+
+-- present, it was met as committed
+pub present_met : (stamp rid : ℕ) (before after' : Observed) (value : Option (List ℕ)) → FindsValue stamp rid before after' value → is_some value ≡ true → (wts : ℕ) × Met stamp rid wts 3 no_more before.loads after'.loads
+present_met stamp rid before after' None found some = cc
+present_met stamp rid before after' (Some words) found some = (found.wts, met_alone stamp rid found.wts 3 (value_loaded (Some words)) before.loads after'.loads found.met)
 
 -- ---- what a log leaves
 

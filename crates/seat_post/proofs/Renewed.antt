@@ -20,6 +20,7 @@ use Rattle.version_search.specs.Growing.{Grows}
 use Rattle.version_search.proofs.Grown.{grows_both, grows_lost}
 use Rattle.validate_core.specs.declared.conflict.Conflict.{Conflict}
 use Rattle.validate_core.specs.declared.conflict.Conflict.TheVariants.{Pending, ReadLater, Overtaken}
+use Rattle.seat_post.specs.Conflicts.{WasFound}
 use Rattle.seat_post.specs.Ends.{Stood}
 use Rattle.seat_post.specs.Leaves.{LeavesValue}
 use Rattle.seat_post.specs.Logs.{IsAbove}
@@ -29,6 +30,7 @@ use Rattle.seat_post.specs.Settling.{entries_of, IsSettling, Settles, IsRewritte
 use Rattle.seat_post.proofs.AloneSeats.{alone_shown}
 use Rattle.seat_post.proofs.Bounds.{above_more}
 use Rattle.seat_post.proofs.Promotions.{without_only}
+use Rattle.seat_post.proofs.ReadMore.{found_at}
 use Rattle.seat_post.proofs.Steady.{alone_same}
 
 -- the stamp was drawn, these places are held, and nothing was linked
@@ -106,6 +108,12 @@ left_drawn u v w clock rid from wts value drew found alone =
 module _ (u v w t : View) (clock rid from wts place : ℕ) (value : Option (List ℕ)) (drew : v ≡ drawn u clock) (found : Finds rid from wts value v w) (takes : TakesAfter place w t) where
   at_taken : Drew clock (place ∷ u.places.held) u t
   at_taken = drew_taking u w t clock place u.places.held (drew_found u v w clock rid from wts value drew found) takes
+
+  pub was_found : WasFound t.published.write rid wts t.seen.loads
+  was_found =
+      let here = found_at v w (stamp_of clock u.number) rid from wts value found (ap (λ (y : View). y.flight) drew) in
+      subst (λ (ls : List Load). WasFound t.published.write rid wts ls) (sym (ap (λ (y : View). y.seen.loads) takes.takes.view))
+      (subst (λ (n : ℕ). WasFound n rid wts w.seen.loads) (sym at_taken.published) here)
 
   pub taken_alone : IsAlone u → IsAlone t
   taken_alone alone = let d = at_taken in alone_same u t d.number d.size d.splitting d.taken_in alone

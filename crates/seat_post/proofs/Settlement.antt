@@ -4,7 +4,8 @@ use Rattle.std.specs.Prelude.{nat_lt}
 use Rattle.std.proofs.lemmas.Bool.{cases_lt}
 use Rattle.plain_data.specs.State.{State}
 use Rattle.stamp_base.specs.Stamp.{bound_of_clock}
-use Rattle.core_rule.specs.View.{View, Logged, Bound}
+use Rattle.word_layout.specs.Size.{Size}
+use Rattle.core_rule.specs.View.{View, Logged, Bound, Counted, Gone}
 use Rattle.core_rule.specs.Views.{Among, IsAlone}
 use Rattle.core_rule.specs.Searching.{known_of}
 use Rattle.core_rule.specs.Left.{IsLeft}
@@ -19,7 +20,10 @@ use Rattle.seat_post.specs.declared.phase.Phase.{Phase}
 use Rattle.seat_post.specs.Glance.{first_glance}
 use Rattle.seat_post.specs.Post.{post_view}
 use Rattle.seat_post.specs.Rewriting.{Rewritings}
-use Rattle.seat_post.specs.Settling.{entries_of, IsSettling, Settles, AreSettled, AreLater, KeepsOthers, Draws, SettlesPost}
+use Rattle.seat_post.specs.declared.settled.Settled.{Settled}
+use Rattle.seat_post.specs.Seats.{Removed, observed_of}
+use Rattle.seat_post.specs.Collecting.{trail_in, trail_of}
+use Rattle.seat_post.specs.Settling.{entries_of, IsSettling, Settles, AreSettled, AreLater, KeepsOthers, Draws, RunsOut, SettlesPost, SettlesFirst, SettlesAll, StopsSome, StopsPost, with_met}
 use Rattle.seat_post.proofs.Observed.{observed_grows, bounded_grows}
 
 -- ---- a record
@@ -81,9 +85,10 @@ settles_post kept hand hand' last phase stamp bound reads writes table table' se
     let reached = settles.met in
     let before = post_view hand phase stamp reads writes in
     let after' = post_view last phase stamp reads writes in
+    let linked : last.view.work.linked ≡ [] = ap (λ (v : View). v.work.linked) view in
     let is : bound ≡ bound + 1 - 1 = omega arith in
     let glance : after'.glance ≡ first_glance (last.view.clock.met - 1) = rw view (ap first_glance is) in
-    let rest : record after' { glance = first_glance (last.view.clock.met - 1) } ≡ record before { clock = after'.clock; published = after'.published; met = after'.met; known = after'.known; log = after'.log; observed = after'.observed; glance = first_glance (after'.met - 1) } = rw (table' ∙ table, number, size, splitting, taken) refl in
+    let rest : record after' { glance = first_glance (last.view.clock.met - 1) } ≡ record before { clock = after'.clock; published = after'.published; met = after'.met; known = after'.known; log = after'.log; observed = after'.observed; gone = after'.gone; placed = []; glance = first_glance (after'.met - 1) } = rw (table' ∙ table, number, size, splitting, taken, linked) refl in
     record {
       only = ap (λ g. record after' { glance = g }) glance ∙ rest;
       later = omega arith;
@@ -93,3 +98,37 @@ settles_post kept hand hand' last phase stamp bound reads writes table table' se
       added = subst (λ (es : List Logged). AreLater (entries_of hand.view) (map deciding.entry_of es) (bound_of_clock hand.view.clock.clock)) (sym log) settles.added;
       above = rw (log, clock) settling.above;
     }
+
+-- ---- what the call shows
+
+module _ (hand hand' last : Seated) (phase : Phase) (stamp bound : ℕ) (reads writes : List (ℕ × Option (List ℕ))) (view : last.view ≡ bounded hand'.view bound) where
+  last_trail : trail_in last.view ≡ with_met (trail_in hand'.view) last.view.clock.met
+  last_trail =
+      let met : last.view.clock.met ≡ bound + 1 = ap (λ (v : View). v.clock.met) view in
+      ap (λ (v : View). trail_in v) view ∙ ap (λ (n : ℕ). with_met (trail_in hand'.view) n) (sym met)
+
+  pub settles_all : (all : Settled) → SettlesFirst hand.view.size hand.view.size.records all (trail_in hand.view) (trail_in hand'.view) → SettlesAll (post_view hand phase stamp reads writes) (post_view last phase stamp reads writes) all
+  settles_all all first = record { reached = trail_in hand'.view; first = first; last = last_trail }
+
+  pub stops_post : StopsSome hand.view.size hand.view hand'.view → StopsPost (post_view hand phase stamp reads writes) (post_view last phase stamp reads writes)
+  stops_post s =
+      let z = hand.view.size in
+      let b = s.between in let w = hand'.view in
+      let counts : last.view.counts ≡ w.counts = ap (λ (v : View). v.counts) view in
+      let clock : last.view.clock.clock ≡ w.clock.clock = ap (λ (v : View). v.clock.clock) view in
+      record {
+        rid = s.rid;
+        within = s.within;
+        settled = subst (λ (k : Counted). AreSettled s.rid k) (sym counts) s.settled;
+        all = s.all;
+        between = trail_in b;
+        first = s.first;
+        reached = trail_in w;
+        due = s.due;
+        runs_out = subst (λ (n : ℕ). RunsOut z s.rid (hand.view.clock.clock + s.all.rewritten) n (observed_of b) (observed_of w)) (sym clock)
+            (subst (λ (n : ℕ). RunsOut z s.rid n w.clock.clock (observed_of b) (observed_of w)) s.drawn s.runs_out);
+        gone = ap (λ (g : Gone). removed_in g) s.gone;
+        last = last_trail;
+      } where
+        removed_in : Gone → Removed
+        removed_in g = record { cuts = g.cuts; freed = g.freed }

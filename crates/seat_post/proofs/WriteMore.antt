@@ -43,6 +43,7 @@ post_written hand stamp reads writes writes' sets sets' is set_reads set_writes 
     room = room;
     above = is.at.above;
     left = is.at.left;
+    found = rw set_reads is.at.found;
   };
 }
 

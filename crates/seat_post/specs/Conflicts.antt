@@ -1,7 +1,9 @@
 -- What a conflict says of the transaction that it stops.
-use Rattle.std.specs.Prelude.{◌≡◌, ◌≢◌, ◌⊎◌, ℕ, ◌<◌, List, Option, IsSome}
+use Rattle.std.specs.Prelude.{◌≡◌, ◌≢◌, ◌⊎◌, ℕ, ◌<◌, List, [], Option, IsSome}
 use Rattle.stamp_base.specs.Stamp.{seat_of}
 use Rattle.word_layout.specs.Size.{Size}
+use Rattle.core_rule.specs.View.{Load, Read}
+use Rattle.core_rule.specs.Views.{Among}
 use Rattle.validate_core.specs.Validating.{Met, MetFinal, no_more, its_read_stamp}
 use Rattle.seat_post.specs.Seats.{Others, Observed, IsAloneAt}
 use Rattle.record_store.specs.Meaning.{value_at}
@@ -28,12 +30,19 @@ Touches reads writes (Pending rid wts) = IsSome (value_at reads rid) ⊎ IsSome 
 Touches reads writes (ReadLater rid wts rts) = IsSome (value_at writes rid)
 Touches reads writes (Overtaken rid seen now) = IsSome (value_at reads rid)
 
+-- loads led to this version of the record below the stamp, and showed it committed or deleted; and to the version of each read
+abbrev pub WasFound : (stamp rid wts : ℕ) → List Load → Type 0
+WasFound stamp rid wts loads = MetFinal stamp rid wts no_more [] loads
+
+abbrev pub WereFound : (stamp : ℕ) → List Read → List Load → Type 0
+WereFound stamp ds loads = (d : Read) → Among d ds → WasFound stamp d.record_number d.version loads
+
 -- What it names was loaded between the two, at a version below the stamp to which the loads led: the status of a pending one; the
--- read stamp of a committed or deleted one; the status of such a one.
+-- read stamp of a committed or deleted one; the status of such a one, where the version that was read had been found too.
 abbrev pub IsLoaded : (stamp : ℕ) → Conflict → (before after' : Observed) → Type 0
 IsLoaded stamp (Pending rid wts) before after' = Met stamp rid wts 2 no_more before.loads after'.loads
 IsLoaded stamp (ReadLater rid wts rts) before after' = MetFinal stamp rid wts (its_read_stamp rts) before.loads after'.loads
-IsLoaded stamp (Overtaken rid seen now) before after' = MetFinal stamp rid now no_more before.loads after'.loads
+IsLoaded stamp (Overtaken rid seen now) before after' = MetFinal stamp rid now no_more before.loads after'.loads × WasFound stamp rid seen after'.loads
 
 -- a read meets a pending version alone
 abbrev pub ShowsPending : (size : Size) (seat : ℕ) (others : Others) (stamp : ℕ) → Conflict → Type 0

@@ -25,5 +25,6 @@ joined_at p hand = record p {
   others = record p.others { taken_in = p.others.taken_in ++ hand.view.number ∷ hand.view.clock.taken_in };
   known = no_knowledge;
   log = p.log ++ map deciding.entry_of hand.view.log;
+  placed = [];
   met = max p.met hand.view.clock.met;
 }

@@ -1,9 +1,10 @@
 -- What a call of a post adds to what the seat's steps loaded and to the exchanges that they lost.
-use Rattle.std.specs.Prelude.{◌≡◌, ℕ, List, [], ◌∷◌, ◌++◌, length}
-use Rattle.word_layout.specs.Name.{Name, published_write, published_read}
+use Rattle.std.specs.Prelude.{◌≡◌, ℕ, ◌≤◌, max, List, [], ◌∷◌, ◌++◌, length}
+use Rattle.word_layout.specs.Name.{Name, published_write, min_write}
 use Rattle.word_layout.specs.Size.{Size, IsUsable}
 use Rattle.core_rule.specs.View.{Load}
-use Rattle.clock_stamps.specs.Minima.{loads_from}
+use Rattle.core_rule.specs.Paths.{load}
+use Rattle.clock_stamps.specs.Minima.{least, loads_from}
 use Rattle.version_pool.specs.Takes.{IsLostOn}
 use Rattle.seat_post.specs.Seats.{Observed}
 
@@ -14,22 +15,29 @@ pub record Grows (before after' : Observed) : Type 0 where
   pub loads : after'.loads ≡ before.loads ++ loaded
   pub lost : after'.lost ≡ before.lost ++ missed
 
--- the words of a family were loaded first, of so many seats once each and by rising number
-pub record ScansAll (family : ℕ → Name) (seats : ℕ) (before after' : Observed) : Type 0 where
-  pub words : List ℕ
-  pub each_seat : length words ≡ seats
-  pub later : List Load
-  pub loads : after'.loads ≡ before.loads ++ (loads_from family 0 words ++ later)
-
--- the published write words were, and the published read words later
-pub record ScansBoth (seats : ℕ) (before after' : Observed) : Type 0 where
-  pub between : Observed
-  pub writes : ScansAll published_write seats before between
-  pub reads : ScansAll published_read seats between after'
-
--- one load more
+-- one load more, and more
 abbrev pub with_load : Observed → Load → Observed
 with_load o l = record o { loads = o.loads ++ l ∷ [] }
+
+abbrev pub with_loads : Observed → List Load → Observed
+with_loads o ls = record o { loads = o.loads ++ ls }
+
+-- The words of a family were loaded, of so many seats once each and by rising number, and then a minimum was raised to the least of
+-- them: it was found so, and came to this.
+pub record RaisesTo (family : ℕ → Name) (minimum : Name) (seats raised : ℕ) (before after' : Observed) : Type 0 where
+  pub words : List ℕ
+  pub each_seat : length words ≡ seats
+  pub found : ℕ
+  pub value : raised ≡ max found (least words)
+  pub loads : after' ≡ with_loads before (loads_from family 0 words ++ load minimum found ∷ [])
+
+-- `min_wts` was raised so by the published write words, and then loaded again, when it was this and no less
+pub record MeetsMinimum (seats met : ℕ) (before after' : Observed) : Type 0 where
+  pub raised : ℕ
+  pub between : Observed
+  pub raises : RaisesTo published_write min_write seats raised before between
+  pub not_less : raised ≤ met
+  pub loads : after' ≡ with_load between (load min_write met)
 
 -- an exchange on this place was among those that were lost: the place was met not free
 pub record WasLost (place : ℕ) (before after' : List Load) : Type 0 where

@@ -6,18 +6,18 @@ use Rattle.stamp_base.specs.Stamp.{stamp_of, bound_of_clock}
 use Rattle.word_layout.specs.Size.{IsSize}
 use Rattle.core_rule.specs.Hands.{Shared, Seated, IsReady}
 use Rattle.core_rule.specs.View.{Write, resting, nothing_kept}
-use Rattle.core_rule.specs.Views.{IsAlone}
+use Rattle.core_rule.specs.Views.{IsAlone, Among}
 use Rattle.core_rule.specs.Searching.{Ends}
 use Rattle.core_rule.specs.Deciding.{read_values, written_values}
 use Rattle.core_rule.specs.Deciding as deciding
 use Rattle.validate_core.specs.Sets.{SetsView, IsInside, count_below}
-use Rattle.validate_core.specs.Installing.{IsBegun}
+use Rattle.validate_core.specs.Installing.{IsBegun, IsFor}
 use Rattle.validate_core.specs.Validating as validating
 use Rattle.validate_core.specs.declared.conflict.Conflict.{Conflict}
 use Rattle.core_rule.specs.Snapshots.{AreAllWhole}
 use Rattle.seat_post.specs.Glance.{GlanceView, glance_of, first_glance, with_read}
-use Rattle.seat_post.specs.Seats.{Others, Known, Observed, IsAloneAt, observed_of}
-use Rattle.seat_post.specs.Conflicts.{Shows}
+use Rattle.seat_post.specs.Seats.{Others, Known, Observed, Removed, Placed, IsAloneAt, observed_of, removed_of, placed_of}
+use Rattle.seat_post.specs.Conflicts.{Shows, WereFound}
 use Rattle.seat_post.specs.Logs.{IsAbove}
 use Rattle.seat_post.specs.Leaves.{AreLeft}
 use Rattle.seat_post.specs.Lists.{known_before, AreKnown, count_raised}
@@ -25,8 +25,9 @@ use Rattle.seat_post.specs.declared.phase.Phase.{Phase}
 use Rattle.seat_post.specs.declared.phase.Phase.TheVariants.{Idle, Open, Installed, Decided}
 
 -- the table of the seat, its number, its clock, its published write word, the seats that it takes as open, what it knows of lists, the
--- greatest `min_wts` that it has met, its log, what its steps loaded and which exchanges they lost, what a snapshot there has read; and
--- how far the transaction is, its stamp, its reads and its writes
+-- greatest `min_wts` that it has met, its log, what its steps loaded and which exchanges they lost, what they cut off and freed, where
+-- the versions of the transaction in flight or of the last one were linked, what a snapshot there has read; and how far the
+-- transaction is, its stamp, its reads and its writes
 pub record PostView : Type 0 where
   pub shared : Shared
   pub seat : ℕ
@@ -37,6 +38,8 @@ pub record PostView : Type 0 where
   pub met : ℕ
   pub log : List Entry
   pub observed : Observed
+  pub gone : Removed
+  pub placed : List Placed
   pub glance : Option GlanceView
   pub phase : Phase
   pub stamp : ℕ
@@ -70,6 +73,8 @@ post_view hand phase stamp reads writes = record {
   met = hand.view.clock.met;
   log = map deciding.entry_of hand.view.log;
   observed = observed_in hand;
+  gone = removed_of hand.view;
+  placed = placed_of hand.view.work.linked;
   glance = glance_of hand.view.flight hand.view.published.read hand.view.work.reads;
   phase = phase;
   stamp = stamp;
@@ -99,12 +104,18 @@ pub record IsOpenAt (hand : Seated) (stamp : ℕ) (reads writes : List (ℕ × O
   -- the commit entries of the log are stamped below; and while the seat is alone, each value read is what they leave
   pub above : IsAbove (map deciding.entry_of hand.view.log) stamp
   pub left : IsAlone hand.view → AreLeft (map deciding.entry_of hand.view.log) stamp reads
+  -- loads led to each version that was read
+  pub found : WereFound stamp sets.reads hand.view.seen.loads
 
 -- the sets are those of the transaction
 pub record AreSets (hand : Seated) (reads writes : List (ℕ × Option (List ℕ))) (sets : SetsView) : Type 0 where
   pub as_read : read_values sets.reads ≡ reads
   pub as_written : written_values sets.writes ≡ writes
   pub inside : IsInside hand.view.size sets
+
+-- each stands in the inline place of its record, or in a usable pool place
+abbrev pub AllFit : Seated → List Write → Type 0
+AllFit hand us = (u : Write) → Among u us → IsFor hand.view.size u.record_number u.place
 
 -- as many of the writes stand in inline places as what is known of lists tells
 abbrev pub ArePlaced : Seated → List Write → Type 0
@@ -117,11 +128,14 @@ pub record IsInstalledAt (hand : Seated) (stamp : ℕ) (reads writes : List (ℕ
   pub installed : validating.IsInstalled stamp sets hand.view
   pub are_sets : AreSets hand reads writes sets
   pub placed : ArePlaced hand sets.writes
+  pub fit : AllFit hand sets.writes
+  pub found : WereFound stamp sets.reads hand.view.seen.loads
 
 pub record IsDecidedAt (hand : Seated) (stamp : ℕ) (reads writes : List (ℕ × Option (List ℕ))) (sets : SetsView) : Type 0 where
   pub decided : validating.IsDecidedAt stamp sets hand.view
   pub are_sets : AreSets hand reads writes sets
   pub placed : ArePlaced hand sets.writes
+  pub fit : AllFit hand sets.writes
 
 abbrev pub IsAt : Phase → Seated → ℕ → (reads writes : List (ℕ × Option (List ℕ))) → SetsView → Type 0
 IsAt Idle = IsIdleAt
@@ -143,19 +157,27 @@ pub record IsPost (hand : Seated) (phase : Phase) (stamp : ℕ) (reads writes : 
 abbrev pub observing : PostView → Observed → PostView
 observing p observed = record p { observed = observed }
 
-abbrev pub opened : PostView → ℕ → PostView
-opened p clock = record p { clock = clock; published = stamp_of clock p.seat; glance = None; phase = Open; stamp = stamp_of clock p.seat }
+-- and cut off and freed this
+abbrev pub removing : PostView → Removed → PostView
+removing p gone = record p { gone = gone }
+
+-- its versions were linked there
+abbrev pub placing : PostView → List Placed → PostView
+placing p placed = record p { placed = placed }
 
 abbrev pub drawn_at : PostView → ℕ → PostView
-drawn_at p clock = record p { clock = clock; published = stamp_of clock p.seat; glance = None }
+drawn_at p clock = record p { clock = clock; published = stamp_of clock p.seat; placed = []; glance = None }
+
+abbrev pub opened : PostView → ℕ → PostView
+opened p clock = record (drawn_at p clock) { phase = Open; stamp = stamp_of clock p.seat }
 
 -- the bound of its clock is published, a greater `min_wts` was met, and this is known of lists
 abbrev pub collected_at : PostView → (met : ℕ) → Known → PostView
-collected_at p met known = record p { published = max p.published (bound_of_clock p.clock); met = met; known = known; glance = first_glance (met - 1) }
+collected_at p met known = record p { published = max p.published (bound_of_clock p.clock); met = met; known = known; placed = []; glance = first_glance (met - 1) }
 
 -- a snapshot begins, reads one more record, and ends
 abbrev pub looking_at : PostView → ℕ → PostView
-looking_at p stamp = record p { met = stamp + 1; glance = first_glance stamp }
+looking_at p stamp = record p { met = stamp + 1; placed = []; glance = first_glance stamp }
 
 abbrev pub looked_at : PostView → ℕ → Option (List ℕ) → PostView
 looked_at p rid value = record p { glance = option_map (λ (g : GlanceView). record g { reads = with_read g.reads rid value }) p.glance }
@@ -163,6 +185,7 @@ looked_at p rid value = record p { glance = option_map (λ (g : GlanceView). rec
 abbrev pub finished_at : PostView → GlanceView → PostView
 finished_at p g = record p {
   log = p.log ++ record { stamp = g.stamp; snapshot = true; reads = g.reads; writes = [] } ∷ [];
+  placed = [];
   glance = first_glance g.stamp;
 }
 

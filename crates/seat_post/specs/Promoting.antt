@@ -18,7 +18,7 @@ use Rattle.seat_post.specs.Seats.{Known, Observed}
 use Rattle.seat_post.specs.Observing.{WasLost}
 use Rattle.seat_post.specs.Conflicts.{ShowsOf, IsLoaded}
 use Rattle.seat_post.specs.Ends.{Stood}
-use Rattle.seat_post.specs.Post.{PostView, drawn_at, observing}
+use Rattle.seat_post.specs.Post.{PostView, drawn_at, observing, placing}
 use Rattle.seat_post.specs.Rewriting.{rewriting, linked_in, Rewrites, IsStopped, others_in, IsLoadedIn}
 
 -- ---- what was come upon
@@ -49,6 +49,7 @@ CameUpon stamp rid before after' Occupied = MeetsElsewhere stamp rid before afte
 
 abbrev pub rewritten_at : PostView → (clock rid place : ℕ) → Option (List ℕ) → PostView
 rewritten_at p clock rid place value = record (drawn_at p clock) {
+  placed = record { rid = rid; place = place } ∷ [];
   known = linked_in p.shared.size rid place (stamp_of clock p.seat) p.known;
   log = p.log ++ rewriting (stamp_of clock p.seat) rid value ∷ [];
 }
@@ -63,7 +64,7 @@ pub record IsRewritten (kept : State → Type 0) (rid place clock : ℕ) (before
   pub stood : Stood kept before.shared.size.records before.log (rewriting stamp rid (Some words))
 
 pub record IsStoppedPost (rid clock : ℕ) (before after' : PostView) (conflict : Conflict) : Type 0 where
-  pub after : after' ≡ observing (stopped_at before clock after'.known) after'.observed
+  pub after : after' ≡ observing (placing (stopped_at before clock after'.known) after'.placed) after'.observed
   pub linked : (after'.known ≡ before.known) ⊎ (after'.known ≡ linked_in before.shared.size rid rid (stamp_of clock before.seat) before.known)
   pub shown : ShowsOf rid before.shared.size before.seat before.others (stamp_of clock before.seat) conflict
   pub loaded : IsLoaded (stamp_of clock before.seat) conflict before.observed after'.observed

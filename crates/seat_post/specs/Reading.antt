@@ -1,8 +1,24 @@
--- Why a read has no answer.
-use Rattle.std.specs.Prelude.{ℕ, ⊤}
+-- What a read answers, and why it has no answer.
+use Rattle.std.specs.Prelude.{ℕ, ⊤, List, [], Option, None, Some}
+use Rattle.core_rule.specs.View.{Load}
+use Rattle.core_rule.specs.Versions.{state_of}
+use Rattle.version_search.specs.Loading.{cells_loaded}
+use Rattle.validate_core.specs.Validating.{Met}
+use Rattle.seat_post.specs.Seats.{Observed}
 use Rattle.seat_post.specs.declared.reading.ReadFault.{ReadFault}
 use Rattle.seat_post.specs.declared.reading.ReadFault.TheVariants.{Pending, NoMemory}
 
 abbrev pub IfPending : ReadFault → (ℕ → Type 0) → Type 0
 IfPending (Pending wts) P = P wts
 IfPending NoMemory P = ⊤
+
+-- the loads of a value from a place: those of its cells, and of a deletion none
+abbrev pub value_loaded : Option (List ℕ) → (place : ℕ) → List Load
+value_loaded None place = []
+value_loaded (Some words) place = cells_loaded place 0 words
+
+-- Loads led to the version of the record that is visible below the stamp. It was loaded as committed, and then its value; or, where
+-- there is none, as deleted.
+pub record FindsValue (stamp rid : ℕ) (before after' : Observed) (value : Option (List ℕ)) : Type 0 where
+  pub wts : ℕ
+  pub met : Met stamp rid wts (state_of value) (value_loaded value) before.loads after'.loads

@@ -1,5 +1,5 @@
 -- What looking for the absent records changes.
-use Rattle.std.specs.Prelude.{◌≡◌, ◌-◌, max}
+use Rattle.std.specs.Prelude.{◌≡◌, ◌-◌, max, []}
 use Rattle.stamp_base.specs.Stamp.{bound_of_clock}
 use Rattle.core_rule.specs.View.{View}
 use Rattle.core_rule.specs.Searching.{Rests, Ends}
@@ -19,5 +19,6 @@ abbrev pub looked_over : PostView → PostView
 looked_over p = record p {
   published = max p.published (bound_of_clock p.clock);
   met = max p.published (bound_of_clock p.clock);
+  placed = [];
   glance = first_glance (max p.published (bound_of_clock p.clock) - 1);
 }

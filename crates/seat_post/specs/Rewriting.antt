@@ -15,8 +15,8 @@ use Rattle.version_search.specs.Growing.{Grows}
 use Rattle.rapid_gc.specs.Queues.{Waiting}
 use Rattle.seat_post.specs.Leaves.{LeavesValue}
 use Rattle.seat_post.specs.Logs.{IsAbove}
-use Rattle.seat_post.specs.Seats.{Others, Known, observed_of}
-use Rattle.seat_post.specs.Conflicts.{ShowsOf, IsLoaded}
+use Rattle.seat_post.specs.Seats.{Others, Known, observed_of, placed_of}
+use Rattle.seat_post.specs.Conflicts.{ShowsOf, IsLoaded, WasFound}
 use Rattle.seat_post.specs.Ends.{Stood}
 
 -- sets in which nothing stands, with room for one read and one write
@@ -56,6 +56,7 @@ pub record HasFound (stamp : ℕ) (d : Read) (v : View) : Type 0 where
   pub published : v.published.write ≡ stamp
   pub is_stamp : IsStamp stamp
   pub work : v.work ≡ record no_work { reads = d ∷ [] }
+  pub found : WasFound stamp d.record_number d.version v.seen.loads
 
 -- one version of the record was linked, in a place that was held, and has its last status; of the log nothing is said
 pub record LinksOne (rid place stamp : ℕ) (v w : View) : Type 0 where
@@ -69,6 +70,7 @@ pub record LinksOne (rid place stamp : ℕ) (v w : View) : Type 0 where
     seen = w.seen;
   }
   pub held : w.places.held ≡ without place v.places.held
+  pub placed : placed_of w.work.linked ≡ record { rid = rid; place = place } ∷ []
   pub grows : Grows v.seen w.seen
   pub ends : Ends w.work
 

@@ -1,8 +1,8 @@
--- Which seats of its engine a seat takes as open, what it knows of the records' lists of versions while it is the only one, and what
--- its steps came upon.
-use Rattle.std.specs.Prelude.{◌≡◌, ℕ, zero, suc, Bool, true, ◌==◌, ◌&&◌, ◌||◌, List, []}
+-- Which seats of its engine a seat takes as open, what it knows of the records' lists of versions while it is the only one, what its
+-- steps came upon, and what they cut off, freed and linked.
+use Rattle.std.specs.Prelude.{◌≡◌, ℕ, zero, suc, Bool, true, ◌==◌, ◌&&◌, ◌||◌, List, [], map}
 use Rattle.std.specs.List.{list_any}
-use Rattle.core_rule.specs.View.{View, Splitting, Counted, Top, Load}
+use Rattle.core_rule.specs.View.{View, Splitting, Counted, Top, Load, Cut, Write}
 use Rattle.core_rule.specs.Offers.{made_within}
 use Rattle.word_layout.specs.Size.{Size}
 
@@ -39,3 +39,23 @@ nothing_observed = record { loads = []; lost = [] }
 
 abbrev pub observed_of : View → Observed
 observed_of v = record { loads = v.seen.loads; lost = v.seen.lost }
+
+-- the versions at which its steps cut a list, with the links to what they cut off, and the places that they freed, in turn
+pub record Removed : Type 0 where
+  pub cuts : List Cut
+  pub freed : List ℕ
+
+abbrev pub nothing_removed : Removed
+nothing_removed = record { cuts = []; freed = [] }
+
+abbrev pub removed_of : View → Removed
+removed_of v = record { cuts = v.gone.cuts; freed = v.gone.freed }
+
+-- a version of a record was linked in a place
+pub record Placed : Type 0 where
+  pub rid : ℕ
+  pub place : ℕ
+
+-- the versions that the transaction in flight has linked, or the last one
+abbrev pub placed_of : List Write → List Placed
+placed_of us = map (λ (u : Write). record { rid = u.record_number; place = u.place }) us

@@ -1,11 +1,13 @@
 -- What settling makes of a seat that is alone: the visible values of records are written again, and what is older is cut off.
-use Rattle.std.specs.Prelude.{◌≡◌, ◌≢◌, ◌⊎◌, ℕ, false, ◌+◌, ◌-◌, ◌<◌, ◌≤◌, max, if◌then◌else◌, List, [], Some, map, length}
+use Rattle.std.specs.Prelude.{◌≡◌, ◌≢◌, ◌⊎◌, ℕ, false, ◌+◌, ◌-◌, ◌<◌, ◌≤◌, max, if◌then◌else◌, List, [], ◌∷◌, ◌++◌, Some, map, length, sum_by}
 use Rattle.plain_data.specs.declared.entry.Entry.{Entry}
 use Rattle.plain_data.specs.State.{State}
 use Rattle.stamp_base.specs.Limits.{greatest_clock}
 use Rattle.stamp_base.specs.Stamp.{stamp_of, bound_of_clock}
 use Rattle.word_layout.specs.Size.{Size, IsUsable}
-use Rattle.core_rule.specs.View.{View, Counted, Load, nothing_kept}
+use Rattle.word_layout.specs.Name.{min_write}
+use Rattle.core_rule.specs.View.{View, Counted, Load, Cut, nothing_kept}
+use Rattle.core_rule.specs.Paths.{EndsAt, load}
 use Rattle.core_rule.specs.Views.{IsAlone, Among}
 use Rattle.core_rule.specs.Searching.{Ends, known_of, newest_stamp}
 use Rattle.core_rule.specs.Collecting.{HasEntry}
@@ -14,13 +16,15 @@ use Rattle.core_rule.specs.Deciding as deciding
 use Rattle.version_pool.specs.Takes.{TakesFree, WasMet, after_losing}
 use Rattle.version_search.specs.declared.fronts.First.{First}
 use Rattle.version_search.specs.Growing.{Grows}
-use Rattle.version_search.specs.Finding.{Reads}
 use Rattle.version_search.specs.Looking.{Looked}
 use Rattle.rapid_gc.specs.Bounds.{IsOneLeft}
 use Rattle.seat_post.specs.declared.settled.Settled.{Settled}
 use Rattle.seat_post.specs.Glance.{first_glance}
 use Rattle.seat_post.specs.Logs.{IsAbove}
 use Rattle.seat_post.specs.Observing as observing
+use Rattle.seat_post.specs.Observing.{with_load, MeetsNoPlace}
+use Rattle.seat_post.specs.Seats.{Observed, observed_of}
+use Rattle.seat_post.specs.Collecting.{Trail, trail_of, trail_in, Frees}
 use Rattle.seat_post.specs.Post.{PostView}
 use Rattle.seat_post.specs.Rewriting.{Rewritings}
 
@@ -44,6 +48,8 @@ pub record SettlesPost (kept : State → Type 0) (before after' : PostView) : Ty
     known = after'.known;
     log = after'.log;
     observed = after'.observed;
+    gone = after'.gone;
+    placed = [];
     glance = first_glance (after'.met - 1);
   }
   pub grows : observing.Grows before.observed after'.observed
@@ -101,38 +107,77 @@ pub record OnlySearches (v w : View) : Type 0 where
   pub log : w.log ≡ v.log
   pub gone : w.gone ≡ v.gone
 
--- the search up to the published read stamp ended at another version than the first one, or that is version 0
-pub record FindsOther (rid wts : ℕ) (w : View) : Type 0 where
-  pub before : View
+-- `min_wts` was loaded between the two, and then loads up to it led to a version of the record that is another than this one, or this is
+-- version 0
+pub record FindsOther (rid wts : ℕ) (before after' : List Load) : Type 0 where
   pub limit : ℕ
   pub place : ℕ
   pub found : ℕ
   pub status : ℕ
-  pub reads : Reads limit rid place found status before w
+  pub earlier : List Load
+  pub path : EndsAt limit rid place found status (before ++ (earlier ++ load min_write limit ∷ [])) after'
   pub other : (found ≢ wts) ⊎ (wts ≡ 0)
 
--- the first version is neither committed nor deleted, or that search did not end there
-abbrev pub IsHidden : (rid : ℕ) → First → View → Type 0
-IsHidden rid first w = (first.decided ≡ false) ⊎ FindsOther rid first.wts w
+-- the first version is neither committed nor deleted, or such a search did not end there
+abbrev pub IsHidden : (rid : ℕ) → First → (before after' : List Load) → Type 0
+IsHidden rid first before after' = (first.decided ≡ false) ⊎ FindsOther rid first.wts before after'
+
+-- the first loads were a look at the first version of the record's list, which showed this
+pub record LooksFirst (rid : ℕ) (first : First) (before looked after' : List Load) : Type 0 where
+  pub look : Looked rid first.place first.wts first.decided first.single before looked
+  pub later : List Load
+  pub rest : after' ≡ looked ++ later
 
 -- ---- a record
 
--- a writing again is due: the look at the first version showed that it is not the only one, and it is hidden
-pub record IsDue (rid : ℕ) (v : View) : Type 0 where
+-- a writing again is due: the look at the first version showed that it is not the only one, and then it was found to be hidden
+pub record IsDue (rid : ℕ) (before after' : List Load) : Type 0 where
   pub first : First
-  pub looked : View
-  pub loads : Looked rid first.place first.wts first.decided first.single v.seen.loads looked.seen.loads
+  pub looked : List Load
+  pub looks : LooksFirst rid first before looked after'
   pub more : first.single ≡ false
-  pub searched : View
-  pub hidden : IsHidden rid first searched
+  pub searched : List Load
+  pub hidden : IsHidden rid first looked searched
+  pub later : List Load
+  pub rest : after' ≡ searched ++ later
 
--- the list was not cut where the look at its first version showed that it is the only one; else once, or as often as the record was
--- written again
-pub record Cuts (rid : ℕ) (v : View) (done : Settled) : Type 0 where
+-- its list was not cut where the look at its first version showed that it is the only one; else once, or as often as it was written again
+pub record CutsAsDue (rid : ℕ) (done : Settled) (before after' : List Load) : Type 0 where
   pub first : First
-  pub looked : View
-  pub loads : Looked rid first.place first.wts first.decided first.single v.seen.loads looked.seen.loads
+  pub looked : List Load
+  pub looks : LooksFirst rid first before looked after'
   pub cut : done.cut ≡ (if first.single then 0 else max done.rewritten 1)
+
+-- so many cuts were made, each of this record's list
+pub record CutsOf (rid count : ℕ) (before after' : List Cut) : Type 0 where
+  pub cuts : List Cut
+  pub made : after' ≡ before ++ cuts
+  pub many : length cuts ≡ count
+  pub of_record : (c : Cut) → Among c cuts → c.record_number ≡ rid
+
+-- What was done for a record: it was cut as often as is told, and so many places were freed. It was written again only where that was due,
+-- and twice only where the kept place had to serve, since its inline place and each usable one were met not free.
+pub record SettlesOne (size : Size) (rid : ℕ) (done : Settled) (before after' : Trail) : Type 0 where
+  pub grows : observing.Grows before.observed after'.observed
+  pub as_due : CutsAsDue rid done before.observed.loads after'.observed.loads
+  pub cuts : CutsOf rid done.cut before.gone.cuts after'.gone.cuts
+  pub places : Frees done.places before.gone after'.gone
+  pub due : 0 < done.rewritten → IsDue rid before.observed.loads after'.observed.loads
+  pub kept : 1 < done.rewritten → MeetsNoPlace size rid before.observed after'.observed
+
+-- this was done for the records from the first one on, for each before the next one
+pub data SettlesEach (size : Size) : List Settled → Trail → Trail → Type 0 where
+  none_yet : (t : Trail) → SettlesEach size [] t t
+  one_more : (ds : List Settled) (d : Settled) (t u w : Trail) → SettlesEach size ds t u → SettlesOne size (length ds) d u w → SettlesEach size (ds ++ d ∷ []) t w
+
+-- for so many records, and in all this
+pub record SettlesFirst (size : Size) (count : ℕ) (all : Settled) (before after' : Trail) : Type 0 where
+  pub done : List Settled
+  pub many : length done ≡ count
+  pub each : SettlesEach size done before after'
+  pub rewritten : all.rewritten ≡ sum_by (λ (d : Settled). d.rewritten) done
+  pub cut : all.cut ≡ sum_by (λ (d : Settled). d.cut) done
+  pub places : Frees all.places before.gone after'.gone
 
 -- the record's visible value was written again at this stamp
 pub record IsRewrittenAt (rid stamp : ℕ) (v w : View) : Type 0 where
@@ -141,11 +186,12 @@ pub record IsRewrittenAt (rid stamp : ℕ) (v w : View) : Type 0 where
   pub newest : newest_stamp w.tops rid ≡ Some stamp
   pub draws : Draws 1 v w
 
--- the record has one version left
+-- the record has one version left, after one cut
 pub record IsCut (rid : ℕ) (v w : View) : Type 0 where
   pub clock : w.clock.clock ≡ v.clock.clock
   pub log : w.log ≡ v.log
   pub one : IsOneLeft (known_of w.counts rid)
+  pub once : CutsOf rid 1 v.gone.cuts w.gone.cuts
 
 -- ---- a place
 
@@ -169,16 +215,46 @@ pub record WantsKept (z : Size) (rid : ℕ) (v w : View) : Type 0 where
 
 -- ---- where the clock comes to its end
 
--- it had no clock left, or one, and the kept place would have had to serve
-abbrev pub RunsOut : (rid : ℕ) → View → View → Type 0
-RunsOut rid v w = (v.clock.clock ≡ greatest_clock) ⊎ ((v.clock.clock + 1 ≡ greatest_clock) × ((between : View) × WantsKept v.size rid between w))
+-- no clock was left to write the record again; or one, which was drawn, and the kept place would have had to serve
+abbrev pub RunsOut : (size : Size) (rid clock clock' : ℕ) (before after' : Observed) → Type 0
+RunsOut size rid clock clock' before after' = (clock' ≡ clock) ⊎ ((clock' ≡ clock + 1) × MeetsNoPlace size rid before after')
 
--- the records below one are settled, and of that one a writing again was due, for which there was no clock
-pub record StopsAt (records : ℕ) (w : View) : Type 0 where
+-- the records below this one are settled, and of this one a writing again was due, for which there was no clock
+pub record StopsSome (size : Size) (v w : View) : Type 0 where
   pub rid : ℕ
-  pub within : rid < records
+  pub all : Settled
+  pub within : rid < size.records
   pub settled : AreSettled rid w.counts
-  pub before : View
-  pub due : IsDue rid before
   pub between : View
-  pub runs_out : RunsOut rid between w
+  pub first : SettlesFirst size rid all (trail_in v) (trail_in between)
+  pub due : IsDue rid between.seen.loads w.seen.loads
+  pub drawn : between.clock.clock ≡ v.clock.clock + all.rewritten
+  pub runs_out : RunsOut size rid between.clock.clock w.clock.clock (observed_of between) (observed_of w)
+  pub gone : w.gone ≡ between.gone
+
+-- ---- what the call shows
+
+-- at the end `min_wts` was loaded once more
+abbrev pub with_met : Trail → (met : ℕ) → Trail
+with_met t met = record t { observed = with_load t.observed (load min_write met) }
+
+-- each record was settled, and in all this was done
+pub record SettlesAll (before after' : PostView) (all : Settled) : Type 0 where
+  pub reached : Trail
+  pub first : SettlesFirst before.shared.size before.shared.size.records all (trail_of before) reached
+  pub last : trail_of after' ≡ with_met reached after'.met
+
+-- The clock came to its end. The records below one were settled, and in all this was done for them; of that record a writing again was
+-- due, for which there was no clock.
+pub record StopsPost (before after' : PostView) : Type 0 where
+  pub rid : ℕ
+  pub within : rid < before.shared.size.records
+  pub settled : AreSettled rid after'.known.counts
+  pub all : Settled
+  pub between : Trail
+  pub first : SettlesFirst before.shared.size rid all (trail_of before) between
+  pub reached : Trail
+  pub due : IsDue rid between.observed.loads reached.observed.loads
+  pub runs_out : RunsOut before.shared.size rid (before.clock + all.rewritten) after'.clock between.observed reached.observed
+  pub gone : reached.gone ≡ between.gone
+  pub last : trail_of after' ≡ with_met reached after'.met

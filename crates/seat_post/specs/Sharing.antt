@@ -5,7 +5,7 @@ use Rattle.core_rule.specs.View.{sharing, shared, nothing_known}
 use Rattle.core_rule.specs.Offers.{made_of}
 use Rattle.seat_post.specs.declared.phase.Phase.TheVariants.{Idle}
 use Rattle.seat_post.specs.Post.{PostView}
-use Rattle.seat_post.specs.Seats.{Known, nothing_observed}
+use Rattle.seat_post.specs.Seats.{Known, nothing_observed, nothing_removed}
 
 -- nothing is known of lists
 abbrev pub no_knowledge : Known
@@ -17,7 +17,7 @@ announced_at p = record p { published = max p.published (bound_of_clock p.clock)
 
 -- one more seat was made; and the post of that one
 abbrev pub one_more : PostView → PostView
-one_more p = record p { others = record p.others { splitting = sharing (made_of p.others.splitting + 1) }; known = no_knowledge }
+one_more p = record p { others = record p.others { splitting = sharing (made_of p.others.splitting + 1) }; known = no_knowledge; placed = [] }
 
 abbrev pub made_next : PostView → PostView
 made_next p = record {
@@ -30,6 +30,8 @@ made_next p = record {
   met = p.met;
   log = [];
   observed = nothing_observed;
+  gone = nothing_removed;
+  placed = [];
   glance = None;
   phase = Idle;
   stamp = 0;

@@ -3,9 +3,9 @@ ghost use Rattle.std.specs.Prelude.{◌≡◌, ◌≤◌, []};
 ghost use Rattle.stamp_base.specs.Stamp.{bound_of_clock};
 ghost use Rattle.rapid_gc.specs.Bounds.{AreKept, LeavesOne};
 ghost use Rattle.rapid_gc.specs.Queues.{AllBelow};
-ghost use Rattle.seat_post.specs.Collecting.{AreQueued, Collects};
-ghost use Rattle.seat_post.specs.Observing.{Grows, ScansBoth};
-ghost use Rattle.seat_post.specs.Post.{PostView, IsAlonePost, collected_at, observing};
+ghost use Rattle.seat_post.specs.Collecting.{AreQueued, CollectsPost};
+ghost use Rattle.seat_post.specs.Observing.{Grows};
+ghost use Rattle.seat_post.specs.Post.{IsAlonePost, collected_at, observing, removing};
 
 use crate::phase::Phase;
 use crate::post::Post;
@@ -19,12 +19,11 @@ impl<J: Keeps> Post<J> {
         requires idle { self.old.phase ≡ Phase.Idle }
         requires queued { AreQueued self.old.shared.size.records self.old.log queue.old.items }
         requires below { AllBelow (bound_of_clock self.old.clock) queue.old.items }
-        ensures after { self.new ≡ observing (collected_at self.old self.new.met self.new.known) self.new.observed }
+        ensures after { self.new ≡ removing (observing (collected_at self.old self.new.met self.new.known) self.new.observed) self.new.gone }
         ensures grows { Grows self.old.observed self.new.observed }
-        ensures scans { ScansBoth self.old.shared.size.seats self.old.observed self.new.observed }
         ensures met { self.old.met ≤ self.new.met }
         ensures within { self.new.met ≤ self.new.published }
-        ensures queue { Collects queue.old.items queue.new.items result }
+        ensures collects { CollectsPost self.old self.new queue.old.items queue.new.items result }
         ensures room { queue.old.room ≤ queue.new.room }
         ensures known { AreKept queue.old.items self.old.known.counts self.new.known.counts }
         // A post that is alone meets what it has published, keeps no item, and leaves one version where the newest is queued.

@@ -9,7 +9,8 @@ ghost use Rattle.seat_post.specs.Leaves.{AreLeft};
 ghost use Rattle.seat_post.specs.Logs.{IsAbove};
 ghost use Rattle.seat_post.specs.Lists.{AreLinked, AreSomeLinked, known_before, AreKnown, count_raised, IsFullAt};
 ghost use Rattle.seat_post.specs.Observing.{Grows, MeetsNoPlace};
-ghost use Rattle.seat_post.specs.Post.{PostView, knowing, in_phase, closed, entered, entry_at, observing, IsShownAt};
+ghost use Rattle.seat_post.specs.Placing.{HavePlaces, CountsPlaces};
+ghost use Rattle.seat_post.specs.Post.{knowing, placing, in_phase, closed, entered, entry_at, observing, IsShownAt};
 
 use crate::phase::Phase;
 use crate::post::Post;
@@ -24,9 +25,10 @@ impl<J: Keeps> Post<J> {
     pub fn install(&mut self, core: &Core<J>) -> Result<Installed, PlacesOut>
         requires core { self.old.shared ≡ core.now }
         requires open { self.old.phase ≡ Phase.Open }
-        ensures ok { OnOk result (self.new ≡ observing (in_phase (knowing self.old self.new.known) Phase.Installed) self.new.observed) }
+        ensures ok { OnOk result (self.new ≡ observing (placing (in_phase (knowing self.old self.new.known) Phase.Installed) self.new.placed) self.new.observed) }
+        ensures places { OnOk result (HavePlaces self.old.shared.size self.old.writes self.new.placed) }
         ensures stamp { IfOk result (λ installed. installed.stamp ≡ self.old.stamp) }
-        ensures err { OnErr result (self.new ≡ observing (closed (knowing self.old self.new.known)) self.new.observed) }
+        ensures err { OnErr result (self.new ≡ observing (placing (closed (knowing self.old self.new.known)) self.new.placed) self.new.observed) }
         ensures grows { Grows self.old.observed self.new.observed }
         // For a record that is written each place was met not free.
         ensures places_out { OnErr result ((rid : ℕ) × IsSome (value_at self.old.writes rid) × MeetsNoPlace self.old.shared.size rid self.old.observed self.new.observed) }
@@ -101,6 +103,7 @@ impl<J: Keeps> Post<J> {
         requires phase { self.old.phase ≡ Phase.Decided }
         requires stamp { decided.stamp ≡ self.old.stamp }
         ensures closed { self.new ≡ closed self.old }
+        ensures places { CountsPlaces self.old.shared.size self.old.writes self.old.placed result }
         ensures count { result ≤ length self.old.writes }
         ensures placed { AreKnown (known_before (length self.old.writes) self.old.known) self.old.writes → result + count_raised (known_before (length self.old.writes) self.old.known) self.old.known self.old.writes ≡ length self.old.writes }
     {

@@ -13,9 +13,9 @@ ghost use Rattle.seat_post.specs.Glance.{with_read, entry_of_glance};
 ghost use Rattle.seat_post.specs.Glancing.{IsGlancing, Opens, Glances, glanced, IsLeftAt, entry_of_glances, glances_ended};
 ghost use Rattle.seat_post.specs.Logs.{AreBelow};
 ghost use Rattle.version_search.specs.Growing as growing;
-ghost use Rattle.word_layout.specs.Name.{published_write};
-ghost use Rattle.seat_post.specs.Observing.{Grows, ScansAll};
-ghost use Rattle.seat_post.specs.Post.{PostView, IsAlonePost, looking_at, looked_at, finished_at, observing};
+ghost use Rattle.seat_post.specs.Observing.{Grows, MeetsMinimum};
+ghost use Rattle.seat_post.specs.Post.{IsAlonePost, looking_at, looked_at, finished_at, observing};
+ghost use Rattle.seat_post.specs.Reading.{FindsValue};
 ghost use Rattle.seat_post.specs.Searched.{Finds};
 
 use crate::phase::Phase;
@@ -120,7 +120,8 @@ impl<J: Keeps> Post<J> {
         requires idle { self.old.phase ≡ Phase.Idle }
         ensures after { self.new ≡ observing (looking_at self.old result) self.new.observed }
         ensures grows { Grows self.old.observed self.new.observed }
-        ensures scans { ScansAll published_write self.old.shared.size.seats self.old.observed self.new.observed }
+        // The stamp is at least one less than the least published write word that was loaded.
+        ensures minimum { MeetsMinimum self.old.shared.size.seats (result + 1) self.old.observed self.new.observed }
         ensures met { self.old.met ≤ result + 1 }
         ensures snapshots { AreBelow self.old.log (result + 1) }
         ensures below { result < self.old.published }
@@ -146,6 +147,8 @@ impl<J: Keeps> Post<J> {
         ensures after { self.new ≡ observing (looked_at self.old rid result) self.new.observed }
         ensures grows { Grows self.old.observed self.new.observed }
         ensures answer { IfSome self.new.glance (λ g. value_at g.reads rid ≡ Some result) }
+        // It is the value of the version that the search found.
+        ensures found { IfSome self.old.glance (λ g. FindsValue (g.stamp + 1) rid self.old.observed self.new.observed result) }
         ensures left { IsAlonePost self.old → IfSome self.old.glance (λ g. IsValue (UpTo self.old.log g.stamp) rid result) }
     {
         glance(core, &mut self.hand, rid)

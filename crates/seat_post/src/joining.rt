@@ -1,10 +1,10 @@
 //! Retiring at a post, and taking in the hands of seats that have retired.
-ghost use Rattle.std.specs.Prelude.{◌≡◌, ◌≤◌};
+ghost use Rattle.std.specs.Prelude.{◌≡◌, ◌≤◌, []};
 ghost use Rattle.stamp_base.specs.Limits.{end_of_stamps};
 ghost use Rattle.core_rule.specs.Offers.{made_within};
 ghost use Rattle.seat_post.specs.Glance.{first_glance};
 ghost use Rattle.seat_post.specs.Joining.{IsDone, joined_at};
-ghost use Rattle.seat_post.specs.Post.{PostView, shared_of, post_view};
+ghost use Rattle.seat_post.specs.Post.{shared_of, post_view};
 
 use crate::phase::Phase;
 use crate::post::Post;
@@ -16,7 +16,7 @@ impl<J: Keeps> Post<J> {
     pub fn retire(self, core: &Core<J>) -> Hand<J>
         requires core { self.shared ≡ core.now }
         requires idle { self.phase ≡ Phase.Idle }
-        ensures hand { post_view result Phase.Idle self.stamp self.reads self.writes ≡ record self { published = end_of_stamps; glance = first_glance end_of_stamps } }
+        ensures hand { post_view result Phase.Idle self.stamp self.reads self.writes ≡ record self { published = end_of_stamps; placed = []; glance = first_glance end_of_stamps } }
         ensures done { IsDone result }
     {
         let Post {

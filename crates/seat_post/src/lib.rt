@@ -8,6 +8,7 @@ mod ending;
 mod glancing;
 mod joining;
 mod marks;
+mod noted;
 mod numbers;
 mod phase;
 mod post;
@@ -24,6 +25,7 @@ mod telling;
 mod values;
 mod writing;
 
+pub use noted::Noted;
 pub use numbers::Numbers;
 pub use phase::Phase;
 pub use post::Post;

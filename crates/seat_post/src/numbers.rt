@@ -5,7 +5,7 @@ ghost use Rattle.record_store.specs.Meaning.{value_at};
 ghost use Rattle.seat_post.specs.Spare.{no_numbers, with_all, every, is_on, NumbersView, spare_after, unused, added, holds, is_deletion};
 
 use crate::marks::Marks;
-use indexmap::IndexMap;
+use crate::noted::Noted;
 use plain_data::{Cells, NoMemory};
 use std::alloc::Global;
 use std::collections::VecDeque;
@@ -187,7 +187,7 @@ impl Numbers {
     }
 
     // Puts back the numbers given out that hold no value.
-    fn put_back_unused(&mut self, writes: &IndexMap<u32, Option<Cells>>)
+    fn put_back_unused(&mut self, writes: &Noted)
         ensures { self.new ≡ record self.old { spare = unused writes.now.entries self.old.given ++ self.old.spare; given = [] } }
     {
         while self.count_given() > 0 {
@@ -281,13 +281,13 @@ impl Numbers {
     }
 
     /// The list after a commit: the numbers given out that hold no value are back, and deleted records are on it.
-    pub fn settle(&mut self, writes: &IndexMap<u32, Option<Cells>>)
+    pub fn settle(&mut self, writes: &Noted)
         requires { (rid : ℕ) → IsSome (value_at writes.now.entries rid) → rid < self.old.records }
         ensures { self.new ≡ record self.old { spare = spare_after self.old.fixed writes.now.entries self.old.given self.old.spare; given = [] } }
     {
         self.put_back_unused(writes);
         for i in 0..writes.len() {
-            let Some((rid, value)) = writes.get_index(i) else {
+            let Some((rid, value)) = writes.at(i) else {
                 unreachable!();
             };
             self.note(*rid, value);
@@ -295,10 +295,10 @@ impl Numbers {
     }
 }
 
-fn holds_value(writes: &IndexMap<u32, Option<Cells>>, rid: u32) -> bool
+fn holds_value(writes: &Noted, rid: u32) -> bool
     ensures { result ≡ holds (value_at writes.now.entries rid) }
 {
-    match writes.get(&rid) {
+    match writes.get(rid) {
         None => false,
         Some(value) => value.is_some(),
     }

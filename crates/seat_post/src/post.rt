@@ -16,13 +16,13 @@ ghost use Rattle.seat_post.specs.Logs.{IsAbove};
 ghost use Rattle.word_layout.specs.Name.{published_write};
 ghost use Rattle.core_rule.specs.Paths.{load};
 ghost use Rattle.seat_post.specs.Observing.{Grows, with_load};
-ghost use Rattle.seat_post.specs.Post.{PostView, shared_of, post_view, opened, drawn_at, with_clock, closed, observing};
+ghost use Rattle.seat_post.specs.Post.{PostView, shared_of, post_view, opened, drawn_at, with_clock, observing};
 
+use crate::noted::Noted;
 use crate::phase::Phase;
 use crate::rewriting::Room;
 use clock_stamps::{ClockOut, draw, hear, sync};
 use core_rule::{Core, Hand, Keeps};
-use indexmap::IndexMap;
 use plain_data::Cells;
 use stamp_base::Stamp;
 use std::alloc::Global;
@@ -37,8 +37,8 @@ pub struct Post<J> {
     pub(crate) hand: Hand<J>,
     pub(crate) phase: Phase,
     pub(crate) stamp: Stamp,
-    pub(crate) reads: IndexMap<u32, Option<Cells>>,
-    pub(crate) writes: IndexMap<u32, Option<Cells>>,
+    pub(crate) reads: Noted,
+    pub(crate) writes: Noted,
     pub(crate) sets: Sets,
     pub(crate) room: Room,
 }
@@ -69,8 +69,8 @@ impl<J> Post<J> {
             hand,
             phase: Phase::Idle,
             stamp: Stamp::make(0, 0),
-            reads: IndexMap::new(alloc),
-            writes: IndexMap::new(alloc),
+            reads: Noted::new(alloc),
+            writes: Noted::new(alloc),
             sets: Sets::new(alloc),
             room,
         }
@@ -111,12 +111,12 @@ impl<J> Post<J> {
     pub fn first_read(&self) -> Option<u32>
         ensures { result ≡ first_record self.now.reads }
     {
-        let (rid, _value) = self.reads.first()?;
+        let (rid, _value) = self.reads.at(0)?;
         Some(*rid)
     }
 
     /// What is written.
-    pub fn writes(&self) -> &IndexMap<u32, Option<Cells>>
+    pub fn writes(&self) -> &Noted
         ensures value { result.now.entries ≡ self.now.writes }
         ensures within { (rid : ℕ) → IsSome (value_at result.now.entries rid) → rid < self.now.shared.size.records }
         ensures few { length result.now.entries ≤ record_limit }

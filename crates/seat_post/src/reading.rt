@@ -1,25 +1,24 @@
 //! Reading and writing at a post.
-ghost use Rattle.std.specs.Prelude.{ℕ, ◌≡◌, ◌≢◌, ◌+◌, ◌<◌, ◌≤◌, ◌++◌, ◌∷◌, [], None, Some, false, is_some, IfOk, IfErr, IfSome, OnOk, OnErr, length, if◌then◌else◌};
-ghost use Rattle.indexmap.specs.IndexMap.{spare};
+ghost use Rattle.std.specs.Prelude.{ℕ, ◌≡◌, ◌+◌, ◌<◌, ◌≤◌, ◌++◌, ◌∷◌, [], None, Some, true, false, is_some, IfOk, IfErr, IfSome, OnOk, OnErr, length, if◌then◌else◌};
 ghost use Rattle.core_rule.specs.Deciding.{read_values};
 ghost use Rattle.core_rule.specs.Versions.{read_version};
 ghost use Rattle.record_store.specs.Meaning.{value_at};
 ghost use Rattle.validate_core.specs.Validating.{Met, no_more};
 ghost use Rattle.validate_core.specs.declared.conflict.Conflict.TheVariants as conflict;
 ghost use Rattle.seat_post.specs.Observing.{Grows};
-ghost use Rattle.seat_post.specs.Post.{PostView, known_at, noted, observing};
+ghost use Rattle.seat_post.specs.Post.{known_at, noted, observing};
 ghost use Rattle.seat_post.specs.Seats.{IsAloneAt};
 ghost use Rattle.seat_post.specs.Logs.{IsAbove};
 ghost use Rattle.seat_post.specs.Leaves.{LeavesValue, LeavesSome};
 ghost use Rattle.seat_post.specs.Conflicts.{IsOfAnother, IsLoaded};
-ghost use Rattle.seat_post.specs.Reading.{IfPending};
+ghost use Rattle.seat_post.specs.Reading.{IfPending, FindsValue};
 
+use crate::noted::Noted;
 use crate::phase::Phase;
 use crate::post::Post;
 use crate::search::{Read, search};
 use crate::values::copy;
 use core_rule::{Core, Keeps};
-use indexmap::IndexMap;
 use plain_data::{Cells, NoMemory};
 use validate_core::Sets;
 
@@ -44,21 +43,21 @@ impl From<NoMemory> for ReadFault {
 }
 
 // Makes room for one more read.
-fn make_room(reads: &mut IndexMap<u32, Option<Cells>>, sets: &mut Sets) -> Result<(), NoMemory>
+fn make_room(reads: &mut Noted, sets: &mut Sets) -> Result<(), NoMemory>
     ensures entries { reads.new.entries ≡ reads.old.entries }
     ensures reads { sets.new.reads ≡ sets.old.reads }
     ensures writes { sets.new.writes ≡ sets.old.writes }
     ensures not_less { sets.old.write_room ≤ sets.new.write_room }
-    ensures map_room { OnOk result (0 < spare reads.new) }
+    ensures map_room { OnOk result (0 < reads.new.spare) }
     ensures room { OnOk result (length sets.new.reads < sets.new.read_room) }
 {
-    reads.reserve(1)?;
+    reads.reserve()?;
     sets.reserve(1, 0)
 }
 
 // Notes a read in the map and in the sets, where there is room.
-fn note(reads: &mut IndexMap<u32, Option<Cells>>, sets: &mut Sets, rid: u32, read: &Read)
-    requires map_room { 0 < spare reads.old }
+fn note(reads: &mut Noted, sets: &mut Sets, rid: u32, read: &Read)
+    requires map_room { 0 < reads.old.spare }
     requires room { length sets.old.reads < sets.old.read_room }
     requires first { value_at reads.old.entries rid ≡ None }
     requires same { read_values sets.old.reads ≡ reads.old.entries }
@@ -68,9 +67,7 @@ fn note(reads: &mut IndexMap<u32, Option<Cells>>, sets: &mut Sets, rid: u32, rea
     ensures not_less { sets.old.write_room ≤ sets.new.write_room }
 {
     sets.read(rid, read.place, read.wts, copy(&read.value));
-    let Ok(_) = reads.insert(rid, copy(&read.value)) else {
-        unreachable!();
-    };
+    reads.push(rid, &read.value);
 }
 
 impl<J: Keeps> Post<J> {
@@ -80,9 +77,9 @@ impl<J: Keeps> Post<J> {
         ensures above { self.now.phase ≡ Phase.Open → IsAbove self.now.log self.now.stamp }
         ensures left { self.now.phase ≡ Phase.Open → IsAloneAt self.now.shared.size self.now.seat self.now.others → value_at self.now.writes rid ≡ None → IfSome result (LeavesValue self.now.log rid self.now.stamp) }
     {
-        match self.writes.get(&rid) {
+        match self.writes.get(rid) {
             Some(value) => Some(*value),
-            None => self.reads.get(&rid).copied(),
+            None => self.reads.get(rid).copied(),
         }
     }
 
@@ -90,7 +87,7 @@ impl<J: Keeps> Post<J> {
     pub fn is_written(&self, rid: u32) -> bool
         ensures { result ≡ is_some (value_at self.now.writes rid) }
     {
-        self.writes.contains_key(&rid)
+        self.writes.contains(rid)
     }
 
     /// Reads a record of which nothing is known. Room is taken first.
@@ -101,6 +98,8 @@ impl<J: Keeps> Post<J> {
         requires first { known_at self.old rid ≡ None }
         ensures ok { IfOk result (λ value. self.new ≡ observing (noted self.old rid value) self.new.observed) }
         ensures grows { Grows self.old.observed self.new.observed }
+        // It is the value of the version that the search found.
+        ensures found { IfOk result (FindsValue self.old.stamp rid self.old.observed self.new.observed) }
         ensures left { IsAloneAt self.old.shared.size self.old.seat self.old.others → IfOk result (LeavesValue self.old.log rid self.old.stamp) }
         ensures err { OnErr result (self.new ≡ observing self.old self.new.observed) }
         ensures loaded { IfErr result (λ fault. IfPending fault (λ wts. IsLoaded self.old.stamp (conflict.Pending rid wts) self.old.observed self.new.observed)) }
@@ -124,7 +123,8 @@ impl<J: Keeps> Post<J> {
         requires first { known_at self.old rid ≡ None }
         ensures ok { IfOk result (λ absent. self.new ≡ observing (if absent then noted self.old rid None else self.old) self.new.observed) }
         ensures grows { Grows self.old.observed self.new.observed }
-        // Where it is present, its committed version was met.
+        // Where it is absent, a deleted version was found; where it is present, its committed version was met.
+        ensures absent { IfOk result (λ absent. absent ≡ true → FindsValue self.old.stamp rid self.old.observed self.new.observed None) }
         ensures present { IfOk result (λ absent. absent ≡ false → (wts : ℕ) × Met self.old.stamp rid wts 3 no_more self.old.observed.loads self.new.observed.loads) }
         ensures left { IsAloneAt self.old.shared.size self.old.seat self.old.others → IfOk result (λ absent. absent ≡ false → LeavesSome self.old.log rid self.old.stamp) }
         ensures err { OnErr result (self.new ≡ observing self.old self.new.observed) }

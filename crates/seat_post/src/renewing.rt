@@ -1,11 +1,13 @@
 //! Writing the visible value of a record again, at the next stamp and in a place that is found for it, by a seat that is alone.
-ghost use Rattle.std.specs.Prelude.{ℕ, ◌≡◌, ◌≢◌, ◌⊎◌, ◌+◌, ◌<◌, true, false, if◌then◌else◌, IfOk, OnErr, IsOkAnd};
+ghost use Rattle.std.specs.Prelude.{◌≡◌, ◌≢◌, ◌⊎◌, ◌<◌, true, false, if◌then◌else◌, IfOk, OnErr, IsOkAnd};
 ghost use Rattle.stamp_base.specs.Limits.{greatest_clock};
 ghost use Rattle.word_layout.specs.Size.{IsUsable, kept_place, places};
 ghost use Rattle.core_rule.specs.View.{version_kept};
 ghost use Rattle.core_rule.specs.Hands.{IsReady, StaysReady};
 ghost use Rattle.core_rule.specs.Searching.{FitsPlace};
 ghost use Rattle.core_rule.specs.Spares.{KnowsFree, StandsKept};
+ghost use Rattle.seat_post.specs.Observing.{MeetsNoPlace};
+ghost use Rattle.seat_post.specs.Seats.{observed_of};
 ghost use Rattle.seat_post.specs.Settling.{IsSettling, Settles, KeepsOthers, IsRewrittenAt, HasSpare, TakesAfter, LosesAll, WantsKept, RunsOut};
 
 use crate::rewriting::Room;
@@ -51,7 +53,8 @@ pub(crate) fn renew<J: Keeps>(
     ensures inline { StandsKept rid hand.old.view.counts → hand.old.view.clock.clock < greatest_clock → IsOkAnd result (λ renewed. renewed.kept ≡ false) }
     ensures gone { hand.new.view.gone ≡ hand.old.view.gone }
     ensures clock_out { OnErr result (hand.new.view.clock.clock ≡ greatest_clock) }
-    ensures runs_out { OnErr result (RunsOut rid hand.old.view hand.new.view) }
+    ensures wants { IfOk result (λ renewed. renewed.kept ≡ true → MeetsNoPlace core.now.size rid (observed_of hand.old.view) (observed_of hand.new.view)) }
+    ensures runs_out { OnErr result (RunsOut core.now.size rid hand.old.view.clock.clock hand.new.view.clock.clock (observed_of hand.old.view) (observed_of hand.new.view)) }
     ensures none { OnErr result (hand.new.view.counts ≡ hand.old.view.counts) }
     ensures stays { StaysReady core.now hand.old hand.new }
 {

@@ -7,10 +7,9 @@ ghost use Rattle.core_rule.specs.View.{resting};
 ghost use Rattle.core_rule.specs.Views as views;
 ghost use Rattle.seat_post.specs.Leaves.{LeavesAs, AreAbsent};
 ghost use Rattle.seat_post.specs.Observing.{Grows};
-ghost use Rattle.seat_post.specs.Post.{PostView, observing};
+ghost use Rattle.seat_post.specs.Post.{observing};
 ghost use Rattle.seat_post.specs.Rescan.{Looks, looked_over};
 ghost use Rattle.seat_post.specs.Seats.{IsAloneAt};
-ghost use Rattle.seat_post.specs.Spare.{NumbersView};
 
 use crate::numbers::Numbers;
 use crate::phase::Phase;

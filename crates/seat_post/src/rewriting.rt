@@ -12,6 +12,7 @@ ghost use Rattle.rapid_gc.specs.InKept.{Remains, CutsOff};
 ghost use Rattle.core_rule.specs.Versions.{read_version, written_version};
 ghost use Rattle.core_rule.specs.Hands.{IsReady, StaysReady};
 ghost use Rattle.version_search.specs.Growing.{Grows};
+ghost use Rattle.seat_post.specs.Settling.{CutsOf};
 ghost use Rattle.seat_post.specs.Rewriting.{IsRoom, HasFound, Rewrites, IsStopped};
 
 use crate::search::Read;
@@ -33,6 +34,7 @@ pub struct Room {
 
 impl Model for Room {
     ghost use Rattle.validate_core.specs.Sets.{SetsView};
+    ghost use Rattle.seat_post.specs.Settling.{CutsOf};
     ghost use Rattle.seat_post.specs.Rewriting.{IsRoom, IsFree};
 
     ghost Value = { SetsView };
@@ -77,6 +79,7 @@ impl Room {
         ensures in_kept { Remains (record { rid = rid; stamp = stamp } ∷ []) hand.old.view.counts.in_kept hand.new.view.counts.in_kept }
         ensures cut_off { CutsOff (record { rid = rid; stamp = stamp } ∷ []) hand.old.view.tops hand.old.view.counts.in_kept hand.new.view.counts.in_kept }
         ensures one { IsNewest hand.old.view.tops (record { rid = rid; stamp = stamp }) → IsOneLeft (known_of hand.new.view.counts rid) }
+        ensures once { IsNewest hand.old.view.tops (record { rid = rid; stamp = stamp }) → CutsOf rid 1 hand.old.view.gone.cuts hand.new.view.gone.cuts }
         ensures stays { StaysReady core.now hand.old hand.new }
     {
         self.queue.add(rid, stamp);

@@ -1,5 +1,5 @@
 //! Reading a record from the table.
-ghost use Rattle.std.specs.Prelude.{◌≡◌, ◌<◌, IfOk, IfErr, IfSome, length, false, if◌then◌else◌};
+ghost use Rattle.std.specs.Prelude.{◌≡◌, ◌<◌, IfOk, IfErr, IfSome, length, false};
 ghost use Rattle.core_rule.specs.View.{writing};
 ghost use Rattle.core_rule.specs.Searching.{Rests};
 ghost use Rattle.core_rule.specs.Hands.{IsReady, StaysReady};
@@ -56,10 +56,12 @@ pub(crate) fn search<J: Keeps>(
             absent: false,
         } => {
             let cells = load_value(core, hand, place);
+            // Its type tells contracts how long it is.
+            let _words = cells.words();
             Ok(Read {
                 place,
                 wts,
-                value: Some(Cells::new(cells.words())),
+                value: Some(cells),
             })
         }
     }

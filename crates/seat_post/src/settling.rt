@@ -1,19 +1,18 @@
 //! Settling: each record's list is brought to one version, by a seat that is alone.
-ghost use Rattle.std.specs.Prelude.{ℕ, ◌≡◌, ◌+◌, ◌*◌, ◌<◌, ◌≤◌, true, false, Some, [], ◌∷◌, IfOk, OnOk, OnErr};
+ghost use Rattle.std.specs.Prelude.{◌≡◌, ◌+◌, ◌*◌, ◌<◌, ◌≤◌, true, false, Some, [], ◌∷◌, IfOk, OnOk, OnErr};
 ghost use Rattle.stamp_base.specs.Limits.{greatest_clock};
 ghost use Rattle.stamp_base.specs.Stamp.{bound_of_clock};
-ghost use Rattle.core_rule.specs.View.{View, nothing_kept};
+ghost use Rattle.core_rule.specs.View.{nothing_kept};
 ghost use Rattle.core_rule.specs.Hands.{IsReady, StaysReady};
 ghost use Rattle.core_rule.specs.Searching.{newest_stamp, known_of};
 ghost use Rattle.core_rule.specs.Collecting.{HasEntry};
 ghost use Rattle.rapid_gc.specs.Bounds.{IsOneLeft};
 ghost use Rattle.rapid_gc.specs.Ends.{FreesCounted};
 ghost use Rattle.rapid_gc.specs.InKept.{IsBelow, Remains};
-ghost use Rattle.rapid_gc.specs.declared.queue.Queued.{Queued};
 ghost use Rattle.seat_post.specs.Logs.{IsAbove};
-ghost use Rattle.seat_post.specs.Post.{PostView};
-ghost use Rattle.seat_post.specs.Seats.{IsAloneAt};
-ghost use Rattle.seat_post.specs.Settling.{AreSettled, SettlesPost, IsDrawnFor, IsSettling, Settles, KeepsOthers, Draws, OnlySearches, IsHidden, IsDue, Cuts, IsCut, RunsOut, StopsAt};
+ghost use Rattle.seat_post.specs.Seats.{IsAloneAt, observed_of};
+ghost use Rattle.seat_post.specs.Settling.{AreSettled, SettlesPost, IsDrawnFor, IsSettling, Settles, KeepsOthers, Draws, OnlySearches, IsHidden, IsDue, IsCut, RunsOut, SettlesOne, SettlesFirst, SettlesAll, StopsSome, StopsPost};
+ghost use Rattle.seat_post.specs.Collecting.{trail_in};
 
 use crate::phase::Phase;
 use crate::post::Post;
@@ -40,9 +39,10 @@ impl<J: Keeps> Post<J> {
         ensures settled { OnOk result (AreSettled self.old.shared.size.records self.new.known.counts) }
         ensures draws { IfOk result (λ all. IsDrawnFor all.rewritten self.old.clock self.new.clock self.old.log self.new.log) }
         ensures counts { IfOk result (λ all. (all.rewritten ≤ all.cut) × (all.cut ≤ 2 * self.old.shared.size.records)) }
+        ensures done { IfOk result (SettlesAll self.old self.new) }
         ensures clock_out { OnErr result (self.new.clock ≡ greatest_clock) }
         ensures within { OnErr result (self.new.clock < self.old.clock + 2 * self.old.shared.size.records) }
-        ensures before { OnErr result ((count : ℕ) × (count < self.old.shared.size.records) × AreSettled count self.new.known.counts) }
+        ensures stops { OnErr result (StopsPost self.old self.new) }
     {
         let told = settle_all(core, &mut self.hand, &mut self.room);
         // What was searched is over.
@@ -66,10 +66,10 @@ fn settle_all<J: Keeps>(
     ensures settled { OnOk result (AreSettled core.now.size.records hand.new.view.counts) }
     ensures draws { IfOk result (λ all. Draws all.rewritten hand.old.view hand.new.view) }
     ensures counts { IfOk result (λ all. (all.rewritten ≤ all.cut) × (all.cut ≤ 2 * core.now.size.records)) }
-    ensures freed { IfOk result (λ all. FreesCounted all.places hand.old.view hand.new.view) }
+    ensures done { IfOk result (λ all. SettlesFirst core.now.size core.now.size.records all (trail_in hand.old.view) (trail_in hand.new.view)) }
     ensures clock_out { OnErr result (hand.new.view.clock.clock ≡ greatest_clock) }
     ensures within { OnErr result (hand.new.view.clock.clock < hand.old.view.clock.clock + 2 * core.now.size.records) }
-    ensures stops { OnErr result (StopsAt core.now.size.records hand.new.view) }
+    ensures stops { OnErr result (StopsSome core.now.size hand.old.view hand.new.view) }
     ensures stays { StaysReady core.now hand.old hand.new }
 {
     let mut all = Settled::none();
@@ -98,11 +98,11 @@ fn settle_record<J: Keeps>(
     ensures one { OnOk result (IsOneLeft (known_of hand.new.view.counts rid)) }
     ensures draws { IfOk result (λ done. Draws done.rewritten hand.old.view hand.new.view) }
     ensures counts { IfOk result (λ done. (done.rewritten ≤ done.cut) × (done.cut ≤ 2)) }
-    ensures cuts { IfOk result (Cuts rid hand.old.view) }
     ensures freed { IfOk result (λ done. FreesCounted done.places hand.old.view hand.new.view) }
-    ensures due { IfOk result (λ done. 0 < done.rewritten → IsDue rid hand.old.view) }
-    ensures wanted { OnErr result (IsDue rid hand.old.view) }
-    ensures runs_out { OnErr result ((between : View) × RunsOut rid between hand.new.view) }
+    ensures done { IfOk result (λ done. SettlesOne core.now.size rid done (trail_in hand.old.view) (trail_in hand.new.view)) }
+    ensures due { OnErr result (IsDue rid hand.old.view.seen.loads hand.new.view.seen.loads) }
+    ensures runs_out { OnErr result (RunsOut core.now.size rid hand.old.view.clock.clock hand.new.view.clock.clock (observed_of hand.old.view) (observed_of hand.new.view)) }
+    ensures gone { OnErr result (hand.new.view.gone ≡ hand.old.view.gone) }
     ensures clock_out { OnErr result (hand.new.view.clock.clock ≡ greatest_clock) }
     ensures within { OnErr result (hand.new.view.clock.clock ≤ hand.old.view.clock.clock + 1) }
     ensures stays { StaysReady core.now hand.old hand.new }
@@ -148,7 +148,7 @@ fn is_visible<J: Keeps>(core: &Core<J>, hand: &mut Hand<J>, rid: u32, first: Fir
     ensures settles { Settles J.kept hand.old.view hand.new.view }
     ensures searches { OnlySearches hand.old.view hand.new.view }
     ensures entered { result ≡ true → HasEntry rid first.wts hand.new.view.log }
-    ensures hidden { result ≡ false → IsHidden rid first hand.new.view }
+    ensures hidden { result ≡ false → IsHidden rid first hand.old.view.seen.loads hand.new.view.seen.loads }
     ensures stays { StaysReady core.now hand.old hand.new }
 {
     if !first.decided {

@@ -2,7 +2,6 @@
 ghost use Rattle.std.specs.Prelude.{◌≡◌, ◌<◌, ◌≤◌};
 ghost use Rattle.core_rule.specs.Offers.{MayOffer, made_of};
 ghost use Rattle.seat_post.specs.Observing.{Grows};
-ghost use Rattle.seat_post.specs.Post.{PostView};
 ghost use Rattle.seat_post.specs.Seats.{IsAloneAt};
 ghost use Rattle.seat_post.specs.Sharing.{announced_at, one_more, made_next};
 
@@ -19,7 +18,7 @@ impl<J: Keeps> Post<J> {
         requires core { self.old.shared ≡ core.now }
         requires idle { self.old.phase ≡ Phase.Idle }
         requires alone { IsAloneAt self.old.shared.size self.old.seat self.old.others }
-        ensures value { self.new ≡ record (announced_at self.old) { glance = self.new.glance; observed = self.new.observed } }
+        ensures value { self.new ≡ record (announced_at self.old) { placed = self.new.placed; glance = self.new.glance; observed = self.new.observed } }
         ensures grows { Grows self.old.observed self.new.observed }
         ensures not_back { self.old.met ≤ self.new.met }
     {

@@ -1,17 +1,16 @@
 //! Writing at a post, and ending its transaction without an entry.
 ghost use Rattle.std.specs.Prelude.{◌≡◌, ◌<◌, ◌≤◌, [], OnOk, OnErr, length};
-ghost use Rattle.core_rule.specs.Deciding.{read_values, written_values};
+ghost use Rattle.core_rule.specs.Deciding.{written_values};
 ghost use Rattle.core_rule.specs.View.{Write};
-ghost use Rattle.core_rule.specs.Views.{Among};
 ghost use Rattle.validate_core.specs.Sets.{Once};
 ghost use Rattle.seat_post.specs.Leaves.{AreLeft};
 ghost use Rattle.seat_post.specs.Seats.{IsAloneAt};
-ghost use Rattle.seat_post.specs.Post.{PostView, written, unwritten, closed};
+ghost use Rattle.seat_post.specs.Post.{written, unwritten, closed};
 
+use crate::noted::Noted;
 use crate::phase::Phase;
 use crate::post::Post;
 use crate::values::copy;
-use indexmap::IndexMap;
 use plain_data::{Cells, NoMemory};
 use stamp_base::Stamp;
 use validate_core::Sets;
@@ -26,7 +25,7 @@ impl<J> Post<J> {
     {
         let count = self.writes.len() as u32 + 1;
         self.sets.reserve(0, count)?;
-        self.writes.insert(rid, copy(value))?;
+        self.writes.insert(rid, value)?;
         Ok(())
     }
 
@@ -50,15 +49,8 @@ impl<J> Post<J> {
     }
 }
 
-// A map that has room for more gives it back.
-const MANY: usize = 1024;
-
-/// Forgets what was read and written. The room stays.
-pub(crate) fn clear(
-    reads: &mut IndexMap<u32, Option<Cells>>,
-    writes: &mut IndexMap<u32, Option<Cells>>,
-    sets: &mut Sets,
-)
+/// Forgets what was read and written.
+pub(crate) fn clear(reads: &mut Noted, writes: &mut Noted, sets: &mut Sets)
     ensures no_reads { reads.new.entries ≡ [] }
     ensures no_writes { writes.new.entries ≡ [] }
     ensures none_read { sets.new.reads ≡ [] }
@@ -66,17 +58,11 @@ pub(crate) fn clear(
 {
     reads.clear();
     writes.clear();
-    if reads.capacity() > MANY {
-        reads.shrink_to_fit();
-    }
-    if writes.capacity() > MANY {
-        writes.shrink_to_fit();
-    }
     sets.clear();
 }
 
 /// Puts what is written into the sets, where there is room.
-pub(crate) fn fill(sets: &mut Sets, writes: &IndexMap<u32, Option<Cells>>)
+pub(crate) fn fill(sets: &mut Sets, writes: &Noted)
     requires none { sets.old.writes ≡ [] }
     requires room { length writes.now.entries ≤ sets.old.write_room }
     ensures reads { sets.new.reads ≡ sets.old.reads }
@@ -84,7 +70,7 @@ pub(crate) fn fill(sets: &mut Sets, writes: &IndexMap<u32, Option<Cells>>)
     ensures once { Once (λ (u : Write). u.record_number) sets.new.writes }
 {
     for i in 0..writes.len() {
-        let Some((rid, value)) = writes.get_index(i) else {
+        let Some((rid, value)) = writes.at(i) else {
             unreachable!();
         };
         sets.write(*rid, copy(value));

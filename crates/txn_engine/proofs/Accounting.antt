@@ -16,11 +16,11 @@ use Rattle.record_store.specs.Meaning.{value_at}
 use Rattle.seat_post.specs.Seats.{Known, is_alone_at}
 use Rattle.seat_post.specs.Spare.{is_on, holds, is_deletion, unused, added, with_deleted, spare_after}
 use Rattle.txn_engine.specs.Fresh.{AreWritten}
-use Rattle.txn_engine.specs.Pass.{PassView, IsAlone, first_pass, knowing, entry_of, decided, published, committed, Frame, EngineView}
+use Rattle.txn_engine.specs.Pass.{PassView, IsAlone, first_pass, with_log, frame, knowing, entry_of, decided, published, committed, EngineView, engine_of}
 use Rattle.seat_post.specs.Logs.{IsAbove}
 use Rattle.seat_post.specs.Leaves.{IsPresent}
 use Rattle.txn_engine.specs.Leaves.{HoldsAbsent, NoneLeft}
-use Rattle.txn_engine.specs.Accounts.{writes_at, gives_at, is_present, accounted, Stays}
+use Rattle.txn_engine.specs.Accounts.{writes_at, gives_at, is_present, accounted}
 use Rattle.seat_post.proofs.AloneSeats.{both, either, and_of}
 use Rattle.seat_post.proofs.Listed.{known_head, known_tail}
 use Rattle.seat_post.proofs.Leaving.{among_of, leaves_one}
@@ -153,14 +153,14 @@ each_same f g same = λ j. λ r. same r j
 
 pub accounted_given : (p : PassView) (i rid : ℕ) → slice_get p.spare i ≡ Some rid → accounted (record p { spare = remove p.spare i; given = p.given ++ rid ∷ [] }) ≡ accounted p
 accounted_given p i rid at = each_same _ _ (λ r.
-    let a = is_alone_at p.engine.size p.seat p.others in
+    let a = is_alone_at p.shared.size p.seat p.others in
     let here = list_any-append (eqb r) (p.given ++ rid ∷ []) (remove p.spare i) ∙ ap (λ b. b || is_on (remove p.spare i) r) (list_any-append (eqb r) p.given (rid ∷ [])) in
     let there = list_any-append (eqb r) p.given p.spare ∙ ap (λ b. is_on p.given r || b) (on_removed p.spare i rid r at) in
     ap (λ b. not a || (b || is_present p.log r)) here ∙ given_bools a (is_on p.given r) (eqb r rid) (is_on (remove p.spare i) r) (is_present p.log r) ∙ sym (ap (λ b. not a || (b || is_present p.log r)) there))
 
 pub accounted_struck : (p : PassView) (i rid : ℕ) → slice_get p.spare i ≡ Some rid → (IsAlone p → IsPresent p.log rid) → accounted (record p { spare = remove p.spare i }) ≡ accounted p
 accounted_struck p i rid at present = each_same _ _ (λ r.
-    let a = is_alone_at p.engine.size p.seat p.others in
+    let a = is_alone_at p.shared.size p.seat p.others in
     let here = list_any-append (eqb r) p.given (remove p.spare i) in
     let there = list_any-append (eqb r) p.given p.spare ∙ ap (λ b. is_on p.given r || b) (on_removed p.spare i rid r at) in
     let on : a ≡ true → eqb r rid ≡ true → is_present p.log r ≡ true = λ alone same. present_shown p.log r (subst (λ n. IsPresent p.log n) (sym (eqb-true r rid same)) (present alone)) in
@@ -177,15 +177,15 @@ shown_bools a b p (inl on) = or_right (not a) _ (or_left b p on)
 shown_bools a b p (inr on) = or_right (not a) _ (or_right b p on)
 
 -- a pass that is alone holds the absent records after each call of a transaction
-pub absent_stays : (p q : PassView) → Stays p q → IsAlone p → HoldsAbsent p → HoldsAbsent q
-absent_stays p q stays alone absent r from within =
-    let engine = ap (λ (f : Frame). f.engine) stays.same_frame in
-    let fixed : q.engine.fixed ≡ p.engine.fixed = ap (λ (e : EngineView). e.fixed) engine in
-    let records : q.engine.size.records ≡ p.engine.size.records = ap (λ (e : EngineView). e.size.records) engine in
+pub absent_stays : (p q : PassView) → frame q ≡ frame p → accounted q ≡ accounted p → IsAlone p → HoldsAbsent p → HoldsAbsent q
+absent_stays p q same_frame same_accounts alone absent r from within =
+    let engine = ap engine_of same_frame in
+    let fixed : q.fixed ≡ p.fixed = ap (λ (e : EngineView). e.fixed) engine in
+    let records : q.shared.size.records ≡ p.shared.size.records = ap (λ (e : EngineView). e.size.records) engine in
     let was = elim (absent r (omega arith) (omega arith)) as (λ _. (is_on (p.given ++ p.spare) r ≡ true) ⊎ (is_present p.log r ≡ true)) [ inl on ↦ inl on | inr present ↦ inr (present_shown p.log r present) ] in
-    let on : accounted q r ≡ true = ap (λ f. f r) stays.same_accounts ∙ shown_bools (is_alone_at p.engine.size p.seat p.others) (is_on (p.given ++ p.spare) r) (is_present p.log r) was in
-    let still : is_alone_at q.engine.size q.seat q.others ≡ true = ap (λ (f : Frame). is_alone_at f.engine.size f.seat f.others) stays.same_frame ∙ alone in
-    elim (told_bools (is_alone_at q.engine.size q.seat q.others) (is_on (q.given ++ q.spare) r) (is_present q.log r) still on) as (λ _. (is_on (q.given ++ q.spare) r ≡ true) ⊎ IsPresent q.log r) [
+    let on : accounted q r ≡ true = ap (λ f. f r) same_accounts ∙ shown_bools (is_alone_at p.shared.size p.seat p.others) (is_on (p.given ++ p.spare) r) (is_present p.log r) was in
+    let still : is_alone_at q.shared.size q.seat q.others ≡ true = ap (λ (f : PassView). is_alone_at f.shared.size f.seat f.others) same_frame ∙ alone in
+    elim (told_bools (is_alone_at q.shared.size q.seat q.others) (is_on (q.given ++ q.spare) r) (is_present q.log r) still on) as (λ _. (is_on (q.given ++ q.spare) r ≡ true) ⊎ IsPresent q.log r) [
       | inl here ↦ inl here
       | inr present ↦ inr (present_told q.log r present)
     ]
@@ -200,9 +200,9 @@ on_at (x ∷ xs) r on = elim (either (eqb r x) (is_on xs r) on) as (λ _. (k : �
 
 -- where the transaction writes each spare number, none is left
 pub none_left : (p : PassView) → HoldsAbsent p → AreWritten p (length p.spare) → NoneLeft p
-none_left p absent written r from within = elim (absent r from within) as (λ _. (is_on p.given r ≡ true) ⊎ (IsSome (value_at p.desk.writes r) ⊎ IsPresent p.log r)) [
+none_left p absent written r from within = elim (absent r from within) as (λ _. (is_on p.given r ≡ true) ⊎ (IsSome (value_at p.writes r) ⊎ IsPresent p.log r)) [
   | inr present ↦ inr (inr present)
-  | inl on ↦ elim (either (is_on p.given r) (is_on p.spare r) (sym (list_any-append (eqb r) p.given p.spare) ∙ on)) as (λ _. (is_on p.given r ≡ true) ⊎ (IsSome (value_at p.desk.writes r) ⊎ IsPresent p.log r)) [
+  | inl on ↦ elim (either (is_on p.given r) (is_on p.spare r) (sym (list_any-append (eqb r) p.given p.spare) ∙ on)) as (λ _. (is_on p.given r ≡ true) ⊎ (IsSome (value_at p.writes r) ⊎ IsPresent p.log r)) [
     | inl given ↦ inl given
     | inr spare ↦ (let h = on_at p.spare r spare in inr (inl (written h.0 r h.1 h.2)))
   ]
@@ -316,7 +316,7 @@ module _ (log : List Entry) (e : Entry) (commit : e.snapshot ≡ false) (above :
 
 -- a commit entry that deletes spare records alone
 pub absent_entered : (p : PassView) (e : Entry) → e.snapshot ≡ false → IsAbove p.log e.stamp
-    → ((r : ℕ) → p.engine.fixed ≤ r → r < p.engine.size.records → value_at e.writes r ≡ Some None → is_on (p.given ++ p.spare) r ≡ true) → HoldsAbsent p → HoldsAbsent (record p { log = p.log ++ e ∷ [] })
+    → ((r : ℕ) → p.fixed ≤ r → r < p.shared.size.records → value_at e.writes r ≡ Some None → is_on (p.given ++ p.spare) r ≡ true) → HoldsAbsent p → HoldsAbsent (with_log p (p.log ++ e ∷ []))
 absent_entered p e commit above spare absent r from within = by_write (value_at e.writes r) refl where
   by_write : (found : Option (Option (List ℕ))) → value_at e.writes r ≡ found → (is_on (p.given ++ p.spare) r ≡ true) ⊎ IsPresent (p.log ++ e ∷ []) r
   by_write None none = elim (absent r from within) as (λ _. (is_on (p.given ++ p.spare) r ≡ true) ⊎ IsPresent (p.log ++ e ∷ []) r) [ inl on ↦ inl on | inr present ↦ inr (still_present p.log e commit above r none present) ]
@@ -324,7 +324,7 @@ absent_entered p e commit above spare absent r from within = by_write (value_at 
   by_write (Some (Some words)) at = inr (now_present p.log e commit above r words at)
 
 -- a snapshot entry
-pub absent_snapshot : (p : PassView) (e : Entry) → e.snapshot ≡ true → HoldsAbsent p → HoldsAbsent (record p { log = p.log ++ e ∷ [] })
+pub absent_snapshot : (p : PassView) (e : Entry) → e.snapshot ≡ true → HoldsAbsent p → HoldsAbsent (with_log p (p.log ++ e ∷ []))
 absent_snapshot p e snapshot absent r from within = elim (absent r from within) as (λ _. (is_on (p.given ++ p.spare) r ≡ true) ⊎ IsPresent (p.log ++ e ∷ []) r) [
   | inl on ↦ inl on
   | inr present ↦ inr (
@@ -334,25 +334,25 @@ absent_snapshot p e snapshot absent r from within = elim (absent r from within) 
   )
 ]
 
-pub absent_published : (p : PassView) (before : List Entry) → p.log ≡ before ++ entry_of p.desk ∷ [] → IsAbove before p.desk.stamp → HoldsAbsent (record p { log = before }) → HoldsAbsent (published p)
-absent_published p before log above absent r from within = by_write (value_at p.desk.writes r) refl where
-  now : IsPresent (before ++ entry_of p.desk ∷ []) r → IsPresent p.log r
+pub absent_published : (p : PassView) (before : List Entry) → p.log ≡ before ++ entry_of p ∷ [] → IsAbove before p.stamp → HoldsAbsent (with_log p before) → HoldsAbsent (published p)
+absent_published p before log above absent r from within = by_write (value_at p.writes r) refl where
+  now : IsPresent (before ++ entry_of p ∷ []) r → IsPresent p.log r
   now present = subst (λ (l : List Entry). IsPresent l r) (sym log) present
 
-  by_write : (found : Option (Option (List ℕ))) → value_at p.desk.writes r ≡ found → (is_on (spare_after p.engine.fixed p.desk.writes p.given p.spare) r ≡ true) ⊎ IsPresent p.log r
-  by_write None none = elim (absent r from within) as (λ _. (is_on (spare_after p.engine.fixed p.desk.writes p.given p.spare) r ≡ true) ⊎ IsPresent p.log r) [
-    | inl on ↦ inl (kept_deleted p.engine.fixed (unused p.desk.writes p.given ++ p.spare) p.desk.writes r (on_unused p.desk.writes p.given p.spare r none on))
-    | inr present ↦ inr (now (still_present before (entry_of p.desk) refl above r none present))
+  by_write : (found : Option (Option (List ℕ))) → value_at p.writes r ≡ found → (is_on (spare_after p.fixed p.writes p.given p.spare) r ≡ true) ⊎ IsPresent p.log r
+  by_write None none = elim (absent r from within) as (λ _. (is_on (spare_after p.fixed p.writes p.given p.spare) r ≡ true) ⊎ IsPresent p.log r) [
+    | inl on ↦ inl (kept_deleted p.fixed (unused p.writes p.given ++ p.spare) p.writes r (on_unused p.writes p.given p.spare r none on))
+    | inr present ↦ inr (now (still_present before (entry_of p) refl above r none present))
   ]
-  by_write (Some None) at = inl (on_deleted p.engine.fixed (unused p.desk.writes p.given ++ p.spare) p.desk.writes r from at)
-  by_write (Some (Some words)) at = inr (now (now_present before (entry_of p.desk) refl above r words at))
+  by_write (Some None) at = inl (on_deleted p.fixed (unused p.writes p.given ++ p.spare) p.writes r from at)
+  by_write (Some (Some words)) at = inr (now (now_present before (entry_of p) refl above r words at))
 
-pub absent_committed : (p : PassView) (known : Known) → IsAbove p.log p.desk.stamp → HoldsAbsent p → HoldsAbsent (committed (knowing p known))
+pub absent_committed : (p : PassView) (known : Known) → IsAbove p.log p.stamp → HoldsAbsent p → HoldsAbsent (committed (knowing p known))
 absent_committed p known above absent = absent_published (decided (knowing p known)) p.log refl above absent
 
 -- where the log stands in a lawful history, a record of which it leaves no value is a spare one or given out
 pub absent_on : (kept : State → Type 0) (records : ℕ) (history : List Entry) (p : PassView) → Lawful kept records history → ((e : Entry) → Contains p.log e → Contains history e) → HoldsAbsent p
-    → (r : ℕ) → p.engine.fixed ≤ r → r < p.engine.size.records → IsValue (Contains p.log) r None → is_on (p.given ++ p.spare) r ≡ true
+    → (r : ℕ) → p.fixed ≤ r → r < p.shared.size.records → IsValue (Contains p.log) r None → is_on (p.given ++ p.spare) r ≡ true
 absent_on kept records history p lawful own absent r from within none = elim (absent r from within) as (λ _. is_on (p.given ++ p.spare) r ≡ true) [
   | inl on ↦ on
   | inr present ↦ absurd (let same : Some present.0 ≡ None = leaves_one kept records history p.log r (Some present.0) None lawful own present.1 none in cc)
@@ -360,10 +360,10 @@ absent_on kept records history p lawful own absent r from within none = elim (ab
 
 -- where none is left, each record that is absent in the state that such a log leaves is given out or written
 pub absent_taken : (kept : State → Type 0) (records : ℕ) (history : List Entry) (state : State) (p : PassView) → Lawful kept records history → ((e : Entry) → Contains p.log e → Contains history e) → Leaves (Contains p.log) state → NoneLeft p
-    → (r : ℕ) → p.engine.fixed ≤ r → r < p.engine.size.records → state r ≡ None → (is_on p.given r ≡ true) ⊎ IsSome (value_at p.desk.writes r)
-absent_taken kept records history state p lawful own leaves none r from within absent = elim (none r from within) as (λ _. (is_on p.given r ≡ true) ⊎ IsSome (value_at p.desk.writes r)) [
+    → (r : ℕ) → p.fixed ≤ r → r < p.shared.size.records → state r ≡ None → (is_on p.given r ≡ true) ⊎ IsSome (value_at p.writes r)
+absent_taken kept records history state p lawful own leaves none r from within absent = elim (none r from within) as (λ _. (is_on p.given r ≡ true) ⊎ IsSome (value_at p.writes r)) [
   | inl given ↦ inl given
-  | inr more ↦ elim more as (λ _. (is_on p.given r ≡ true) ⊎ IsSome (value_at p.desk.writes r)) [
+  | inr more ↦ elim more as (λ _. (is_on p.given r ≡ true) ⊎ IsSome (value_at p.writes r)) [
     | inl written ↦ inr written
     | inr present ↦ absurd (let same : Some present.0 ≡ state r = leaves_one kept records history p.log r (Some present.0) (state r) lawful own present.1 (leaves r) in let bad : Some present.0 ≡ None = same ∙ absent in cc)
   ]

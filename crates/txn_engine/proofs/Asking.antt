@@ -9,7 +9,8 @@ use Rattle.record_store.specs.Meaning.{value_at}
 use Rattle.validate_core.specs.declared.conflict.Conflict.{Conflict}
 use Rattle.validate_core.specs.declared.conflict.Conflict.TheVariants.{Pending, ReadLater, Overtaken}
 use Rattle.seat_post.specs.declared.phase.Phase.TheVariants.{Open}
-use Rattle.txn_engine.specs.Pass.{PassView}
+use Rattle.seat_post.specs.Seats.{Observed}
+use Rattle.txn_engine.specs.Pass.{PassView, observing}
 use Rattle.seat_post.specs.Post.{PostView, noted}
 use Rattle.seat_post.specs.Spare.{NumbersView, is_on}
 use Rattle.txn_engine.specs.declared.faults.TxnFault.{TxnFault}
@@ -28,14 +29,14 @@ pass_asked p rid true q n refusals dead counted is phase = pass_read p rid None 
 pass_asked p rid false q n refusals dead counted is phase = is
 
 -- the number at this place is written, and so is each before the one behind it
-written_behind : (p : PassView) (i rid : ℕ) → slice_get p.spare i ≡ Some rid → IsSome (value_at p.desk.writes rid) → AreWritten p i → AreWritten p (i + 1)
-written_behind p i rid at some before k r below here = elim (eqb_tells k i) as (λ _. IsSome (value_at p.desk.writes r)) [
+written_behind : (p : PassView) (i rid : ℕ) → slice_get p.spare i ≡ Some rid → IsSome (value_at p.writes rid) → AreWritten p i → AreWritten p (i + 1)
+written_behind p i rid at some before k r below here = elim (eqb_tells k i) as (λ _. IsSome (value_at p.writes r)) [
   | inr t ↦ before k r (let apart = t.1 in omega arith) here
   | inl t ↦ (
       let same : k ≡ i = t.1 in
       let found : Some r ≡ Some rid = sym here ∙ ap (λ n. slice_get p.spare n) same ∙ at in
       let is : r ≡ rid = cc in
-      subst (λ (n : ℕ). IsSome (value_at p.desk.writes n)) (sym is) some)
+      subst (λ (n : ℕ). IsSome (value_at p.writes n)) (sym is) some)
 ]
 
 kept_below : (xs : List ℕ) (i k r : ℕ) → k < i → slice_get (remove xs i) k ≡ Some r → slice_get xs k ≡ Some r
@@ -57,14 +58,14 @@ pub on_at : (xs : List ℕ) (i rid : ℕ) → slice_get xs i ≡ Some rid → is
 on_at xs i rid at = on_removed xs i rid rid at ∙ ap (λ (b : Bool). b || is_on (remove xs i) rid) (eq-eqb rid rid refl)
 
 -- What is left to ask where the number at a place was not given out: a shorter rest of the list, behind numbers that are written;
--- all of the pass but its list is the same, and each number of the list was on it.
+-- all of the pass but its list and what its steps came upon is the same, and each number of the list was on it.
 pub record LeftToAsk (before after' : PassView) (i next : ℕ) : Type 0 where
-  pub only : after' ≡ record before { spare = after'.spare }
+  pub only : after' ≡ observing (record before { spare = after'.spare }) after'.observed
   pub shorter : length after'.spare - next < length before.spare - i
   pub written : AreWritten before i → AreWritten after' next
   pub were_on : (r : ℕ) → is_on after'.spare r ≡ true → is_on before.spare r ≡ true
 
-left_passed : (p : PassView) (i rid : ℕ) → slice_get p.spare i ≡ Some rid → IsSome (value_at p.desk.writes rid) → LeftToAsk p p i (i + 1)
+left_passed : (p : PassView) (i rid : ℕ) → slice_get p.spare i ≡ Some rid → IsSome (value_at p.writes rid) → LeftToAsk p p i (i + 1)
 left_passed p i rid at some = record {
   only = refl;
   shorter = let within = slice_get_within p.spare i rid at in omega arith;
@@ -72,8 +73,8 @@ left_passed p i rid at some = record {
   were_on = λ r on. on;
 }
 
-left_struck : (p : PassView) (i rid : ℕ) → slice_get p.spare i ≡ Some rid → LeftToAsk p (record p { spare = remove p.spare i }) i i
-left_struck p i rid at = record {
+left_struck : (p : PassView) (i rid : ℕ) (o : Observed) → slice_get p.spare i ≡ Some rid → LeftToAsk p (observing (record p { spare = remove p.spare i }) o) i i
+left_struck p i rid o at = record {
   only = refl;
   shorter =
       let within = slice_get_within p.spare i rid at in
@@ -86,7 +87,7 @@ left_struck p i rid at = record {
 pub asks_left : (before after' : PassView) (i rid next : ℕ) (told : Asked) → slice_get before.spare i ≡ Some rid → told ≡ Next next → Asks i rid before after' told → LeftToAsk before after' i next
 asks_left before after' i rid next told at is asks = elim (subst (λ (a : Asked). Asks i rid before after' a) is asks) as (λ _. LeftToAsk before after' i next) [
   | inl p ↦ subst (λ (x : PassView). LeftToAsk before x i next) (sym p.0) (subst (λ (n : ℕ). LeftToAsk before before i n) (sym p.2) (left_passed before i rid at p.1))
-  | inr s ↦ subst (λ (x : PassView). LeftToAsk before x i next) (sym s.0) (subst (λ (n : ℕ). LeftToAsk before (record before { spare = remove before.spare i }) i n) (sym s.1) (left_struck before i rid at))
+  | inr s ↦ subst (λ (x : PassView). LeftToAsk before x i next) (sym s.0) (subst (λ (n : ℕ). LeftToAsk before (observing (record before { spare = remove before.spare i }) after'.observed) i n) (sym s.1) (left_struck before i rid after'.observed at))
 ]
 
 past : (xs : List ℕ) (i k : ℕ) → slice_get xs i ≡ None → k < length xs → k < i

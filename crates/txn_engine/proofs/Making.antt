@@ -9,9 +9,9 @@ use Rattle.std.proofs.lemmas.List.FromFn.{map-range_with_len_more, length-map-ra
 use Rattle.core_rule.specs.View.{single, sharing}
 use Rattle.core_rule.specs.Views.{Among}
 use Rattle.core_rule.specs.Offers.{MayOffer, made_of}
-use Rattle.txn_engine.specs.Pass.{PassView, IsIdle, IsIdleOf, with_glance, unglanced}
+use Rattle.txn_engine.specs.Pass.{PassView, IsIdle, IsIdleOf, with_glance, bare, engine_of, desk_of}
 use Rattle.seat_post.specs.Seats.{Others}
-use Rattle.seat_post.specs.Sharing.{no_knowledge}
+use Rattle.seat_post.specs.Sharing.{no_knowledge, one_more}
 use Rattle.txn_engine.specs.Sharing.{others_made, with_made, share_at, first_share, announced, shares, shares_of}
 
 -- ---- making seats
@@ -32,19 +32,19 @@ others_over true o s t = refl
 others_over false o s t = refl
 
 -- it has made one more
-pub made_more : (made : ℕ) (p : PassView) → 1 ≤ made → p.others.splitting ≡ single → record (with_made made p) { others = record (others_made made p.others) { splitting = sharing (made_of (others_made made p.others).splitting + 1) }; known = no_knowledge } ≡ with_made (made + 1) p
+pub made_more : (made : ℕ) (p : PassView) → 1 ≤ made → p.others.splitting ≡ single → record p { post = one_more (with_made made p).post } ≡ with_made (made + 1) p
 made_more made p some plain =
     let on : ltb 1 (made + 1) ≡ true = lt-ltb 1 (made + 1) (omega arith) in
     let count = (may_make made p.others some plain).1 in
-    ap (λ (o : Others). record p { others = o; known = no_knowledge }) (ap (λ (n : ℕ). record (others_made made p.others) { splitting = sharing (n + 1) }) count ∙ others_over (ltb 1 made) p.others made (made + 1))
-    ∙ ap (λ (b : Bool). record p { others = cond b (record p.others { splitting = sharing (made + 1) }) p.others; known = cond b no_knowledge p.known }) (sym on)
+    ap (λ (o : Others). record p { post = record p.post { others = o; known = no_knowledge; placed = [] } }) (ap (λ (n : ℕ). record (others_made made p.others) { splitting = sharing (n + 1) }) count ∙ others_over (ltb 1 made) p.others made (made + 1))
+    ∙ ap (λ (b : Bool). record p { post = record p.post { others = cond b (record p.others { splitting = sharing (made + 1) }) p.others; known = cond b no_knowledge p.known; placed = cond b [] p.placed } }) (sym on)
 
 -- one more pass is there
-pub pushed_share : (p : PassView) (passes passes' : List PassView) (seat : ℕ) (made : PassView) → 1 ≤ seat → map unglanced passes ≡ map (share_at p) (range_with_len 1 (seat - 1)) → unglanced made ≡ share_at p seat → passes' ≡ passes ++ made ∷ [] → map unglanced passes' ≡ map (share_at p) (range_with_len 1 (seat + 1 - 1))
+pub pushed_share : (p : PassView) (passes passes' : List PassView) (seat : ℕ) (made : PassView) → 1 ≤ seat → map bare passes ≡ map (share_at p) (range_with_len 1 (seat - 1)) → bare made ≡ share_at p seat → passes' ≡ passes ++ made ∷ [] → map bare passes' ≡ map (share_at p) (range_with_len 1 (seat + 1 - 1))
 pushed_share p passes passes' seat made some are is more =
     let last : 1 + (seat - 1) ≡ seat = omega arith in
     let count : seat - 1 + 1 ≡ seat + 1 - 1 = omega arith in
-    ap (map unglanced) more ∙ map-append unglanced passes (made ∷ []) ∙ ap (λ qs. qs ++ unglanced made ∷ []) are ∙ ap (λ q. map (share_at p) (range_with_len 1 (seat - 1)) ++ q ∷ []) is
+    ap (map bare) more ∙ map-append bare passes (made ∷ []) ∙ ap (λ qs. qs ++ bare made ∷ []) are ∙ ap (λ q. map (share_at p) (range_with_len 1 (seat - 1)) ++ q ∷ []) is
     ∙ sym (map-range_with_len_more (share_at p) 1 (seat - 1) seat last)
     ∙ ap (λ n. map (share_at p) (range_with_len 1 n)) count
 
@@ -56,15 +56,15 @@ met_of p (x ∷ xs) q (inr more) = met_of p xs q more
 -- each pass has met what seat 0 has met
 met_among : (p q : PassView) → Among q (shares_of p) → q.met ≡ p.met
 met_among p q (inl same) = ap (λ (y : PassView). y.met) (sym same)
-met_among p q (inr more) = met_of p (range_with_len 1 (p.engine.size.seats - 1)) q more
+met_among p q (inr more) = met_of p (range_with_len 1 (p.shared.size.seats - 1)) q more
 
-among_unglanced : (passes : List PassView) (q : PassView) → Among q passes → Among (unglanced q) (map unglanced passes)
-among_unglanced [] q among = absurd among
-among_unglanced (x ∷ xs) q (inl same) = inl (ap unglanced same)
-among_unglanced (x ∷ xs) q (inr more) = inr (among_unglanced xs q more)
+among_bare : (passes : List PassView) (q : PassView) → Among q passes → Among (bare q) (map bare passes)
+among_bare [] q among = absurd among
+among_bare (x ∷ xs) q (inl same) = inl (ap bare same)
+among_bare (x ∷ xs) q (inr more) = inr (among_bare xs q more)
 
-pub met_shared : (p q : PassView) (passes : List PassView) → map unglanced passes ≡ shares_of p → Among q passes → q.met ≡ p.met
-met_shared p q passes are among = met_among p (unglanced q) (subst (λ xs. Among (unglanced q) xs) are (among_unglanced passes q among))
+pub met_shared : (p q : PassView) (passes : List PassView) → map bare passes ≡ shares_of p → Among q passes → q.met ≡ p.met
+met_shared p q passes are among = met_among p (bare q) (subst (λ xs. Among (bare q) xs) are (among_bare passes q among))
 
 -- what holds of each of a list holds with one more
 pub each_more : {A : Type 0} (P : A → Type 0) (xs ys : List A) (y : A) → ((x : A) → Among x xs → P x) → P y → ys ≡ xs ++ y ∷ [] → (x : A) → Among x ys → P x
@@ -77,34 +77,34 @@ each_more P xs ys y each last same x among = each_pushed P xs y each last x (sub
     each_pushed P (z ∷ xs) y each last x (inr more) = each_pushed P xs y (λ w a. each w (inr a)) last x more
 
 -- the pass that is made for the next seat
-pub next_share : (p q r : PassView) (made : ℕ) → 1 ≤ made → p.others.splitting ≡ single → q ≡ with_glance (with_made made p) q.glance → unglanced r ≡ share_at q (made_of q.others.splitting) → unglanced r ≡ share_at p made
+pub next_share : (p q r : PassView) (made : ℕ) → 1 ≤ made → p.others.splitting ≡ single → q ≡ with_glance (with_made made p) q.glance → bare r ≡ share_at q (made_of q.others.splitting) → bare r ≡ share_at p made
 next_share p q r made some plain are is =
     is ∙ ap (λ (x : PassView). share_at x (made_of x.others.splitting)) are ∙ ap (share_at p) (may_make made p.others some plain).1
 
-pub next_made : (p q r : PassView) (made : ℕ) → 1 ≤ made → p.others.splitting ≡ single → q ≡ with_glance (with_made made p) q.glance → r ≡ record q { others = record q.others { splitting = sharing (made_of q.others.splitting + 1) }; known = no_knowledge; glance = r.glance } → r ≡ with_glance (with_made (made + 1) p) r.glance
+pub next_made : (p q r : PassView) (made : ℕ) → 1 ≤ made → p.others.splitting ≡ single → q ≡ with_glance (with_made made p) q.glance → r ≡ record q { post = record (one_more q.post) { glance = r.glance } } → r ≡ with_glance (with_made (made + 1) p) r.glance
 next_made p q r made some plain are is =
-    is ∙ ap (λ (x : PassView). record x { others = record x.others { splitting = sharing (made_of x.others.splitting + 1) }; known = no_knowledge; glance = r.glance }) are ∙ ap (λ (x : PassView). with_glance x r.glance) (made_more made p some plain)
+    is ∙ ap (λ (x : PassView). record x { post = record (one_more x.post) { glance = r.glance } }) are ∙ ap (λ (x : PassView). with_glance x r.glance) (made_more made p some plain)
 
-pub count_shares : (p : PassView) (passes : List PassView) (seat : ℕ) → map unglanced passes ≡ map (share_at p) (range_with_len 1 (seat - 1)) → length passes ≡ seat - 1
-count_shares p passes seat are = sym (length-map passes unglanced) ∙ ap length are ∙ length-map-range_with_len (share_at p) 1 (seat - 1)
+pub count_shares : (p : PassView) (passes : List PassView) (seat : ℕ) → map bare passes ≡ map (share_at p) (range_with_len 1 (seat - 1)) → length passes ≡ seat - 1
+count_shares p passes seat are = sym (length-map passes bare) ∙ ap length are ∙ length-map-range_with_len (share_at p) 1 (seat - 1)
 
 -- where no other seat counted, the count is its own
 pub counting_none : (p : PassView) (n : ℕ) → n ≡ 0 → counting p n ≡ p
 counting_none p n none = let same : p.refusals + n ≡ p.refusals = omega arith in ap (λ r. record p { refusals = r }) same
 
-others_are_idle : (p : PassView) (xs : List PassView) (seats : List ℕ) → map unglanced xs ≡ map (share_at p) seats → All (IsIdleOf p.engine) xs
-others_are_idle p [] seats is = All-nil (IsIdleOf p.engine)
+others_are_idle : (p : PassView) (xs : List PassView) (seats : List ℕ) → map bare xs ≡ map (share_at p) seats → All (IsIdleOf (engine_of p)) xs
+others_are_idle p [] seats is = All-nil (IsIdleOf (engine_of p))
 others_are_idle p (x ∷ xs) [] is = cc
 others_are_idle p (x ∷ xs) (seat ∷ seats) is =
-    let head : unglanced x ≡ share_at p seat = cc in
-    let tail : map unglanced xs ≡ map (share_at p) seats = cc in
-    All-cons (IsIdleOf p.engine) x xs (ap (λ (q : PassView). q.engine) head, ap (λ (q : PassView). q.desk) head) (others_are_idle p xs seats tail)
+    let head : bare x ≡ share_at p seat = cc in
+    let tail : map bare xs ≡ map (share_at p) seats = cc in
+    All-cons (IsIdleOf (engine_of p)) x xs (ap engine_of head, ap desk_of head) (others_are_idle p xs seats tail)
 
 -- each is of the engine, with nothing in flight
-pub shares_are_idle : (p : PassView) (xs : List PassView) → IsIdle p → map unglanced xs ≡ shares p → All (IsIdleOf p.engine) xs
-shares_are_idle p [] idle is = All-nil (IsIdleOf p.engine)
+pub shares_are_idle : (p : PassView) (xs : List PassView) → IsIdle p → map bare xs ≡ shares p → All (IsIdleOf (engine_of p)) xs
+shares_are_idle p [] idle is = All-nil (IsIdleOf (engine_of p))
 shares_are_idle p (x ∷ xs) idle is =
-    let head : unglanced x ≡ first_share (announced p) = cc in
-    let seats = range_with_len 1 (p.engine.size.seats - 1) in
-    let tail : map unglanced xs ≡ map (share_at (announced p)) seats = cc in
-    All-cons (IsIdleOf p.engine) x xs (ap (λ (q : PassView). q.engine) head, ap (λ (q : PassView). q.desk) head ∙ idle) (others_are_idle (announced p) xs seats tail)
+    let head : bare x ≡ first_share (announced p) = cc in
+    let seats = range_with_len 1 (p.shared.size.seats - 1) in
+    let tail : map bare xs ≡ map (share_at (announced p)) seats = cc in
+    All-cons (IsIdleOf (engine_of p)) x xs (ap engine_of head, ap desk_of head ∙ idle) (others_are_idle (announced p) xs seats tail)

@@ -4,12 +4,13 @@ use Rattle.std.specs.Prelude.{Result}
 use Rattle.record_store.specs.Calls.{Calls, none, read, write, fresh}
 use Rattle.txn_engine.specs.Pass.{PassView}
 use Rattle.txn_engine.specs.Accounts.{Stays}
+use Rattle.txn_engine.proofs.Growing.{grows_none, grows_both}
 
 pub stays_none : (p : PassView) → Stays p p
-stays_none p = record { same_frame = refl; same_accounts = refl }
+stays_none p = record { same_frame = refl; same_accounts = refl; grows = grows_none p.observed }
 
 pub stays_both : (p q s : PassView) → Stays p q → Stays q s → Stays p s
-stays_both p q s first second = record { same_frame = second.same_frame ∙ first.same_frame; same_accounts = second.same_accounts ∙ first.same_accounts }
+stays_both p q s first second = record { same_frame = second.same_frame ∙ first.same_frame; same_accounts = second.same_accounts ∙ first.same_accounts; grows = grows_both p.observed q.observed s.observed first.grows second.grows }
 
 -- what no call changes stays through all calls of a store
 module _ {S F : Type 0} (pass : S → PassView) (read_gives : S → ℕ → Result (Option (List ℕ)) F → S → Type 0) (write_gives : S → ℕ → Option (List ℕ) → Result (Unit {0}) F → S → Type 0) (fresh_gives : S → Result ℕ F → S → Type 0)

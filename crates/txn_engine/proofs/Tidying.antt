@@ -9,7 +9,7 @@ use Rattle.record_store.specs.Meaning.{value_at}
 use Rattle.seat_post.specs.Seats.{Known}
 use Rattle.seat_post.specs.Lists.{HasLinked, HasOutside, AreLinked, AreSomeLinked, IsRoomyAt}
 use Rattle.txn_engine.specs.Lists.{IsQueuedNewest, IsTidy, IsRoomy, IsTidyOnceCollected, IsRoomyOnceCollected}
-use Rattle.txn_engine.specs.Pass.{PassView, EngineView, Frame, first_pass, knowing, queued, decided, published, committed}
+use Rattle.txn_engine.specs.Pass.{PassView, EngineView, first_pass, knowing, queued, decided, published, committed}
 use Rattle.txn_engine.specs.Accounts.{Stays}
 use Rattle.core_rule.proofs.Among.{Among-left, Among-right}
 
@@ -33,13 +33,13 @@ among_queued stamp (w ∷ ws) r some = elim (eqb_tells r w.0) as (λ _. Among (r
 ]
 
 -- what holds of each record but those whose newest version is queued, after a commit
-collectable : (P : Option Bound → Type 0) (p : PassView) (before : Known) (r : ℕ) → AreLinked p.desk.writes p.desk.stamp before p.known → P (known_of before.counts r) ⊎ IsQueuedNewest p.queue before r → P (known_of p.known.counts r) ⊎ IsQueuedNewest (published p).queue p.known r
-collectable P p before r are was = elim (value_or (value_at p.desk.writes r)) as (λ _. P (known_of p.known.counts r) ⊎ IsQueuedNewest (published p).queue p.known r) [
+collectable : (P : Option Bound → Type 0) (p : PassView) (before : Known) (r : ℕ) → AreLinked p.writes p.stamp before p.known → P (known_of before.counts r) ⊎ IsQueuedNewest p.queue before r → P (known_of p.known.counts r) ⊎ IsQueuedNewest (published p).queue p.known r
+collectable P p before r are was = elim (value_or (value_at p.writes r)) as (λ _. P (known_of p.known.counts r) ⊎ IsQueuedNewest (published p).queue p.known r) [
   | inr some ↦ inr (record {
-    item = record { rid = r; stamp = p.desk.stamp };
-    among = Among-right (record { rid = r; stamp = p.desk.stamp }) p.queue (queued p.desk.stamp p.desk.writes) (among_queued p.desk.stamp p.desk.writes r some);
+    item = record { rid = r; stamp = p.stamp };
+    among = Among-right (record { rid = r; stamp = p.stamp }) p.queue (queued p.stamp p.writes) (among_queued p.stamp p.writes r some);
     of_record = refl;
-    stamp = p.desk.stamp;
+    stamp = p.stamp;
     newest = (are.written r some).1;
     low = omega arith;
   })
@@ -47,20 +47,20 @@ collectable P p before r are was = elim (value_or (value_at p.desk.writes r)) as
       let same = are.others r none in
       elim was as (λ _. P (known_of p.known.counts r) ⊎ IsQueuedNewest (published p).queue p.known r) [
         | inl has ↦ inl (subst P (sym same.0) has)
-        | inr q ↦ inr (record { item = q.item; among = Among-left q.item p.queue (queued p.desk.stamp p.desk.writes) q.among; of_record = q.of_record; stamp = q.stamp; newest = same.1 ∙ q.newest; low = q.low })
+        | inr q ↦ inr (record { item = q.item; among = Among-left q.item p.queue (queued p.stamp p.writes) q.among; of_record = q.of_record; stamp = q.stamp; newest = same.1 ∙ q.newest; low = q.low })
       ])
 ]
 
-pub tidy_published : (p : PassView) (before : Known) → AreLinked p.desk.writes p.desk.stamp before p.known → IsTidyOnceCollected (knowing p before) → IsTidyOnceCollected (published p)
+pub tidy_published : (p : PassView) (before : Known) → AreLinked p.writes p.stamp before p.known → IsTidyOnceCollected (knowing p before) → IsTidyOnceCollected (published p)
 tidy_published p before are tidy r within = collectable (HasLinked 1) p before r are (tidy r within)
 
-pub roomy_published : (p : PassView) (before : Known) → AreLinked p.desk.writes p.desk.stamp before p.known → IsRoomyOnceCollected (knowing p before) → IsRoomyOnceCollected (published p)
+pub roomy_published : (p : PassView) (before : Known) → AreLinked p.writes p.stamp before p.known → IsRoomyOnceCollected (knowing p before) → IsRoomyOnceCollected (published p)
 roomy_published p before are roomy r within = collectable (HasOutside 1) p before r are (roomy r within)
 
-pub tidy_committed : (p : PassView) (known : Known) → AreLinked p.desk.writes p.desk.stamp p.known known → IsTidyOnceCollected p → IsTidyOnceCollected (committed (knowing p known))
+pub tidy_committed : (p : PassView) (known : Known) → AreLinked p.writes p.stamp p.known known → IsTidyOnceCollected p → IsTidyOnceCollected (committed (knowing p known))
 tidy_committed p known are tidy = tidy_published (decided (knowing p known)) p.known are tidy
 
-pub roomy_committed : (p : PassView) (known : Known) → AreLinked p.desk.writes p.desk.stamp p.known known → IsRoomyOnceCollected p → IsRoomyOnceCollected (committed (knowing p known))
+pub roomy_committed : (p : PassView) (known : Known) → AreLinked p.writes p.stamp p.known known → IsRoomyOnceCollected p → IsRoomyOnceCollected (committed (knowing p known))
 roomy_committed p known are roomy = roomy_published (decided (knowing p known)) p.known are roomy
 
 -- ---- lists that no call has changed
@@ -73,7 +73,7 @@ roomy_first e r within = omega arith
 
 pub tidy_stays : (p q : PassView) → Stays p q → IsTidy p → IsTidy q
 tidy_stays p q stays tidy =
-    subst (λ (f : Frame). (r : ℕ) → suc r ≤ f.engine.size.records → HasLinked 1 (known_of f.known.counts r)) (sym stays.same_frame) tidy
+    subst (λ (f : PassView). (r : ℕ) → suc r ≤ f.shared.size.records → HasLinked 1 (known_of f.known.counts r)) (sym stays.same_frame) tidy
 
 pub roomy_stays : (p q : PassView) → Stays p q → IsRoomy p → IsRoomy q
-roomy_stays p q stays roomy = subst (λ (f : Frame). IsRoomyAt f.engine.size f.known) (sym stays.same_frame) roomy
+roomy_stays p q stays roomy = subst (λ (f : PassView). IsRoomyAt f.shared.size f.known) (sym stays.same_frame) roomy

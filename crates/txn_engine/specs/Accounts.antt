@@ -2,6 +2,7 @@
 use Rattle.std.specs.Prelude.{◌≡◌, ℕ, Bool, not, is_some, ◌==◌, ◌&&◌, ◌||◌, nat_lt, List, ◌++◌}
 use Rattle.std.specs.List.{list_any}
 use Rattle.plain_data.specs.declared.entry.Entry.{Entry}
+use Rattle.seat_post.specs.Observing.{Grows}
 use Rattle.seat_post.specs.Seats.{is_alone_at}
 use Rattle.seat_post.specs.Spare.{is_on}
 use Rattle.txn_engine.specs.Pass.{PassView, frame}
@@ -19,9 +20,10 @@ is_present log r = list_any (λ e. gives_at r e && not (list_any (λ later. writ
 
 -- the record is a spare one or given out, or the log leaves a value of it
 abbrev pub accounted : PassView → ℕ → Bool
-accounted p r = not (is_alone_at p.engine.size p.seat p.others) || (is_on (p.given ++ p.spare) r || is_present p.log r)
+accounted p r = not (is_alone_at p.shared.size p.seat p.others) || (is_on (p.given ++ p.spare) r || is_present p.log r)
 
--- what no call of a transaction changes at its pass
+-- what no call of a transaction changes at its pass; and what its steps came upon grows
 pub record Stays (before after' : PassView) : Type 0 where
   pub same_frame : frame after' ≡ frame before
   pub same_accounts : accounted after' ≡ accounted before
+  pub grows : Grows before.observed after'.observed

@@ -1,12 +1,15 @@
 -- Which answers refuse a transaction, and what a conflict says.
-use Rattle.std.specs.Prelude.{◌≡◌, ℕ, List, true, ⊤}
+use Rattle.std.specs.Prelude.{◌≡◌, ℕ, List, true, ⊤, IsSome}
 use Rattle.validate_core.specs.declared.conflict.Conflict.{Conflict}
 use Rattle.validate_core.specs.declared.conflict.Conflict.TheVariants.{Pending, ReadLater, Overtaken}
 use Rattle.txn_engine.specs.declared.faults.TxnFault.{TxnFault}
 use Rattle.txn_engine.specs.declared.faults.TxnFault.TheVariants as txn
 use Rattle.txn_engine.specs.declared.faults.CommitFault.{CommitFault}
 use Rattle.txn_engine.specs.declared.faults.CommitFault.TheVariants as commit
-use Rattle.seat_post.specs.Conflicts.{Shows, ShowsPending, Touches}
+use Rattle.seat_post.specs.Conflicts.{ShowsPending, Touches, IsLoaded}
+use Rattle.record_store.specs.Meaning.{value_at}
+use Rattle.seat_post.specs.Observing.{MeetsNoPlace}
+use Rattle.seat_post.specs.Post.{IsShownAt}
 use Rattle.seat_post.specs.Spare.{is_on}
 use Rattle.txn_engine.specs.Pass.{PassView}
 
@@ -28,14 +31,22 @@ MatchStopped commit.PlacesOut P Q = Q
 
 -- what a conflict says of the transaction of a pass; and what one says that a read met
 abbrev pub IsShown : PassView → Conflict → Type 0
-IsShown p conflict = Shows p.engine.size p.seat p.others p.desk.stamp p.desk.reads p.desk.writes conflict
+IsShown p conflict = IsShownAt p.post conflict
 
 abbrev pub IsPending : PassView → Conflict → Type 0
-IsPending p conflict = ShowsPending p.engine.size p.seat p.others p.desk.stamp conflict
+IsPending p conflict = ShowsPending p.shared.size p.seat p.others p.stamp conflict
+
+-- between the two its steps loaded what the conflict names
+abbrev pub WasLoaded : (before after' : PassView) → Conflict → Type 0
+WasLoaded before after' conflict = IsLoaded before.stamp conflict before.observed after'.observed
+
+-- between the two they met the inline place of a record that it writes not free, and each usable one
+abbrev pub WantsPlace : (before after' : PassView) → Type 0
+WantsPlace before after' = (rid : ℕ) × IsSome (value_at before.writes rid) × MeetsNoPlace before.shared.size rid before.observed after'.observed
 
 -- it is of a record that the transaction has read or written
 abbrev pub IsTouched : PassView → Conflict → Type 0
-IsTouched p conflict = Touches p.desk.reads p.desk.writes conflict
+IsTouched p conflict = Touches p.reads p.writes conflict
 
 -- the conflict that a read of this record meets
 abbrev pub MeetsAt : ℕ → Conflict → Type 0

@@ -1,14 +1,19 @@
 -- How a transaction asks for a new record number.
-use Rattle.std.specs.Prelude.{◌≡◌, ◌⊎◌, ℕ, ◌<◌, ◌+◌, ◌∷◌, ◌++◌, [], None, Some, IsSome, slice_get, remove}
+use Rattle.std.specs.Prelude.{◌≡◌, ◌⊎◌, ℕ, ◌<◌, ◌+◌, List, ◌∷◌, ◌++◌, [], None, Some, IsSome, slice_get, remove}
 use Rattle.record_store.specs.Meaning.{value_at, after_read}
 use Rattle.record_store.specs.Store.{IsFresh}
 use Rattle.txn_engine.specs.declared.fresh.Asked.{Asked}
 use Rattle.txn_engine.specs.declared.fresh.Asked.TheVariants.{Given, Next}
-use Rattle.txn_engine.specs.Pass.{PassView, store_of}
+use Rattle.validate_core.specs.Validating.{Met, no_more}
+use Rattle.seat_post.specs.Observing.{Grows}
+use Rattle.seat_post.specs.Post.{known_at}
+use Rattle.seat_post.specs.Reading.{FindsValue}
+use Rattle.seat_post.specs.Seats.{Observed}
+use Rattle.txn_engine.specs.Pass.{PassView, store_of, observing}
 
 -- the record was read as absent, if it was not read before
 abbrev pub read_absent : PassView → ℕ → PassView
-read_absent p rid = record p { desk = record p.desk { reads = (after_read (store_of p) rid None).reads } }
+read_absent p rid = record p { post = record p.post { reads = (after_read (store_of p) rid None).reads } }
 
 -- the spare number at this place is given out
 abbrev pub given_out : PassView → (i rid : ℕ) → PassView
@@ -16,17 +21,60 @@ given_out p i rid = record (read_absent p rid) { spare = remove p.spare i; given
 
 -- the transaction writes each spare number before this place
 abbrev pub AreWritten : PassView → ℕ → Type 0
-AreWritten p i = (k rid : ℕ) → k < i → slice_get p.spare k ≡ Some rid → IsSome (value_at p.desk.writes rid)
+AreWritten p i = (k rid : ℕ) → k < i → slice_get p.spare k ≡ Some rid → IsSome (value_at p.writes rid)
+
+-- the record was known to be absent, or a search between the two found it so; to be present, or loads led to its committed version
+abbrev pub IsMetAbsent : PassView → ℕ → (before after' : Observed) → Type 0
+IsMetAbsent p rid before after' = (known_at p.post rid ≡ Some None) ⊎ FindsValue p.stamp rid before after' None
+
+abbrev pub IsMetPresent : PassView → ℕ → (before after' : Observed) → Type 0
+IsMetPresent p rid before after' = ((words : List ℕ) × (known_at p.post rid ≡ Some (Some words))) ⊎ ((wts : ℕ) × Met p.stamp rid wts 3 no_more before.loads after'.loads)
+
+-- Numbers of the list were passed, in turn: one that is written stayed there, and one that was met present was struck off.
+pub data PassesOver (p : PassView) : (numbers stayed : List ℕ) → Observed → Observed → Type 0 where
+  none_yet : (o : Observed) → PassesOver p [] [] o o
+  one_stays : (numbers stayed : List ℕ) (rid : ℕ) (o t : Observed) → PassesOver p numbers stayed o t → IsSome (value_at p.writes rid)
+      → PassesOver p (numbers ++ rid ∷ []) (stayed ++ rid ∷ []) o t
+  one_leaves : (numbers stayed : List ℕ) (rid : ℕ) (o t u : Observed) → PassesOver p numbers stayed o t → Grows t u → IsMetPresent p rid t u
+      → PassesOver p (numbers ++ rid ∷ []) stayed o u
+
+-- The first number of the list that is met absent and not written is given out: those before it were passed.
+pub record GivesFirst (before after' : PassView) (rid : ℕ) : Type 0 where
+  pub numbers : List ℕ
+  pub stayed : List ℕ
+  pub rest : List ℕ
+  pub list : before.spare ≡ numbers ++ rid ∷ rest
+  pub between : Observed
+  pub over : PassesOver before numbers stayed before.observed between
+  pub later : Grows between after'.observed
+  pub absent : IsMetAbsent before rid between after'.observed
+  pub left : after'.spare ≡ stayed ++ rest
+  pub given : after'.given ≡ before.given ++ rid ∷ []
+
+-- some of them were passed, from the first one on: the others are left behind those that stayed
+pub record PassesSome (before after' : PassView) : Type 0 where
+  pub numbers : List ℕ
+  pub stayed : List ℕ
+  pub rest : List ℕ
+  pub list : before.spare ≡ numbers ++ rest
+  pub between : Observed
+  pub over : PassesOver before numbers stayed before.observed between
+  pub later : Grows between after'.observed
+  pub left : after'.spare ≡ stayed ++ rest
+
+-- all of them were passed
+abbrev pub PassesAll : (before after' : PassView) → Type 0
+PassesAll before after' = PassesOver before before.spare after'.spare before.observed after'.observed
 
 -- the number at this place stays, since it is written, and the next one is behind it
 abbrev pub Passes : (i rid : ℕ) (before after' : PassView) (next : ℕ) → Type 0
-Passes i rid before after' next = (after' ≡ before) × IsSome (value_at before.desk.writes rid) × (next ≡ i + 1)
+Passes i rid before after' next = (after' ≡ before) × IsSome (value_at before.writes rid) × (next ≡ i + 1)
 
--- it is struck off, and the next one is at its place
-abbrev pub Strikes : (i : ℕ) (before after' : PassView) (next : ℕ) → Type 0
-Strikes i before after' next = (after' ≡ record before { spare = remove before.spare i }) × (next ≡ i)
+-- it is struck off, since it was met present, and the next one is at its place
+abbrev pub Strikes : (i rid : ℕ) (before after' : PassView) (next : ℕ) → Type 0
+Strikes i rid before after' next = (after' ≡ observing (record before { spare = remove before.spare i }) after'.observed) × (next ≡ i) × IsMetPresent before rid before.observed after'.observed
 
 -- what asking for the number at this place makes of the pass: it is given out, or the next one is to be asked for
 abbrev pub Asks : (i rid : ℕ) (before after' : PassView) → Asked → Type 0
-Asks i rid before after' Given = IsFresh (store_of before) rid × (after' ≡ given_out before i rid)
-Asks i rid before after' (Next next) = Passes i rid before after' next ⊎ Strikes i before after' next
+Asks i rid before after' Given = IsFresh (store_of before) rid × (after' ≡ observing (given_out before i rid) after'.observed) × IsMetAbsent before rid before.observed after'.observed
+Asks i rid before after' (Next next) = Passes i rid before after' next ⊎ Strikes i rid before after' next

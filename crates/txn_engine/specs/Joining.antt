@@ -6,7 +6,7 @@ use Rattle.plain_data.specs.declared.entry.Entry.{Entry}
 use Rattle.word_layout.specs.Size.{Size}
 use Rattle.txn_engine.specs.Pass.{EngineView, PassView}
 use Rattle.txn_engine.specs.Retired.{RetiredView}
-use Rattle.seat_post.specs.Seats.{Known}
+use Rattle.seat_post.specs.Seats.{Known, Placed}
 use Rattle.seat_post.specs.Sharing.{no_knowledge}
 use Rattle.seat_post.specs.Spare.{with_all}
 
@@ -42,7 +42,7 @@ abbrev pub spare_of : List ℕ → List RetiredView → List ℕ
 spare_of rids [] = rids
 spare_of rids (r ∷ rs) = spare_of (with_all rids r.spare) rs
 
--- the seats that are taken in; what is known of lists is forgotten with the first
+-- the seats that are taken in; with the first, what is known of lists is forgotten, and where versions were linked
 abbrev pub taken_of : List ℕ → List RetiredView → List ℕ
 taken_of taken_in [] = taken_in
 taken_of taken_in (r ∷ rs) = taken_of (taken_in ++ r.seat ∷ r.others.taken_in) rs
@@ -51,26 +51,36 @@ abbrev pub known_of : Known → List RetiredView → Known
 known_of known [] = known
 known_of known (r ∷ rs) = no_knowledge
 
+abbrev pub placed_of : List Placed → List RetiredView → List Placed
+placed_of placed [] = placed
+placed_of placed (r ∷ rs) = []
+
 -- the pass with one seat taken in, but for its glance
 abbrev pub joined : PassView → RetiredView → PassView
 joined p r = record p {
-  clock = max p.clock r.clock;
-  others = record p.others { taken_in = p.others.taken_in ++ r.seat ∷ r.others.taken_in };
-  known = no_knowledge;
-  log = p.log ++ r.log;
-  met = max p.met r.met;
+  post = record p.post {
+    clock = max p.clock r.clock;
+    others = record p.others { taken_in = p.others.taken_in ++ r.seat ∷ r.others.taken_in };
+    known = no_knowledge;
+    log = p.log ++ r.log;
+    placed = [];
+    met = max p.met r.met;
+  };
   spare = with_all p.spare r.spare;
 }
 
 -- the seat that is alone when all of them are taken in, but for its glance
 abbrev pub come_together : PassView → List RetiredView → PassView
 come_together p rs = record p {
-  clock = greatest_clock_of p.clock rs;
+  post = record p.post {
+    clock = greatest_clock_of p.clock rs;
+    others = record p.others { taken_in = taken_of p.others.taken_in rs };
+    known = known_of p.known rs;
+    log = p.log ++ logs_of rs;
+    placed = placed_of p.placed rs;
+    met = greatest_met_of p.met rs;
+  };
   boost = 0;
-  others = record p.others { taken_in = taken_of p.others.taken_in rs };
-  known = known_of p.known rs;
-  log = p.log ++ logs_of rs;
-  met = greatest_met_of p.met rs;
   queue = [];
   spare = spare_of (p.given ++ p.spare) rs;
   given = [];

@@ -20,16 +20,16 @@ pub record IsQueuedNewest (queue : List Queued) (known : Known) (r : ℕ) : Type
 -- Each record has one version linked at most; one at most outside its inline place. And the same of each record but those whose newest
 -- version is queued, which a collection by a seat that is alone brings down to one.
 abbrev pub IsTidy : PassView → Type 0
-IsTidy p = (r : ℕ) → suc r ≤ p.engine.size.records → HasLinked 1 (known_of p.known.counts r)
+IsTidy p = (r : ℕ) → suc r ≤ p.shared.size.records → HasLinked 1 (known_of p.known.counts r)
 
 abbrev pub IsRoomy : PassView → Type 0
-IsRoomy p = IsRoomyAt p.engine.size p.known
+IsRoomy p = IsRoomyAt p.shared.size p.known
 
 abbrev pub IsTidyOnceCollected : PassView → Type 0
-IsTidyOnceCollected p = (r : ℕ) → suc r ≤ p.engine.size.records → HasLinked 1 (known_of p.known.counts r) ⊎ IsQueuedNewest p.queue p.known r
+IsTidyOnceCollected p = (r : ℕ) → suc r ≤ p.shared.size.records → HasLinked 1 (known_of p.known.counts r) ⊎ IsQueuedNewest p.queue p.known r
 
 abbrev pub IsRoomyOnceCollected : PassView → Type 0
-IsRoomyOnceCollected p = (r : ℕ) → suc r ≤ p.engine.size.records → HasOutside 1 (known_of p.known.counts r) ⊎ IsQueuedNewest p.queue p.known r
+IsRoomyOnceCollected p = (r : ℕ) → suc r ≤ p.shared.size.records → HasOutside 1 (known_of p.known.counts r) ⊎ IsQueuedNewest p.queue p.known r
 
 abbrev pub IsFull : PassView → Type 0
-IsFull p = IsFullAt p.engine.size p.known (length p.desk.writes)
+IsFull p = IsFullAt p.shared.size p.known (length p.writes)

@@ -4,7 +4,7 @@ use Rattle.plain_data.specs.declared.entry.Entry.{Entry}
 use Rattle.stamp_base.specs.Stamp.{bound_of_clock}
 use Rattle.core_rule.specs.Deciding as deciding
 use Rattle.core_rule.specs.Hands.{Seated}
-use Rattle.txn_engine.specs.Pass.{EngineView, PassView}
+use Rattle.txn_engine.specs.Pass.{EngineView, PassView, engine_of}
 use Rattle.seat_post.specs.Logs.{IsAbove, AreBelow}
 use Rattle.seat_post.specs.Seats.{Others}
 use Rattle.seat_post.specs.Spare.{NumbersView}
@@ -22,7 +22,7 @@ pub record RetiredView : Type 0 where
   pub refusals : ℕ
 
 abbrev pub retired : PassView → RetiredView
-retired p = record { engine = p.engine; seat = p.seat; clock = p.clock; others = p.others; log = p.log; met = p.met; spare = p.given ++ p.spare; refusals = p.refusals }
+retired p = record { engine = engine_of p; seat = p.seat; clock = p.clock; others = p.others; log = p.log; met = p.met; spare = p.given ++ p.spare; refusals = p.refusals }
 
 abbrev pub retired_view : Seated → NumbersView → ℕ → RetiredView
 retired_view hand n refusals = record {

@@ -1,32 +1,26 @@
 -- What settling makes of the pass of a seat that is alone.
-use Rattle.std.specs.Prelude.{◌≡◌, ℕ, ◌-◌, ◌≤◌, List}
-use Rattle.plain_data.specs.declared.entry.Entry.{Entry}
+use Rattle.std.specs.Prelude.{◌≡◌, ◌+◌, ◌*◌, ◌<◌, ◌≤◌, Result, OnOk, OnErr, IfOk}
 use Rattle.plain_data.specs.State.{State}
-use Rattle.stamp_base.specs.Stamp.{bound_of_clock}
-use Rattle.seat_post.specs.Glance.{first_glance}
-use Rattle.seat_post.specs.Logs.{IsAbove}
-use Rattle.seat_post.specs.Rewriting.{Rewritings}
-use Rattle.seat_post.specs.Seats.{Known}
-use Rattle.seat_post.specs.Settling.{AreLater}
+use Rattle.stamp_base.specs.Limits.{greatest_clock}
+use Rattle.clock_stamps.specs.declared.clocks.ClockOut.{ClockOut}
+use Rattle.seat_post.specs.declared.settled.Settled.{Settled}
+use Rattle.seat_post.specs.Settling.{SettlesPost, SettlesAll, StopsPost, IsDrawnFor}
+use Rattle.txn_engine.specs.Leaves.{HoldsAbsent}
+use Rattle.txn_engine.specs.Lists.{IsTidy, IsRoomy}
 use Rattle.txn_engine.specs.Pass.{PassView}
 
-abbrev pub settled_at : PassView → (clock published met : ℕ) → Known → List Entry → PassView
-settled_at p clock published met known log = record p {
-  clock = clock;
-  published = published;
-  met = met;
-  known = known;
-  log = log;
-  glance = first_glance (met - 1);
-}
-
--- Its clock is no lower, and its log has grown by entries that write again what it left of a record, each at a stamp of a later clock.
--- Its published word and what it knows of lists are others, and one less than what it met of `min_wts` is its read stamp, at which nothing
--- was read yet.
-pub record SettlesPass (kept : State → Type 0) (before after' : PassView) : Type 0 where
-  pub after : after' ≡ settled_at before after'.clock after'.published after'.met after'.known after'.log
-  pub later : before.clock ≤ after'.clock
-  pub met : before.met ≤ after'.met
-  pub log : Rewritings kept before.engine.size.records before.log after'.log
-  pub added : AreLater before.log after'.log (bound_of_clock before.clock)
-  pub above : IsAbove after'.log (bound_of_clock after'.clock)
+-- Its post was settled, and nothing else is changed. At `Ok` each record has one version, and what was done for each is told; else the
+-- clock has come to its end, and it is told of which record.
+pub record SettlesPass (kept : State → Type 0) (before after' : PassView) (answer : Result Settled ClockOut) : Type 0 where
+  pub settles : SettlesPost kept before.post after'.post
+  pub open settles use *
+  pub beside : after' ≡ record before { post = after'.post }
+  pub tidy : OnOk answer (IsTidy after')
+  pub roomy : OnOk answer (IsRoomy after')
+  pub absent : HoldsAbsent before → HoldsAbsent after'
+  pub done : IfOk answer (SettlesAll before.post after'.post)
+  pub draws : IfOk answer (λ all. IsDrawnFor all.rewritten before.clock after'.clock before.log after'.log)
+  pub counts : IfOk answer (λ all. (all.rewritten ≤ all.cut) × (all.cut ≤ 2 * before.shared.size.records))
+  pub clock_out : OnErr answer (after'.clock ≡ greatest_clock)
+  pub within : OnErr answer (after'.clock < before.clock + 2 * before.shared.size.records)
+  pub stops : OnErr answer (StopsPost before.post after'.post)

@@ -1,12 +1,10 @@
 -- What becomes of the seat that is alone where it is shared: one pass for each seat.
-use Rattle.std.specs.Prelude.{ℕ, None, ◌-◌, max, nat_lt, List, [], ◌∷◌, ◌++◌, map, if◌then◌else◌}
+use Rattle.std.specs.Prelude.{ℕ, None, ◌-◌, nat_lt, false, List, [], ◌∷◌, ◌++◌, map, if◌then◌else◌}
 use Rattle.std.specs.List.{range_with_len}
-use Rattle.stamp_base.specs.Stamp.{bound_of_clock}
-use Rattle.core_rule.specs.View.{sharing, shared}
-use Rattle.txn_engine.specs.Desk.{no_desk}
-use Rattle.txn_engine.specs.Pass.{PassView}
-use Rattle.seat_post.specs.Seats.{Others, Known}
-use Rattle.seat_post.specs.Sharing.{no_knowledge}
+use Rattle.core_rule.specs.View.{sharing}
+use Rattle.txn_engine.specs.Pass.{PassView, bare}
+use Rattle.seat_post.specs.Seats.{Others, Known, Placed}
+use Rattle.seat_post.specs.Sharing.{no_knowledge, announced_at, made_next}
 use Rattle.seat_post.specs.Spare.{every}
 
 -- ---- the pass before it makes others
@@ -14,12 +12,7 @@ use Rattle.seat_post.specs.Spare.{every}
 -- The bound of its clock is published and is the greatest minimum met, and what was given out is spare again. A snapshot there has
 -- ended where that bound was not published before.
 abbrev pub announced : PassView → PassView
-announced p = record p {
-  published = max p.published (bound_of_clock p.clock);
-  met = max p.published (bound_of_clock p.clock);
-  spare = p.given ++ p.spare;
-  given = [];
-}
+announced p = record p { post = announced_at p.post; spare = p.given ++ p.spare; given = [] }
 
 -- ---- making the others
 
@@ -30,36 +23,33 @@ others_made made others = if nat_lt 1 made then record others { splitting = shar
 abbrev pub known_made : (made : ℕ) → Known → Known
 known_made made known = if nat_lt 1 made then no_knowledge else known
 
+abbrev pub placed_made : (made : ℕ) → List Placed → List Placed
+placed_made made placed = if nat_lt 1 made then [] else placed
+
 abbrev pub with_made : (made : ℕ) → PassView → PassView
-with_made made p = record p { others = others_made made p.others; known = known_made made p.known }
+with_made made p = record p { post = record p.post { others = others_made made p.others; known = known_made made p.known; placed = placed_made made p.placed } }
 
 -- the pass of another seat, with its share of the spare numbers, but for its glance
 abbrev pub share_at : PassView → (seat : ℕ) → PassView
 share_at p seat = record {
-  engine = p.engine;
-  seat = seat;
-  clock = p.clock;
-  published = p.published;
+  post = record (made_next p.post) { seat = seat };
+  fixed = p.fixed;
   boost = 0;
-  others = record { splitting = shared; taken_in = [] };
-  known = no_knowledge;
-  log = [];
-  met = p.met;
-  glance = None;
   queue = [];
-  spare = every p.engine.size.seats seat p.spare;
+  spare = every p.shared.size.seats seat p.spare;
   given = [];
   refusals = 0;
-  desk = no_desk;
+  dead = None;
+  counted = false;
 }
 
--- that of seat 0, with its share, but for its glance
+-- that of seat 0, with its share, but for its glance, for what its steps came upon, and for where its versions were linked
 abbrev pub first_share : PassView → PassView
-first_share p = record (with_made p.engine.size.seats p) { glance = None; spare = every p.engine.size.seats 0 p.spare }
+first_share p = bare (record (with_made p.shared.size.seats p) { spare = every p.shared.size.seats 0 p.spare })
 
--- the passes of all seats, in their order, but for their glances
+-- the passes of all seats, in their order, but for these
 abbrev pub shares_of : PassView → List PassView
-shares_of p = first_share p ∷ map (share_at p) (range_with_len 1 (p.engine.size.seats - 1))
+shares_of p = first_share p ∷ map (share_at p) (range_with_len 1 (p.shared.size.seats - 1))
 
 abbrev pub shares : PassView → List PassView
 shares p = shares_of (announced p)

@@ -1,32 +1,49 @@
 -- A snapshot of a pass: how it begins, what it means as a store, what one read makes of it, and how it ends.
-use Rattle.std.specs.Prelude.{◌≡◌, ℕ, ◌+◌, ◌<◌, ◌≤◌, Bool, true, false, nat_lt, List, [], ◌∷◌, ◌++◌, Option, None, Some, option_map, IfSome}
+use Rattle.std.specs.Prelude.{◌≡◌, ℕ, ◌+◌, ◌<◌, ◌≤◌, Bool, true, false, nat_lt, List, [], Option, None, Some, option_map, IfSome}
 use Rattle.std.specs.Borrow.{GName}
 use Rattle.stamp_base.specs.Stamp.{stamp_of}
 use Rattle.histories.specs.History.{IsValue, UpTo}
 use Rattle.record_store.specs.Meaning.{Meaning}
 use Rattle.seat_post.specs.declared.phase.Phase.{Phase}
 use Rattle.seat_post.specs.declared.phase.Phase.TheVariants.{Idle, Open, Installed, Decided}
-use Rattle.seat_post.specs.Glance.{GlanceView, first_glance, with_read, entry_of_glance}
-use Rattle.txn_engine.specs.Pass.{PassView, IsAlone, no_store}
+use Rattle.plain_data.specs.State.{State}
+use Rattle.seat_post.specs.Ends.{Stood}
+use Rattle.seat_post.specs.Glance.{GlanceView, entry_of_glance}
+use Rattle.seat_post.specs.Observing.{Grows, MeetsMinimum}
+use Rattle.seat_post.specs.Post.{looking_at, looked_at, finished_at}
+use Rattle.seat_post.specs.Reading.{FindsValue}
+use Rattle.seat_post.specs.Seats.{nothing_observed}
+use Rattle.txn_engine.specs.Pass.{PassView, IsAlone, no_store, observing}
 use Rattle.seat_post.specs.Logs.{AreBelow}
 
 -- one begins at this stamp, one less than the minimum met; it ends with its entry
 abbrev pub looking : PassView → ℕ → PassView
-looking p stamp = record p { met = stamp + 1; glance = first_glance stamp }
+looking p stamp = record p { post = looking_at p.post stamp }
 
 abbrev pub finished : PassView → GlanceView → PassView
-finished p g = record p { log = p.log ++ entry_of_glance g ∷ []; glance = first_glance g.stamp }
+finished p g = record p { post = finished_at p.post g }
 
 -- A snapshot begins: its stamp is at least one less than the minimum met before, and no snapshot of the log is above it. It is below
--- what is published and below the next stamp. Of a seat that is alone it is at least one less than what is published.
+-- what is published and below the next stamp. Of a seat that is alone it is at least one less than what is published. The published write
+-- word of each seat was loaded, and it is at least one less than the least of them.
 pub record Begins (before after' : PassView) : Type 0 where
   pub stamp : ℕ
-  pub pass : after' ≡ looking before stamp
+  pub pass : after' ≡ observing (looking before stamp) after'.observed
+  pub grows : Grows before.observed after'.observed
+  pub minimum : MeetsMinimum before.shared.size.seats (stamp + 1) before.observed after'.observed
   pub met : before.met ≤ stamp + 1
   pub snapshots : AreBelow before.log (stamp + 1)
   pub below : stamp < before.published
   pub below_next : stamp < stamp_of (before.clock + 1) before.seat
   pub alone : IsAlone before → before.published ≤ stamp + 1
+
+-- It ends, and gives its stamp: one entry with all that was read stands at the end of the log, and a kept state of the history at that
+-- stamp agrees with it.
+pub record Finishes (kept : State → Type 0) (before after' : PassView) (told : ℕ) : Type 0 where
+  pub after : IfSome before.glance (λ g. after' ≡ observing (finished before g) after'.observed)
+  pub grows : Grows before.observed after'.observed
+  pub stamp : IfSome before.glance (λ g. told ≡ g.stamp)
+  pub stood : IfSome before.glance (λ g. Stood kept before.shared.size.records before.log (entry_of_glance g))
 
 -- no transaction is in flight, and a snapshot is, at a stamp below the minimum met
 abbrev pub looks_in : Phase → Option GlanceView → (met : ℕ) → Bool
@@ -37,27 +54,31 @@ looks_in Installed glance met = false
 looks_in Decided glance met = false
 
 abbrev pub IsLooking : PassView → Type 0
-IsLooking p = looks_in p.desk.phase p.glance p.met ≡ true
+IsLooking p = looks_in p.phase p.glance p.met ≡ true
 
 -- the records that it sees
 abbrev pub glance_store : PassView → Option GlanceView → Meaning
 glance_store p None = no_store
-glance_store p (Some g) = record { size = p.engine.size.records; fixed = p.engine.fixed; reads = g.reads; writes = []; given = [] }
+glance_store p (Some g) = record { size = p.shared.size.records; fixed = p.fixed; reads = g.reads; writes = []; given = [] }
 
 abbrev pub meaning_of_glance : PassView → Meaning
 meaning_of_glance p = glance_store p p.glance
 
--- what no read changes: at which pass it is, and all of that but what was read
+-- what no read changes: at which pass it is, and all of that but what was read and what its steps came upon
 pub record GlanceRest : Type 0 where
   pub name : GName
   pub of_pass : PassView
 
 abbrev pub unread : PassView → PassView
-unread p = record p { glance = option_map (λ (g : GlanceView). record g { reads = [] }) p.glance }
+unread p = record p { post = record p.post { observed = nothing_observed; glance = option_map (λ (g : GlanceView). record g { reads = [] }) p.glance } }
 
 -- one more record was read, where it is not there
 abbrev pub looked : PassView → ℕ → Option (List ℕ) → PassView
-looked p rid value = record p { glance = option_map (λ (g : GlanceView). record g { reads = with_read g.reads rid value }) p.glance }
+looked p rid value = record p { post = looked_at p.post rid value }
+
+-- what is read is the value of the version that the search at the stamp found
+abbrev pub FindsSeen : (before after' : PassView) → ℕ → Option (List ℕ) → Type 0
+FindsSeen before after' rid value = IfSome before.glance (λ g. FindsValue (g.stamp + 1) rid before.observed after'.observed value)
 
 -- a seat that is alone reads what its log leaves up to the stamp
 abbrev pub ReadsLeft : PassView → ℕ → Option (List ℕ) → Type 0

@@ -1,11 +1,8 @@
 //! Taking back the versions that no reader can reach any more.
-ghost use Rattle.std.specs.Prelude.{◌≡◌, ◌≤◌, []};
-ghost use Rattle.txn_engine.specs.Alone.{AloneView, with_pass};
-ghost use Rattle.txn_engine.specs.Collecting.{collected};
-ghost use Rattle.seat_post.specs.Collecting.{Collects};
-ghost use Rattle.txn_engine.specs.Lists.{IsTidy, IsRoomy, IsTidyOnceCollected, IsRoomyOnceCollected};
-ghost use Rattle.txn_engine.specs.Pass.{PassView, IsIdle, IsAlone};
-ghost use Rattle.seat_post.specs.Logs.{IsAbove};
+ghost use Rattle.std.specs.Prelude.{◌≡◌};
+ghost use Rattle.txn_engine.specs.Alone.{with_pass};
+ghost use Rattle.txn_engine.specs.Collecting.{CollectsPass};
+ghost use Rattle.txn_engine.specs.Pass.{IsIdle, IsAlone, engine_of};
 
 use crate::alone::Alone;
 use crate::engine::Engine;
@@ -26,17 +23,9 @@ impl<J: Keeps> Pass<J> {
     ///
     /// No transaction is in flight, and no memory is asked for.
     pub fn collect(&mut self, engine: &Engine<J>) -> Collected
-        requires engine { self.old.engine ≡ engine.now }
+        requires engine { engine_of self.old ≡ engine.now }
         requires idle { IsIdle self.old }
-        ensures after { self.new ≡ collected self.old self.new.met self.new.known self.new.queue }
-        ensures met { self.old.met ≤ self.new.met }
-        ensures within { self.new.met ≤ self.new.published }
-        ensures queue { Collects self.old.queue self.new.queue result }
-        ensures above { IsAbove self.old.log self.new.published }
-        ensures alone { IsAlone self.old → self.new.queue ≡ [] }
-        ensures seen { IsAlone self.old → self.new.met ≡ self.new.published }
-        ensures tidy { IsAlone self.old → IsTidyOnceCollected self.old → IsTidy self.new }
-        ensures roomy { IsAlone self.old → IsRoomyOnceCollected self.old → IsRoomy self.new }
+        ensures collects { CollectsPass self.old self.new result }
     {
         self.post.collect(&engine.core, &mut self.queue)
     }
@@ -45,15 +34,11 @@ impl<J: Keeps> Pass<J> {
 impl<J: Keeps> Alone<J> {
     /// Takes back the versions older than the queued ones, as a pass does that is alone: no item of the queue stays.
     pub fn collect(&mut self, engine: &Engine<J>) -> Collected
-        requires engine { self.old.pass.engine ≡ engine.now }
+        requires engine { engine_of self.old.pass ≡ engine.now }
         requires idle { IsIdle self.old.pass }
-        ensures after { self.new ≡ with_pass self.old (collected self.old.pass self.new.pass.met self.new.pass.known []) }
-        ensures met { self.old.pass.met ≤ self.new.pass.met }
-        ensures seen { self.new.pass.met ≡ self.new.pass.published }
-        ensures queue { Collects self.old.pass.queue [] result }
-        ensures above { IsAbove self.old.pass.log self.new.pass.published }
-        ensures tidy { IsTidyOnceCollected self.old.pass → IsTidy self.new.pass }
-        ensures roomy { IsRoomyOnceCollected self.old.pass → IsRoomy self.new.pass }
+        ensures collects { CollectsPass self.old.pass self.new.pass result }
+        ensures alone { IsAlone self.old.pass }
+        ensures after { self.new ≡ with_pass self.old self.new.pass }
     {
         self.pass.collect(engine)
     }

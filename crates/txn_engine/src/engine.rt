@@ -1,7 +1,6 @@
 //! The engine, which all threads share by reference.
-ghost use Rattle.std.specs.Prelude.{◌≡◌, ◌≤◌, ◌↔◌, IfOk, IfErr, OnOk, IsErr, false};
+ghost use Rattle.std.specs.Prelude.{◌≡◌, ◌≤◌, ◌↔◌, IfOk, IfErr, OnOk, false};
 ghost use Rattle.word_layout.specs.Size.{IsSize, size_of};
-ghost use Rattle.txn_engine.specs.Alone.{AloneView};
 ghost use Rattle.txn_engine.specs.Pass.{EngineView, first_pass};
 ghost use Rattle.txn_engine.specs.Leaves.{HoldsAbsent};
 ghost use Rattle.txn_engine.specs.Lists.{IsTidy, IsRoomy};

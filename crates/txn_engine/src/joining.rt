@@ -1,9 +1,8 @@
 //! Coming together: a pass takes in the seats that have retired, and is alone.
 ghost use Rattle.std.specs.Prelude.{◌≡◌, ◌≤◌, ◌+◌, ◌++◌, [], true};
 ghost use Rattle.stamp_base.specs.Limits.{greatest_clock};
-ghost use Rattle.txn_engine.specs.Alone.{AloneView};
 ghost use Rattle.txn_engine.specs.Joining.{AreOfEngine, AreOthers, joined, come_together};
-ghost use Rattle.txn_engine.specs.Pass.{PassView, IsIdle, IsAlone, with_glance};
+ghost use Rattle.txn_engine.specs.Pass.{IsIdle, IsAlone, with_glance, engine_of};
 
 use crate::alone::Alone;
 use crate::engine::Engine;
@@ -14,7 +13,7 @@ use core_rule::Keeps;
 impl<J: Keeps> Pass<J> {
     // Takes in a seat that has retired, and gives the count of its refusals.
     fn join(&mut self, engine: &Engine<J>, other: Retired<J>) -> u64
-        requires engine { self.old.engine ≡ engine.now }
+        requires engine { engine_of self.old ≡ engine.now }
         requires other_engine { other.engine ≡ engine.now }
         requires idle { IsIdle self.old }
         requires none_given { self.old.given ≡ [] }
@@ -50,7 +49,7 @@ impl<J: Keeps> Engine<J> {
     /// behind it, as they are handed in; its clock and the greatest `min_wts` that it has met are the greatest of all; it has
     /// no boost and nothing queued, all spare numbers, each once, and the sum of the refusals.
     pub fn alone(&self, pass: Pass<J>, others: Vec<Retired<J>>) -> Alone<J>
-        requires engine { pass.engine ≡ self.now }
+        requires engine { engine_of pass ≡ self.now }
         requires idle { IsIdle pass }
         requires first { pass.seat ≡ 0 }
         requires of_engine { AreOfEngine self.now others.items }

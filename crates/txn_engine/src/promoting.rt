@@ -1,10 +1,7 @@
 //! Promoting a version: what is visible of a record is written again into its inline place.
-ghost use Rattle.std.specs.Prelude.{◌≡◌, ◌+◌, ◌<◌, ◌↔◌, Err, IfOk, IfErr};
-ghost use Rattle.stamp_base.specs.Limits.{greatest_clock};
-ghost use Rattle.txn_engine.specs.Pass.{IsIdle, next_clock};
-ghost use Rattle.txn_engine.specs.Leaves.{HoldsAbsent};
-ghost use Rattle.txn_engine.specs.Lists.{IsRoomy};
-ghost use Rattle.txn_engine.specs.Promoting.{boost_after, Promotes, FailsToPromote};
+ghost use Rattle.std.specs.Prelude.{◌≡◌, ◌<◌};
+ghost use Rattle.txn_engine.specs.Pass.{IsIdle, next_clock, engine_of};
+ghost use Rattle.txn_engine.specs.Promoting.{boost_after, Promotes};
 
 use crate::engine::Engine;
 use crate::pass::Pass;
@@ -24,14 +21,10 @@ impl<J: Keeps> Pass<J> {
         rid: u32,
         reading: u64,
     ) -> Result<Promotion, PromoteFault>
-        requires engine { self.old.engine ≡ engine.now }
+        requires engine { engine_of self.old ≡ engine.now }
         requires idle { IsIdle self.old }
-        requires rid { rid < self.old.engine.size.records }
-        ensures ok { IfOk result (Promotes J.kept rid (next_clock self.old reading) self.old self.new) }
-        ensures err { IfErr result (FailsToPromote rid (next_clock self.old reading) self.old self.new) }
-        ensures clock_out { (result ≡ Err PromoteFault.ClockOut) ↔ (next_clock self.old reading ≡ greatest_clock + 1) }
-        ensures roomy { IsRoomy self.old → IsRoomy self.new }
-        ensures absent { HoldsAbsent self.old → HoldsAbsent self.new }
+        requires rid { rid < self.old.shared.size.records }
+        ensures promotes { Promotes J.kept rid (next_clock self.old reading) self.old self.new result }
     {
         // The seat is in its range.
         self.post.number();

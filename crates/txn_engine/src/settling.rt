@@ -1,11 +1,7 @@
 //! Settling: the seat that is alone brings each record's list to one version.
-ghost use Rattle.std.specs.Prelude.{ℕ, ◌≡◌, ◌+◌, ◌*◌, ◌<◌, ◌≤◌, IfOk, OnOk, OnErr};
-ghost use Rattle.stamp_base.specs.Limits.{greatest_clock};
-ghost use Rattle.seat_post.specs.Settling.{AreSettled, IsDrawnFor};
-ghost use Rattle.txn_engine.specs.Alone.{AloneView, with_pass};
-ghost use Rattle.txn_engine.specs.Leaves.{HoldsAbsent};
-ghost use Rattle.txn_engine.specs.Lists.{IsTidy, IsRoomy};
-ghost use Rattle.txn_engine.specs.Pass.{PassView, IsIdle, IsAlone};
+ghost use Rattle.std.specs.Prelude.{◌≡◌};
+ghost use Rattle.txn_engine.specs.Alone.{with_pass};
+ghost use Rattle.txn_engine.specs.Pass.{IsIdle, IsAlone, engine_of};
 ghost use Rattle.txn_engine.specs.Settling.{SettlesPass};
 
 use crate::alone::Alone;
@@ -18,18 +14,10 @@ use seat_post::Settled;
 impl<J: Keeps> Pass<J> {
     // Brings each record's list to one version.
     fn settle(&mut self, engine: &Engine<J>) -> Result<Settled, ClockOut>
-        requires engine { self.old.engine ≡ engine.now }
+        requires engine { engine_of self.old ≡ engine.now }
         requires idle { IsIdle self.old }
         requires alone { IsAlone self.old }
-        ensures settles { SettlesPass J.kept self.old self.new }
-        ensures tidy { OnOk result (IsTidy self.new) }
-        ensures roomy { OnOk result (IsRoomy self.new) }
-        ensures absent { HoldsAbsent self.old → HoldsAbsent self.new }
-        ensures draws { IfOk result (λ all. IsDrawnFor all.rewritten self.old.clock self.new.clock self.old.log self.new.log) }
-        ensures counts { IfOk result (λ all. (all.rewritten ≤ all.cut) × (all.cut ≤ 2 * self.old.engine.size.records)) }
-        ensures clock_out { OnErr result (self.new.clock ≡ greatest_clock) }
-        ensures within { OnErr result (self.new.clock < self.old.clock + 2 * self.old.engine.size.records) }
-        ensures before { OnErr result ((count : ℕ) × (count < self.old.engine.size.records) × AreSettled count self.new.known.counts) }
+        ensures settles { SettlesPass J.kept self.old self.new result }
     {
         self.post.settle(&engine.core)
     }
@@ -46,20 +34,11 @@ impl<J: Keeps> Alone<J> {
     /// `ClockOut` comes only where the clock has come to its end and a writing again is due for a record; the records before that
     /// are settled then.
     pub fn settle(&mut self, engine: &Engine<J>) -> Result<Settled, ClockOut>
-        requires engine { self.old.pass.engine ≡ engine.now }
+        requires engine { engine_of self.old.pass ≡ engine.now }
         requires idle { IsIdle self.old.pass }
         ensures after { self.new ≡ with_pass self.old self.new.pass }
-        ensures settles { SettlesPass J.kept self.old.pass self.new.pass }
-        ensures tidy { OnOk result (IsTidy self.new.pass) }
-        ensures roomy { OnOk result (IsRoomy self.new.pass) }
-        ensures absent { HoldsAbsent self.old.pass → HoldsAbsent self.new.pass }
-        ensures draws { IfOk result (λ all. IsDrawnFor all.rewritten self.old.pass.clock self.new.pass.clock self.old.pass.log self.new.pass.log) }
-        ensures counts { IfOk result (λ all. (all.rewritten ≤ all.cut) × (all.cut ≤ 2 * self.old.pass.engine.size.records)) }
-        ensures clock_out { OnErr result (self.new.pass.clock ≡ greatest_clock) }
-        ensures within { OnErr result (self.new.pass.clock < self.old.pass.clock + 2 * self.old.pass.engine.size.records) }
-        ensures before { OnErr result ((count : ℕ) × (count < self.old.pass.engine.size.records) × AreSettled count self.new.pass.known.counts) }
+        ensures settles { SettlesPass J.kept self.old.pass self.new.pass result }
     {
-        let told = self.pass.settle(engine)?;
-        Ok(told)
+        self.pass.settle(engine)
     }
 }

@@ -1,13 +1,11 @@
 //! Snapshots: a pass reads records at one stamp, and each read answers.
 ghost use Rattle.std.specs.Prelude.{◌≡◌, ◌<◌, ◌≤◌, Some, IfSome};
-ghost use Rattle.std.specs.Borrow.{sem};
 ghost use Rattle.std.proofs.Props.{props};
 ghost use Rattle.record_store.specs.Limits.{record_limit};
 ghost use Rattle.record_store.specs.Meaning.{known, after_read};
-ghost use Rattle.seat_post.specs.Ends.{Stood};
-ghost use Rattle.txn_engine.specs.Pass.{PassView, IsIdle};
-ghost use Rattle.txn_engine.specs.Snapshot.{meaning_of_glance, Begins, IsLooking, looked, unread, finished, ReadsLeft};
-ghost use Rattle.seat_post.specs.Glance.{entry_of_glance};
+ghost use Rattle.seat_post.specs.Observing.{Grows};
+ghost use Rattle.txn_engine.specs.Pass.{IsIdle, observing, engine_of};
+ghost use Rattle.txn_engine.specs.Snapshot.{meaning_of_glance, Begins, IsLooking, looked, unread, Finishes, FindsSeen, ReadsLeft};
 
 use crate::engine::Engine;
 use crate::pass::Pass;
@@ -23,7 +21,7 @@ pub enum NoFault {}
 pub struct Snapshot<'a, J: Keeps> {
     pass: &'a mut Pass<J>,
     engine: &'a Engine<J>,
-    ghost of: { pass.now.engine ≡ engine.now } by { Prim.hlevel props },
+    ghost of: { engine_of pass.now ≡ engine.now } by { Prim.hlevel props },
     ghost looks: { IsLooking pass.now } by { Prim.hlevel props },
 }
 
@@ -31,7 +29,7 @@ impl<J: Keeps> Pass<J> {
     /// Begins a snapshot: raises `min_wts` to the least published write word of all seats, and reads at one less than it. No
     /// transaction that commits from then on is stamped up to that.
     pub fn snapshot<'a>(&'a mut self, engine: &'a Engine<J>) -> Snapshot<'a, J>
-        requires engine { self.old.engine ≡ engine.now }
+        requires engine { engine_of self.old ≡ engine.now }
         requires idle { IsIdle self.old }
         ensures same_reference { result.pass.ghost_name ≡ self.entry.ghost_name }
         ensures begins { Begins self.old result.pass.now }
@@ -43,7 +41,7 @@ impl<J: Keeps> Pass<J> {
 
     // Begins a snapshot at this pass.
     pub(crate) fn look_from_now(&mut self, engine: &Engine<J>)
-        requires engine { self.old.engine ≡ engine.now }
+        requires engine { engine_of self.old ≡ engine.now }
         requires idle { IsIdle self.old }
         ensures begins { Begins self.old self.new }
         ensures looks { IsLooking self.new }
@@ -53,14 +51,16 @@ impl<J: Keeps> Pass<J> {
 
     // Reads a record for it.
     pub(crate) fn look(&mut self, engine: &Engine<J>, rid: u32) -> Option<Cells>
-        requires engine { self.old.engine ≡ engine.now }
+        requires engine { engine_of self.old ≡ engine.now }
         requires looks { IsLooking self.old }
-        requires rid { rid < self.old.engine.size.records }
+        requires rid { rid < self.old.shared.size.records }
         ensures still { IsLooking self.new }
         ensures meaning { meaning_of_glance self.new ≡ after_read (meaning_of_glance self.old) rid result }
         ensures rest { unread self.new ≡ unread self.old }
-        ensures after { self.new ≡ looked self.old rid result }
+        ensures after { self.new ≡ observing (looked self.old rid result) self.new.observed }
+        ensures grows { Grows self.old.observed self.new.observed }
         ensures answer { known (meaning_of_glance self.new) rid ≡ Some result }
+        ensures found { FindsSeen self.old self.new rid result }
         ensures left { ReadsLeft self.old rid result }
     {
         self.post.look(&engine.core, rid)
@@ -85,11 +85,9 @@ impl<J: Keeps> Pass<J> {
 
     // Ends it.
     pub(crate) fn end_look(&mut self, engine: &Engine<J>) -> u64
-        requires engine { self.old.engine ≡ engine.now }
+        requires engine { engine_of self.old ≡ engine.now }
         requires looks { IsLooking self.old }
-        ensures after { IfSome self.old.glance (λ g. self.new ≡ finished self.old g) }
-        ensures stamp { IfSome self.old.glance (λ g. result ≡ g.stamp) }
-        ensures stood { IfSome self.old.glance (λ g. Stood J.kept self.old.engine.size.records self.old.log (entry_of_glance g)) }
+        ensures finishes { Finishes J.kept self.old self.new result }
     {
         self.post.end_snapshot(&engine.core)
     }
@@ -106,9 +104,7 @@ impl<'a, J: Keeps> Snapshot<'a, J> {
     /// Ends the snapshot, and gives its stamp. One entry with all that was read stands at the end of the log, and a kept state of
     /// the history at that stamp agrees with it.
     pub fn finish(self) -> u64
-        ensures after { IfSome self.entry.pass.now.glance (λ g. self.exit.0.now ≡ finished self.entry.pass.now g) }
-        ensures stamp { IfSome self.entry.pass.now.glance (λ g. result ≡ g.stamp) }
-        ensures stood { IfSome self.entry.pass.now.glance (λ g. Stood J.kept self.entry.pass.now.engine.size.records self.entry.pass.now.log (entry_of_glance g)) }
+        ensures finishes { Finishes J.kept self.entry.pass.now self.exit.0.now result }
     {
         let Snapshot { pass, engine } = self;
         pass.end_look(engine)
@@ -119,7 +115,8 @@ impl<J: Keeps> RecordRead for Snapshot<'_, J> {
     type Fault = NoFault;
 
     ghost use Rattle.std.specs.Prelude.{IfOk};
-    ghost use Rattle.txn_engine.specs.Snapshot.{meaning_of_glance, GlanceRest, unread, ReadsLeft};
+    ghost use Rattle.seat_post.specs.Observing.{Grows};
+    ghost use Rattle.txn_engine.specs.Snapshot.{meaning_of_glance, GlanceRest, unread, FindsSeen, ReadsLeft};
 
     ghost meaning = { λ s. meaning_of_glance s.pass.now };
 
@@ -127,7 +124,7 @@ impl<J: Keeps> RecordRead for Snapshot<'_, J> {
 
     ghost rest = { λ s. record { name = s.pass.ghost_name; of_pass = unread s.pass.now } };
 
-    ghost read_gives = { λ s rid answer s'. IfOk answer (ReadsLeft s.pass.now rid) };
+    ghost read_gives = { λ s rid answer s'. IfOk answer (ReadsLeft s.pass.now rid) × Grows s.pass.now.observed s'.pass.now.observed × IfOk answer (FindsSeen s.pass.now s'.pass.now rid) };
 
     fn read(&mut self, rid: u32) -> Result<Option<Cells>, NoFault> {
         Ok(self.pass.look(self.engine, rid))

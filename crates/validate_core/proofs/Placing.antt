@@ -148,7 +148,7 @@ module _ (core : Shared) (before : Seated) (s0 : SetsView) (i : ℕ) (s : SetsVi
   pub placing_next : (stamp : ℕ) (s' : SetsView) (at : Seated) → stamp ≡ before.view.published.write → i < length s.writes → InstallsOne core.size stamp i s s' now.view at.view → at.view.counts.in_kept ≡ now.view.counts.in_kept → (s.read_room ≤ s'.read_room) × (s.write_room ≤ s'.write_room) → StaysReady core now at → Placing core before s0 (i + 1) s' at
   placing_next stamp s' at same lt o in_kept room stays =
       let u : Write = record o.puts.write { place = o.place; stamp = stamp } in
-      let l : LinksOne core.size before.view.published.write u now.view at.view = record { at = same; taken = o.taken; takes = o.takes; value = o.puts.value; value_is = o.puts.value_is; linked = o.puts.linked } in
+      let l : LinksOne core.size before.view.published.write u now.view at.view = record { at = same; fits = o.fits; taken = o.taken; takes = o.takes; value = o.puts.value; value_is = o.puts.value_is; linked = o.puts.linked } in
       let more : take (i + 1) s'.writes ≡ take i s.writes ++ u ∷ [] = ap (λ (ws : List Write). take (i + 1) ws) o.puts.writes ∙ take_more_set s.writes i u lt in
       record {
         stays = ready_both core before now at p.stays stays;

@@ -1,5 +1,5 @@
 -- What installing the writes of a transaction comes to.
-use Rattle.std.specs.Prelude.{◌≡◌, ℕ, ◌+◌, ◌<◌, false, List, [], ◌∷◌, ◌++◌, length, take, slice_set, Option}
+use Rattle.std.specs.Prelude.{◌≡◌, ◌⊎◌, ℕ, ◌+◌, ◌<◌, false, List, [], ◌∷◌, ◌++◌, length, take, slice_set, Option}
 use Rattle.stamp_base.specs.Stamp.{IsStamp}
 use Rattle.word_layout.specs.Size.{Size, places, IsUsable, usable_places}
 use Rattle.core_rule.specs.View.{View, writing, Write, no_item}
@@ -45,6 +45,10 @@ installed_in v w = record v {
   seen = w.seen;
 }
 
+-- the place is the inline place of the record, or a usable pool place
+abbrev pub IsFor : Size → (rid place : ℕ) → Type 0
+IsFor z rid place = (place ≡ rid) ⊎ IsUsable z place
+
 -- a held place was filled with the write of this number and linked as its version at this stamp; the sets have the place beside it
 pub record Puts (z : Size) (stamp i place : ℕ) (before after' : SetsView) (v w : View) : Type 0 where
   pub write : Write
@@ -61,6 +65,7 @@ pub record InstallsOne (z : Size) (stamp i : ℕ) (before after' : SetsView) (v 
   pub place : ℕ
   pub taken : View
   pub puts : Puts z stamp i place before after' taken w
+  pub fits : IsFor z puts.write.record_number place
   pub takes : TakesFirst (puts.write.record_number ∷ usable_in_turn z v.places.last_pool) v place taken
 
 -- each of the places for the write of this number was met not free
@@ -74,6 +79,7 @@ pub record FindsNoneFor (z : Size) (i : ℕ) (s : SetsView) (v w : View) : Type 
 -- the first free one of the places for its record was taken for a version at this stamp, filled with it and linked
 pub record LinksOne (z : Size) (stamp : ℕ) (u : Write) (v w : View) : Type 0 where
   pub at : u.stamp ≡ stamp
+  pub fits : IsFor z u.record_number u.place
   pub taken : View
   pub takes : TakesFirst (u.record_number ∷ usable_in_turn z v.places.last_pool) v u.place taken
   pub value : Option (List ℕ)

@@ -42,6 +42,7 @@ impl Installed {
         ensures aborted { OnErr result (IsOver false sets.now hand.new.view) }
         ensures conflict { IfErr result (IsShown self.stamp sets.now hand.old.view hand.new.view) }
         ensures as_before { OnErr result (Works hand.old.view hand.new.view) }
+        ensures linked { hand.new.view.work.linked ≡ sets.now.writes }
         ensures stays { StaysReady core.now hand.old hand.new }
     {
         let Installed { stamp } = self;
@@ -63,6 +64,7 @@ impl Installed {
         ensures log { hand.new.view.log ≡ hand.old.view.log }
         ensures aborted { IsOver false sets.now hand.new.view }
         ensures as_before { Works hand.old.view hand.new.view }
+        ensures linked { hand.new.view.work.linked ≡ sets.now.writes }
         ensures seen { hand.new.view.seen ≡ hand.old.view.seen }
         ensures stays { StaysReady core.now hand.old hand.new }
     {
@@ -81,6 +83,7 @@ impl Decided {
         ensures log { hand.new.view.log ≡ hand.old.view.log }
         ensures published { IsOver true sets.now hand.new.view }
         ensures as_before { Works hand.old.view hand.new.view }
+        ensures linked { hand.new.view.work.linked ≡ sets.now.writes }
         ensures seen { hand.new.view.seen ≡ hand.old.view.seen }
         ensures stays { StaysReady core.now hand.old hand.new }
     {

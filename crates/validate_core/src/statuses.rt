@@ -26,6 +26,7 @@ pub(crate) fn store_all<J: Keeps>(core: &Core<J>, hand: &mut Hand<J>, sets: &Set
     ensures settled { Settled sets.now.writes hand.new.view }
     ensures ends { Ends hand.new.view.work }
     ensures decided { hand.new.view.work.decided ≡ decided }
+    ensures linked { hand.new.view.work.linked ≡ sets.now.writes }
     ensures stays { StaysReady core.now hand.old hand.new }
 {
     store_first(core, hand, sets, sets.count_writes(), decided);

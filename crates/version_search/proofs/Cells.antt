@@ -1,13 +1,15 @@
 -- The cells of a version, loaded one by one.
-use Rattle.std.proofs.Common.{◌≡◌, ℕ, ◌+◌, ◌<◌, List, [], ◌∷◌, ◌++◌, take, set, length, length-set, length-take-le, take_all, refl, sym, ap, ◌∙◌, subst, append_assoc, append-nil, arith}
+use Rattle.std.proofs.Common.{◌≡◌, ℕ, suc, ◌+◌, ◌<◌, List, [], ◌∷◌, ◌++◌, take, set, length, length-set, length-take-le, take_all, refl, sym, ap, ◌∙◌, subst, append_assoc, append-nil, arith}
 use Rattle.std.proofs.lemmas.List.{take_more_set}
 use Rattle.plain_data.specs.State.{State}
-use Rattle.core_rule.specs.View.{View, Read}
+use Rattle.word_layout.specs.Name.{cell}
+use Rattle.core_rule.specs.Paths.{load}
+use Rattle.core_rule.specs.View.{View, Read, Load}
 use Rattle.core_rule.specs.Searching.{IsLoading, read_place, read_cells, more_read, newest, limit_of}
 use Rattle.core_rule.specs.Hands.{Shared, Seated, IsReady, StaysReady, Steps}
 use Rattle.core_rule.specs.Kinds.{load_cell}
 use Rattle.core_rule.specs.Left.{LeavesCells}
-use Rattle.version_search.specs.Loading.{with_cells, with_value, IsLeftIn}
+use Rattle.version_search.specs.Loading.{with_cells, with_value, IsLeftIn, cells_loaded}
 use Rattle.version_search.specs.Growing.{Grows}
 use Rattle.version_search.proofs.Calls.{stays-ready, starts-ready}
 use Rattle.version_search.proofs.Grown.{grows_none, grows_both, grows_loads}
@@ -36,6 +38,11 @@ with_more : (n : ℕ) (cells : List ℕ) (ds : List Read) → more_read n (with_
 with_more n cells [] = refl
 with_more n cells (d ∷ ds) = λ i. record d { cells = append_assoc d.cells cells (n ∷ []) i } ∷ ds
 
+-- one cell more
+cells_more : (place from k n : ℕ) (ns : List ℕ) → from + length ns ≡ k → cells_loaded place from (ns ++ n ∷ []) ≡ cells_loaded place from ns ++ load (cell place k) n ∷ []
+cells_more place from k n [] at = let e : from ≡ k = omega arith in ap (λ (i : ℕ). load (cell place i) n ∷ []) e
+cells_more place from k n (x ∷ ns) at = ap (λ (ls : List Load). load (cell place from) x ∷ ls) (cells_more place (suc from) k n ns (omega arith))
+
 -- the first cells are loaded
 pub record Loaded (core : Shared) (before : Seated) (words : List ℕ) (n : ℕ) (now : Seated) : Type 0 where
   pub stays : StaysReady core before now
@@ -43,6 +50,7 @@ pub record Loaded (core : Shared) (before : Seated) (words : List ℕ) (n : ℕ)
   pub view : now.view ≡ with_value before.view (take n words) now.view.seen
   pub left : n ≡ 32 → IsLeftIn now.view (newest now.view.work.reads).cells
   pub grows : Grows before.view.seen now.view.seen
+  pub loads : now.view.seen.loads ≡ before.view.seen.loads ++ cells_loaded (read_place before.view.work.reads) 0 (take n words)
 
 pub reads_of : (core : Shared) (before : Seated) (words : List ℕ) (n : ℕ) (now : Seated) → Loaded core before words n now → now.view.work.reads ≡ with_cells (take n words) before.view.work.reads
 reads_of core before words n now l = ap (λ (v : View). v.work.reads) l.view
@@ -54,6 +62,7 @@ begins core before words ready count = record {
   view = λ i. record before.view { work = record before.view.work { reads = with_none before.view.work.reads i } };
   left = λ all. absurd (omega arith);
   grows = grows_none before.view.seen;
+  loads = sym (append-nil before.view.seen.loads);
 }
 
 newest_more : (n : ℕ) (ds : List Read) → IsLoading ds → newest (more_read n ds) ≡ record (newest ds) { cells = (newest ds).cells ++ n ∷ [] }
@@ -78,6 +87,9 @@ module _ (core : Shared) (before : Seated) (words : List ℕ) (loading : IsLoadi
       let view = step.view in
       let more : take (i + 1) (set words i n) ≡ take i words ++ n ∷ [] = take_more_set words i n (let c = l.count in omega arith) in
       let so_far = loaded_count i now inside l in
+      let p = read_place before.view.work.reads in
+      let same_place : read_place now.view.work.reads ≡ p = ap read_place (reads_of core before words i now l) ∙ place_still (take i words) before.view.work.reads in
+      let long : 0 + length (take i words) ≡ i = let e = length-take-le i words (let c = l.count in omega arith) in omega arith in
       record {
         stays = stays-ready core before now next' l.stays step.seat (ap (λ (v : View). v.size) view) (ap (λ (v : View). v.number) view) (ap (λ (v : View). v.published) view);
         count = length-set words i n ∙ l.count;
@@ -89,6 +101,12 @@ module _ (core : Shared) (before : Seated) (words : List ℕ) (loading : IsLoadi
             subst (λ (d : Read). LeavesCells now.view.log d.record_number (limit_of now.view.flight now.view.published.read) d.version d.cells) (sym (newest_more n now.view.work.reads (still_loading i now l)))
             (step.learnt alone (omega arith)));
         grows = grows_both before.view.seen now.view.seen next'.view.seen l.grows (grows_loads now.view.seen next'.view.seen _ (ap (λ (v : View). v.seen.loads) view) (ap (λ (v : View). v.seen.lost) view));
+        loads = ap (λ (v : View). v.seen.loads) view
+            ∙ ap (λ (q : ℕ). now.view.seen.loads ++ load (cell q (read_cells now.view.work.reads)) n ∷ []) same_place
+            ∙ ap (λ (k : ℕ). now.view.seen.loads ++ load (cell p k) n ∷ []) so_far
+            ∙ ap (λ (ls : List Load). ls ++ load (cell p i) n ∷ []) l.loads
+            ∙ append_assoc before.view.seen.loads (cells_loaded p 0 (take i words)) (load (cell p i) n ∷ [])
+            ∙ ap (λ (ls : List Load). before.view.seen.loads ++ ls) (sym (cells_more p 0 i n (take i words) long) ∙ ap (cells_loaded p 0) (sym more));
       }
 
   -- all cells are loaded

@@ -1,6 +1,8 @@
 -- What is in flight after the value of a version was loaded.
-use Rattle.std.specs.Prelude.{ℕ, List, [], ◌∷◌, ◌++◌}
-use Rattle.core_rule.specs.View.{View, Read, Seen}
+use Rattle.std.specs.Prelude.{ℕ, suc, List, [], ◌∷◌, ◌++◌}
+use Rattle.word_layout.specs.Name.{cell}
+use Rattle.core_rule.specs.Paths.{load}
+use Rattle.core_rule.specs.View.{View, Read, Load, Seen}
 use Rattle.core_rule.specs.Views.{IsAlone}
 use Rattle.core_rule.specs.Searching.{limit_of, newest}
 use Rattle.core_rule.specs.Left.{LeavesCells}
@@ -20,3 +22,8 @@ with_value v cells seen = record v {
 abbrev pub IsLeftIn : View → List ℕ → Type 0
 IsLeftIn v cells =
     IsAlone v → LeavesCells v.log (newest v.work.reads).record_number (limit_of v.flight v.published.read) (newest v.work.reads).version cells
+
+-- the loads that found these numbers in the cells of a place, one after another from this cell on
+abbrev pub cells_loaded : (place from : ℕ) → List ℕ → List Load
+cells_loaded place from [] = []
+cells_loaded place from (n ∷ ns) = load (cell place from) n ∷ cells_loaded place (suc from) ns

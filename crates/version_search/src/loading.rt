@@ -1,10 +1,10 @@
 //! Loading the value of the version that a search found.
-ghost use Rattle.std.specs.Prelude.{◌≡◌, ◌<◌};
+ghost use Rattle.std.specs.Prelude.{◌≡◌, ◌<◌, ◌++◌};
 ghost use Rattle.word_layout.specs.Size.{places};
 ghost use Rattle.core_rule.specs.Searching.{IsLoading, read_place, read_cells};
 ghost use Rattle.core_rule.specs.Hands.{IsReady, StaysReady};
 ghost use Rattle.version_search.specs.Growing.{Grows};
-ghost use Rattle.version_search.specs.Loading.{with_value, IsLeftIn};
+ghost use Rattle.version_search.specs.Loading.{with_value, IsLeftIn, cells_loaded};
 
 use core_rule::{Core, Hand, Keeps};
 use plain_data::Cells;
@@ -20,6 +20,8 @@ pub fn load_value<J: Keeps>(core: &Core<J>, hand: &mut Hand<J>, place: u32) -> C
     ensures view { hand.new.view ≡ with_value hand.old.view result hand.new.view.seen }
     ensures left { IsLeftIn hand.new.view result }
     ensures grows { Grows hand.old.view.seen hand.new.view.seen }
+    // Each word is the number that a load of its cell found.
+    ensures loads { hand.new.view.seen.loads ≡ hand.old.view.seen.loads ++ cells_loaded place 0 result }
     ensures stays { StaysReady core.now hand.old hand.new }
 {
     let first = core.layout().cell(place, 0);

@@ -1,11 +1,11 @@
 use Rattle.std.proofs.Common.{sym, ap, ◌∙◌}
 use Rattle.std.specs.Prelude.{option_copied}
 use Rattle.seat_post.specs.Spare.{holds}
-use Rattle.seat_post.proofs.Listed.{looked, held}
+use Rattle.seat_post.proofs.Listed.{held}
 use Rattle.seat_post.proofs.numbers.holds_value.Goals as goal
 
 pub returns-in-None : goal.returns-in-None
-returns-in-None c = sym (ap holds (looked c.args.writes.now.entries c.args.rid (option_copied c.get.result) c.get.ensures.value ∙ ap option_copied c.in-None.is))
+returns-in-None c = sym (ap holds (sym c.get.ensures.value ∙ ap option_copied c.in-None.is))
 
 pub returns-in-Some : goal.returns-in-Some
-returns-in-Some c = c.is_some.ensures ∙ held c.in-Some.value.now ∙ sym (ap holds (looked c.args.writes.now.entries c.args.rid (option_copied c.get.result) c.get.ensures.value ∙ ap option_copied c.in-Some.is))
+returns-in-Some c = c.is_some.ensures ∙ held c.in-Some.value.now ∙ sym (ap holds (sym c.get.ensures.value ∙ ap option_copied c.in-Some.is))

@@ -17,7 +17,7 @@ rewrite-requires-clause-read g c =
     let r = c.load-read in
     let v = c.args.hand.now.view in
     let found : Reads c.args.stamp c.args.rid m.place m.wts 3 v c.find.new.hand.view = rw m.absent-test at (rw c.number.ensures.value at m.ensures.version) in
-    rw (r.ensures.place, r.ensures.wts) (has_found r.result.value c.args.stamp c.args.rid m.place m.wts v c.find.new.hand.view c.take_inline.new.hand.view r.new.hand.view (subst IsStamp c.number.ensures.value c.number.ensures.stamp) c.requires.drawn r.ensures.present r.ensures.value found c.if-not-take_inline.ensures.taken)
+    rw (r.ensures.place, r.ensures.wts) (has_found r.result.value c.args.stamp c.args.rid m.place m.wts v c.find.new.hand.view c.take_inline.new.hand.view r.new.hand.view (subst IsStamp c.number.ensures.value c.number.ensures.stamp) c.requires.drawn r.ensures.present r.ensures.value r.ensures.grows found c.if-not-take_inline.ensures.taken)
 
 pub returns-in-Ok-clause-ok : goal.returns-in-Ok-clause-ok
 returns-in-Ok-clause-ok g c =

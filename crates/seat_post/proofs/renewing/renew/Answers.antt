@@ -1,17 +1,20 @@
 use Rattle.std.specs.Prelude.{if◌then◌else◌}
-use Rattle.std.proofs.Common.{◌≡◌, ◌≢◌, ◌<◌, ◌+◌, ℕ, sym, ap, ◌∙◌, subst, inr, arith}
+use Rattle.std.proofs.Common.{rules, ◌≡◌, ◌≢◌, ◌<◌, ◌+◌, ℕ, sym, ap, ◌∙◌, subst, inr, arith}
 use Rattle.stamp_base.specs.Stamp.{stamp_of}
 use Rattle.core_rule.specs.Hands.{Seated}
 use Rattle.core_rule.specs.View.{View, Counted, version_kept}
 use Rattle.word_layout.specs.Size.{Size, kept_place}
 use Rattle.clock_stamps.specs.Clocks.{drawn_clock}
 use Rattle.seat_post.specs.Rewriting.{Rewrites}
-use Rattle.seat_post.specs.Settling.{IsRewrittenAt, WantsKept}
+use Rattle.version_search.proofs.Grown.{grows_none, grows_both}
+use Rattle.seat_post.specs.Settling.{IsRewrittenAt}
+use Rattle.seat_post.proofs.Dues.{no_place}
+use Rattle.seat_post.proofs.Observed.{drawn_grows}
 use Rattle.seat_post.proofs.Answered.{not_ok, on_err}
 use Rattle.seat_post.proofs.Bounds.{drawn_later, less_is_most, seat_below}
 use Rattle.seat_post.proofs.Steady.{steady_same, steady_settles}
 use Rattle.seat_post.proofs.KeptPlace.{kept_in}
-use Rattle.seat_post.proofs.Renewed.{drew_found, drew_taking, alone_drawn, none_taken, taken_alone, rewritten_settling, rewritten_settles, rewritten_at, none_stops, spare_found, free_found}
+use Rattle.seat_post.proofs.Renewed.{drew_found, drew_taking, alone_drawn, none_taken, taken_alone, was_found, rewritten_settling, rewritten_settles, rewritten_at, none_stops, spare_found, free_found}
 use Rattle.seat_post.proofs.renewing.renew.Goals as goal
 
 pub returns-in_err-stamp-clause-settles : goal.returns-in_err-stamp-clause-settles
@@ -50,10 +53,31 @@ returns-in_err-taken-clause-none g c = on_err c.from_residual-in_err-taken.resul
 pub returns-in_err-taken-clause-runs_out : goal.returns-in_err-taken-clause-runs_out
 returns-in_err-taken-clause-runs_out g c =
     let v = c.args.hand.now.view in
-    let before = ap (λ (y : View). y.clock.clock) c.in-Ok.ensures.ok.view ∙ ap (λ (y : View). y.clock.clock) c.in_ok-stamp.ensures.view in
-    let out = c.in_err-taken.ensures.clock_out in
-    let wants = subst (λ (z : Size). WantsKept z c.args.rid c.search.new.hand.view c.take_place.new.hand.view) (sym c.requires.ready.hand_of.same_size) c.in_err-taken.ensures.wanted in
-    on_err c.from_residual-in_err-taken.result (inr (omega arith, (c.search.new.hand.view, wants)))
+    let t = c.take_place.new.hand.view in
+    let drew = ap (λ (y : View). y.clock.clock) c.in_err-taken.ensures.none.view ∙ ap (λ (y : View). y.clock.clock) c.in-Ok.ensures.ok.view ∙ ap (λ (y : View). y.clock.clock) c.in_ok-stamp.ensures.view in
+    let before = grows_both v.seen c.draw.new.hand.view.seen c.search.new.hand.view.seen (drawn_grows v c.draw.new.hand.view _ c.in_ok-stamp.ensures.view) c.in-Ok.ensures.ok.grows in
+    on_err c.from_residual-in_err-taken.result (inr (omega arith, no_place c.args.core.now.size c.args.rid v c.search.new.hand.view t t before c.in_err-taken.ensures.wanted (grows_none t.seen)))
+
+pub returns-in_err-taken-clause-wants : goal.returns-in_err-taken-clause-wants
+returns-in_err-taken-clause-wants g c = not_ok c.from_residual-in_err-taken.result _ _ c.from_residual-in_err-taken.ensures.1
+
+pub returns-clause-wants : goal.returns-clause-wants
+returns-clause-wants g c = λ on.
+    let v = c.args.hand.now.view in
+    let before = grows_both v.seen c.draw.new.hand.view.seen c.search.new.hand.view.seen (drawn_grows v c.draw.new.hand.view _ c.in_ok-stamp.ensures.view) c.in-Ok.ensures.ok.grows in
+    no_place c.args.core.now.size c.args.rid v c.search.new.hand.view c.take_place.new.hand.view c.rewrite.new.hand.view before (c.in_ok-taken.ensures.kept on).1 c.in-Ok-rewrite.ensures.ok.links.grows
+
+pub rewrite-requires-clause-read : goal.rewrite-requires-clause-read
+rewrite-requires-clause-read g c =
+    let v = c.args.hand.now.view in
+    let r = c.in-Ok.read in
+    record {
+      in_flight = search rules;
+      published = search rules;
+      is_stamp = search rules;
+      work = search rules;
+      found = was_found v c.draw.new.hand.view c.search.new.hand.view c.take_place.new.hand.view (drawn_clock v.clock.clock 0) c.args.rid r.place r.wts c.in_ok-taken.taken.place r.value c.in_ok-stamp.ensures.view c.in-Ok.ensures.ok c.in_ok-taken.ensures.takes;
+    }
 
 pub rewrite-requires-clause-fits : goal.rewrite-requires-clause-fits
 rewrite-requires-clause-fits g c = c.in_ok-taken.ensures.fits.0

@@ -1,7 +1,6 @@
-use Rattle.std.proofs.Common.{◌≡◌, ◌<◌, ◌∙◌, ℕ, Bool, List, Some, length, subst, sym, rules}
+use Rattle.std.proofs.Common.{◌≡◌, ◌<◌, Bool, length, subst, sym, rules}
 use Rattle.word_layout.specs.Size.{Size, places}
 use Rattle.version_search.specs.Finding.{Reads, status_of}
-use Rattle.seat_post.specs.Searched.{Finds}
 use Rattle.seat_post.proofs.ReadMore.{stops_at}
 use Rattle.seat_post.proofs.Leaving.{limit_is, finds_absent, finds_present}
 use Rattle.seat_post.proofs.search.search.Goals as goal
@@ -20,7 +19,5 @@ returns-in-Version-default-default-false-clause-ok g c =
     let a = c.in-Version-default-default-false in
     let inside = subst (λ (z : Size). a.place < places z) (sym c.requires.ready.hand_of.same_size) a.ensures.place in
     let found = subst (λ (b : Bool). Reads c.args.stamp c.args.rid a.place a.wts (status_of b) c.args.hand.now.view c.find.new.hand.view) a.absent-test a.ensures.version in
-    let same : c.new.result ≡ c.load_value-cells.result = c.new.ensures ∙ c.words.ensures in
     let long : length c.load_value-cells.result ≡ 32 = search rules in
-    subst (λ (cells : List ℕ). Finds c.args.rid a.place a.wts (Some cells) c.args.hand.now.view c.load_value-cells.new.hand.view) (sym same)
-    (finds_present c.args.stamp c.args.rid a.place a.wts c.load_value-cells.result c.args.hand.now.view c.find.new.hand.view c.load_value-cells.new.hand.view found c.load_value-cells.ensures.view c.load_value-cells.ensures.left c.load_value-cells.ensures.grows long inside (limit_is c.args.hand.now.view c.args.stamp c.requires.in_flight))
+    finds_present c.args.stamp c.args.rid a.place a.wts c.load_value-cells.result c.args.hand.now.view c.find.new.hand.view c.load_value-cells.new.hand.view found c.load_value-cells.ensures.view c.load_value-cells.ensures.left c.load_value-cells.ensures.grows c.load_value-cells.ensures.loads long inside (limit_is c.args.hand.now.view c.args.stamp c.requires.in_flight)

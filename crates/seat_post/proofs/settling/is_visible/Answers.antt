@@ -1,7 +1,9 @@
-use Rattle.std.proofs.Common.{refl, rules, inr}
+use Rattle.std.proofs.Common.{refl, rules, inl, inr}
 use Rattle.seat_post.proofs.Steady.{steady_same, steady_idle, steady_raised, steady_looked, steady_settling, steady_settles}
 use Rattle.seat_post.proofs.Searching.{only_looked}
-use Rattle.seat_post.proofs.Observed.{raises_grow}
+use Rattle.version_search.proofs.Grown.{grows_both}
+use Rattle.seat_post.proofs.Observed.{idle_grows, raises_grow}
+use Rattle.seat_post.proofs.Dues.{found_other}
 use Rattle.seat_post.proofs.Settlement.{visible_entered}
 use Rattle.seat_post.proofs.settling.is_visible.Goals as goal
 
@@ -45,7 +47,20 @@ returns-then-found-first-clause-entered g c = λ above.
     visible_entered _ c.args.rid _ c.in-Version.found c.args.first.wts _ b.new.hand.view c.find.new.hand.view alone c.if-found-first.true above found
 
 pub returns-then-found-first-clause-hidden : goal.returns-then-found-first-clause-hidden
-returns-then-found-first-clause-hidden g c = λ off. inr (record { before = c.publish_read-bound.new.hand.view; limit = _; place = c.in-Version.place; found = c.in-Version.found; status = _; reads = c.in-Version.ensures.version; other = inr (search rules) })
+returns-then-found-first-clause-hidden g c = λ off.
+    let v = c.args.hand.now.view in
+    let r = c.raise_min_write in
+    let b = c.publish_read-bound in
+    let before = grows_both v.seen c.idle.new.hand.view.seen r.new.hand.view.seen (idle_grows c.args.hand.now c.idle.new.hand c.idle.ensures.rises c.idle.ensures.unchanged) (raises_grow _ _ _ c.idle.new.hand.view r.result r.new.hand.view r.ensures.raises) in
+    inr (found_other v r.new.hand.view b.new.hand.view c.find.new.hand.view b.result c.args.rid c.in-Version.place c.in-Version.found _ c.args.first.wts before b.ensures.view c.in-Version.ensures.version (inr (search rules)))
+
+pub returns-else-found-first-clause-hidden : goal.returns-else-found-first-clause-hidden
+returns-else-found-first-clause-hidden g c = λ off.
+    let v = c.args.hand.now.view in
+    let r = c.raise_min_write in
+    let b = c.publish_read-bound in
+    let before = grows_both v.seen c.idle.new.hand.view.seen r.new.hand.view.seen (idle_grows c.args.hand.now c.idle.new.hand c.idle.ensures.rises c.idle.ensures.unchanged) (raises_grow _ _ _ c.idle.new.hand.view r.result r.new.hand.view r.ensures.raises) in
+    inr (found_other v r.new.hand.view b.new.hand.view c.find.new.hand.view b.result c.args.rid c.in-Version.place c.in-Version.found _ c.args.first.wts before b.ensures.view c.in-Version.ensures.version (inl (λ same. search rules)))
 
 pub returns-else-found-first-clause-settling : goal.returns-else-found-first-clause-settling
 returns-else-found-first-clause-settling g c =

@@ -2,6 +2,7 @@ use Rattle.std.proofs.Common.{refl, sym, subst, arith, ℕ}
 use Rattle.seat_post.specs.Settling.{Draws}
 use Rattle.rapid_gc.proofs.Going.{frees_more}
 use Rattle.seat_post.proofs.Answered.{not_ok}
+use Rattle.seat_post.proofs.Dues.{settles_none, settles_more}
 use Rattle.seat_post.proofs.FreedPlaces.{freed_none}
 use Rattle.seat_post.proofs.Steady.{steady_same, steady_settles, settles_both}
 use Rattle.seat_post.proofs.Settlement.{settled_more, draws_both, stays_both}
@@ -20,6 +21,7 @@ loop-rid-init g c =
       settled = λ r below. absurd (omega arith);
       draws = record { entries = omega arith; clock = omega arith };
       freed = freed_none c.none-all.result.places v v c.none-all.ensures.places refl;
+      first = settles_none c.args.core.now.size c.none-all.result v n m (freed_none c.none-all.result.places v v c.none-all.ensures.places refl);
       less = omega arith;
       few = omega arith;
     }
@@ -36,8 +38,8 @@ returns-in_err-settle_record-clause-draws g c = not_ok c.from_residual.result _ 
 pub returns-in_err-settle_record-clause-counts : goal.returns-in_err-settle_record-clause-counts
 returns-in_err-settle_record-clause-counts g c = not_ok c.from_residual.result _ _ c.from_residual.ensures.1
 
-pub returns-in_err-settle_record-clause-freed : goal.returns-in_err-settle_record-clause-freed
-returns-in_err-settle_record-clause-freed g c = not_ok c.from_residual.result _ _ c.from_residual.ensures.1
+pub returns-in_err-settle_record-clause-done : goal.returns-in_err-settle_record-clause-done
+returns-in_err-settle_record-clause-done g c = not_ok c.from_residual.result _ _ c.from_residual.ensures.1
 
 pub loop-rid-preserved : goal.loop-rid-preserved
 loop-rid-preserved g c =
@@ -48,6 +50,7 @@ loop-rid-preserved g c =
     let v = c.args.hand.now.view in
     let rewritten = w.ensures.rewritten in
     let cut = w.ensures.cut in
+    let freed = frees_more c.loop-rid.all.places _ c.with-all.result.places v c.loop-rid.hand.view s.new.hand.view i.freed e.freed w.ensures.places in
     record {
       stays = stays_both c.args.core.now c.args.hand.now c.loop-rid.hand s.new.hand i.stays s.ensures.stays;
       settling = s.ensures.settling;
@@ -55,7 +58,8 @@ loop-rid-preserved g c =
       keeps_none = s.ensures.keeps_none;
       settled = settled_more c.loop-rid.rid c.loop-rid.hand.view s.new.hand.view i.settled s.ensures.others e.one;
       draws = subst (λ (n : ℕ). Draws n v s.new.hand.view) (sym rewritten) (draws_both c.loop-rid.all.rewritten _ v c.loop-rid.hand.view s.new.hand.view i.draws e.draws);
-      freed = frees_more c.loop-rid.all.places _ c.with-all.result.places v c.loop-rid.hand.view s.new.hand.view i.freed e.freed w.ensures.places;
+      freed = freed;
+      first = settles_more c.args.core.now.size c.loop-rid.rid c.loop-rid.all _ c.with-all.result v c.loop-rid.hand.view s.new.hand.view i.first e.done rewritten cut freed;
       less = let h = i.less in let k = e.counts.0 in omega arith;
       few = let h = i.few in let k = e.counts.1 in omega arith;
     }

@@ -2,7 +2,8 @@ use Rattle.std.proofs.Common.{◌≡◌, ◌≤◌, ◌*◌}
 use Rattle.core_rule.specs.View.{nothing_kept}
 use Rattle.core_rule.specs.Hands.{StaysReady}
 use Rattle.rapid_gc.specs.Ends.{FreesCounted}
-use Rattle.seat_post.specs.Settling.{IsSettling, Settles, AreSettled, Draws}
+use Rattle.seat_post.specs.Collecting.{trail_in}
+use Rattle.seat_post.specs.Settling.{IsSettling, Settles, AreSettled, Draws, SettlesFirst}
 use Rattle.seat_post.proofs.settling.settle_all.Given as goal
 
 abbrev pub invariant-loop-rid : goal.invariant-loop-rid
@@ -14,6 +15,7 @@ invariant-loop-rid g l = record {
   settled : AreSettled l.rid l.hand.view.counts;
   draws : Draws l.all.rewritten l.fn.hand.view l.hand.view;
   freed : FreesCounted l.all.places l.fn.hand.view l.hand.view;
+  first : SettlesFirst l.core.size l.rid l.all (trail_in l.fn.hand.view) (trail_in l.hand.view);
   less : l.all.rewritten ≤ l.all.cut;
   few : l.all.cut ≤ 2 * l.rid;
 }

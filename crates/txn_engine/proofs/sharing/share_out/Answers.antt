@@ -1,9 +1,9 @@
 use Rattle.std.proofs.Common.{◌≡◌, ◌≤◌, [], ◌∷◌, List, length, map, length-append, ap, ◌∙◌, sym, subst, refl, arith}
 use Rattle.core_rule.specs.Views.{Among}
 use Rattle.txn_engine.specs.Alone.{PartsView}
-use Rattle.txn_engine.specs.Pass.{PassView, unglanced}
+use Rattle.txn_engine.specs.Pass.{EngineView, bare, engine_of}
 use Rattle.seat_post.specs.Seats.{Others}
-use Rattle.seat_post.specs.Spare.{NumbersView}
+use Rattle.seat_post.specs.Spare.{NumbersView, no_numbers}
 use Rattle.txn_engine.proofs.Making.{next_share, next_made, pushed_share, count_shares}
 use Rattle.core_rule.proofs.Among.{Among-last, Among-left}
 use Rattle.txn_engine.proofs.sharing.share_out.Goals as goal
@@ -16,7 +16,7 @@ loop-seat-init g c =
     let long = ap (λ (p : PartsView). length p.lists) view in
     record {
       pass = refl;
-      passes = ap (map unglanced) c.parts.invariant;
+      passes = ap (map bare) c.parts.invariant;
       lists = omega arith;
       empty = λ n among. has.empty n (subst (λ (p : PartsView). Among n p.lists) view among);
       room = subst (λ (p : PartsView). c.args.engine.now.size.seats ≤ p.room) (sym view) has.room;
@@ -25,9 +25,9 @@ loop-seat-init g c =
 pub split-requires-clause-list : goal.split-requires-clause-list
 split-requires-clause-list g c =
     let i = c.loop-seat.invariant in
-    let engine : c.loop-seat.pass.engine ≡ c.args.engine.now = ap (λ (p : PassView). p.engine) i.pass ∙ c.requires.engine in
+    let engine : engine_of c.loop-seat.pass ≡ c.args.engine.now = ap engine_of i.pass ∙ c.requires.engine in
     let is = i.empty c.in-Some.list (subst (λ (ns : List NumbersView). Among c.in-Some.list ns) (sym c.in-Some.ensures.items) (Among-last c.in-Some.list c.pop.new.self.items)) in
-    rw engine is
+    subst (λ (e : EngineView). c.in-Some.list ≡ no_numbers e.fixed e.size.records) (sym engine) is
 
 pub unreachable-requires-in_default-push : goal.unreachable-requires-in_default-push
 unreachable-requires-in_default-push g c =

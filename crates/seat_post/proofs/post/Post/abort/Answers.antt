@@ -31,5 +31,5 @@ returns g c =
     let is = at_known _ _ _ _ _ _ _ (ap (λ (p : PostView). p.phase) c.self.view_is ∙ c.requires.phase) c.self.invariant in
     let a = c.abort.ensures in
     let e = c.clear.ensures in
-    view_over_same i.hand c.abort.new.hand i.phase i.stamp _ _ i.reads.entries _ i.writes.entries _ a.stays.seat.same_table a.stands a.as_before a.seen is.at.installed.in_flight a.log c.make-self-inside.ensures.number e.no_reads e.no_writes
+    view_over_same i.hand c.abort.new.hand i.phase i.stamp _ _ i.reads.entries _ i.writes.entries _ a.stays.seat.same_table a.stands a.as_before (a.linked ∙ sym is.at.installed.linked) a.seen is.at.installed.in_flight a.log c.make-self-inside.ensures.number e.no_reads e.no_writes
     ∙ ap closed c.self.view_is

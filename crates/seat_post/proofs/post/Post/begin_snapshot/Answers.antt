@@ -1,11 +1,10 @@
 use Rattle.std.proofs.Common.{ap, subst, ◌∙◌, ◌≤◌, ◌+◌}
 use Rattle.seat_post.specs.declared.phase.Phase.TheVariants.{Idle}
 use Rattle.seat_post.specs.Logs.{AreBelow}
-use Rattle.word_layout.specs.Name.{published_write}
-use Rattle.seat_post.specs.Observing.{ScansAll}
+use Rattle.seat_post.specs.Observing.{MeetsMinimum}
 use Rattle.seat_post.specs.Post.{PostView, IsAlonePost, observed_in}
 use Rattle.seat_post.proofs.AloneSeats.{alone_told}
-use Rattle.seat_post.proofs.Looking.{post_glancing, opened_size, opened_held, opened_kept, opened_alone, opened_scans, below_logged}
+use Rattle.seat_post.proofs.Looking.{post_glancing, opened_size, opened_held, opened_kept, opened_alone, opened_minimum, below_logged}
 use Rattle.seat_post.proofs.Posts.{at_phase}
 use Rattle.version_search.proofs.Grown.{grows_both}
 use Rattle.seat_post.proofs.Observed.{post_grows, raises_grow, bounded_grows}
@@ -37,8 +36,8 @@ returns-clause-grows g c =
     post_grows i.hand c.begin_glances.new.hand i.phase i.stamp i.reads.entries i.writes.entries c.args.self.now c.self.view_is
     (grows_both i.hand.view.seen o.between.seen w.seen (raises_grow _ _ _ i.hand.view o.met o.between o.raises) (bounded_grows o.between w c.begin_glances.result o.bound))
 
-pub returns-clause-scans : goal.returns-clause-scans
-returns-clause-scans g c =
+pub returns-clause-minimum : goal.returns-clause-minimum
+returns-clause-minimum g c =
     let i = c.self.inside in
     let hand' = c.begin_glances.new.hand in
-    subst (λ (p : PostView). ScansAll published_write p.shared.size.seats p.observed (observed_in hand')) c.self.view_is (opened_scans c.begin_glances.result i.hand hand' c.begin_glances.ensures.opens)
+    subst (λ (p : PostView). MeetsMinimum p.shared.size.seats (c.begin_glances.result + 1) p.observed (observed_in hand')) c.self.view_is (opened_minimum c.begin_glances.result i.hand hand' c.begin_glances.ensures.opens)

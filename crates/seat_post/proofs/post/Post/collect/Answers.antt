@@ -8,11 +8,10 @@ use Rattle.core_rule.specs.Hands.{Shared}
 use Rattle.rapid_gc.specs.Bounds.{AreKept, LeavesOne}
 use Rattle.rapid_gc.specs.Queues.{AreCommitted, AllBelow}
 use Rattle.seat_post.specs.declared.phase.Phase.TheVariants.{Idle}
-use Rattle.seat_post.specs.Collecting.{AreQueued}
-use Rattle.seat_post.specs.Observing.{ScansBoth}
-use Rattle.seat_post.specs.Post.{PostView, IsAlonePost, observed_in}
+use Rattle.seat_post.specs.Collecting.{AreQueued, CollectsPost}
+use Rattle.seat_post.specs.Post.{PostView, IsAlonePost, post_view}
 use Rattle.seat_post.proofs.AloneSeats.{alone_told}
-use Rattle.seat_post.proofs.Queued.{are_committed, collects_items, collects_scans, nothing_left}
+use Rattle.seat_post.proofs.Queued.{are_committed, collects_post, nothing_left}
 use Rattle.seat_post.proofs.Posts.{at_phase, post_idle}
 use Rattle.seat_post.proofs.Observed.{post_grows}
 use Rattle.seat_post.proofs.post.Post.collect.Goals as goal
@@ -44,9 +43,6 @@ invariant_of-self g c =
       none_written = idle.none_written;
     })
 
-pub returns-clause-queue : goal.returns-clause-queue
-returns-clause-queue g c = collects_items _ _ _ _ _ c.collect.ensures.collects
-
 pub returns-clause-known : goal.returns-clause-known
 returns-clause-known g c = subst (λ (p : PostView). AreKept c.args.queue.now.items p.known.counts c.collect.new.hand.view.counts) c.self.view_is c.collect.ensures.known
 
@@ -70,7 +66,9 @@ returns-clause-grows g c =
     let e = c.collect.ensures in
     post_grows i.hand c.collect.new.hand i.phase i.stamp i.reads.entries i.writes.entries c.args.self.now c.self.view_is (record { loaded = e.loads.0; missed = e.lost.0; loads = e.loads.1; lost = e.lost.1 })
 
-pub returns-clause-scans : goal.returns-clause-scans
-returns-clause-scans g c =
+pub returns-clause-collects : goal.returns-clause-collects
+returns-clause-collects g c =
+    let i = c.self.inside in
     let hand' = c.collect.new.hand in
-    subst (λ (p : PostView). ScansBoth p.shared.size.seats p.observed (observed_in hand')) c.self.view_is (collects_scans c.self.inside.hand hand' _ _ _ c.collect.ensures.collects)
+    subst (λ (p : PostView). CollectsPost p (post_view hand' i.phase i.stamp i.reads.entries i.writes.entries) c.args.queue.now.items c.collect.new.queue.items c.collect.result) c.self.view_is
+    (collects_post i.hand hand' i.phase i.stamp i.reads.entries i.writes.entries _ _ _ c.collect.ensures.collects)

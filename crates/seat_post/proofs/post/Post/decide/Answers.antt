@@ -5,10 +5,10 @@ use Rattle.core_rule.specs.Hands.{Shared}
 use Rattle.validate_core.specs.Sets.{IsInside}
 use Rattle.validate_core.specs.Validating as validating
 use Rattle.seat_post.specs.Ends.{Stood}
-use Rattle.seat_post.specs.Conflicts.{Touches, IsLoaded}
+use Rattle.seat_post.specs.Conflicts.{Touches, IsLoaded, WereFound}
 use Rattle.seat_post.specs.Post.{PostView, post_view, closed, entered, entry_at, observing, observed_in, IsShownAt}
 use Rattle.seat_post.proofs.EndMore.{at_known, entry_same, fits_same, stood_same, decided_view, post_decided, shown_at, touches_at}
-use Rattle.seat_post.proofs.Observed.{post_grows, shown_loaded}
+use Rattle.seat_post.proofs.Observed.{post_grows, shown_loaded, were_found}
 use Rattle.seat_post.proofs.Over.{view_over_all, post_over}
 use Rattle.seat_post.proofs.post.Post.decide.Goals as goal
 
@@ -44,7 +44,7 @@ returns-in-Ok-clause-ok g c =
     let same = c.requires.stamp ∙ sym (ap (λ (p : PostView). p.stamp) c.self.view_is) in
     let p = post_view i.hand i.phase i.stamp i.reads.entries i.writes.entries in
     let entry = entry_same c.args.installed.stamp i.sets.reads i.sets.writes p same a.as_read a.as_written in
-    decided_view g.J.Keeps.kept c.args.core.now.size.records i.hand c.decide.new.hand i.phase i.stamp c.args.installed.stamp i.stamp i.reads.entries i.writes.entries i.sets is.at.installed.in_flight c.decide.ensures.stays.seat.same_table c.in-Ok.ensures.ok entry
+    decided_view g.J.Keeps.kept c.args.core.now.size.records i.hand c.decide.new.hand i.phase i.stamp c.args.installed.stamp i.stamp i.reads.entries i.writes.entries i.sets is.at.installed.in_flight is.at.installed.linked c.decide.ensures.stays.seat.same_table c.in-Ok.ensures.ok entry
     ∙ ap (λ (p : PostView). observing (entered p) (observed_in c.decide.new.hand)) c.self.view_is
 
 pub returns-in-Ok-clause-stood : goal.returns-in-Ok-clause-stood
@@ -74,9 +74,11 @@ returns-in-Err-clause-touches g c =
 pub returns-in-Err-clause-loaded : goal.returns-in-Err-clause-loaded
 returns-in-Err-clause-loaded g c =
     let i = c.self.inside in
+    let is = at_known _ _ _ _ _ _ _ (ap (λ (p : PostView). p.phase) c.self.view_is ∙ c.requires.phase) c.self.invariant in
     let same = c.requires.stamp ∙ sym (ap (λ (p : PostView). p.stamp) c.self.view_is) in
+    let found = subst (λ (n : ℕ). WereFound n i.sets.reads c.decide.new.hand.view.seen.loads) (sym same) (were_found i.stamp i.sets.reads i.hand.view c.decide.new.hand.view c.decide.ensures.stands.grows is.at.found) in
     subst (λ (q : PostView). IsLoaded q.stamp c.in-Err.conflict q.observed (observed_in c.decide.new.hand)) c.self.view_is
-    (subst (λ (n : ℕ). IsLoaded n c.in-Err.conflict (observed_in i.hand) (observed_in c.decide.new.hand)) same (shown_loaded c.args.installed.stamp i.sets i.hand.view c.decide.new.hand.view c.in-Err.conflict c.in-Err.ensures.conflict))
+    (subst (λ (n : ℕ). IsLoaded n c.in-Err.conflict (observed_in i.hand) (observed_in c.decide.new.hand)) same (shown_loaded c.args.installed.stamp i.sets i.hand.view c.decide.new.hand.view c.in-Err.conflict found c.in-Err.ensures.conflict))
 
 pub returns-in-Ok-clause-grows : goal.returns-in-Ok-clause-grows
 returns-in-Ok-clause-grows g c = let i = c.self.inside in post_grows i.hand c.decide.new.hand i.phase i.stamp i.reads.entries i.writes.entries c.args.self.now c.self.view_is c.decide.ensures.stands.grows
@@ -97,5 +99,5 @@ returns-in-Err-clause-err g c =
     let is = at_known _ _ _ _ _ _ _ (ap (λ (p : PostView). p.phase) c.self.view_is ∙ c.requires.phase) c.self.invariant in
     let d = c.decide.ensures in
     let e = c.clear.ensures in
-    view_over_all i.hand c.decide.new.hand i.phase i.stamp _ _ i.reads.entries _ i.writes.entries _ d.stays.seat.same_table d.stands c.in-Err.ensures.as_before is.at.installed.in_flight c.in-Err.ensures.log c.make-self-inside.ensures.number e.no_reads e.no_writes
+    view_over_all i.hand c.decide.new.hand i.phase i.stamp _ _ i.reads.entries _ i.writes.entries _ d.stays.seat.same_table d.stands c.in-Err.ensures.as_before (d.linked ∙ sym is.at.installed.linked) is.at.installed.in_flight c.in-Err.ensures.log c.make-self-inside.ensures.number e.no_reads e.no_writes
     ∙ ap (λ (p : PostView). observing (closed p) (observed_in c.decide.new.hand)) c.self.view_is

@@ -10,7 +10,7 @@ use Rattle.seat_post.proofs.post.Post.hear.Goals as goal
 
 pub invariant_of-self : goal.invariant_of-self
 invariant_of-self g c =
-    post_turned c.args.core.now c.self.inside.phase c.self.inside.hand c.hear.new.hand c.self.inside.stamp c.self.inside.reads.entries c.self.inside.writes.entries c.self.inside.sets _ _ c.self.invariant c.hear.ensures.ready.ready c.hear.ensures.view refl
+    post_turned c.args.core.now c.self.inside.phase c.self.inside.hand c.hear.new.hand c.self.inside.stamp c.self.inside.reads.entries c.self.inside.writes.entries c.self.inside.sets _ _ c.self.invariant c.hear.ensures.ready.ready c.hear.ensures.view (grows_loads _ _ _ (ap (λ (v : View). v.seen.loads) c.hear.ensures.view) (ap (λ (v : View). v.seen.lost) c.hear.ensures.view)) refl
 
 pub returns-clause-value : goal.returns-clause-value
 returns-clause-value g c =

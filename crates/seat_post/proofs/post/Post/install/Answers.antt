@@ -4,16 +4,17 @@ use Rattle.core_rule.specs.Hands.{Shared}
 use Rattle.validate_core.specs.Installing.{IsBegun, Installs}
 use Rattle.record_store.specs.Meaning.{value_at}
 use Rattle.seat_post.specs.Observing.{MeetsNoPlace}
-use Rattle.seat_post.specs.Post.{PostView, closed, knowing, known_in, observing, observed_in}
+use Rattle.seat_post.specs.Post.{PostView, closed, knowing, placing, known_in, observing, observed_in}
 use Rattle.seat_post.proofs.EndMore.{at_known, begun_filled, post_installed, turned_written, same_values}
 use Rattle.seat_post.proofs.Over.{view_over, post_over}
-use Rattle.seat_post.specs.Seats.{IsAloneAt}
+use Rattle.seat_post.specs.Seats.{IsAloneAt, placed_of}
+use Rattle.seat_post.specs.Placing.{HavePlaces}
 use Rattle.seat_post.specs.Lists.{known_before, IsFullAt}
 use Rattle.validate_core.proofs.Writes.{same_once}
 use Rattle.seat_post.proofs.ReadMore.{open_left, open_above}
 use Rattle.seat_post.proofs.AloneSeats.{alone_told}
 use Rattle.seat_post.proofs.Listed.{length-written}
-use Rattle.seat_post.proofs.Placed.{each_before}
+use Rattle.seat_post.proofs.Placed.{each_before, each_fits, have_places}
 use Rattle.seat_post.proofs.Linked.{post_linked, post_stuck, post_full}
 use Rattle.seat_post.proofs.Observed.{post_grows}
 use Rattle.seat_post.proofs.Stuck.{meets_none, turned_some}
@@ -67,7 +68,7 @@ returns-in-Err-clause-err g c =
     let n = c.install.ensures in
     let e = c.clear.ensures in
     view_over i.hand c.install.new.hand i.phase i.stamp _ _ i.reads.entries _ i.writes.entries _ n.stays.seat.same_table n.stands is.at.begun.in_flight n.log c.make-self-inside.ensures.number e.no_reads e.no_writes
-    ∙ ap (λ (p : PostView). observing (closed (knowing p record { counts = c.install.new.hand.view.counts; tops = c.install.new.hand.view.tops })) (observed_in c.install.new.hand)) c.self.view_is
+    ∙ ap (λ (p : PostView). observing (placing (closed (knowing p record { counts = c.install.new.hand.view.counts; tops = c.install.new.hand.view.tops })) (placed_of c.install.new.hand.view.work.linked)) (observed_in c.install.new.hand)) c.self.view_is
 
 pub returns-in-Ok-clause-grows : goal.returns-in-Ok-clause-grows
 returns-in-Ok-clause-grows g c = let i = c.self.inside in post_grows i.hand c.install.new.hand i.phase i.stamp i.reads.entries i.writes.entries c.args.self.now c.self.view_is c.install.ensures.stands.grows
@@ -134,3 +135,13 @@ returns-in-Ok-clause-before g c =
     let values = same_values c.fill.new.sets.writes us n.same.writes ∙ c.fill.ensures.written ∙ ap (λ (p : PostView). p.writes) c.self.view_is in
     let long : length us ≡ length c.args.self.now.writes = sym (length-written us) ∙ ap length values in
     ap (λ k. known_before k (known_in c.install.new.hand)) (sym long) ∙ each_before c.args.core.now.size c.self.inside.hand.view.published.write us c.self.inside.hand.view c.install.new.hand.view c.in-Ok.ensures.ok.each c.install.ensures.in_kept ∙ ap (λ (p : PostView). p.known) c.self.view_is
+
+pub returns-in-Ok-clause-places : goal.returns-in-Ok-clause-places
+returns-in-Ok-clause-places g c =
+    let z = c.args.core.now.size in
+    let us = c.install.new.sets.writes in
+    let o = c.in-Ok.ensures.ok in
+    let values = same_values c.fill.new.sets.writes us c.install.ensures.same.writes ∙ c.fill.ensures.written ∙ ap (λ (p : PostView). p.writes) c.self.view_is in
+    let have = have_places z us c.args.self.now.writes (each_fits z c.self.inside.hand.view.published.write us c.self.inside.hand.view c.install.new.hand.view o.each) values in
+    subst (λ (x : Shared). HavePlaces x.size c.args.self.now.writes (placed_of c.install.new.hand.view.work.linked)) (sym c.requires.core)
+    (subst (λ ws. HavePlaces z c.args.self.now.writes (placed_of ws)) (sym o.installed.linked) have)

@@ -3,7 +3,7 @@ use Rattle.core_rule.specs.View.{writing}
 use Rattle.record_store.specs.Meaning.{value_at}
 use Rattle.seat_post.specs.Conflicts.{IsOfAnother}
 use Rattle.seat_post.specs.Post.{PostView, post_view, noted, observing, observed_in}
-use Rattle.seat_post.proofs.ReadMore.{met_at, is_open, open_at, post_room, post_read, post_stopped, not_read, found_left}
+use Rattle.seat_post.proofs.ReadMore.{met_at, is_open, open_at, post_room, post_read, post_stopped, not_read, found_left, found_value}
 use Rattle.seat_post.proofs.Over.{view_found}
 use Rattle.seat_post.proofs.Stopped.{stopped_post, loaded_post}
 use Rattle.version_search.proofs.Grown.{grows_none}
@@ -99,3 +99,8 @@ returns-in-Ok-clause-grows g c = let i = c.self.inside in post_grows i.hand c.se
 
 pub returns-in_err-make_room-clause-grows : goal.returns-in_err-make_room-clause-grows
 returns-in_err-make_room-clause-grows g c = let i = c.self.inside in post_grows i.hand i.hand i.phase i.stamp i.reads.entries i.writes.entries c.args.self.now c.self.view_is (grows_none i.hand.view.seen)
+
+pub returns-in-Ok-clause-found : goal.returns-in-Ok-clause-found
+returns-in-Ok-clause-found g c =
+    let i = c.self.inside in
+    found_value i.hand c.search.new.hand i.phase i.stamp c.args.rid _ _ _ i.reads.entries i.writes.entries i.sets c.args.self.now c.self.invariant c.self.view_is c.requires.open c.in-Ok.ensures.ok

@@ -2,8 +2,9 @@ use Rattle.std.proofs.Common.{◌≡◌, ◌<◌, ℕ, List, Option, subst, sym,
 use Rattle.core_rule.specs.View.{writing}
 use Rattle.record_store.specs.Meaning.{value_at}
 use Rattle.seat_post.specs.Conflicts.{IsOfAnother}
+use Rattle.seat_post.specs.Reading.{FindsValue}
 use Rattle.seat_post.specs.Post.{PostView, post_view, noted, observing, observed_in}
-use Rattle.seat_post.proofs.ReadMore.{met_at, is_open, open_at, post_room, post_read, post_stopped, post_passed, not_read, found_left, present_met}
+use Rattle.seat_post.proofs.ReadMore.{met_at, is_open, open_at, post_room, post_read, post_stopped, post_passed, not_read, found_left, found_value, present_met}
 use Rattle.seat_post.proofs.Over.{view_found, none_of}
 use Rattle.seat_post.proofs.Stopped.{stopped_post, loaded_post}
 use Rattle.seat_post.specs.Leaves.{LeavesValue}
@@ -123,7 +124,15 @@ returns-else-is_some-clause-grows g c = let i = c.self.inside in post_grows i.ha
 pub returns-then-is_some-clause-present : goal.returns-then-is_some-clause-present
 returns-then-is_some-clause-present g c = λ off.
     let i = c.self.inside in
-    (c.in-Ok.read.wts, present_met i.hand c.search.new.hand i.phase i.stamp c.args.rid _ _ _ i.reads.entries i.writes.entries i.sets c.args.self.now c.self.invariant c.self.view_is c.requires.open c.in-Ok.ensures.ok (sym c.is_some.ensures ∙ c.if-is_some.true))
+    let found = found_value i.hand c.search.new.hand i.phase i.stamp c.args.rid _ _ _ i.reads.entries i.writes.entries i.sets c.args.self.now c.self.invariant c.self.view_is c.requires.open c.in-Ok.ensures.ok in
+    present_met c.args.self.now.stamp c.args.rid c.args.self.now.observed (observed_in c.search.new.hand) c.in-Ok.read.value found (sym c.is_some.ensures ∙ c.if-is_some.true)
+
+pub returns-else-is_some-clause-absent : goal.returns-else-is_some-clause-absent
+returns-else-is_some-clause-absent g c = λ on.
+    let i = c.self.inside in
+    let none : c.in-Ok.read.value ≡ None = none_of c.in-Ok.read.value (sym c.is_some.ensures ∙ c.if-is_some.false) in
+    let found = found_value i.hand c.search.new.hand i.phase i.stamp c.args.rid _ _ _ i.reads.entries i.writes.entries i.sets c.args.self.now c.self.invariant c.self.view_is c.requires.open c.in-Ok.ensures.ok in
+    subst (λ (x : Option (List ℕ)). FindsValue c.args.self.now.stamp c.args.rid c.args.self.now.observed (observed_in c.search.new.hand) x) none found
 
 pub returns-in_err-make_room-clause-grows : goal.returns-in_err-make_room-clause-grows
 returns-in_err-make_room-clause-grows g c = let i = c.self.inside in post_grows i.hand i.hand i.phase i.stamp i.reads.entries i.writes.entries c.args.self.now c.self.view_is (grows_none i.hand.view.seen)

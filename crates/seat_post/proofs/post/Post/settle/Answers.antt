@@ -1,5 +1,9 @@
-use Rattle.seat_post.proofs.Settlement.{settles_post}
-use Rattle.seat_post.specs.Settling.{SettlesPost}
+use Rattle.word_layout.specs.Size.{Size}
+use Rattle.core_rule.specs.Hands.{Shared}
+use Rattle.seat_post.proofs.Answered.{if_ok_map, on_err_map}
+use Rattle.seat_post.proofs.Settlement.{settles_post, settles_all, stops_post}
+use Rattle.seat_post.specs.Collecting.{trail_in}
+use Rattle.seat_post.specs.Settling.{SettlesPost, SettlesFirst, SettlesAll, StopsSome, StopsPost}
 use Rattle.std.proofs.Common.{◌≡◌, [], refl, ap, ◌∙◌, sym, subst}
 use Rattle.stamp_base.specs.Stamp.{bound_of_clock}
 use Rattle.core_rule.specs.View.{View, no_work, nothing_kept}
@@ -49,3 +53,31 @@ returns-clause-settles g c =
     let s = c.settle_all-told.ensures in
     let b = c.publish_read.ensures in
     subst (λ (p : PostView). SettlesPost g.J.Keeps.kept p (post_view c.publish_read.new.hand i.phase i.stamp i.reads.entries i.writes.entries)) c.self.view_is (settles_post g.J.Keeps.kept i.hand c.settle_all-told.new.hand c.publish_read.new.hand i.phase i.stamp c.publish_read.result i.reads.entries i.writes.entries s.stays.seat.same_table b.ready.seat.same_table s.settles s.settling b.view b.met)
+
+pub returns-clause-done : goal.returns-clause-done
+returns-clause-done g c =
+    let i = c.self.inside in
+    let told = c.settle_all-told in
+    let last = c.publish_read.new.hand in
+    let z = c.args.core.now.size in
+    let size : i.hand.view.size ≡ z = ap (λ (p : PostView). p.shared.size) c.self.view_is ∙ ap (λ (x : Shared). x.size) c.requires.core in
+    let after = post_view last i.phase i.stamp i.reads.entries i.writes.entries in
+    if_ok_map told.result _ (SettlesAll c.args.self.now after)
+    (λ all first. subst (λ (p : PostView). SettlesAll p after all) c.self.view_is
+    (settles_all i.hand told.new.hand last i.phase i.stamp c.publish_read.result i.reads.entries i.writes.entries c.publish_read.ensures.view all
+    (subst (λ (x : Size). SettlesFirst x x.records all (trail_in i.hand.view) (trail_in told.new.hand.view)) (sym size) first)))
+    told.ensures.done
+
+pub returns-clause-stops : goal.returns-clause-stops
+returns-clause-stops g c =
+    let i = c.self.inside in
+    let told = c.settle_all-told in
+    let last = c.publish_read.new.hand in
+    let z = c.args.core.now.size in
+    let size : i.hand.view.size ≡ z = ap (λ (p : PostView). p.shared.size) c.self.view_is ∙ ap (λ (x : Shared). x.size) c.requires.core in
+    let after = post_view last i.phase i.stamp i.reads.entries i.writes.entries in
+    on_err_map told.result _ (StopsPost c.args.self.now after)
+    (λ (stops : StopsSome z i.hand.view told.new.hand.view). subst (λ (p : PostView). StopsPost p after) c.self.view_is
+    (stops_post i.hand told.new.hand last i.phase i.stamp c.publish_read.result i.reads.entries i.writes.entries c.publish_read.ensures.view
+    (subst (λ (x : Size). StopsSome x i.hand.view told.new.hand.view) (sym size) stops)))
+    told.ensures.stops

@@ -12,7 +12,7 @@ use Rattle.seat_post.proofs.post.Post.sync.Goals as goal
 
 pub invariant_of-self : goal.invariant_of-self
 invariant_of-self g c =
-    post_turned c.args.core.now c.self.inside.phase c.self.inside.hand c.sync.new.hand c.self.inside.stamp c.self.inside.reads.entries c.self.inside.writes.entries c.self.inside.sets _ _ c.self.invariant c.sync.ensures.ready.ready c.sync.ensures.adopted.1 refl
+    post_turned c.args.core.now c.self.inside.phase c.self.inside.hand c.sync.new.hand c.self.inside.stamp c.self.inside.reads.entries c.self.inside.writes.entries c.self.inside.sets _ _ c.self.invariant c.sync.ensures.ready.ready c.sync.ensures.adopted.1 (grows_loads _ _ _ (ap (λ (v : View). v.seen.loads) c.sync.ensures.adopted.1) (ap (λ (v : View). v.seen.lost) c.sync.ensures.adopted.1)) refl
 
 pub returns-clause-value : goal.returns-clause-value
 returns-clause-value g c =

@@ -1,10 +1,13 @@
-use Rattle.std.proofs.Common.{ap, ◌∙◌, sym, subst}
+use Rattle.std.proofs.Common.{◌≡◌, ℕ, ap, ◌∙◌, sym, subst, arith}
+use Rattle.word_layout.specs.Name.{min_write}
+use Rattle.core_rule.specs.Paths.{load}
 use Rattle.histories.specs.History.{Lawful}
 use Rattle.core_rule.specs.View.{View, Work}
 use Rattle.core_rule.specs.Searching.{Ends}
 use Rattle.core_rule.specs.Snapshots.{AreAllWhole}
-use Rattle.seat_post.specs.Post.{PostView, shared_of}
-use Rattle.seat_post.specs.Seats.{IsAloneAt}
+use Rattle.seat_post.specs.Observing.{with_load}
+use Rattle.seat_post.specs.Post.{PostView, shared_of, observed_in}
+use Rattle.seat_post.specs.Seats.{IsAloneAt, observed_of}
 use Rattle.seat_post.specs.declared.phase.Phase.TheVariants.{Idle}
 use Rattle.seat_post.proofs.AloneSeats.{alone_told}
 use Rattle.seat_post.proofs.Posts.{at_phase}
@@ -26,6 +29,15 @@ pub returns-clause-lawful : goal.returns-clause-lawful
 returns-clause-lawful g c = λ on.
     let alone = subst (λ (p : PostView). IsAloneAt p.shared.size p.seat p.others) (sym c.self.view_is) on in
     subst (λ (p : PostView). Lawful g.J.Keeps.kept p.shared.size.records p.log) c.self.view_is (c.load_min_write.ensures.learnt.5 (alone_told c.self.inside.hand.view alone))
+
+pub returns-clause-load : goal.returns-clause-load
+returns-clause-load g c =
+    let h = c.load_min_write.new.hand in
+    let e = c.load_min_write.ensures.view in
+    let met : c.load_min_write.result ≡ h.view.clock.met = let is = ap (λ (v : View). v.clock.met) e in let low = c.load_min_write.ensures.learnt.0 in omega arith in
+    ap (λ (v : View). observed_of v) e
+    ∙ ap (λ (n : ℕ). with_load (observed_in c.self.inside.hand) (load min_write n)) met
+    ∙ ap (λ (p : PostView). with_load p.observed (load min_write h.view.clock.met)) c.self.view_is
 
 pub returns-clause-grows : goal.returns-clause-grows
 returns-clause-grows g c =

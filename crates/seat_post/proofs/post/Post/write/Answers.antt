@@ -1,6 +1,5 @@
 use Rattle.std.proofs.Common.{◌<◌, ◌≤◌, ap, ◌∙◌, sym, subst, arith, length}
 use Rattle.record_store.specs.Meaning.{with_value}
-use Rattle.record_store.proofs.Values.{insert_entry-with_value}
 use Rattle.seat_post.specs.Post.{PostView, post_view, written}
 use Rattle.seat_post.proofs.Listed.{longer}
 use Rattle.seat_post.proofs.ReadMore.{is_open, open_at}
@@ -43,14 +42,14 @@ invariant_of-self-2 g c =
     let i = is_open _ _ _ _ _ _ phase c.self.invariant in
     let r = c.reserve.ensures in
     let ws = c.self.inside.writes.entries in
-    let added = c.in_ok-insert.ensures.entries ∙ insert_entry-with_value ws c.args.rid c.copy.result in
+    let added = c.in_ok-insert.ensures.ok in
     let rid = subst (λ (p : PostView). c.args.rid < p.shared.size.records) (sym c.self.view_is) c.requires.rid in
-    let within = range_more c.self.inside.hand.view.size.records ws c.args.rid c.copy.result i.at.in_range rid in
-    let room : length (with_value ws c.args.rid c.copy.result) ≤ c.reserve.new.self.write_room = let h = longer ws c.args.rid c.copy.result in let k = c.in_ok-reserve.ensures.write_room in let none = ap length i.at.none_written in let l = c.len.ensures.len in omega arith in
-    open_at _ _ _ _ _ _ phase (rw added (post_written _ _ _ _ (with_value ws c.args.rid c.copy.result) _ c.reserve.new.self i r.reads r.writes within room))
+    let within = range_more c.self.inside.hand.view.size.records ws c.args.rid c.args.value.now i.at.in_range rid in
+    let room : length (with_value ws c.args.rid c.args.value.now) ≤ c.reserve.new.self.write_room = let h = longer ws c.args.rid c.args.value.now in let k = c.in_ok-reserve.ensures.write_room in let none = ap length i.at.none_written in let l = c.len.ensures.len in omega arith in
+    open_at _ _ _ _ _ _ phase (rw added (post_written _ _ _ _ (with_value ws c.args.rid c.args.value.now) _ c.reserve.new.self i r.reads r.writes within room))
 
 pub returns-clause-ok : goal.returns-clause-ok
 returns-clause-ok g c =
     let i = c.self.inside in
-    ap (λ es. record (post_view i.hand i.phase i.stamp i.reads.entries i.writes.entries) { writes = es }) (c.in_ok-insert.ensures.entries ∙ insert_entry-with_value i.writes.entries c.args.rid c.copy.result ∙ ap (λ v. with_value i.writes.entries c.args.rid v) c.copy.ensures.same)
+    ap (λ es. record (post_view i.hand i.phase i.stamp i.reads.entries i.writes.entries) { writes = es }) c.in_ok-insert.ensures.ok
     ∙ ap (λ p. written p c.args.rid c.args.value.now) c.self.view_is

@@ -12,7 +12,7 @@ returns-in-Ok-clause-ok g c =
     let i = c.install_held-installed in
     let p = c.publish.ensures in
     rewrites_at g.J.Keeps.kept c.args.core.now.size.records c.args.rid r.place r.wts c.args.place r.value c.args.core.now.size c.stage.new.sets i.new.sets c.args.hand.now.view i.new.hand.view c.decide.new.hand.view c.publish.new.hand.view
-    c.requires.whole c.stage.ensures.reads c.stage.ensures.writes i.ensures.same i.ensures.installs i.result.stamp i.ensures.stamp c.in-Ok.ensures.ok p.log p.as_before p.published.ends
+    c.requires.whole c.stage.ensures.reads c.stage.ensures.writes i.ensures.same i.ensures.installs i.result.stamp i.ensures.stamp c.in-Ok.ensures.ok p.log p.as_before p.linked p.published.ends
 
 pub returns-in-Err-clause-err : goal.returns-in-Err-clause-err
 returns-in-Err-clause-err g c =
@@ -21,4 +21,4 @@ returns-in-Err-clause-err g c =
     let e = c.in-Err.ensures in
     let h = c.requires.ready.hand_of in
     stopped_at c.args.rid r.place r.wts c.args.place r.value c.args.core.now.size c.stage.new.sets i.new.sets c.args.hand.now.view i.new.hand.view c.decide.new.hand.view i.result.stamp c.in-Err.conflict
-    c.stage.ensures.reads c.stage.ensures.writes i.ensures.same i.ensures.installs i.ensures.stamp (rw h.same_size h.in_range) c.decide.ensures.stands e.as_before e.log e.aborted.ends e.conflict
+    c.stage.ensures.reads c.stage.ensures.writes i.ensures.same i.ensures.installs i.ensures.stamp (rw h.same_size h.in_range) c.decide.ensures.stands e.as_before c.decide.ensures.linked e.log e.aborted.ends e.conflict c.requires.read.found

@@ -2,7 +2,7 @@ use Rattle.std.proofs.Common.{◌≡◌, ◌<◌, ◌≤◌, ◌+◌, ◌-◌, �
 use Rattle.core_rule.specs.Offers.{made_within}
 use Rattle.core_rule.specs.View.{Splitting}
 use Rattle.txn_engine.specs.Joining.{AreOfEngine, AreOthers, refusals_of, come_together}
-use Rattle.txn_engine.specs.Pass.{PassView, EngineView}
+use Rattle.txn_engine.specs.Pass.{PassView, EngineView, engine_of}
 use Rattle.txn_engine.specs.Retired.{RetiredView}
 use Rattle.txn_engine.proofs.Joined.{uncounted, count_others, earlier_more, earlier_most, first_out, none_left, rests_joined, together_more, alone_together}
 use Rattle.txn_engine.proofs.engine.Engine.alone.Goals as goal
@@ -45,7 +45,7 @@ loop-pass-preserved g c =
       together = together_more p q r rest rs _ none e.joined first i.together;
       own = ap (λ (x : PassView). x.refusals) e.joined ∙ i.own;
       rests = rests_joined p q r i.rests e.joined;
-      engine = ap (λ (x : PassView). x.engine) e.joined ∙ i.engine;
+      engine = ap engine_of e.joined ∙ i.engine;
       of_engine = (subst (λ (xs : List RetiredView). AreOfEngine c.args.self.now xs) first i.of_engine).1;
       sum = omega arith;
       fewer = omega arith;
@@ -61,13 +61,13 @@ returns-clause-alone g c =
     let none : c.loop-pass.rest.items ≡ [] = none_left c.loop-pass.rest.items (let e = eqb-true _ 0 (sym c.is_empty.ensures ∙ c.loop-pass-test.false) in let ok = c.loop-pass.rest.ok in omega arith) in
     let all = subst (λ (xs : List RetiredView). uncounted (come_together c.loop-pass.pass xs) ≡ uncounted (come_together first others)) none i.together in
     let seat = ap (λ (p : PassView). p.seat) all in
-    let engine = ap (λ (p : PassView). p.engine) all in
-    let own : first.engine ≡ c.args.self.now = sym engine ∙ i.engine in
-    let inside = subst (λ (p : PassView). made_within p.engine.size.seats p.others.splitting ≤ p.engine.size.seats) c.pass.view_is c.tell_made.ensures in
+    let engine = ap engine_of all in
+    let own : engine_of first ≡ c.args.self.now = sym engine ∙ i.engine in
+    let inside = subst (λ (p : PassView). made_within p.shared.size.seats p.others.splitting ≤ p.shared.size.seats) c.pass.view_is c.tell_made.ensures in
     let splitting = ap (λ (p : PassView). p.others.splitting) all in
     alone_together first c.loop-pass.pass others (ap (λ (p : PassView). p.seat) c.clear_all.ensures ∙ c.requires.first) seat engine (ap (λ (p : PassView). p.others) all)
     (subst (λ (e : EngineView). AreOthers e.size others) (sym own) c.requires.each_once)
-    (subst (λ (s : Splitting). made_within first.engine.size.seats s ≤ first.engine.size.seats) splitting (subst (λ (e : EngineView). made_within e.size.seats c.loop-pass.pass.others.splitting ≤ e.size.seats) engine inside))
+    (subst (λ (s : Splitting). made_within first.shared.size.seats s ≤ first.shared.size.seats) splitting (subst (λ (e : EngineView). made_within e.size.seats c.loop-pass.pass.others.splitting ≤ e.size.seats) engine inside))
 
 pub invariant_of-result : goal.invariant_of-result
 invariant_of-result g c =
@@ -77,13 +77,13 @@ invariant_of-result g c =
     let none : c.loop-pass.rest.items ≡ [] = none_left c.loop-pass.rest.items (let e = eqb-true _ 0 (sym c.is_empty.ensures ∙ c.loop-pass-test.false) in let ok = c.loop-pass.rest.ok in omega arith) in
     let all = subst (λ (xs : List RetiredView). uncounted (come_together c.loop-pass.pass xs) ≡ uncounted (come_together first others)) none i.together in
     let seat = ap (λ (p : PassView). p.seat) all in
-    let engine = ap (λ (p : PassView). p.engine) all in
-    let own : first.engine ≡ c.args.self.now = sym engine ∙ i.engine in
-    let inside = subst (λ (p : PassView). made_within p.engine.size.seats p.others.splitting ≤ p.engine.size.seats) c.pass.view_is c.tell_made.ensures in
+    let engine = ap engine_of all in
+    let own : engine_of first ≡ c.args.self.now = sym engine ∙ i.engine in
+    let inside = subst (λ (p : PassView). made_within p.shared.size.seats p.others.splitting ≤ p.shared.size.seats) c.pass.view_is c.tell_made.ensures in
     let splitting = ap (λ (p : PassView). p.others.splitting) all in
     let alone = alone_together first c.loop-pass.pass others (ap (λ (p : PassView). p.seat) c.clear_all.ensures ∙ c.requires.first) seat engine (ap (λ (p : PassView). p.others) all)
     (subst (λ (e : EngineView). AreOthers e.size others) (sym own) c.requires.each_once)
-    (subst (λ (s : Splitting). made_within first.engine.size.seats s ≤ first.engine.size.seats) splitting (subst (λ (e : EngineView). made_within e.size.seats c.loop-pass.pass.others.splitting ≤ e.size.seats) engine inside)) in
+    (subst (λ (s : Splitting). made_within first.shared.size.seats s ≤ first.shared.size.seats) splitting (subst (λ (e : EngineView). made_within e.size.seats c.loop-pass.pass.others.splitting ≤ e.size.seats) engine inside)) in
     let few = count_others c.args.self.now.size others c.seats.ensures.in_range c.requires.each_once in
     record {
       alone = alone;

@@ -1,16 +1,16 @@
-use Rattle.std.proofs.Common.{◌≡◌, ◌+◌, ◌-◌, ◌*◌, ◌≤◌, [], length}
+use Rattle.txn_engine.specs.Pass.{engine_of}
+use Rattle.std.proofs.Common.{◌≡◌, ◌+◌, ◌-◌, ◌*◌, ◌≤◌, length}
 use Rattle.stamp_base.specs.Limits.{greatest_clock}
-use Rattle.txn_engine.specs.Desk.{no_desk}
 use Rattle.txn_engine.specs.Joining.{AreOfEngine, refusals_of, come_together}
-use Rattle.txn_engine.proofs.Joined.{uncounted}
+use Rattle.txn_engine.proofs.Joined.{uncounted, resting}
 use Rattle.txn_engine.proofs.engine.Engine.alone.Given as goal
 
 abbrev pub invariant-loop-pass : goal.invariant-loop-pass
 invariant-loop-pass g l = record {
   together : uncounted (come_together l.pass l.rest.items) ≡ uncounted (come_together l.initial.pass l.initial.rest.items);
   own : l.pass.refusals ≡ l.initial.pass.refusals;
-  rests : l.pass ≡ record l.pass { boost = 0; queue = []; given = []; desk = no_desk };
-  engine : l.pass.engine ≡ l.self;
+  rests : l.pass ≡ resting l.pass;
+  engine : engine_of l.pass ≡ l.self;
   of_engine : AreOfEngine l.self l.rest.items;
   sum : l.earlier + refusals_of l.rest.items ≡ refusals_of l.initial.rest.items;
   fewer : length l.rest.items ≤ length l.initial.rest.items;

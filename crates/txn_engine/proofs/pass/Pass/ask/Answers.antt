@@ -2,16 +2,19 @@ use Rattle.std.proofs.Common.{◌≡◌, ◌<◌, ◌++◌, ◌∷◌, [], ap, �
 use Rattle.std.specs.Prelude.{IsSome, is_some}
 use Rattle.std.proofs.lemmas.Option.{slice_get_within}
 use Rattle.record_store.specs.Meaning.{value_at}
-use Rattle.txn_engine.specs.Pass.{PassView}
+use Rattle.txn_engine.specs.Pass.{PassView, observing}
 use Rattle.txn_engine.specs.Inside.{pass_view}
+use Rattle.seat_post.specs.Seats.{Observed}
 use Rattle.seat_post.specs.Spare.{NumbersView}
+use Rattle.txn_engine.specs.Fresh.{IsMetPresent}
 use Rattle.txn_engine.specs.Accounts.{accounted}
 use Rattle.txn_engine.proofs.Accounting.{accounted_given, accounted_struck}
+use Rattle.txn_engine.proofs.Growing.{observing_own, grows_none}
 use Rattle.txn_engine.proofs.pass.Pass.ask.Goals as goal
 
 pub returns-then-is_written-clause-ok : goal.returns-then-is_written-clause-ok
 returns-then-is_written-clause-ok g c =
-    let some : IsSome (value_at c.args.self.now.desk.writes c.args.rid) = ap (λ (x : PassView). is_some (value_at x.desk.writes c.args.rid)) (sym c.self.view_is) ∙ sym c.is_written.ensures ∙ c.if-is_written.true in
+    let some : IsSome (value_at c.args.self.now.writes c.args.rid) = ap (λ (x : PassView). is_some (value_at x.writes c.args.rid)) (sym c.self.view_is) ∙ sym c.is_written.ensures ∙ c.if-is_written.true in
     inl (refl, some, refl)
 
 pub give-requires : goal.give-requires
@@ -29,10 +32,11 @@ strike-requires g c =
 pub returns-else-branch-clause-ok : goal.returns-else-branch-clause-ok
 returns-else-branch-clause-ok g c =
     let i = c.self-2.inside in
-    let kept : c.is_absent.new.self ≡ c.args.self.now = rw c.if-branch.false at c.in_ok-is_absent.ensures.ok in
-    let is : pass_view i.post i.boost i.queue c.strike.new.self i.refusals i.dead i.counted ≡ record c.args.self.now { spare = remove c.args.self.now.spare c.args.i } =
+    let o = c.is_absent.new.self.observed in
+    let kept : c.is_absent.new.self ≡ observing c.args.self.now o = rw c.if-branch.false at c.in_ok-is_absent.ensures.ok in
+    let is : pass_view i.post i.boost i.queue c.strike.new.self i.refusals i.dead i.counted ≡ observing (record c.args.self.now { spare = remove c.args.self.now.spare c.args.i }) o =
     ap (λ (n : NumbersView). pass_view i.post i.boost i.queue n i.refusals i.dead i.counted) c.strike.ensures ∙ ap (λ (x : PassView). record x { spare = remove x.spare c.args.i }) (c.self-2.view_is ∙ kept) in
-    inr (is, refl)
+    inr (observing_own (pass_view i.post i.boost i.queue c.strike.new.self i.refusals i.dead i.counted) (record c.args.self.now { spare = remove c.args.self.now.spare c.args.i }) o is, refl, subst (λ (x : Observed). IsMetPresent c.args.self.now c.args.rid c.args.self.now.observed x) (sym (ap (λ (x : PassView). x.observed) c.self-2.view_is)) (c.in_ok-is_absent.ensures.met_present c.if-branch.false))
 
 pub returns-then-branch-clause-accounts : goal.returns-then-branch-clause-accounts
 returns-then-branch-clause-accounts g c =
@@ -45,7 +49,11 @@ returns-then-branch-clause-accounts g c =
 pub returns-else-branch-clause-accounts : goal.returns-else-branch-clause-accounts
 returns-else-branch-clause-accounts g c =
     let i = c.self-2.inside in
-    let kept : c.is_absent.new.self ≡ c.args.self.now = rw c.if-branch.false at c.in_ok-is_absent.ensures.ok in
-    let is : pass_view i.post i.boost i.queue c.strike.new.self i.refusals i.dead i.counted ≡ record c.args.self.now { spare = remove c.args.self.now.spare c.args.i } =
+    let o = c.is_absent.new.self.observed in
+    let kept : c.is_absent.new.self ≡ observing c.args.self.now o = rw c.if-branch.false at c.in_ok-is_absent.ensures.ok in
+    let is : pass_view i.post i.boost i.queue c.strike.new.self i.refusals i.dead i.counted ≡ observing (record c.args.self.now { spare = remove c.args.self.now.spare c.args.i }) o =
     ap (λ (n : NumbersView). pass_view i.post i.boost i.queue n i.refusals i.dead i.counted) c.strike.ensures ∙ ap (λ (x : PassView). record x { spare = remove x.spare c.args.i }) (c.self-2.view_is ∙ kept) in
     ap accounted is ∙ accounted_struck c.args.self.now c.args.i c.args.rid c.requires.at (λ alone. c.in_ok-is_absent.ensures.present alone c.if-branch.false)
+
+pub returns-then-is_written-clause-grows : goal.returns-then-is_written-clause-grows
+returns-then-is_written-clause-grows g c = grows_none c.args.self.now.observed

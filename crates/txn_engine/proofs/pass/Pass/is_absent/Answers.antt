@@ -1,21 +1,26 @@
-use Rattle.std.proofs.Common.{ℕ, List, Option, not, sym, subst, ap, ◌∙◌}
+use Rattle.std.proofs.Common.{◌≡◌, ℕ, false, List, Option, None, Some, inl, inr, not, sym, subst, ap, ◌∙◌}
+use Rattle.std.specs.Prelude.{is_some}
 use Rattle.record_store.specs.Meaning.{value_at}
 use Rattle.txn_engine.specs.Pass.{PassView, IsAlone}
 use Rattle.seat_post.specs.Leaves.{LeavesValue, LeavesSome, IsPresent}
+use Rattle.validate_core.specs.Validating.{Met, no_more}
+use Rattle.seat_post.specs.Post.{known_at}
+use Rattle.seat_post.specs.Reading.{FindsValue}
 use Rattle.seat_post.proofs.Leaving.{some_words, present_all}
 use Rattle.txn_engine.proofs.Asking.{pass_asked}
 use Rattle.txn_engine.proofs.Passes.{pass_observing}
+use Rattle.txn_engine.proofs.Growing.{grows_none}
 use Rattle.txn_engine.proofs.pass.Pass.is_absent.Goals as goal
 
 pub invariant_of-self : goal.invariant_of-self
 invariant_of-self g c =
-    let phase = ap (λ (x : PassView). x.desk.phase) c.self.view_is ∙ c.requires.open in
+    let phase = ap (λ (x : PassView). x.phase) c.self.view_is ∙ c.requires.open in
     rw c.in-Ok.ensures.ok (pass_observing _ _ _ _ _ _ _ (pass_asked c.self.inside.post c.args.rid c.in-Ok.absent _ _ _ _ _ c.self.invariant phase))
 
 pub returns-in-Some-clause-present : goal.returns-in-Some-clause-present
 returns-in-Some-clause-present g c = λ alone off.
-    let flying = ap (λ (x : PassView). x.desk.phase) c.self.view_is ∙ c.requires.open in
-    let unwritten = ap (λ (x : PassView). value_at x.desk.writes c.args.rid) c.self.view_is ∙ c.requires.unwritten in
+    let flying = ap (λ (x : PassView). x.phase) c.self.view_is ∙ c.requires.open in
+    let unwritten = ap (λ (x : PassView). value_at x.writes c.args.rid) c.self.view_is ∙ c.requires.unwritten in
     let left = c.in-Some.ensures.left flying (subst (λ (x : PassView). IsAlone x) (sym c.self.view_is) alone) unwritten in
     let w = some_words c.in-Some.value (c.is_none.ensures ∙ ap not off) in
     let p = c.self.inside.post in
@@ -24,7 +29,7 @@ returns-in-Some-clause-present g c = λ alone off.
 
 pub returns-in-Ok-clause-present : goal.returns-in-Ok-clause-present
 returns-in-Ok-clause-present g c = λ alone off.
-    let flying = ap (λ (x : PassView). x.desk.phase) c.self.view_is ∙ c.requires.open in
+    let flying = ap (λ (x : PassView). x.phase) c.self.view_is ∙ c.requires.open in
     let some = c.in-Ok.ensures.left (subst (λ (x : PassView). IsAlone x) (sym c.self.view_is) alone) off in
     let p = c.self.inside.post in
     subst (λ (x : PassView). IsPresent x.log c.args.rid) c.self.view_is (present_all p.log c.args.rid p.stamp (c.known.ensures.above flying) some)
@@ -34,3 +39,29 @@ invariant_of-self-in-Err-Pending g c = rw c.in-Err-Pending.ensures.err (pass_obs
 
 pub invariant_of-self-in-Err-NoMemory : goal.invariant_of-self-in-Err-NoMemory
 invariant_of-self-in-Err-NoMemory g c = rw c.in-Err-NoMemory.ensures.err (pass_observing _ _ _ _ _ _ _ c.self.invariant)
+
+pub returns-in-Some-clause-grows : goal.returns-in-Some-clause-grows
+returns-in-Some-clause-grows g c = grows_none c.args.self.now.observed
+
+no_words : (value : Option (List ℕ)) → is_some value ≡ false → value ≡ None
+no_words None off = cc
+no_words (Some words) off = cc
+
+pub returns-in-Some-clause-met_absent : goal.returns-in-Some-clause-met_absent
+returns-in-Some-clause-met_absent g c = λ on.
+    let known : known_at c.self.inside.post c.args.rid ≡ Some c.in-Some.value = sym c.known.ensures.value ∙ c.in-Some.is in
+    inl (subst (λ (x : PassView). known_at x.post c.args.rid ≡ Some None) c.self.view_is (known ∙ ap Some (no_words c.in-Some.value (c.is_none.ensures ∙ ap not on))))
+
+pub returns-in-Some-clause-met_present : goal.returns-in-Some-clause-met_present
+returns-in-Some-clause-met_present g c = λ off.
+    let known : known_at c.self.inside.post c.args.rid ≡ Some c.in-Some.value = sym c.known.ensures.value ∙ c.in-Some.is in
+    let w = some_words c.in-Some.value (c.is_none.ensures ∙ ap not off) in
+    inl (w.0, subst (λ (x : PassView). known_at x.post c.args.rid ≡ Some (Some w.0)) c.self.view_is (known ∙ ap Some w.1))
+
+pub returns-in-Ok-clause-met_absent : goal.returns-in-Ok-clause-met_absent
+returns-in-Ok-clause-met_absent g c = λ on.
+    inr (subst (λ (x : PassView). FindsValue x.stamp c.args.rid x.observed c.read_absent.new.self.observed None) c.self.view_is (c.in-Ok.ensures.absent on))
+
+pub returns-in-Ok-clause-met_present : goal.returns-in-Ok-clause-met_present
+returns-in-Ok-clause-met_present g c = λ off.
+    inr (subst (λ (x : PassView). (wts : ℕ) × Met x.stamp c.args.rid wts 3 no_more x.observed.loads c.read_absent.new.self.observed.loads) c.self.view_is (c.in-Ok.ensures.present off))

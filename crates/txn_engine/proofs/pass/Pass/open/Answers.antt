@@ -1,6 +1,5 @@
 use Rattle.std.proofs.Common.{ℕ, ◌<◌, ap, ◌∙◌, subst}
-use Rattle.txn_engine.specs.Desk.{DeskView}
-use Rattle.txn_engine.specs.Pass.{PassView}
+use Rattle.txn_engine.specs.Pass.{PassView, DeskView}
 use Rattle.seat_post.specs.Logs.{IsAbove}
 use Rattle.seat_post.specs.Spare.{NumbersView}
 use Rattle.txn_engine.proofs.Passes.{pass_room, pass_opened, pass_numbers}
@@ -15,7 +14,7 @@ invariant_of-self-in_err-open g c = rw c.in_err-open.ensures.err (pass_room _ c.
 
 pub invariant_of-self-2 : goal.invariant_of-self-2
 invariant_of-self-2 g c =
-    let alive = ap (λ (p : PassView). p.desk.dead) c.self.view_is ∙ ap (λ (d : DeskView). d.dead) c.requires.idle in
+    let alive = ap (λ (p : PassView). p.dead) c.self.view_is ∙ ap (λ (d : DeskView). d.dead) c.requires.idle in
     let room = pass_room _ c.self.inside.queue c.reserve.new.self _ _ _ _ c.self.invariant c.reserve.ensures.items c.reserve.ensures.not_less in
     let begun = pass_opened c.self.inside.post _ c.reserve.new.self _ _ _ _ room alive (drawn_later c.self.inside.post.clock c.saturating_add.result) (seat_below c.number.ensures.size (subst (λ (n : ℕ). n < c.self.inside.post.shared.size.seats) c.number.ensures.value c.number.ensures.within)) in
     pass_numbers _ _ c.self.inside.numbers c.take_back.new.self _ _ _ (rw c.in_ok-open.ensures.ok begun) (ap (λ (n : NumbersView). n.fixed) c.take_back.ensures) (ap (λ (n : NumbersView). n.records) c.take_back.ensures)

@@ -1,14 +1,16 @@
-use Rattle.std.proofs.Common.{◌≡◌, None, ap, ◌∙◌, sym, subst}
+use Rattle.std.proofs.Common.{◌≡◌, None, Some, ap, ◌∙◌, sym, subst}
 use Rattle.record_store.specs.Meaning.{value_at}
 use Rattle.txn_engine.specs.Pass.{PassView, IsAlone}
 use Rattle.seat_post.specs.Leaves.{LeavesValue}
 use Rattle.seat_post.specs.Post.{PostView, known_at}
+use Rattle.seat_post.specs.Reading.{FindsValue}
 use Rattle.txn_engine.proofs.Passes.{pass_read, none_known, known_noted, pass_observing}
+use Rattle.txn_engine.proofs.Growing.{grows_same}
 use Rattle.txn_engine.proofs.pass.Pass.read.Goals as goal
 
 pub invariant_of-self : goal.invariant_of-self
 invariant_of-self g c =
-    let phase = ap (λ (x : PassView). x.desk.phase) c.self.view_is ∙ ap (λ (x : PassView). x.desk.phase) c.in_ok-stopped.ensures.ok.0 ∙ c.requires.open in
+    let phase = ap (λ (x : PassView). x.phase) c.self.view_is ∙ ap (λ (x : PassView). x.phase) c.in_ok-stopped.ensures.ok.0 ∙ c.requires.open in
     rw c.in-Ok.ensures.ok (pass_observing _ _ _ _ _ _ _ (pass_read c.self.inside.post _ _ _ _ _ _ _ c.self.invariant phase))
 
 pub returns-in-Ok-clause-answer : goal.returns-in-Ok-clause-answer
@@ -26,11 +28,27 @@ invariant_of-self-in-Err-NoMemory g c = rw c.in-Err-NoMemory.ensures.err (pass_o
 pub returns-in-Some-clause-left : goal.returns-in-Some-clause-left
 returns-in-Some-clause-left g c = λ alone unwritten.
     let same = c.self.view_is ∙ c.in_ok-stopped.ensures.ok.0 in
-    let flying = ap (λ (x : PassView). x.desk.phase) same ∙ c.requires.open in
-    let still = ap (λ (x : PassView). value_at x.desk.writes c.args.rid) same ∙ unwritten in
-    subst (λ (x : PassView). LeavesValue x.log c.args.rid x.desk.stamp c.in-Some.value) same (c.in-Some.ensures.left flying (subst (λ (x : PassView). IsAlone x) (sym same) alone) still)
+    let flying = ap (λ (x : PassView). x.phase) same ∙ c.requires.open in
+    let still = ap (λ (x : PassView). value_at x.writes c.args.rid) same ∙ unwritten in
+    subst (λ (x : PassView). LeavesValue x.log c.args.rid x.stamp c.in-Some.value) same (c.in-Some.ensures.left flying (subst (λ (x : PassView). IsAlone x) (sym same) alone) still)
 
 pub returns-in-Ok-clause-left : goal.returns-in-Ok-clause-left
 returns-in-Ok-clause-left g c = λ alone unwritten.
     let same = c.self.view_is ∙ c.in_ok-stopped.ensures.ok.0 in
-    subst (λ (x : PassView). LeavesValue x.log c.args.rid x.desk.stamp c.in-Ok.value) same (c.in-Ok.ensures.left (subst (λ (x : PassView). IsAlone x) (sym same) alone))
+    subst (λ (x : PassView). LeavesValue x.log c.args.rid x.stamp c.in-Ok.value) same (c.in-Ok.ensures.left (subst (λ (x : PassView). IsAlone x) (sym same) alone))
+
+pub returns-in_err-stopped-clause-grows : goal.returns-in_err-stopped-clause-grows
+returns-in_err-stopped-clause-grows g c = grows_same c.args.self.now.observed c.stopped.new.self.observed (ap (λ (x : PassView). x.observed) c.in_err-stopped.ensures.err)
+
+pub returns-in-Some-clause-grows : goal.returns-in-Some-clause-grows
+returns-in-Some-clause-grows g c = grows_same c.args.self.now.observed c.stopped.new.self.observed (ap (λ (x : PassView). x.observed) c.in_ok-stopped.ensures.ok.0)
+
+pub returns-in-Some-clause-found : goal.returns-in-Some-clause-found
+returns-in-Some-clause-found g c = λ none.
+    let some : known_at c.self.inside.post c.args.rid ≡ Some c.in-Some.value = sym c.known.ensures.value ∙ c.in-Some.is in
+    let same : known_at c.args.self.now.post c.args.rid ≡ known_at c.self.inside.post c.args.rid = sym (ap (λ (x : PassView). known_at x.post c.args.rid) (c.self.view_is ∙ c.in_ok-stopped.ensures.ok.0)) in
+    cc
+
+pub returns-in-Ok-clause-found : goal.returns-in-Ok-clause-found
+returns-in-Ok-clause-found g c = λ none.
+    subst (λ (x : PassView). FindsValue x.stamp c.args.rid x.observed c.read.new.self.observed c.in-Ok.value) (c.self.view_is ∙ c.in_ok-stopped.ensures.ok.0) c.in-Ok.ensures.found

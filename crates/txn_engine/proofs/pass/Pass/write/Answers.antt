@@ -1,8 +1,10 @@
 use Rattle.std.proofs.Common.{◌≤◌, ◌+◌, ap, ◌∙◌, arith, length}
 use Rattle.record_store.specs.Meaning.{with_value}
+use Rattle.seat_post.specs.Post.{PostView}
 use Rattle.txn_engine.specs.Pass.{PassView}
 use Rattle.seat_post.proofs.Listed.{longer}
 use Rattle.txn_engine.proofs.Passes.{pass_written, pass_room}
+use Rattle.txn_engine.proofs.Growing.{grows_same}
 use Rattle.txn_engine.proofs.pass.Pass.write.Goals as goal
 
 pub invariant_of-self : goal.invariant_of-self
@@ -14,8 +16,20 @@ invariant_of-self-in_err-write g c = rw c.in_err-write.ensures.err (pass_room _ 
 pub invariant_of-self-2 : goal.invariant_of-self-2
 invariant_of-self-2 g c =
     let p = c.self.inside.post in
-    let phase = ap (λ (x : PassView). x.desk.phase) c.self.view_is ∙ ap (λ (x : PassView). x.desk.phase) c.in_ok-stopped.ensures.ok.0 ∙ c.requires.open in
+    let phase = ap (λ (x : PassView). x.phase) c.self.view_is ∙ ap (λ (x : PassView). x.phase) c.in_ok-stopped.ensures.ok.0 ∙ c.requires.open in
     let room = pass_room _ c.self.inside.queue c.reserve.new.self _ _ _ _ c.self.invariant c.reserve.ensures.items c.reserve.ensures.not_less in
     let enough : length c.reserve.new.self.items + length (with_value p.writes c.args.rid c.args.value.now) ≤ c.reserve.new.self.room =
     let r = c.in_ok-reserve.ensures.room in let i = ap length c.reserve.ensures.items in let w = ap length c.writes.ensures.value in let l = c.len.ensures.len in let m = longer p.writes c.args.rid c.args.value.now in omega arith in
     rw c.in_ok-write.ensures.ok (pass_written p _ c.reserve.new.self _ _ _ _ room phase enough)
+
+pub returns-in_err-stopped-clause-grows : goal.returns-in_err-stopped-clause-grows
+returns-in_err-stopped-clause-grows g c = grows_same c.args.self.now.observed c.stopped.new.self.observed (ap (λ (x : PassView). x.observed) c.in_err-stopped.ensures.err)
+
+pub returns-in_err-reserve-clause-grows : goal.returns-in_err-reserve-clause-grows
+returns-in_err-reserve-clause-grows g c = grows_same c.args.self.now.observed c.self.inside.post.observed (ap (λ (x : PassView). x.observed) (c.self.view_is ∙ c.in_ok-stopped.ensures.ok.0))
+
+pub returns-in_err-write-clause-grows : goal.returns-in_err-write-clause-grows
+returns-in_err-write-clause-grows g c = grows_same c.args.self.now.observed c.write.new.self.observed (ap (λ (x : PostView). x.observed) c.in_err-write.ensures.err ∙ ap (λ (x : PassView). x.observed) (c.self.view_is ∙ c.in_ok-stopped.ensures.ok.0))
+
+pub returns-clause-grows : goal.returns-clause-grows
+returns-clause-grows g c = grows_same c.args.self.now.observed c.write.new.self.observed (ap (λ (x : PostView). x.observed) c.in_ok-write.ensures.ok ∙ ap (λ (x : PassView). x.observed) (c.self.view_is ∙ c.in_ok-stopped.ensures.ok.0))

@@ -1,0 +1,201 @@
+-- What settling does for a record, and what shows it.
+use Rattle.std.proofs.Common.{◌≡◌, ◌≢◌, ℕ, suc, ◌+◌, ◌<◌, ◌≤◌, ◌⊎◌, Bool, true, false, cond, List, [], ◌∷◌, ◌++◌, append_assoc, append-nil, length, length-append, max, Some, refl, sym, ap, ◌∙◌, subst, inl, inr, arith}
+use Rattle.std.specs.Prelude.{sum_by}
+use Rattle.std.proofs.lemmas.List.Sums.{sum_by-append, sum_by-cons}
+use Rattle.word_layout.specs.Name.{min_write}
+use Rattle.word_layout.specs.Size.{Size}
+use Rattle.core_rule.specs.View.{View, Cut, Gone, Load, Seen}
+use Rattle.core_rule.specs.Views.{Among, IsAlone}
+use Rattle.core_rule.specs.Paths.{EndsAt, load}
+use Rattle.clock_stamps.specs.Minima.{bounded}
+use Rattle.version_search.specs.declared.fronts.First.{First}
+use Rattle.version_search.specs.Growing as growing
+use Rattle.version_search.specs.Finding.{Reads}
+use Rattle.version_search.specs.Looking.{Looked}
+use Rattle.version_search.proofs.Grown.{grows_loads, grows_none, grows_both}
+use Rattle.rapid_gc.specs.Bounds.{IsNewest}
+use Rattle.rapid_gc.specs.Ends.{Ended, Became, Goes, not_begun, goes_on, FreesCounted, items_of, remaining, stays}
+use Rattle.rapid_gc.specs.declared.queue.Queued.{Queued}
+use Rattle.rapid_gc.specs.declared.fate.Fate.{Fate}
+use Rattle.rapid_gc.specs.declared.fate.Fate.TheVariants.{Late, Locked, Dropped, Cut as CutBelow}
+use Rattle.seat_post.specs.declared.settled.Settled.{Settled}
+use Rattle.seat_post.specs.Seats.{observed_of}
+use Rattle.seat_post.specs.Observing.{WasLost, MeetsNoPlace}
+use Rattle.seat_post.specs.Collecting.{trail_in, Trail}
+use Rattle.seat_post.specs.Settling.{FindsOther, IsHidden, LooksFirst, IsDue, CutsAsDue, CutsOf, SettlesOne, SettlesEach, none_yet, one_more, SettlesFirst, RunsOut, WantsKept}
+use Rattle.seat_post.proofs.Observed.{lost_before}
+
+-- ---- whether a writing again is due
+
+pub found_other : (v r b w : View) (bound rid place found status wts : ℕ) → growing.Grows v.seen r.seen → b ≡ bounded r bound → Reads (bound + 1) rid place found status b w → (found ≢ wts) ⊎ (wts ≡ 0) → FindsOther rid wts v.seen.loads w.seen.loads
+found_other v r b w bound rid place found status wts g is reads other =
+    let l = load min_write (bound + 1) in
+    let before : b.seen.loads ≡ v.seen.loads ++ (g.loaded ++ l ∷ []) =
+    ap (λ (y : View). y.seen.loads) is ∙ ap (λ (ls : List Load). ls ++ l ∷ []) g.loads ∙ append_assoc v.seen.loads g.loaded (l ∷ []) in
+    record {
+      limit = bound + 1;
+      place = place;
+      found = found;
+      status = status;
+      earlier = g.loaded;
+      path = subst (λ (ls : List Load). EndsAt (bound + 1) rid place found status ls w.seen.loads) before reads.path;
+      other = other;
+    }
+
+pub looks_first : (rid : ℕ) (first : First) (before looked : List Load) (f w : Seen) → Looked rid first.place first.wts first.decided first.single before looked → looked ≡ f.loads → growing.Grows f w → LooksFirst rid first before looked w.loads
+looks_first rid first before looked f w look same g = record { look = look; later = g.loaded; rest = g.loads ∙ ap (λ (ls : List Load). ls ++ g.loaded) (sym same) }
+
+pub due_at : (rid : ℕ) (first : First) (v f s w : View) → Looked rid first.place first.wts first.decided first.single v.seen.loads f.seen.loads → first.single ≡ false → IsHidden rid first f.seen.loads s.seen.loads → growing.Grows f.seen s.seen → growing.Grows s.seen w.seen → IsDue rid v.seen.loads w.seen.loads
+due_at rid first v f s w look more hidden g h = record {
+  first = first;
+  looked = f.seen.loads;
+  looks = looks_first rid first v.seen.loads f.seen.loads f.seen w.seen look refl (grows_both f.seen s.seen w.seen g h);
+  more = more;
+  searched = s.seen.loads;
+  hidden = hidden;
+  later = h.loaded;
+  rest = h.loads;
+}
+
+-- ---- the cuts
+
+pub cuts_none : (rid : ℕ) (v w : View) → w.gone ≡ v.gone → CutsOf rid 0 v.gone.cuts w.gone.cuts
+cuts_none rid v w same = record { cuts = []; made = ap (λ (g : Gone). g.cuts) same ∙ sym (append-nil v.gone.cuts); many = refl; of_record = λ c among. absurd among }
+
+pub cuts_from : (rid n : ℕ) (u v w : View) → v.gone ≡ u.gone → CutsOf rid n v.gone.cuts w.gone.cuts → CutsOf rid n u.gone.cuts w.gone.cuts
+cuts_from rid n u v w same is = subst (λ (g : Gone). CutsOf rid n g.cuts w.gone.cuts) same is
+
+among_either : (c : Cut) (xs ys : List Cut) → Among c (xs ++ ys) → Among c xs ⊎ Among c ys
+among_either c [] ys among = inr among
+among_either c (x ∷ xs) ys (inl same) = inl (inl same)
+among_either c (x ∷ xs) ys (inr more) = elim (among_either c xs ys more) as (λ _. Among c (x ∷ xs) ⊎ Among c ys) [ inl a ↦ inl (inr a) | inr b ↦ inr b ]
+
+pub cuts_both : (rid m n : ℕ) (s t u : List Cut) → CutsOf rid m s t → CutsOf rid n t u → CutsOf rid (m + n) s u
+cuts_both rid m n s t u a b = record {
+  cuts = a.cuts ++ b.cuts;
+  made = b.made ∙ ap (λ (xs : List Cut). xs ++ b.cuts) a.made ∙ append_assoc s a.cuts b.cuts;
+  many = let e = length-append a.cuts b.cuts in let f = a.many in let h = b.many in omega arith;
+  of_record = λ c among. elim (among_either c a.cuts b.cuts among) as (λ _. c.record_number ≡ rid) [ inl x ↦ a.of_record c x | inr y ↦ b.of_record c y ];
+}
+
+-- an item of a seat that is alone, and the newest of its record, is cut below
+cut_became : (reached : ℕ) (i : Queued) (fate : Fate) (v w : View) → IsAlone v → IsNewest v.tops i → stays fate ≡ false → Became reached i fate v w → CutsOf i.rid 1 v.gone.cuts w.gone.cuts
+cut_became reached i Late v w alone newest off h = cc
+cut_became reached i Locked v w alone newest off h = cc
+cut_became reached i Dropped v w alone newest off h =
+    let low = h.1.known alone newest.stamp newest.known in
+    let under = h.1.below in
+    let at = newest.low in
+    absurd (omega arith)
+cut_became reached i CutBelow v w alone newest off h =
+    let c = h.1.cuts in record {
+      cuts = record { record_number = i.rid; stamp = i.stamp; place = c.place; to = c.to } ∷ [];
+      made = c.cuts ∙ ap (λ (g : Gone). g.cuts ++ record { record_number = i.rid; stamp = i.stamp; place = c.place; to = c.to } ∷ []) h.1.gone;
+      many = refl;
+      of_record = λ (d : Cut) among. elim among as (λ _. d.record_number ≡ i.rid) [ inl same ↦ ap (λ (x : Cut). x.record_number) (sym same) | inr none ↦ absurd none ];
+    }
+
+none_went : (reached : ℕ) (es : List Ended) (v w : View) → Goes reached es v w → items_of es ≡ [] → w ≡ v
+none_went reached _ _ _ (not_begun v) none = refl
+none_went reached _ _ _ (goes_on es e v w x goes became) none = cc
+
+off_left : (b : Bool) (i : Queued) (xs ys : List Queued) → cond b (i ∷ xs) ys ≡ [] → b ≡ false
+off_left true i xs ys none = cc
+off_left false i xs ys none = refl
+
+pub one_cut : (reached : ℕ) (i : Queued) (es : List Ended) (v w : View) → Goes reached es v w → IsAlone v → IsNewest v.tops i → items_of es ≡ i ∷ [] → remaining es ≡ [] → CutsOf i.rid 1 v.gone.cuts w.gone.cuts
+one_cut reached i _ _ _ (not_begun v) alone newest one none = cc
+one_cut reached i _ _ _ (goes_on es e v w x goes became) alone newest one none =
+    let same : w ≡ v = none_went reached es v w goes (let h : e.item ∷ items_of es ≡ i ∷ [] = one in cc) in
+    let item : e.item ≡ i = let h : e.item ∷ items_of es ≡ i ∷ [] = one in cc in
+    let off = off_left (stays e.end) e.item (remaining es) (remaining es) none in
+    let here = subst (λ (y : View). Became reached e.item e.end y x) same became in
+    let fits : IsNewest v.tops e.item = subst (λ (j : Queued). IsNewest v.tops j) (sym item) newest in
+    subst (λ (j : Queued). CutsOf j.rid 1 v.gone.cuts x.gone.cuts) item (cut_became reached e.item e.end v x alone fits off here)
+
+-- ---- the kept place
+
+pub no_place : (z : Size) (rid : ℕ) (u v w x : View) → growing.Grows u.seen v.seen → WantsKept z rid v w → growing.Grows w.seen x.seen → MeetsNoPlace z rid (observed_of u) (observed_of x)
+no_place z rid u v w x before wants behind = record {
+  inline_met = lost_behind rid (lost_before rid u v w w before wants.inline_met refl);
+  usable_met = λ p usable. lost_behind p (lost_before p u v w w before (wants.usable_met p usable) refl);
+} where
+  lost_behind : (p : ℕ) → WasLost p u.seen.lost w.seen.lost → WasLost p u.seen.lost x.seen.lost
+  lost_behind p l = record {
+    earlier = l.earlier;
+    exchange = l.exchange;
+    later = l.later ++ behind.missed;
+    not_free = l.not_free;
+    lost = behind.lost ∙ ap (λ (xs : List Load). xs ++ behind.missed) l.lost
+        ∙ append_assoc u.seen.lost (l.earlier ++ l.exchange ∷ l.later) behind.missed
+        ∙ ap (λ (xs : List Load). u.seen.lost ++ xs) (append_assoc l.earlier (l.exchange ∷ l.later) behind.missed);
+  }
+
+pub no_place_from : (z : Size) (rid : ℕ) (u v w x : View) → growing.Grows u.seen v.seen → MeetsNoPlace z rid (observed_of v) (observed_of w) → growing.Grows w.seen x.seen → MeetsNoPlace z rid (observed_of u) (observed_of x)
+no_place_from z rid u v w x before met behind = record { inline_met = lost_within rid met.inline_met; usable_met = λ p usable. lost_within p (met.usable_met p usable) } where
+  lost_within : (p : ℕ) → WasLost p v.seen.lost w.seen.lost → WasLost p u.seen.lost x.seen.lost
+  lost_within p l = record {
+    earlier = before.missed ++ l.earlier;
+    exchange = l.exchange;
+    later = l.later ++ behind.missed;
+    not_free = l.not_free;
+    lost = behind.lost ∙ ap (λ (xs : List Load). xs ++ behind.missed) l.lost
+        ∙ append_assoc v.seen.lost (l.earlier ++ l.exchange ∷ l.later) behind.missed
+        ∙ ap (λ (xs : List Load). v.seen.lost ++ xs) (append_assoc l.earlier (l.exchange ∷ l.later) behind.missed)
+        ∙ ap (λ (xs : List Load). xs ++ (l.earlier ++ (l.exchange ∷ (l.later ++ behind.missed)))) before.lost
+        ∙ append_assoc u.seen.lost before.missed (l.earlier ++ (l.exchange ∷ (l.later ++ behind.missed)))
+        ∙ ap (λ (xs : List Load). u.seen.lost ++ xs) (sym (append_assoc before.missed l.earlier (l.exchange ∷ (l.later ++ behind.missed))));
+  }
+
+-- where the clock came to its end
+pub out_from : (z : Size) (rid : ℕ) (u v w : View) → v.clock.clock ≡ u.clock.clock → growing.Grows u.seen v.seen → RunsOut z rid v.clock.clock w.clock.clock (observed_of v) (observed_of w) → RunsOut z rid u.clock.clock w.clock.clock (observed_of u) (observed_of w)
+out_from z rid u v w same before (inl none) = inl (none ∙ same)
+out_from z rid u v w same before (inr one) = inr (one.0 ∙ ap (λ (n : ℕ). n + 1) same, no_place_from z rid u v w w before one.1 (grows_none w.seen))
+
+-- ---- a record, and one after another
+
+pub cut_none : (single : Bool) (n : ℕ) → single ≡ true → 0 ≡ cond single 0 (max n 1)
+cut_none true n on = refl
+cut_none false n on = cc
+
+pub cut_some : (single : Bool) (n cut : ℕ) → single ≡ false → cut ≡ max n 1 → cut ≡ cond single 0 (max n 1)
+cut_some true n cut off is = cc
+cut_some false n cut off is = is
+
+pub settles_one : (z : Size) (rid : ℕ) (done : Settled) (first : First) (v f w : View) → Looked rid first.place first.wts first.decided first.single v.seen.loads f.seen.loads → f.seen.lost ≡ v.seen.lost → growing.Grows f.seen w.seen → done.cut ≡ cond first.single 0 (max done.rewritten 1) → CutsOf rid done.cut v.gone.cuts w.gone.cuts → FreesCounted done.places v w → (0 < done.rewritten → IsDue rid v.seen.loads w.seen.loads) → (1 < done.rewritten → MeetsNoPlace z rid (observed_of v) (observed_of w)) → SettlesOne z rid done (trail_in v) (trail_in w)
+settles_one z rid done first v f w look same g cut cuts freed due kept = record {
+  grows = let all = grows_both v.seen f.seen w.seen (grows_loads v.seen f.seen _ look.loads same) g in record { loaded = all.loaded; missed = all.missed; loads = all.loads; lost = all.lost };
+  as_due = record { first = first; looked = f.seen.loads; looks = looks_first rid first v.seen.loads f.seen.loads f.seen w.seen look refl g; cut = cut };
+  cuts = cuts;
+  places = record { freed = freed.freed; gone = freed.gone; count = freed.count };
+  due = due;
+  kept = kept;
+}
+
+pub settles_none : (z : Size) (all : Settled) (v : View) → all.rewritten ≡ 0 → all.cut ≡ 0 → FreesCounted all.places v v → SettlesFirst z 0 all (trail_in v) (trail_in v)
+settles_none z all v rewritten cut freed = record {
+  done = [];
+  many = refl;
+  each = none_yet (trail_in v);
+  rewritten = rewritten;
+  cut = cut;
+  places = record { freed = freed.freed; gone = freed.gone; count = freed.count };
+}
+
+pub settles_more : (z : Size) (count : ℕ) (all one all' : Settled) (u v w : View) → SettlesFirst z count all (trail_in u) (trail_in v) → SettlesOne z count one (trail_in v) (trail_in w) → all'.rewritten ≡ all.rewritten + one.rewritten → all'.cut ≡ all.cut + one.cut → FreesCounted all'.places u w → SettlesFirst z (count + 1) all' (trail_in u) (trail_in w)
+settles_more z count all one all' u v w so_far here rewritten cut freed =
+    let at = subst (λ (n : ℕ). SettlesOne z n one (trail_in v) (trail_in w)) (sym so_far.many) here in
+    record {
+      done = so_far.done ++ one ∷ [];
+      many = let e = length-append so_far.done (one ∷ []) in let h = so_far.many in omega arith;
+      each = one_more so_far.done one (trail_in u) (trail_in v) (trail_in w) so_far.each at;
+      rewritten = rewritten ∙ ap (λ (n : ℕ). n + one.rewritten) so_far.rewritten ∙ sym (sum_push (λ (d : Settled). d.rewritten) so_far.done one);
+      cut = cut ∙ ap (λ (n : ℕ). n + one.cut) so_far.cut ∙ sym (sum_push (λ (d : Settled). d.cut) so_far.done one);
+      places = record { freed = freed.freed; gone = freed.gone; count = freed.count };
+    } where
+      sum_push : (f : Settled → ℕ) (ds : List Settled) (d : Settled) → sum_by f (ds ++ d ∷ []) ≡ sum_by f ds + f d
+      sum_push f ds d =
+          let both = sum_by-append f ds (d ∷ []) in
+          let last = sum_by-cons f d [] in
+          let none : sum_by f [] ≡ 0 = refl in
+          omega arith

@@ -1,0 +1,127 @@
+-- The numbers of a spare list that were passed.
+use Rattle.std.proofs.Common.{◌≡◌, ℕ, zero, suc, List, [], ◌∷◌, ◌++◌, None, Some, refl, sym, ap, subst, ◌∙◌, inl, inr, arith, take, drop, remove, append_assoc, append-nil}
+use Rattle.std.specs.Prelude.{IsSome, slice_get}
+use Rattle.record_store.specs.Meaning.{value_at}
+use Rattle.seat_post.specs.Observing.{Grows}
+use Rattle.txn_engine.specs.Pass.{PassView, observing}
+use Rattle.txn_engine.specs.Fresh.{IsMetAbsent, IsMetPresent, PassesOver, none_yet, one_stays, one_leaves, GivesFirst, PassesSome, PassesAll, Asks}
+use Rattle.txn_engine.specs.declared.fresh.Asked.{Asked}
+use Rattle.txn_engine.specs.declared.fresh.Asked.TheVariants.{Given, Next}
+
+-- ---- lists
+
+drop_at : (xs : List ℕ) (i r : ℕ) → slice_get xs i ≡ Some r → drop i xs ≡ r ∷ drop (suc i) xs
+drop_at [] i r at = cc
+drop_at (x ∷ xs) zero r at = let same : x ≡ r = cc in ap (λ (y : ℕ). y ∷ xs) same
+drop_at (x ∷ xs) (suc i) r at = drop_at xs i r at
+
+take_at : (xs : List ℕ) (i r : ℕ) → slice_get xs i ≡ Some r → take (suc i) xs ≡ take i xs ++ r ∷ []
+take_at [] i r at = cc
+take_at (x ∷ xs) zero r at = let same : x ≡ r = cc in ap (λ (y : ℕ). y ∷ []) same
+take_at (x ∷ xs) (suc i) r at = ap (λ (ys : List ℕ). x ∷ ys) (take_at xs i r at)
+
+take_removed : (xs : List ℕ) (i : ℕ) → take i (remove xs i) ≡ take i xs
+take_removed [] zero = refl
+take_removed [] (suc i) = refl
+take_removed (x ∷ xs) zero = refl
+take_removed (x ∷ xs) (suc i) = ap (λ (ys : List ℕ). x ∷ ys) (take_removed xs i)
+
+drop_removed : (xs : List ℕ) (i : ℕ) → drop i (remove xs i) ≡ drop (suc i) xs
+drop_removed [] zero = refl
+drop_removed [] (suc i) = refl
+drop_removed (x ∷ xs) zero = refl
+drop_removed (x ∷ xs) (suc i) = drop_removed xs i
+
+take_all : (xs : List ℕ) (i : ℕ) → slice_get xs i ≡ None → take i xs ≡ xs
+take_all [] zero none = refl
+take_all [] (suc i) none = refl
+take_all (x ∷ xs) zero none = cc
+take_all (x ∷ xs) (suc i) none = ap (λ (ys : List ℕ). x ∷ ys) (take_all xs i none)
+
+drop_all : (xs : List ℕ) (i : ℕ) → slice_get xs i ≡ None → drop i xs ≡ []
+drop_all [] zero none = refl
+drop_all [] (suc i) none = refl
+drop_all (x ∷ xs) zero none = cc
+drop_all (x ∷ xs) (suc i) none = drop_all xs i none
+
+take_then_drop : (xs : List ℕ) (i : ℕ) → take i xs ++ drop i xs ≡ xs
+take_then_drop [] zero = refl
+take_then_drop [] (suc i) = refl
+take_then_drop (x ∷ xs) zero = refl
+take_then_drop (x ∷ xs) (suc i) = ap (λ (ys : List ℕ). x ∷ ys) (take_then_drop xs i)
+
+-- ---- passing them
+
+-- numbers were passed, of which so many stand at the head of the list that is left
+pub record HasPassed (i : ℕ) (before after' : PassView) : Type 0 where
+  pub numbers : List ℕ
+  pub over : PassesOver before numbers (take i after'.spare) before.observed after'.observed
+  pub list : before.spare ≡ numbers ++ drop i after'.spare
+
+pub none_passed : (p : PassView) → HasPassed 0 p p
+none_passed p = record { numbers = []; over = none_yet p.observed; list = refl }
+
+passed_one : (numbers xs : List ℕ) (i rid : ℕ) → slice_get xs i ≡ Some rid → numbers ++ drop i xs ≡ (numbers ++ rid ∷ []) ++ drop (suc i) xs
+passed_one numbers xs i rid at = ap (λ (ys : List ℕ). numbers ++ ys) (drop_at xs i rid at) ∙ sym (append_assoc numbers (rid ∷ []) (drop (suc i) xs))
+
+pub stays_passed : (p q : PassView) (i rid : ℕ) → HasPassed i p q → slice_get q.spare i ≡ Some rid → IsSome (value_at p.writes rid) → HasPassed (suc i) p q
+stays_passed p q i rid h at written = record {
+  numbers = h.numbers ++ rid ∷ [];
+  over = subst (λ (xs : List ℕ). PassesOver p (h.numbers ++ rid ∷ []) xs p.observed q.observed) (sym (take_at q.spare i rid at)) (one_stays h.numbers (take i q.spare) rid p.observed q.observed h.over written);
+  list = h.list ∙ passed_one h.numbers q.spare i rid at;
+}
+
+pub leaves_passed : (p q r : PassView) (i rid : ℕ) → HasPassed i p q → slice_get q.spare i ≡ Some rid → r.spare ≡ remove q.spare i → Grows q.observed r.observed → IsMetPresent p rid q.observed r.observed → HasPassed i p r
+leaves_passed p q r i rid h at less later met = record {
+  numbers = h.numbers ++ rid ∷ [];
+  over = subst (λ (xs : List ℕ). PassesOver p (h.numbers ++ rid ∷ []) xs p.observed r.observed) (sym (ap (take i) less ∙ take_removed q.spare i)) (one_leaves h.numbers (take i q.spare) rid p.observed q.observed r.observed h.over later met);
+  list = h.list ∙ passed_one h.numbers q.spare i rid at ∙ ap (λ (ys : List ℕ). (h.numbers ++ rid ∷ []) ++ ys) (sym (ap (drop i) less ∙ drop_removed q.spare i));
+}
+
+pub gives_first : (p q r : PassView) (i rid : ℕ) → HasPassed i p q → slice_get q.spare i ≡ Some rid → r.spare ≡ remove q.spare i → r.given ≡ p.given ++ rid ∷ [] → Grows q.observed r.observed → IsMetAbsent p rid q.observed r.observed → GivesFirst p r rid
+gives_first p q r i rid h at less given later absent = record {
+  numbers = h.numbers;
+  stayed = take i q.spare;
+  rest = drop (suc i) q.spare;
+  list = h.list ∙ ap (λ (ys : List ℕ). h.numbers ++ ys) (drop_at q.spare i rid at);
+  between = q.observed;
+  over = h.over;
+  later = later;
+  absent = absent;
+  left = less;
+  given = given;
+}
+
+pub all_passed : (p q : PassView) (i : ℕ) → HasPassed i p q → slice_get q.spare i ≡ None → PassesAll p q
+all_passed p q i h none =
+    let whole : h.numbers ≡ p.spare = sym (append-nil h.numbers) ∙ ap (λ (ys : List ℕ). h.numbers ++ ys) (sym (drop_all q.spare i none)) ∙ sym h.list in
+    subst (λ (xs : List ℕ). PassesOver p xs q.spare p.observed q.observed) whole (subst (λ (ys : List ℕ). PassesOver p h.numbers ys p.observed q.observed) (take_all q.spare i none) h.over)
+
+pub some_passed : (p q r : PassView) (i : ℕ) → HasPassed i p q → r.spare ≡ q.spare → Grows q.observed r.observed → PassesSome p r
+some_passed p q r i h same later = record {
+  numbers = h.numbers;
+  stayed = take i q.spare;
+  rest = drop i q.spare;
+  list = h.list;
+  between = q.observed;
+  over = h.over;
+  later = later;
+  left = same ∙ sym (take_then_drop q.spare i);
+}
+
+-- a call that changes no list
+pub none_struck : (p r : PassView) → r.spare ≡ p.spare → Grows p.observed r.observed → PassesSome p r
+none_struck p r same later = some_passed p p r 0 (none_passed p) same later
+
+-- ---- asking
+
+pub asks_passed : (p q r : PassView) (i rid next : ℕ) (told : Asked) → q ≡ observing (record p { spare = q.spare }) q.observed → HasPassed i p q → slice_get q.spare i ≡ Some rid → told ≡ Next next → Grows q.observed r.observed → Asks i rid q r told → HasPassed next p r
+asks_passed p q r i rid next told same h at is later asks = elim (subst (λ (a : Asked). Asks i rid q r a) is asks) as (λ _. HasPassed next p r) [
+  | inl s ↦ (let at_next : suc i ≡ next = let is_next = s.2 in omega arith in subst (λ (n : ℕ). HasPassed n p r) at_next (subst (λ (x : PassView). HasPassed (suc i) p x) (sym s.0) (stays_passed p q i rid h at (subst (λ (x : PassView). IsSome (value_at x.writes rid)) same s.1))))
+  | inr s ↦ subst (λ (n : ℕ). HasPassed n p r) (sym s.1) (leaves_passed p q r i rid h at (ap (λ (x : PassView). x.spare) s.0) later (subst (λ (x : PassView). IsMetPresent x rid q.observed r.observed) same s.2))
+]
+
+pub asks_given : (p q r : PassView) (i rid : ℕ) (told : Asked) → q ≡ observing (record p { spare = q.spare }) q.observed → HasPassed i p q → slice_get q.spare i ≡ Some rid → told ≡ Given → Grows q.observed r.observed → Asks i rid q r told → GivesFirst p r rid
+asks_given p q r i rid told same h at is later asks =
+    let a = subst (λ (a : Asked). Asks i rid q r a) is asks in
+    gives_first p q r i rid h at (ap (λ (x : PassView). x.spare) a.1) (ap (λ (x : PassView). x.given) a.1 ∙ ap (λ (x : PassView). x.given ++ rid ∷ []) same) later (subst (λ (x : PassView). IsMetAbsent x rid q.observed r.observed) same a.2)

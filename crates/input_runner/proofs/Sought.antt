@@ -18,11 +18,12 @@ use Rattle.replay_model.specs.TableMap.{TableMap}
 use Rattle.seat_post.specs.Ends.{Stood}
 use Rattle.seat_post.specs.Glance.{GlanceView, first_glance, entry_of_glance}
 use Rattle.seat_post.specs.Logs.{IsAbove}
+use Rattle.seat_post.specs.Observing.{Grows}
 use Rattle.stored_tables.specs.Kept.{KeepsTables}
 use Rattle.stored_tables.specs.Places.{Places}
 use Rattle.stored_tables.specs.Tables.{StandsFor, EachTables}
 use Rattle.txn_engine.specs.Alone.{AloneView, with_pass}
-use Rattle.txn_engine.specs.Pass.{PassView, IsAlone, IsIdle, next_clock, ticked}
+use Rattle.txn_engine.specs.Pass.{PassView, IsAlone, IsIdle, next_clock, ticked, engine_of, desk_of, observing, with_met}
 use Rattle.txn_engine.specs.Snapshot.{Begins, finished, glance_store, looking, meaning_of_glance, unread}
 use Rattle.input_runner.specs.Reading.{AddsSnapshot, clock_read}
 
@@ -37,19 +38,16 @@ still_there : (glance : Option GlanceView) (stamp : ℕ) → option_map (λ (g :
 still_there None stamp is = cc
 still_there (Some g) stamp is = (g, refl, ap stamp_in is)
 
--- what is told of the seat, as told of its pass
-pub finished_pass : (a f : AloneView) (glance : Option GlanceView) → IfSome glance (λ g. f ≡ with_pass a (finished a.pass g)) → IfSome glance (λ g. f.pass ≡ finished a.pass g)
-finished_pass a f None told = tt
-finished_pass a f (Some g) told = ap (λ (x : AloneView). x.pass) told
-
 -- so of what was told of it, which is what the snapshot left
 pub record IsTold (f r : PassView) : Type 0 where
-  pub after : r ≡ record f { met = r.met }
+  pub after : r ≡ observing (with_met f r.met) r.observed
+  pub grows : Grows f.observed r.observed
   pub not_back : f.met ≤ r.met
 
-pub told_of : (f b r : AloneView) → r ≡ with_pass b (record b.pass { met = r.pass.met }) → b.pass.met ≤ r.pass.met → b ≡ f → IsTold f.pass r.pass
-told_of f b r value not_back same = record {
-  after = ap (λ (a : AloneView). a.pass) value ∙ ap (λ (a : AloneView). record a.pass { met = r.pass.met }) same;
+pub told_of : (f b r : AloneView) → r ≡ with_pass b (observing (with_met b.pass r.pass.met) r.pass.observed) → Grows b.pass.observed r.pass.observed → b.pass.met ≤ r.pass.met → b ≡ f → IsTold f.pass r.pass
+told_of f b r value grows not_back same = record {
+  after = ap (λ (a : AloneView). a.pass) value ∙ ap (λ (a : AloneView). observing (with_met a.pass r.pass.met) r.pass.observed) same;
+  grows = subst (λ (a : AloneView). Grows a.pass.observed r.pass.observed) same grows;
   not_back = subst (λ (a : AloneView). a.pass.met ≤ r.pass.met) same not_back;
 }
 
@@ -66,23 +64,23 @@ pub record Sought (p s0 s1 r : PassView) : Type 0 where
   pub adds : AddsSnapshot p r
   pub log : r.log ≡ p.log ++ entry_of_glance glance ∷ []
   pub behind : (e : Entry) → Among e p.log → e.stamp ≤ glance.stamp
-  pub records : s1.engine.size.records ≡ p.engine.size.records
-  pub kept_records : r.engine.size.records ≡ p.engine.size.records
-  pub size : (meaning_of_glance s0).size ≡ p.engine.size.records
+  pub records : s1.shared.size.records ≡ p.shared.size.records
+  pub kept_records : r.shared.size.records ≡ p.shared.size.records
+  pub size : (meaning_of_glance s0).size ≡ p.shared.size.records
   pub none : (meaning_of_glance s0).writes ≡ []
   pub reads : (meaning_of_glance s1).reads ≡ glance.reads
 
-pub sought : (p t s0 s1 f r : PassView) (clock : ℕ) → Begins t s0 → t ≡ ticked p clock → unread s1 ≡ unread s0 → IfSome s1.glance (λ g. f ≡ finished s1 g) → IsTold f r → IsIdle p → IsAlone p → IsAbove p.log t.published → p.clock < clock → clock ≤ clock_read p → Sought p s0 s1 r
+pub sought : (p t s0 s1 f r : PassView) (clock : ℕ) → Begins t s0 → t ≡ ticked p clock → unread s1 ≡ unread s0 → IfSome s1.glance (λ g. f ≡ observing (finished s1 g) f.observed) → IsTold f r → IsIdle p → IsAlone p → IsAbove p.log t.published → p.clock < clock → clock ≤ clock_read p → Sought p s0 s1 r
 sought p t s0 s1 f r clock begins tick rest ends told idle alone above later drawn =
     let tells = told.after in
     let not_back = told.not_back in
     let found = still_there s1.glance begins.stamp (ap (λ (x : PassView). x.glance) (rest ∙ ap unread begins.pass)) in
     let g = found.0 in
-    let ended : f ≡ finished s1 g = subst (λ (o : Option GlanceView). IfSome o (λ g. f ≡ finished s1 g)) found.1 ends in
-    let whole : unread s1 ≡ unread (looking (ticked p clock) begins.stamp) = rest ∙ ap unread (begins.pass ∙ ap (λ (x : PassView). looking x begins.stamp) tick) in
+    let ended : f ≡ observing (finished s1 g) f.observed = subst (λ (o : Option GlanceView). IfSome o (λ g. f ≡ observing (finished s1 g) f.observed)) found.1 ends in
+    let whole : unread s1 ≡ unread (looking (ticked p clock) begins.stamp) = rest ∙ ap unread (begins.pass ∙ ap (λ (x : PassView). observing (looking x begins.stamp) s0.observed) tick) in
     let stamped : g.stamp ≡ begins.stamp = found.2 in
     let grown : r.log ≡ p.log ++ entry_of_glance g ∷ [] = ap (λ (x : PassView). x.log) tells ∙ ap (λ (x : PassView). x.log) ended ∙ ap (λ (x : PassView). x.log ++ entry_of_glance g ∷ []) whole in
-    let engine : r.engine ≡ p.engine = ap (λ (x : PassView). x.engine) tells ∙ ap (λ (x : PassView). x.engine) ended ∙ ap (λ (x : PassView). x.engine) whole in
+    let engine : engine_of r ≡ engine_of p = ap engine_of tells ∙ ap engine_of ended ∙ ap engine_of whole in
     let at : r.clock ≡ clock = ap (λ (x : PassView). x.clock) tells ∙ ap (λ (x : PassView). x.clock) ended ∙ ap (λ (x : PassView). x.clock) whole in
     let met : p.met ≤ begins.stamp + 1 = subst (λ (x : PassView). x.met ≤ begins.stamp + 1) tick begins.met in
     let ended_met : f.met ≡ begins.stamp + 1 = ap (λ (x : PassView). x.met) ended ∙ ap (λ (x : PassView). x.met) whole in
@@ -105,15 +103,15 @@ sought p t s0 s1 f r clock begins tick rest ends told idle alone above later dra
         seat = ap (λ (x : PassView). x.seat) tells ∙ ap (λ (x : PassView). x.seat) ended ∙ ap (λ (x : PassView). x.seat) whole;
         others = ap (λ (x : PassView). x.others) tells ∙ ap (λ (x : PassView). x.others) ended ∙ ap (λ (x : PassView). x.others) whole;
         refusals = ap (λ (x : PassView). x.refusals) tells ∙ ap (λ (x : PassView). x.refusals) ended ∙ ap (λ (x : PassView). x.refusals) whole;
-        idle = ap (λ (x : PassView). x.desk) tells ∙ ap (λ (x : PassView). x.desk) ended ∙ ap (λ (x : PassView). x.desk) whole ∙ idle;
+        idle = ap desk_of tells ∙ ap desk_of ended ∙ ap desk_of whole ∙ idle;
         later = omega (arith, at, later);
         clock = subst (λ (n : ℕ). n ≤ clock_read p) (sym at) drawn;
       };
       log = grown;
       behind = behind;
-      records = ap (λ (x : PassView). x.engine.size.records) whole;
+      records = ap (λ (x : PassView). x.shared.size.records) whole;
       kept_records = ap (λ e. e.size.records) engine;
-      size = ap (λ (x : PassView). (meaning_of_glance x).size) (begins.pass ∙ ap (λ (x : PassView). looking x begins.stamp) tick);
+      size = ap (λ (x : PassView). (meaning_of_glance x).size) (begins.pass ∙ ap (λ (x : PassView). observing (looking x begins.stamp) s0.observed) tick);
       none = ap (λ (x : PassView). (meaning_of_glance x).writes) begins.pass;
       reads = ap (λ (o : Option GlanceView). (glance_store s1 o).reads) found.1;
     }
@@ -134,11 +132,11 @@ each_told records m m' reads P size none same each state places tables agrees st
     (subst (λ (ws : List (ℕ × Option (List ℕ))). StandsFor m.size (overlay ws state) places tables) (sym none) (subst (λ (n : ℕ). StandsFor n state places tables) (sym size) stands))
 
 -- no tables were torn
-pub never_torn : (kept : State → Type 0) (p s0 s1 r : PassView) (s : Sought p s0 s1 r) → KeepsTables kept → IfSome s1.glance (λ g. Stood kept s1.engine.size.records s1.log (entry_of_glance g)) → EachTables (meaning_of_glance s0) (meaning_of_glance s1) (λ _ _ _. ⊥) → ⊥
+pub never_torn : (kept : State → Type 0) (p s0 s1 r : PassView) (s : Sought p s0 s1 r) → KeepsTables kept → IfSome s1.glance (λ g. Stood kept s1.shared.size.records s1.log (entry_of_glance g)) → EachTables (meaning_of_glance s0) (meaning_of_glance s1) (λ _ _ _. ⊥) → ⊥
 never_torn kept p s0 s1 r s keeps stood torn =
-    let here : Stood kept s1.engine.size.records s1.log (entry_of_glance s.glance) = subst (λ (o : Option GlanceView). IfSome o (λ g. Stood kept s1.engine.size.records s1.log (entry_of_glance g))) s.seen stood in
-    let held = keeps.stands s1.engine.size.records here.state here.left.is_state here.left.is_kept in
-    each_told s1.engine.size.records (meaning_of_glance s0) (meaning_of_glance s1) s.glance.reads (λ _. ⊥) (s.size ∙ sym s.records) s.none s.reads torn here.state held.1.0 held.0 here.agrees held.1.1
+    let here : Stood kept s1.shared.size.records s1.log (entry_of_glance s.glance) = subst (λ (o : Option GlanceView). IfSome o (λ g. Stood kept s1.shared.size.records s1.log (entry_of_glance g))) s.seen stood in
+    let held = keeps.stands s1.shared.size.records here.state here.left.is_state here.left.is_kept in
+    each_told s1.shared.size.records (meaning_of_glance s0) (meaning_of_glance s1) s.glance.reads (λ _. ⊥) (s.size ∙ sym s.records) s.none s.reads torn here.state held.1.0 held.0 here.agrees held.1.1
 
 -- ---- what the log leaves agrees with it
 

@@ -3,7 +3,7 @@ use Rattle.std.specs.Prelude.{◌≡◌, ℕ, ◌+◌, ◌≤◌, max, true, [],
 use Rattle.core_rule.specs.Views.{Among}
 use Rattle.plain_data.specs.declared.entry.Entry.{Entry}
 use Rattle.stamp_base.specs.Limits.{greatest_adopted_clock}
-use Rattle.txn_engine.specs.Pass.{PassView, IsIdle}
+use Rattle.txn_engine.specs.Pass.{PassView, IsIdle, engine_of}
 
 -- one clock more than the seat has, or than it may adopt
 abbrev pub clock_read : PassView → ℕ
@@ -17,7 +17,7 @@ pub record AddsSnapshot (before after' : PassView) : Type 0 where
   pub behind : (e : Entry) → Among e before.log → e.stamp ≤ entry.stamp
   pub met : before.met ≤ entry.stamp + 1
   pub not_back : before.met ≤ after'.met
-  pub engine : after'.engine ≡ before.engine
+  pub engine : engine_of after' ≡ engine_of before
   pub seat : after'.seat ≡ before.seat
   pub others : after'.others ≡ before.others
   pub refusals : after'.refusals ≡ before.refusals

@@ -6,6 +6,8 @@ use Rattle.replay_model.specs.Input.{IsWellFormed}
 use Rattle.replay_model.specs.TableMap.{loaded}
 use Rattle.txn_script.specs.Grammar.{IsWithinLimits, counts, is_indexed, commands_in}
 use Rattle.word_layout.specs.Size.{IsSize, size_of}
+use Rattle.stored_tables.specs.Places.{fixed_records}
+use Rattle.lane_runner.specs.Holding.{block_places}
 use Rattle.lane_runner.specs.Loading.{rows_add}
 use Rattle.lane_runner.specs.Weighs.{blocks_add}
 use Rattle.lane_threads.specs.Whole.{blocks_of}
@@ -27,14 +29,14 @@ entries_of_run input = if is_indexed input.indexes then length input.rows + coun
 
 -- records that are never given out: those of the tables' chains, of their trees' roots and of their indexes
 abbrev pub fixed_of_run : ℕ
-fixed_of_run = 4112
+fixed_of_run = fixed_records
 
 abbrev pub records_of_run : Input → ℕ
 records_of_run input = fixed_of_run + (8 * rows_of_run input + 3 * entries_of_run input)
 
 -- places for versions beside one for each record: one for each record again, what a block may write, and the one that is kept
 abbrev pub spare_of_run : Input → ℕ
-spare_of_run input = records_of_run input + 8193
+spare_of_run input = records_of_run input + block_places
 
 -- they are enough: an engine of so many has its size, and the rows and all blocks find records
 pub record AreEnough (input : Input) (seats : ℕ) : Type 0 where

@@ -6,7 +6,8 @@ ghost use Rattle.history_replay.specs.Results.{StandsForSome, LeaveTables};
 ghost use Rattle.record_store.specs.Walks.{IfTorn};
 ghost use Rattle.replay_model.specs.TableMap.{TableMap};
 ghost use Rattle.stamp_base.specs.Limits.{greatest_clock};
-ghost use Rattle.txn_engine.specs.Pass.{IsIdle};
+ghost use Rattle.stored_tables.specs.Places.{fixed_records};
+ghost use Rattle.txn_engine.specs.Pass.{IsIdle, engine_of};
 ghost use Rattle.typed_tables.specs.Listing.{AreRows};
 ghost use Rattle.input_runner.specs.Reading.{AddsSnapshot, clock_read};
 ghost use Rattle.lane_runner.specs.Rows.{stands};
@@ -26,14 +27,14 @@ pub fn read_tables(
     alone: &mut Alone<RowsLawful>,
     count: u32,
 ) -> Result<Vec<Pairs>, NoMemory>
-    requires engine { alone.old.pass.engine ≡ engine.now }
+    requires engine { engine_of alone.old.pass ≡ engine.now }
     requires idle { IsIdle alone.old.pass }
     requires count { count ≤ 8 }
-    requires size { 4112 ≤ engine.now.size.records }
+    requires size { fixed_records ≤ engine.now.size.records }
     requires room { clock_read alone.old.pass ≤ greatest_clock }
     ensures rows { IfOk result (λ rows. (tables : TableMap) → LeaveTables stands (Contains alone.new.pass.log) tables → AreRows count tables rows.items) }
     ensures adds { AddsSnapshot alone.old.pass alone.new.pass }
-    ensures lawful { Lawful (StandsForSome stands) alone.new.pass.engine.size.records alone.new.pass.log }
+    ensures lawful { Lawful (StandsForSome stands) alone.new.pass.shared.size.records alone.new.pass.log }
 {
     keeps_tables();
     fits_records();

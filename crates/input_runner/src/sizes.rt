@@ -9,6 +9,9 @@ use replay_model::{Block, Blocks, Command, Input, Lanes};
 /// Records that are never given out.
 pub(crate) const FIXED: u32 = 4112;
 
+/// Places that a block may want beside one for each record.
+const BLOCK_PLACES: u32 = 8193;
+
 /// The numbers of records, and of places for versions beside one for each record.
 #[derive(Clone, Copy)]
 pub(crate) struct Sizes {
@@ -26,7 +29,7 @@ pub(crate) fn sizes_of(input: &Input) -> Sizes
     let records = FIXED + (8 * rows_of(input) + 3 * entries_of(input));
     Sizes {
         records,
-        spare: records + 8193,
+        spare: records + BLOCK_PLACES,
     }
 }
 

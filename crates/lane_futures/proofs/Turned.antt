@@ -50,7 +50,7 @@ pub leads_none : (l : LanesView) → IsIdle l.pass → Leads l l
 leads_none l idle = record {
   entries = [];
   adds = Adds-none l.pass idle;
-  are_of_sessions = sessions_none l.pass.engine.size.records l.sessions;
+  are_of_sessions = sessions_none l.pass.shared.size.records l.sessions;
   clock = omega arith;
   refusals = omega arith;
 }
@@ -60,8 +60,8 @@ pub leads_steps : (l m : LanesView) (i : ℕ) (s t : SessionView) → slice_get 
 leads_steps l m i s t there steps is = record {
   entries = steps.entries;
   adds = steps.adds;
-  are_of_sessions = subst (λ (ss : List SessionView). AreOfSessions l.pass.engine.size.records steps.entries l.sessions ss) (sym is)
-      (sessions_step l.pass.engine.size.records [] steps.entries l.sessions l.sessions i s t (sessions_none l.pass.engine.size.records l.sessions) there steps.goes);
+  are_of_sessions = subst (λ (ss : List SessionView). AreOfSessions l.pass.shared.size.records steps.entries l.sessions ss) (sym is)
+      (sessions_step l.pass.shared.size.records [] steps.entries l.sessions l.sessions i s t (sessions_none l.pass.shared.size.records l.sessions) there steps.goes);
   clock = omega (arith, steps.clock, sum_step draws_left l.sessions i s t there, ap all_draws_left is);
   refusals = omega (arith, steps.refusals, sum_step (λ (x : SessionView). x.refused) l.sessions i s t there, ap all_refused is);
 }
@@ -85,7 +85,7 @@ pub leads_trans : (k l m : LanesView) → Leads k l → Leads l m → Leads k m
 leads_trans k l m first second = record {
   entries = first.entries ++ second.entries;
   adds = Adds-trans k.pass l.pass m.pass first.entries second.entries first.adds second.adds;
-  are_of_sessions = sessions_trans k.pass.engine.size.records first.entries second.entries k.sessions l.sessions m.sessions first.are_of_sessions
+  are_of_sessions = sessions_trans k.pass.shared.size.records first.entries second.entries k.sessions l.sessions m.sessions first.are_of_sessions
       (subst (λ (e : EngineView). AreOfSessions e.size.records second.entries l.sessions m.sessions) first.adds.engine second.are_of_sessions);
   clock = omega (arith, first.clock, second.clock);
   refusals = omega (arith, first.refusals, second.refusals);

@@ -90,7 +90,7 @@ all_refused sessions = sum_by (λ (s : SessionView). s.refused) sessions
 pub record Leads (before after' : LanesView) : Type 0 where
   pub entries : List Entry
   pub adds : Adds before.pass after'.pass entries
-  pub are_of_sessions : AreOfSessions before.pass.engine.size.records entries before.sessions after'.sessions
+  pub are_of_sessions : AreOfSessions before.pass.shared.size.records entries before.sessions after'.sessions
   pub clock : clock_after after'.pass.clock (all_draws_left after'.sessions) ≤ clock_after before.pass.clock (all_draws_left before.sessions)
   pub refusals : before.pass.refusals + all_refused after'.sessions ≤ after'.pass.refusals + all_refused before.sessions
 

@@ -4,11 +4,12 @@ use Rattle.plain_data.specs.declared.entry.Entry.{Entry}
 use Rattle.stamp_base.specs.Stamp.{bound_of_clock}
 use Rattle.core_rule.specs.Views.{Among}
 use Rattle.core_rule.proofs.Among.{Among-left, Among-right, Among-split}
-use Rattle.txn_engine.specs.Pass.{PassView, IsIdle, IsAlone}
+use Rattle.seat_post.specs.Seats.{IsAloneAt}
+use Rattle.txn_engine.specs.Pass.{EngineView, PassView, IsIdle, IsAlone, engine_of}
 use Rattle.lane_runner.specs.Adds.{IsNext, IsLater, AreInOrder, Adds}
 
 -- no entry is added
-pub Adds-no_entry : (p q : PassView) → q.engine ≡ p.engine → q.seat ≡ p.seat → q.others ≡ p.others → IsIdle q → q.log ≡ p.log → p.clock ≤ q.clock → p.met ≤ q.met → p.refusals ≤ q.refusals → Adds p q []
+pub Adds-no_entry : (p q : PassView) → engine_of q ≡ engine_of p → q.seat ≡ p.seat → q.others ≡ p.others → IsIdle q → q.log ≡ p.log → p.clock ≤ q.clock → p.met ≤ q.met → p.refusals ≤ q.refusals → Adds p q []
 Adds-no_entry p q engine seat others idle log clock met refusals = record {
   engine = engine;
   seat = seat;
@@ -27,7 +28,7 @@ pub Adds-none : (p : PassView) → IsIdle p → Adds p p []
 Adds-none p idle = Adds-no_entry p p refl refl refl idle refl (omega arith) (omega arith) (omega arith)
 
 -- one entry is added
-pub Adds-one : (p q : PassView) (entry : Entry) → IsNext p entry → q.engine ≡ p.engine → q.seat ≡ p.seat → q.others ≡ p.others → IsIdle q → q.log ≡ p.log ++ entry ∷ [] → p.clock ≤ q.clock → p.met ≤ q.met → p.refusals ≤ q.refusals → Adds p q (entry ∷ [])
+pub Adds-one : (p q : PassView) (entry : Entry) → IsNext p entry → engine_of q ≡ engine_of p → q.seat ≡ p.seat → q.others ≡ p.others → IsIdle q → q.log ≡ p.log ++ entry ∷ [] → p.clock ≤ q.clock → p.met ≤ q.met → p.refusals ≤ q.refusals → Adds p q (entry ∷ [])
 Adds-one p q entry next engine seat others idle log clock met refusals = record {
   engine = engine;
   seat = seat;
@@ -42,8 +43,13 @@ Adds-one p q entry next engine seat others idle log clock met refusals = record 
 }
 
 -- a seat that is alone stays so
+pub alone_as : (p q : PassView) → engine_of q ≡ engine_of p → q.seat ≡ p.seat → q.others ≡ p.others → IsAlone p → IsAlone q
+alone_as p q engine seat others alone =
+    let here : IsAloneAt p.shared.size q.seat q.others = rw (seat, others) alone in
+    subst (λ (e : EngineView). IsAloneAt e.size q.seat q.others) (sym engine) here
+
 pub alone_stays : (p q : PassView) (entries : List Entry) → Adds p q entries → IsAlone p → IsAlone q
-alone_stays p q entries adds alone = rw (adds.engine, adds.seat, adds.others) alone
+alone_stays p q entries adds alone = alone_as p q adds.engine adds.seat adds.others alone
 
 -- what comes next after other entries came next
 next_before : (p q : PassView) (xs : List Entry) (entry : Entry) → Adds p q xs → IsNext q entry → IsNext p entry

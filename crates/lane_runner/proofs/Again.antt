@@ -1,5 +1,5 @@
 -- What is left where the seat that is alone has settled: values written again leave the tables.
-use Rattle.std.proofs.Common.{◌≡◌, ℕ, ◌+◌, ◌*◌, ◌<◌, ◌≤◌, true, false, List, [], ◌∷◌, ◌++◌, append-nil, append_assoc, Option, Result, Ok, Err, refl, sym, ap, subst, ◌∙◌, ⊎_elim, arith, All, AllPairs}
+use Rattle.std.proofs.Common.{◌≡◌, ℕ, ◌+◌, ◌-◌, ◌*◌, ◌<◌, ◌≤◌, true, false, List, [], ◌∷◌, ◌++◌, append-nil, append_assoc, Option, Result, Ok, Err, refl, sym, ap, subst, ◌∙◌, ⊎_elim, arith, All, AllPairs}
 use Rattle.std.specs.Prelude.{IfOk, OnOk}
 use Rattle.std.proofs.lemmas.List.Elements.{All-nil, All-cons, All-head, All-tail, All-weaker, Contains-append_left}
 use Rattle.std.proofs.lemmas.List.Kept.{AllPairs-cons}
@@ -21,8 +21,12 @@ use Rattle.seat_post.specs.Leaves.{LeavesValue}
 use Rattle.seat_post.specs.Logs.{IsAbove}
 use Rattle.seat_post.specs.Rewriting.{rewriting, Rewritings, none_yet, one_more}
 use Rattle.seat_post.proofs.Leaving.{leaves_all, leaves_one}
-use Rattle.txn_engine.specs.Pass.{EngineView, PassView, IsIdle}
+use Rattle.txn_engine.specs.Pass.{EngineView, PassView, IsIdle, engine_of, desk_of}
+use Rattle.seat_post.specs.Post.{PostView}
 use Rattle.txn_engine.specs.Settling.{SettlesPass}
+use Rattle.seat_post.specs.declared.settled.Settled.{Settled}
+use Rattle.seat_post.specs.Glance.{first_glance}
+use Rattle.clock_stamps.specs.declared.clocks.ClockOut.{ClockOut}
 use Rattle.lane_runner.specs.declared.done.LaneDone.{LaneDone}
 use Rattle.lane_runner.specs.Rows.{stands}
 use Rattle.lane_runner.specs.Adds.{AreInOrder, IsLater, IsNext, Adds}
@@ -117,15 +121,18 @@ kinds e off on = let both : false ≡ true = sym off ∙ on in cc
 not_self : (n : ℕ) → n < n → ⊥
 not_self n less = omega arith
 
-module _ (p q : PassView) (s : SettlesPass (StandsForSome stands) p q) where
-  are : AreAgain p.engine.size.records p.log q.log
-  are = again p.engine.size.records p.log q.log s.log
+module _ (p q : PassView) (answer : Result Settled ClockOut) (s : SettlesPass (StandsForSome stands) p q answer) where
+  are : AreAgain p.shared.size.records p.log q.log
+  are = again p.shared.size.records p.log q.log s.log
 
-  pub engine_settled : q.engine ≡ p.engine
-  engine_settled = ap (λ (x : PassView). x.engine) s.after
+  whole_settled : q ≡ record p { post = record p.post { clock = q.clock; published = q.published; met = q.met; known = q.known; log = q.log; observed = q.observed; gone = q.gone; placed = []; glance = first_glance (q.met - 1) } }
+  whole_settled = s.beside ∙ ap (λ (x : PostView). record p { post = x }) s.only
+
+  pub engine_settled : engine_of q ≡ engine_of p
+  engine_settled = ap engine_of whole_settled
 
   pub idle_settled : IsIdle p → IsIdle q
-  idle_settled idle = ap (λ (x : PassView). x.desk) s.after ∙ idle
+  idle_settled idle = ap desk_of whole_settled ∙ idle
 
   in_both : (e : Entry) → Among e p.log → Among e q.log
   in_both e among = subst (λ (es : List Entry). Among e es) (sym are.log_is) (Among-left e p.log are.entries among)
@@ -146,21 +153,21 @@ module _ (p q : PassView) (s : SettlesPass (StandsForSome stands) p q) where
   Adds-again : IsIdle p → Adds p q are.entries
   Adds-again idle = record {
     engine = engine_settled;
-    seat = ap (λ (x : PassView). x.seat) s.after;
-    others = ap (λ (x : PassView). x.others) s.after;
+    seat = ap (λ (x : PassView). x.seat) whole_settled;
+    others = ap (λ (x : PassView). x.others) whole_settled;
     idle = idle_settled idle;
     log = are.log_is;
     each = λ e among. next_again e among (behind_log e among);
     in_order = are.in_order;
     clock = s.later;
     met = s.met;
-    refusals = let same : q.refusals ≡ p.refusals = ap (λ (x : PassView). x.refusals) s.after in omega arith;
+    refusals = let same : q.refusals ≡ p.refusals = ap (λ (x : PassView). x.refusals) s.beside in omega arith;
   }
 
-  pub records_again : NextStateIsOverlay → Lawful (StandsForSome stands) q.engine.size.records q.log → (added : TableMap → ℕ) → HasRecords p added → HasRecords q added
+  pub records_again : NextStateIsOverlay → Lawful (StandsForSome stands) q.shared.size.records q.log → (added : TableMap → ℕ) → HasRecords p added → HasRecords q added
   records_again overlays lawful added has =
-      let here : Lawful (StandsForSome stands) p.engine.size.records q.log = subst (λ (e : EngineView). Lawful (StandsForSome stands) e.size.records q.log) engine_settled lawful in
-      let within : LeavesWithin p.engine.size.records q.log has.tables has.most = within_again overlays p.engine.size.records p.log q.log has.tables has.most s.log here.each here.apart has.leaves in
+      let here : Lawful (StandsForSome stands) p.shared.size.records q.log = subst (λ (e : EngineView). Lawful (StandsForSome stands) e.size.records q.log) engine_settled lawful in
+      let within : LeavesWithin p.shared.size.records q.log has.tables has.most = within_again overlays p.shared.size.records p.log q.log has.tables has.most s.log here.each here.apart has.leaves in
       record {
         tables = has.tables;
         most = has.most;
@@ -174,7 +181,7 @@ module _ (p q : PassView) (s : SettlesPass (StandsForSome stands) p q) where
       done = f.runs.done;
       blocks_are = f.runs.blocks_are;
       entries = are.entries ++ f.runs.entries;
-      are_entries = AreEntries-append p.engine.size.records are.entries [] [] f.runs.entries f.runs.done f.rests (AreEntries-others p.engine.size.records are.entries are.others)
+      are_entries = AreEntries-append p.shared.size.records are.entries [] [] f.runs.entries f.runs.done f.rests (AreEntries-others p.shared.size.records are.entries are.others)
           (subst (λ (e : EngineView). AreEntries e.size.records f.runs.entries f.runs.done f.rests) engine_settled f.runs.are_entries);
       adds = Adds-trans p q r are.entries f.runs.entries (Adds-again idle) f.runs.adds;
     }

@@ -17,7 +17,7 @@ use Rattle.replay_model.specs.Running.{outcome_of, tables_after}
 use Rattle.replay_model.specs.TableMap.{TableMap}
 use Rattle.stored_tables.specs.Blocks.{Called}
 use Rattle.stored_tables.specs.Places.{Places, fixed_records}
-use Rattle.stored_tables.specs.Plan.{MayAskIn, run_plan}
+use Rattle.stored_tables.specs.Plan.{MayAsk, run_plan}
 use Rattle.stored_tables.specs.Tables.{StandsFor, EachTables}
 use Rattle.stored_tables.specs.Weight.{weight, all_add}
 use Rattle.stored_tables.specs.Weights.{AreKnown, RunAdds, RecordLeft}
@@ -81,15 +81,15 @@ module _ {S F : Type 0} (read_gives : S → ℕ → Result (Option (List ℕ)) F
 -- Where no number is left, each that is absent is given or written; but one is left, neither present nor given, and a block writes no
 -- other.
 pub no_ask_refused : (kept : State → Type 0) (q : PassView) (commands : List Command) (asked most : ℕ) (state : State) (places : Places) (tables : TableMap)
-    → RecordLeft → NoneLeft q → Lawful kept q.engine.size.records q.log → Leaves (Contains q.log) state → StandsFor q.engine.size.records state places tables → weight places ≤ most
-    → AreKnown commands → MayAskIn (run_plan commands tables) places asked → fixed_records ≤ q.engine.fixed → q.engine.fixed + (most + all_add commands tables) ≤ q.engine.size.records
+    → RecordLeft → NoneLeft q → Lawful kept q.shared.size.records q.log → Leaves (Contains q.log) state → StandsFor q.shared.size.records state places tables → weight places ≤ most
+    → AreKnown commands → MayAsk (run_plan commands tables) places asked → fixed_records ≤ q.fixed → q.fixed + (most + all_add commands tables) ≤ q.shared.size.records
     → length q.given < asked
-    → ((rid : ℕ) → IsSome (value_at q.desk.writes rid) → Contains q.given rid ⊎ ((rid < q.engine.fixed) ⊎ ((words : List ℕ) × (state rid ≡ Some words)))) → ⊥
+    → ((rid : ℕ) → IsSome (value_at q.writes rid) → Contains q.given rid ⊎ ((rid < q.fixed) ⊎ ((words : List ℕ) × (state rid ≡ Some words)))) → ⊥
 no_ask_refused kept q commands asked most state places tables left none lawful leaves holds light known may fixed room few written =
-    let found = left q.engine.size.records q.engine.fixed q.engine.size.records state places tables commands asked q.given holds known may fixed (room_lighter q.engine.fixed (weight places) most (all_add commands tables) q.engine.size.records light room) few in
+    let found = left q.shared.size.records q.fixed q.shared.size.records state places tables commands asked q.given holds known may fixed (room_lighter q.fixed (weight places) most (all_add commands tables) q.shared.size.records light room) few in
     ⊎_elim (λ given. found.3.not_given (Contains-from_any eqb-true found.0 q.given given))
-    (λ writes. ⊎_elim (λ given. found.3.not_given given) (λ more. ⊎_elim (λ low. not_low q.engine.fixed found.0 found.1 low) (λ present. let is : None ≡ Some present.0 = sym found.3.absent ∙ present.1 in absurd (cc)) more) (written found.0 writes))
-    (absent_taken kept q.engine.size.records q.log state q lawful (λ e h. h) leaves none found.0 found.1 found.2 found.3.absent)
+    (λ writes. ⊎_elim (λ given. found.3.not_given given) (λ more. ⊎_elim (λ low. not_low q.fixed found.0 found.1 low) (λ present. let is : None ≡ Some present.0 = sym found.3.absent ∙ present.1 in absurd (cc)) more) (written found.0 writes))
+    (absent_taken kept q.shared.size.records q.log state q lawful (λ e h. h) leaves none found.0 found.1 found.2 found.3.absent)
 
 pub one_write : (before after' : Meaning) → before.writes ≡ [] → WritesAtMost 1 before after' → length after'.writes ≤ 8192
 one_write before after' none few =

@@ -2,7 +2,7 @@
 use Rattle.std.proofs.Common.{◌≡◌, ℕ, ◌+◌, ◌≤◌, Bool, true, false, Option, Some, None, Result, Ok, Err, ap, ◌∙◌, lit≤, arith}
 use Rattle.std.specs.Prelude.{IfOk, IfSome}
 use Rattle.seat_post.specs.Seats.{Known}
-use Rattle.txn_engine.specs.Pass.{PassView, Frame, frame, begun, committed, knowing, one_if}
+use Rattle.txn_engine.specs.Pass.{PassView, frame, begun, committed, knowing, one_if, observing, placing}
 use Rattle.lane_runner.specs.declared.done.BlockDone.{BlockDone}
 use Rattle.lane_runner.specs.Blocks.{IsRefused, CountsOnce}
 
@@ -11,12 +11,12 @@ one_at_most true = lit≤ tt
 one_at_most false = lit≤ tt
 
 -- a transaction that was begun at p and has committed
-pub counted_once : (p q r r' : PassView) (clock : ℕ) (known : Known) → frame q ≡ frame (begun p clock) → r ≡ committed (knowing q known) → r' ≡ r → CountsOnce p r'
+pub counted_once : (p q r r' : PassView) (clock : ℕ) (known : Known) → frame q ≡ frame (begun p clock) → r ≡ observing (placing (committed (knowing q known)) r.placed) r.observed → r' ≡ r → CountsOnce p r'
 counted_once p q r r' clock known kept ends same = record {
   once =
-      let is : r'.refusals ≡ q.refusals + one_if q.desk.counted = ap (λ (x : PassView). x.refusals) same ∙ ap (λ (x : PassView). x.refusals) ends in
-      let before : q.refusals ≡ p.refusals = ap (λ (f : Frame). f.refusals) kept in
-      let most : one_if q.desk.counted ≤ 1 = one_at_most q.desk.counted in
+      let is : r'.refusals ≡ q.refusals + one_if q.counted = ap (λ (x : PassView). x.refusals) same ∙ ap (λ (x : PassView). x.refusals) ends in
+      let before : q.refusals ≡ p.refusals = ap (λ (f : PassView). f.refusals) kept in
+      let most : one_if q.counted ≤ 1 = one_at_most q.counted in
       omega arith;
 }
 

@@ -24,7 +24,7 @@ use Rattle.txn_engine.specs.Collecting.{collected}
 use Rattle.txn_engine.specs.Faults.{IsShown, IsPending, MatchStopped}
 use Rattle.txn_engine.specs.Leaves.{HoldsAbsent}
 use Rattle.txn_engine.specs.Lists.{IsRoomy, IsRoomyOnceCollected}
-use Rattle.txn_engine.specs.Pass.{EngineView, PassView, Frame, frame, IsIdle, IsAlone, begun, committed, knowing, entry_of}
+use Rattle.txn_engine.specs.Pass.{EngineView, PassView, frame, IsIdle, IsAlone, begun, committed, knowing, entry_of, engine_of, desk_of, observing, removing, placing, with_met}
 use Rattle.lane_runner.specs.Rows.{stands}
 use Rattle.lane_runner.specs.Adds.{IsNext}
 use Rattle.lane_runner.specs.Blocks.{IsPlaceOf, Commits, IsRefused, AddsOthers}
@@ -34,7 +34,7 @@ use Rattle.lane_runner.specs.Holding.{HasPlaces, HasRecords}
 use Rattle.lane_runner.specs.Finishing.{MayFinish}
 use Rattle.lane_runner.specs.Behind.{WeighsAfter}
 use Rattle.lane_runner.specs.Ready.{IsReady, IsReadyOnceCollected, HasRecordsFor, IsAmple}
-use Rattle.lane_runner.proofs.Adding.{Adds-no_entry, alone_stays}
+use Rattle.lane_runner.proofs.Adding.{Adds-no_entry, alone_as, alone_stays}
 use Rattle.lane_runner.proofs.Held.{absent_same, roomy_once}
 use Rattle.lane_runner.proofs.Looked.{Sought}
 use Rattle.lane_runner.proofs.Ran.{Opened, adds_entered}
@@ -80,19 +80,19 @@ next_behind p entry next commit =
 room_left : (fixed most some one more all now records : ℕ) → all ≡ some + (one + more) → now ≡ one → fixed + (most + all) ≤ records → fixed + (most + some + now) ≤ records
 room_left fixed most some one more all now records sum same room = omega arith
 
-module _ (adds_after : AddsAfter) (p : PassView) (block : Block) (more : List Block) (has : HasRecordsFor p (block ∷ more)) (lawful : Lawful (StandsForSome stands) p.engine.size.records p.log) where
-  same_engine : p.engine ≡ has.first.engine
+module _ (adds_after : AddsAfter) (p : PassView) (block : Block) (more : List Block) (has : HasRecordsFor p (block ∷ more)) (lawful : Lawful (StandsForSome stands) p.shared.size.records p.log) where
+  same_engine : engine_of p ≡ engine_of has.first
   same_engine = has.ran.adds.engine
 
-  lawful_there : Lawful (StandsForSome stands) has.first.engine.size.records (has.first.log ++ has.ran.entries)
-  lawful_there = subst (λ (log : List Entry). Lawful (StandsForSome stands) has.first.engine.size.records log) has.ran.adds.log
+  lawful_there : Lawful (StandsForSome stands) has.first.shared.size.records (has.first.log ++ has.ran.entries)
+  lawful_there = subst (λ (log : List Entry). Lawful (StandsForSome stands) has.first.shared.size.records log) has.ran.adds.log
       (subst (λ (e : EngineView). Lawful (StandsForSome stands) e.size.records p.log) same_engine lawful)
 
-  are_there : AreEntries has.first.engine.size.records has.ran.entries has.earlier has.results
-  are_there = subst (λ (blocks : List Block). AreEntries has.first.engine.size.records has.ran.entries blocks has.results) (sym (has.ran.blocks_are ∙ append-nil has.ran.done)) has.ran.are_entries
+  are_there : AreEntries has.first.shared.size.records has.ran.entries has.earlier has.results
+  are_there = subst (λ (blocks : List Block). AreEntries has.first.shared.size.records has.ran.entries blocks has.results) (sym (has.ran.blocks_are ∙ append-nil has.ran.done)) has.ran.are_entries
 
-  weighs : WeighsAfter has.first.engine.size.records (has.first.log ++ has.ran.entries) has.records.tables (has.records.most + blocks_add has.earlier has.records.tables)
-  weighs = runs_weigh_after adds_after has.first.engine.size.records (last_commit has.first.log) has.first.log has.ran.entries has.earlier has.results has.records.tables has.records.most lawful_there has.records.leaves
+  weighs : WeighsAfter has.first.shared.size.records (has.first.log ++ has.ran.entries) has.records.tables (has.records.most + blocks_add has.earlier has.records.tables)
+  weighs = runs_weigh_after adds_after has.first.shared.size.records (last_commit has.first.log) has.first.log has.ran.entries has.earlier has.results has.records.tables has.records.most lawful_there has.records.leaves
       (up_to_last has.first.log) (λ entry among. next_behind has.first entry (has.ran.adds.each entry among)) are_there
 
   -- what the log leaves finds room with what the next block adds
@@ -102,8 +102,8 @@ module _ (adds_after : AddsAfter) (p : PassView) (block : Block) (more : List Bl
     most = has.records.most + blocks_add has.earlier has.records.tables;
     leaves = within_at has.first p has.ran.entries weighs.after (has.records.most + blocks_add has.earlier has.records.tables) has.ran.adds weighs.leaves;
     room = subst (λ (e : EngineView). e.fixed + (has.records.most + blocks_add has.earlier has.records.tables + all_add block.commands weighs.after) ≤ e.size.records) (sym same_engine)
-        (room_left has.first.engine.fixed has.records.most (blocks_add has.earlier has.records.tables) (all_add block.commands has.records.tables) (blocks_add more has.records.tables)
-        (blocks_add (has.earlier ++ block ∷ more) has.records.tables) (all_add block.commands weighs.after) has.first.engine.size.records
+        (room_left has.first.fixed has.records.most (blocks_add has.earlier has.records.tables) (all_add block.commands has.records.tables) (blocks_add more has.records.tables)
+        (blocks_add (has.earlier ++ block ∷ more) has.records.tables) (all_add block.commands weighs.after) has.first.shared.size.records
         (sum_by-append (λ (b : Block). all_add b.commands has.records.tables) has.earlier (block ∷ more) ∙ ap (λ (n : ℕ). blocks_add has.earlier has.records.tables + n) (sum_by-cons (λ (b : Block). all_add b.commands has.records.tables) block more))
         (weighs.same block.commands) has.records.room);
   }
@@ -111,7 +111,7 @@ module _ (adds_after : AddsAfter) (p : PassView) (block : Block) (more : List Bl
 -- ---- from block to block
 
 -- where none ran yet
-pub ample_new : (p : PassView) (engine : EngineView) (blocks : List Block) → p.engine ≡ engine → IsIdle p → IsReady p → HasPlaces engine → All MayFinish blocks → HasRecords p (blocks_add blocks) → IsAmple p (blocks ++ [])
+pub ample_new : (p : PassView) (engine : EngineView) (blocks : List Block) → engine_of p ≡ engine → IsIdle p → IsReady p → HasPlaces engine → All MayFinish blocks → HasRecords p (blocks_add blocks) → IsAmple p (blocks ++ [])
 ample_new p engine blocks same idle ready places may records = subst (λ (bs : List Block). IsAmple p bs) (sym (append-nil blocks)) (record {
   ready = ready;
   places = subst (λ (e : EngineView). HasPlaces e) (sym same) places;
@@ -156,34 +156,34 @@ only_full p (commit.Conflict conflict) P alone cause full = none_shown p conflic
 only_full p commit.PlacesOut P alone cause full = full refl cause
 
 pub alone_open : (p q : PassView) (clock : ℕ) → frame q ≡ frame (begun p clock) → IsAlone p → IsAlone q
-alone_open p q clock kept alone = subst (λ (f : Frame). IsAloneAt f.engine.size f.seat f.others) (sym kept) alone
+alone_open p q clock kept alone = subst (λ (f : PassView). IsAloneAt f.shared.size f.seat f.others) (sym kept) alone
 
 pub alone_still : (q r : PassView) → frame r ≡ frame q → IsAlone q → IsAlone r
-alone_still q r same alone = subst (λ (f : Frame). IsAloneAt f.engine.size f.seat f.others) (sym same) alone
+alone_still q r same alone = subst (λ (f : PassView). IsAloneAt f.shared.size f.seat f.others) (sym same) alone
 
 -- it has committed
-pub ready_committed : (p b q r r' : PassView) (known : Known) → Opened p b q → IsAlone p → r ≡ committed (knowing q known) → HoldsAbsent r → IsRoomyOnceCollected r → r' ≡ r → IsReadyOnceCollected r'
+pub ready_committed : (p b q r r' : PassView) (known : Known) → Opened p b q → IsAlone p → r ≡ observing (placing (committed (knowing q known)) r.placed) r.observed → HoldsAbsent r → IsRoomyOnceCollected r → r' ≡ r → IsReadyOnceCollected r'
 ready_committed p b q r r' known o alone ends absent roomy same = subst (λ (x : PassView). IsReadyOnceCollected x) (sym same) (record {
-  alone = alone_stays p r (entry_of q.desk ∷ []) (adds_entered p b q r known o ends) alone;
+  alone = alone_stays p r (entry_of q ∷ []) (adds_entered p b q r known o ends) alone;
   absent = absent;
   roomy = roomy;
 })
 
 -- it has told that its log is lawful, and has collected
-pub none_collected : (p q r : PassView) (met met' : ℕ) (known : Known) → q ≡ record p { met = met } → r ≡ collected q met' known r.queue → IsIdle p → p.met ≤ met → met ≤ met' → IsRefused 0 p r
+pub none_collected : (p q r : PassView) (met met' : ℕ) (known : Known) → q ≡ observing (with_met p met) q.observed → r ≡ removing (observing (collected q met' known r.queue) r.observed) r.gone → IsIdle p → p.met ≤ met → met ≤ met' → IsRefused 0 p r
 none_collected p q r met met' known told after idle more most =
-    let is : r ≡ collected (record p { met = met }) met' known r.queue = after ∙ ap (λ (x : PassView). collected x met' known r.queue) told in
+    let is : r ≡ removing (observing (collected (with_met p met) met' known r.queue) r.observed) r.gone = after ∙ ap (λ (x : PassView). removing (observing (collected x met' known r.queue) r.observed) r.gone) told in
     let same_clock : r.clock ≡ p.clock = ap (λ (x : PassView). x.clock) is in
     let last_met : r.met ≡ met' = ap (λ (x : PassView). x.met) is in
     let same_refusals : r.refusals ≡ p.refusals = ap (λ (x : PassView). x.refusals) is in
     record {
-      adds = Adds-no_entry p r (ap (λ (x : PassView). x.engine) is) (ap (λ (x : PassView). x.seat) is) (ap (λ (x : PassView). x.others) is) (ap (λ (x : PassView). x.desk) is ∙ idle) (ap (λ (x : PassView). x.log) is) (omega arith) (omega arith) (omega arith);
+      adds = Adds-no_entry p r (ap engine_of is) (ap (λ (x : PassView). x.seat) is) (ap (λ (x : PassView). x.others) is) (ap desk_of is ∙ idle) (ap (λ (x : PassView). x.log) is) (omega arith) (omega arith) (omega arith);
       refusals = omega arith;
     }
 
-pub ready_collected : (p q : PassView) → q.engine ≡ p.engine → q.seat ≡ p.seat → q.others ≡ p.others → q.given ≡ p.given → q.spare ≡ p.spare → q.log ≡ p.log → IsReadyOnceCollected p → IsRoomy q → IsReady q
+pub ready_collected : (p q : PassView) → engine_of q ≡ engine_of p → q.seat ≡ p.seat → q.others ≡ p.others → q.given ≡ p.given → q.spare ≡ p.spare → q.log ≡ p.log → IsReadyOnceCollected p → IsRoomy q → IsReady q
 ready_collected p q engine seat others given spare log ready roomy = record {
-  alone = rw (engine, seat, others) ready.alone;
+  alone = alone_as p q engine seat others ready.alone;
   absent = absent_same p q engine given spare log ready.absent;
   roomy = roomy;
 }
@@ -213,12 +213,12 @@ pub none_is : {A : Type 0} (answer : Option A) → answer ≡ None → IsSome an
 none_is {A = A} answer is some = let bad : false ≡ true = subst (λ (x : Option A). IsSome x) is some in cc
 
 -- a try of a block for which there is room, told behind it that the log is lawful
-pub granted_once : {A : Type 0} (answer : Option A) (p q r : PassView) → IsReady p → (Lawful (StandsForSome stands) p.engine.size.records p.log → IsSome answer)
-    → IfNone answer (IsRefused 1 p q) → IfSome answer (λ _. IsReady p → IsReadyOnceCollected q) → (IsAlone q → Lawful (StandsForSome stands) q.engine.size.records q.log) → (IsReadyOnceCollected q → IsReady r) → IsSome answer × IsReady r
+pub granted_once : {A : Type 0} (answer : Option A) (p q r : PassView) → IsReady p → (Lawful (StandsForSome stands) p.shared.size.records p.log → IsSome answer)
+    → IfNone answer (IsRefused 1 p q) → IfSome answer (λ _. IsReady p → IsReadyOnceCollected q) → (IsAlone q → Lawful (StandsForSome stands) q.shared.size.records q.log) → (IsReadyOnceCollected q → IsReady r) → IsSome answer × IsReady r
 granted_once None p q r ready granted refused once told collects =
     let still : q.log ≡ p.log = refused.adds.log ∙ append-nil p.log in
-    let there : Lawful (StandsForSome stands) q.engine.size.records q.log = told (alone_stays p q [] refused.adds ready.alone) in
-    let here : Lawful (StandsForSome stands) p.engine.size.records q.log = subst (λ (e : EngineView). Lawful (StandsForSome stands) e.size.records q.log) refused.adds.engine there in
-    let bad : false ≡ true = granted (subst (λ (log : List Entry). Lawful (StandsForSome stands) p.engine.size.records log) still here) in
+    let there : Lawful (StandsForSome stands) q.shared.size.records q.log = told (alone_stays p q [] refused.adds ready.alone) in
+    let here : Lawful (StandsForSome stands) p.shared.size.records q.log = subst (λ (e : EngineView). Lawful (StandsForSome stands) e.size.records q.log) refused.adds.engine there in
+    let bad : false ≡ true = granted (subst (λ (log : List Entry). Lawful (StandsForSome stands) p.shared.size.records log) still here) in
     cc
 granted_once (Some value) p q r ready granted refused once told collects = (refl, collects (once ready))

@@ -16,7 +16,7 @@ use Rattle.seat_post.specs.Leaves.{AreLeft, IsPresent}
 use Rattle.txn_engine.specs.Leaves.{HoldsAbsent}
 use Rattle.seat_post.specs.Lists.{IsRoomyAt}
 use Rattle.txn_engine.specs.Lists.{IsRoomy, IsRoomyOnceCollected, IsFull}
-use Rattle.txn_engine.specs.Pass.{EngineView, PassView, Frame, frame, IsIdle, IsAlone, begun, meaning_of_pass}
+use Rattle.txn_engine.specs.Pass.{EngineView, PassView, frame, IsIdle, IsAlone, begun, meaning_of_pass, engine_of, desk_of, observing, removing, with_met}
 use Rattle.seat_post.specs.Logs.{IsAbove}
 use Rattle.seat_post.specs.Seats.{Known}
 use Rattle.seat_post.specs.Spare.{is_on}
@@ -29,13 +29,17 @@ use Rattle.lane_runner.proofs.Adding.{Adds-no_entry, Adds-trans}
 use Rattle.lane_runner.proofs.Begun.{undone_reads}
 use Rattle.lane_runner.proofs.Within.{left_agrees}
 
+-- the seat that is alone keeps nothing in its queue
+pub collected_alone : (p q : PassView) → q ≡ removing (observing (collected p q.met q.known q.queue) q.observed) q.gone → q.queue ≡ [] → q ≡ removing (observing (collected p q.met q.known []) q.observed) q.gone
+collected_alone p q after none = after ∙ ap (λ queue. removing (observing (collected p q.met q.known queue) q.observed) q.gone) none
+
 -- it has told that its log is lawful, and has collected
-module _ (r w : PassView) (met met' : ℕ) (known : Known) (is : w ≡ collected (record r { met = met }) met' known []) (idle : IsIdle r) where
-  pub Holds-collected : Lawful (StandsForSome stands) r.engine.size.records r.log → IsAbove r.log w.published → HoldsAbsent r → IsRoomy w → Holds w
+module _ (r w : PassView) (met met' : ℕ) (known : Known) (is : w ≡ removing (observing (collected (with_met r met) met' known []) w.observed) w.gone) (idle : IsIdle r) where
+  pub Holds-collected : Lawful (StandsForSome stands) r.shared.size.records r.log → IsAbove r.log w.published → HoldsAbsent r → IsRoomy w → Holds w
   Holds-collected lawful above absent roomy = record {
-    idle = ap (λ (x : PassView). x.desk) is ∙ idle;
+    idle = ap desk_of is ∙ idle;
     none_queued = ap (λ (x : PassView). x.queue) is;
-    lawful = subst (λ (x : PassView). Lawful (StandsForSome stands) x.engine.size.records x.log) (sym is) lawful;
+    lawful = subst (λ (x : PassView). Lawful (StandsForSome stands) x.shared.size.records x.log) (sym is) lawful;
     above = subst (λ (log : List Entry). IsAbove log w.published) (sym (ap (λ (x : PassView). x.log) is)) above;
     absent = subst (λ (x : PassView). HoldsAbsent x) (sym is) absent;
     roomy = roomy;
@@ -46,7 +50,7 @@ module _ (r w : PassView) (met met' : ℕ) (known : Known) (is : w ≡ collected
       let same_clock : w.clock ≡ r.clock = ap (λ (x : PassView). x.clock) is in
       let last_met : w.met ≡ met' = ap (λ (x : PassView). x.met) is in
       let same_refusals : w.refusals ≡ r.refusals = ap (λ (x : PassView). x.refusals) is in
-      Adds-no_entry r w (ap (λ (x : PassView). x.engine) is) (ap (λ (x : PassView). x.seat) is) (ap (λ (x : PassView). x.others) is) (ap (λ (x : PassView). x.desk) is ∙ idle) (ap (λ (x : PassView). x.log) is) (omega arith) (omega arith) (omega arith)
+      Adds-no_entry r w (ap engine_of is) (ap (λ (x : PassView). x.seat) is) (ap (λ (x : PassView). x.others) is) (ap desk_of is ∙ idle) (ap (λ (x : PassView). x.log) is) (omega arith) (omega arith) (omega arith)
 
 -- a commit, and what adds nothing behind it
 pub Commits-then : (commands : List Command) (placed : Placed) (outcome : Outcome) (p r w : PassView) → Commits commands p r placed outcome → Adds r w [] → Commits commands p w placed outcome
@@ -61,17 +65,17 @@ Commits-then commands placed outcome p r w first second = record {
 
 -- one version at most lies outside each inline place, also of what a transaction has begun to read and write
 pub roomy_open : (p q : PassView) (clock : ℕ) → frame q ≡ frame (begun p clock) → IsRoomy p → IsRoomy q
-roomy_open p q clock kept roomy = subst (λ (f : Frame). IsRoomyAt f.engine.size f.known) (sym kept) roomy
+roomy_open p q clock kept roomy = subst (λ (f : PassView). IsRoomyAt f.shared.size f.known) (sym kept) roomy
 
 pub roomy_once : (q : PassView) → IsRoomy q → IsRoomyOnceCollected q
 roomy_once q roomy r below = inl (roomy r below)
 
-pub roomy_same : (p q : PassView) → q.engine ≡ p.engine → q.known ≡ p.known → IsRoomy p → IsRoomy q
+pub roomy_same : (p q : PassView) → engine_of q ≡ engine_of p → q.known ≡ p.known → IsRoomy p → IsRoomy q
 roomy_same p q engine known roomy =
-    let at_known : IsRoomyAt p.engine.size q.known = subst (λ (k : Known). IsRoomyAt p.engine.size k) (sym known) roomy in
+    let at_known : IsRoomyAt p.shared.size q.known = subst (λ (k : Known). IsRoomyAt p.shared.size k) (sym known) roomy in
     subst (λ (e : EngineView). IsRoomyAt e.size q.known) (sym engine) at_known
 
-pub absent_same : (p q : PassView) → q.engine ≡ p.engine → q.given ≡ p.given → q.spare ≡ p.spare → q.log ≡ p.log → HoldsAbsent p → HoldsAbsent q
+pub absent_same : (p q : PassView) → engine_of q ≡ engine_of p → q.given ≡ p.given → q.spare ≡ p.spare → q.log ≡ p.log → HoldsAbsent p → HoldsAbsent q
 absent_same p q engine given spare log absent r from within =
     let here : (is_on (p.given ++ p.spare) r ≡ true) ⊎ IsPresent p.log r = absent r (subst (λ (e : EngineView). e.fixed ≤ r) engine from) (subst (λ (e : EngineView). r < e.size.records) engine within) in
     let at_log : (is_on (p.given ++ p.spare) r ≡ true) ⊎ IsPresent q.log r = subst (λ (l : List Entry). (is_on (p.given ++ p.spare) r ≡ true) ⊎ IsPresent l r) (sym log) here in
@@ -81,28 +85,28 @@ absent_same p q engine given spare log absent r from within =
 -- it is still alone, and holds the absent records
 pub absent_open : (p b q : PassView) (clock : ℕ) → b ≡ begun p clock → IsAlone p → frame q ≡ frame b → accounted q ≡ accounted b → HoldsAbsent b → HoldsAbsent q
 absent_open p b q clock began alone same_frame same_accounts absent =
-    absent_stays b q (record { same_frame = same_frame; same_accounts = same_accounts }) (subst (λ (x : PassView). IsAlone x) (sym began) alone) absent
+    absent_stays b q same_frame same_accounts (subst (λ (x : PassView). IsAlone x) (sym began) alone) absent
 
 -- a place is left for so few writes
-pub places_left : (q : PassView) (engine : EngineView) → q.engine ≡ engine → HasPlaces engine → IsRoomy q → length q.desk.writes ≤ 8192 → IsFull q → ⊥
+pub places_left : (q : PassView) (engine : EngineView) → engine_of q ≡ engine → HasPlaces engine → IsRoomy q → length q.writes ≤ 8192 → IsFull q → ⊥
 places_left q engine same many roomy few full =
-    let short : q.engine.size.spare ≤ q.engine.size.records + length q.desk.writes = full.roomy roomy in
-    let spare : q.engine.size.spare ≡ engine.size.spare = ap (λ (e : EngineView). e.size.spare) same in
-    let records : q.engine.size.records ≡ engine.size.records = ap (λ (e : EngineView). e.size.records) same in
+    let short : q.shared.size.spare ≤ q.shared.size.records + length q.writes = full.roomy roomy in
+    let spare : q.shared.size.spare ≡ engine.size.spare = ap (λ (e : EngineView). e.size.spare) same in
+    let records : q.shared.size.records ≡ engine.size.records = ap (λ (e : EngineView). e.size.records) same in
     omega arith
 
 -- ---- what it reads
 
 -- what is said of reads whose writes were dropped holds of them before
-pub left_undone : (q r : PassView) → q.desk.phase ≡ Open → frame r ≡ frame q → meaning_of_pass r ≡ after_undo (meaning_of_pass q) → AreLeft r.log r.desk.stamp r.desk.reads → AreLeft q.log q.desk.stamp q.desk.reads
+pub left_undone : (q r : PassView) → q.phase ≡ Open → frame r ≡ frame q → meaning_of_pass r ≡ after_undo (meaning_of_pass q) → AreLeft r.log r.stamp r.reads → AreLeft q.log q.stamp q.reads
 left_undone q r opened rest undone left =
-    let at_log : AreLeft q.log r.desk.stamp r.desk.reads = subst (λ (log : List Entry). AreLeft log r.desk.stamp r.desk.reads) (ap (λ (f : Frame). f.log) rest) left in
-    let at_stamp : AreLeft q.log q.desk.stamp r.desk.reads = subst (λ (n : ℕ). AreLeft q.log n r.desk.reads) (ap (λ (f : Frame). f.stamp) rest) at_log in
-    subst (λ (reads : List (ℕ × Option (List ℕ))). AreLeft q.log q.desk.stamp reads) (undone_reads q r opened rest undone) at_stamp
+    let at_log : AreLeft q.log r.stamp r.reads = subst (λ (log : List Entry). AreLeft log r.stamp r.reads) (ap (λ (f : PassView). f.log) rest) left in
+    let at_stamp : AreLeft q.log q.stamp r.reads = subst (λ (n : ℕ). AreLeft q.log n r.reads) (ap (λ (f : PassView). f.stamp) rest) at_log in
+    subst (λ (reads : List (ℕ × Option (List ℕ))). AreLeft q.log q.stamp reads) (undone_reads q r opened rest undone) at_stamp
 
 -- what a transaction has read agrees with the state that the log left
-pub agrees_open : (p q : PassView) (clock : ℕ) (tables : TableMap) (most : ℕ) → frame q ≡ frame (begun p clock) → Lawful (StandsForSome stands) p.engine.size.records p.log → IsAbove p.log q.desk.stamp → AreLeft q.log q.desk.stamp q.desk.reads
-    → (within : LeavesWithin p.engine.size.records p.log tables most) → Agrees within.state q.desk.reads
+pub agrees_open : (p q : PassView) (clock : ℕ) (tables : TableMap) (most : ℕ) → frame q ≡ frame (begun p clock) → Lawful (StandsForSome stands) p.shared.size.records p.log → IsAbove p.log q.stamp → AreLeft q.log q.stamp q.reads
+    → (within : LeavesWithin p.shared.size.records p.log tables most) → Agrees within.state q.reads
 agrees_open p q clock tables most kept lawful above left within =
-    left_agrees (StandsForSome stands) p.engine.size.records p.log q.desk.stamp q.desk.reads within.state lawful above within.left
-    (subst (λ (log : List Entry). AreLeft log q.desk.stamp q.desk.reads) (ap (λ (f : Frame). f.log) kept) left)
+    left_agrees (StandsForSome stands) p.shared.size.records p.log q.stamp q.reads within.state lawful above within.left
+    (subst (λ (log : List Entry). AreLeft log q.stamp q.reads) (ap (λ (f : PassView). f.log) kept) left)

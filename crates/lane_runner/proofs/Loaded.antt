@@ -94,13 +94,13 @@ room_more : (fixed' fixed records' records most more whole : ℕ) → fixed' ≡
 room_more fixed' fixed records' records most more whole same_fixed same_records room below = omega arith
 
 -- it finds room
-pub room_row : (first p : PassView) (rows : List (ℕ × ℕ × Row)) (indexes : List (ℕ × ℕ)) (i : ℕ) (row : ℕ × ℕ × Row) (fixed records : ℕ) → row ≡ get_or rows i row → i < length rows → p.engine.fixed ≡ fixed → p.engine.size.records ≡ records → fixed + rows_add rows indexes ≤ records
+pub room_row : (first p : PassView) (rows : List (ℕ × ℕ × Row)) (indexes : List (ℕ × ℕ)) (i : ℕ) (row : ℕ × ℕ × Row) (fixed records : ℕ) → row ≡ get_or rows i row → i < length rows → p.fixed ≡ fixed → p.shared.size.records ≡ records → fixed + rows_add rows indexes ≤ records
     → HasLoaded (loaded (take i rows) indexes) (rows_add (take i rows) indexes) first p → HasRecords p (row_more row.0)
 room_row first p rows indexes i row fixed records is within same_fixed same_records room so_far = record {
   tables = loaded (take i rows) indexes;
   most = rows_add (take i rows) indexes;
   leaves = so_far.leaves;
-  room = room_more p.engine.fixed fixed p.engine.size.records records (rows_add (take i rows) indexes) (row_more row.0 (loaded (take i rows) indexes)) (rows_add rows indexes) same_fixed same_records room
+  room = room_more p.fixed fixed p.shared.size.records records (rows_add (take i rows) indexes) (row_more row.0 (loaded (take i rows) indexes)) (rows_add rows indexes) same_fixed same_records room
       (subst (λ (n : ℕ). n ≤ rows_add rows indexes) (weight_loaded rows indexes i row is within) (sum_by-take-le (λ (r : ℕ × ℕ × Row). row_adds (index_of r.0 (loaded [] indexes))) rows (i + 1)));
 }
 
@@ -155,23 +155,23 @@ HasLoaded-none law stands_empty weighs p blank = record {
   holds = record {
     idle = blank.idle;
     none_queued = blank.none_queued;
-    lawful = subst (λ (log : List Entry). Lawful (StandsForSome stands) p.engine.size.records log) (sym blank.none_logged)
-        (law p.engine.size.records [] (All-nil (IsEntry p.engine.size.records)) (λ i j e lt within. absurd (omega arith)) (All-nil (ReadsObey [])) (All-nil (λ (entry : Entry). entry.snapshot ≡ false → Fits (StandsForSome stands) p.engine.size.records entry)));
+    lawful = subst (λ (log : List Entry). Lawful (StandsForSome stands) p.shared.size.records log) (sym blank.none_logged)
+        (law p.shared.size.records [] (All-nil (IsEntry p.shared.size.records)) (λ i j e lt within. absurd (omega arith)) (All-nil (ReadsObey [])) (All-nil (λ (entry : Entry). entry.snapshot ≡ false → Fits (StandsForSome stands) p.shared.size.records entry)));
     above = λ e among commit. absurd (subst (λ (log : List Entry). Among e log) blank.none_logged among);
     absent = blank.absent;
     roomy = blank.roomy;
   };
-  leaves = subst (λ (log : List Entry). LeavesWithin p.engine.size.records log (loaded [] []) 0) (sym blank.none_logged) (record {
+  leaves = subst (λ (log : List Entry). LeavesWithin p.shared.size.records log (loaded [] []) 0) (sym blank.none_logged) (record {
     state = empty_state;
     left = λ rid. inr (refl, λ other at writes. Contains-nil other at);
     places = no_places;
-    stands_for = stands_empty p.engine.size.records;
-    light = let none : weight no_places ≡ 0 = weighs p.engine.size.records no_places (loaded [] []) (stands_empty p.engine.size.records) in omega arith;
+    stands_for = stands_empty p.shared.size.records;
+    light = let none : weight no_places ≡ 0 = weighs p.shared.size.records no_places (loaded [] []) (stands_empty p.shared.size.records) in omega arith;
   });
   adds = ([], Adds-none p blank.idle);
 }
 
-pub HasLoaded-more : (first p q : PassView) (tables tables' : TableMap) (most most' : ℕ) → HasLoaded tables most first p → Holds q → AddsSome p q → LeavesWithin q.engine.size.records q.log tables' most' → HasLoaded tables' most' first q
+pub HasLoaded-more : (first p q : PassView) (tables tables' : TableMap) (most most' : ℕ) → HasLoaded tables most first p → Holds q → AddsSome p q → LeavesWithin q.shared.size.records q.log tables' most' → HasLoaded tables' most' first q
 HasLoaded-more first p q tables tables' most most' so_far holds more leaves = record {
   holds = holds;
   leaves = leaves;
@@ -205,23 +205,23 @@ room_put p table key row has = record {
   tables = has.tables;
   most = has.most;
   leaves = has.leaves;
-  room = subst (λ (n : ℕ). p.engine.fixed + (has.most + n) ≤ p.engine.size.records) (sym (put_adds table key row has.tables)) has.room;
+  room = subst (λ (n : ℕ). p.fixed + (has.most + n) ≤ p.shared.size.records) (sym (put_adds table key row has.tables)) has.room;
 }
 
 pub HasLoaded-put : (first p q : PassView) (tables : TableMap) (most table key : ℕ) (row : Row) {entries : List Entry} → HasLoaded tables most first p → Holds q → Adds p q entries → LeavesAfter (Put table key row ∷ []) p q → HasLoaded (with_value tables table key row) (most + row_more table tables) first q
 HasLoaded-put first p q tables most table key row {entries} so_far holds adds leaves =
     HasLoaded-more first p q tables (with_value tables table key row) most (most + row_more table tables) so_far holds (entries, adds)
-    (subst (λ (n : ℕ). LeavesWithin q.engine.size.records q.log (with_value tables table key row) (most + n)) (put_adds table key row tables) (leaves tables most so_far.leaves))
+    (subst (λ (n : ℕ). LeavesWithin q.shared.size.records q.log (with_value tables table key row) (most + n)) (put_adds table key row tables) (leaves tables most so_far.leaves))
 
 pub swapped : (a b : ℕ) → a + b ≡ b + a
 swapped a b = omega arith
 
 -- ---- all of it
 
-pub Loads-whole : (input : Input) (first p q : PassView) → FitsMore → q.engine.size.records ≤ record_limit → AddsSome first p → HasLoaded (loaded input.rows input.indexes) (rows_add input.rows input.indexes) p q → Loads input first q
+pub Loads-whole : (input : Input) (first p q : PassView) → FitsMore → q.shared.size.records ≤ record_limit → AddsSome first p → HasLoaded (loaded input.rows input.indexes) (rows_add input.rows input.indexes) p q → Loads input first q
 Loads-whole input first p q more few before so_far = record {
   holds = so_far.holds;
   leaves = so_far.leaves;
-  tables = (so_far.leaves.state, so_far.leaves.left, (so_far.leaves.places, more q.engine.size.records record_limit so_far.leaves.state so_far.leaves.places (loaded input.rows input.indexes) few so_far.leaves.stands_for));
+  tables = (so_far.leaves.state, so_far.leaves.left, (so_far.leaves.places, more q.shared.size.records record_limit so_far.leaves.state so_far.leaves.places (loaded input.rows input.indexes) few so_far.leaves.stands_for));
   adds = (before.0 ++ so_far.adds.0, Adds-trans first p q before.0 so_far.adds.0 before.1 so_far.adds.1);
 }

@@ -27,9 +27,9 @@ use Rattle.txn_engine.specs.Alone.{AloneView, with_pass}
 use Rattle.seat_post.specs.Glance.{GlanceView}
 use Rattle.txn_engine.specs.Leaves.{HoldsAbsent}
 use Rattle.txn_engine.specs.Lists.{IsRoomy}
-use Rattle.txn_engine.specs.Pass.{PassView, IsIdle, IsAlone, ticked}
+use Rattle.txn_engine.specs.Pass.{PassView, IsIdle, IsAlone, ticked, engine_of, desk_of, observing, with_log}
 use Rattle.seat_post.specs.Logs.{IsAbove}
-use Rattle.txn_engine.specs.Snapshot.{Begins, finished, glance_store, meaning_of_glance, unread}
+use Rattle.txn_engine.specs.Snapshot.{Begins, finished, glance_store, meaning_of_glance, unread, looking}
 use Rattle.seat_post.specs.Glance.{entry_of_glance}
 use Rattle.txn_engine.proofs.Accounting.{absent_snapshot}
 use Rattle.lane_runner.specs.Rows.{stands}
@@ -93,12 +93,12 @@ cleared_is (Some g) stamp is = (g, refl, (let same : Some (record g { reads = []
 pub seen_at : (t s0 s1 : PassView) (begins : Begins t s0) → unread s1 ≡ unread s0 → (g : GlanceView) × (s1.glance ≡ Some g) × (g.stamp ≡ begins.stamp)
 seen_at t s0 s1 begins rest = cleared_is s1.glance begins.stamp (ap (λ (x : PassView). x.glance) (rest ∙ ap unread begins.pass))
 
-module _ (p t s0 s1 f : PassView) (clock : ℕ) (begins : Begins t s0) (g : GlanceView) (later : p.clock ≤ clock) (idle : IsIdle p) (tick : t ≡ ticked p clock) (rest : unread s1 ≡ unread s0) (stamp : g.stamp ≡ begins.stamp) (ends : f ≡ finished s1 g) where
-  whole : unread s1 ≡ unread (record (ticked p clock) { met = begins.stamp + 1; glance = Some (record { stamp = begins.stamp; reads = [] }) })
-  whole = rest ∙ ap unread begins.pass ∙ ap (λ (x : PassView). unread (record x { met = begins.stamp + 1; glance = Some (record { stamp = begins.stamp; reads = [] }) })) tick
+module _ (p t s0 s1 f : PassView) (clock : ℕ) (begins : Begins t s0) (g : GlanceView) (later : p.clock ≤ clock) (idle : IsIdle p) (tick : t ≡ ticked p clock) (rest : unread s1 ≡ unread s0) (stamp : g.stamp ≡ begins.stamp) (ends : f ≡ observing (finished s1 g) f.observed) where
+  whole : unread s1 ≡ unread (looking (ticked p clock) begins.stamp)
+  whole = rest ∙ ap unread begins.pass ∙ ap (λ (x : PassView). unread (looking x begins.stamp)) tick
 
-  same_engine : f.engine ≡ p.engine
-  same_engine = ap (λ (x : PassView). x.engine) ends ∙ ap (λ (x : PassView). x.engine) whole
+  same_engine : engine_of f ≡ engine_of p
+  same_engine = ap engine_of ends ∙ ap engine_of whole
 
   grown : f.log ≡ p.log ++ entry_of_glance g ∷ []
   grown = ap (λ (x : PassView). x.log) ends ∙ ap (λ (x : PassView). x.log ++ entry_of_glance g ∷ []) whole
@@ -121,7 +121,7 @@ module _ (p t s0 s1 f : PassView) (clock : ℕ) (begins : Begins t s0) (g : Glan
     engine = same_engine;
     seat = ap (λ (x : PassView). x.seat) ends ∙ ap (λ (x : PassView). x.seat) whole;
     others = ap (λ (x : PassView). x.others) ends ∙ ap (λ (x : PassView). x.others) whole;
-    idle = ap (λ (x : PassView). x.desk) ends ∙ ap (λ (x : PassView). x.desk) whole ∙ idle;
+    idle = ap desk_of ends ∙ ap desk_of whole ∙ idle;
     log = grown;
     each = only;
     in_order = (λ second among. absurd among, tt);
@@ -141,7 +141,7 @@ module _ (p t s0 s1 f : PassView) (clock : ℕ) (begins : Begins t s0) (g : Glan
   clock_looked = ap (λ (x : PassView). x.clock) ends ∙ ap (λ (x : PassView). x.clock) whole
 
   pub absent_looked : HoldsAbsent p → HoldsAbsent f
-  absent_looked absent = absent_same (record p { log = p.log ++ entry_of_glance g ∷ [] }) f same_engine
+  absent_looked absent = absent_same (with_log p (p.log ++ entry_of_glance g ∷ [])) f same_engine
       (ap (λ (x : PassView). x.given) ends ∙ ap (λ (x : PassView). x.given) whole) (ap (λ (x : PassView). x.spare) ends ∙ ap (λ (x : PassView). x.spare) whole) grown
       (absent_snapshot p (entry_of_glance g) refl absent)
 
@@ -157,11 +157,6 @@ module _ (p t s0 s1 f : PassView) (clock : ℕ) (begins : Begins t s0) (g : Glan
       let below : e.stamp < t.published = above e among commit in
       omega arith
 
--- what is told of the seat, as told of its pass
-pub seen_as : (s1 : PassView) (a f : AloneView) (glance : Option GlanceView) → IfSome glance (λ g. f ≡ with_pass a (finished s1 g)) → IfSome glance (λ g. f.pass ≡ finished s1 g)
-seen_as s1 a f None told = tt
-seen_as s1 a f (Some g) told = ap (λ (x : AloneView). x.pass) told
-
 -- what is known of a snapshot once it is finished
 pub record Sought (p s1 f : PassView) (stamp : ℕ) : Type 0 where
   pub glance : GlanceView
@@ -173,12 +168,12 @@ pub record Sought (p s1 f : PassView) (stamp : ℕ) : Type 0 where
   pub behind : IsBehind p.log glance.stamp
   pub clock : f.clock ≤ clock_after p.clock 1
 
-pub sought : (p t s0 s1 f : PassView) (clock stamp : ℕ) (begins : Begins t s0) → p.clock < clock → clock ≤ clock_after p.clock 1 → IsIdle p → t ≡ ticked p clock → unread s1 ≡ unread s0 → IfSome s1.glance (λ g. f ≡ finished s1 g) → IfSome s1.glance (λ g. stamp ≡ g.stamp)
+pub sought : (p t s0 s1 f : PassView) (clock stamp : ℕ) (begins : Begins t s0) → p.clock < clock → clock ≤ clock_after p.clock 1 → IsIdle p → t ≡ ticked p clock → unread s1 ≡ unread s0 → IfSome s1.glance (λ g. f ≡ observing (finished s1 g) f.observed) → IfSome s1.glance (λ g. stamp ≡ g.stamp)
     → IsAlone p → IsAbove p.log t.published → Sought p s1 f stamp
 sought p t s0 s1 f clock stamp begins later drawn idle tick rest ends is alone above =
     let found = seen_at t s0 s1 begins rest in
     let g = found.0 in
-    let ended : f ≡ finished s1 g = subst (λ (o : Option GlanceView). IfSome o (λ g. f ≡ finished s1 g)) found.1 ends in
+    let ended : f ≡ observing (finished s1 g) f.observed = subst (λ (o : Option GlanceView). IfSome o (λ g. f ≡ observing (finished s1 g) f.observed)) found.1 ends in
     let stamped : stamp ≡ g.stamp = subst (λ (o : Option GlanceView). IfSome o (λ g. stamp ≡ g.stamp)) found.1 is in
     record {
       glance = g;
@@ -194,8 +189,8 @@ sought p t s0 s1 f clock stamp begins later drawn idle tick rest ends is alone a
 -- ---- its entry
 
 module _ (p t s0 s1 : PassView) (clock : ℕ) (begins : Begins t s0) (tick : t ≡ ticked p clock) (glance : GlanceView) (seen : s1.glance ≡ Some glance) where
-  pub size_looked : (meaning_of_glance s0).size ≡ p.engine.size.records
-  size_looked = ap (λ (x : PassView). (meaning_of_glance x).size) begins.pass ∙ ap (λ (x : PassView). x.engine.size.records) tick
+  pub size_looked : (meaning_of_glance s0).size ≡ p.shared.size.records
+  size_looked = ap (λ (x : PassView). (meaning_of_glance x).size) begins.pass ∙ ap (λ (x : PassView). x.shared.size.records) tick
 
   pub none_looked : (meaning_of_glance s0).writes ≡ []
   none_looked = ap (λ (x : PassView). (meaning_of_glance x).writes) begins.pass
@@ -227,6 +222,6 @@ torn_looked records m m' g size_is none reads torn state places tables agrees ho
 
 pub leaves_looked : (p f : PassView) (g : GlanceView) (commands : List Command) → Adds p f (entry_of_glance g ∷ []) → All ReadsAlone commands → LeavesAfter commands p f
 leaves_looked p f g commands adds reads tables most within =
-    let more = within_weaker p.engine.size.records p.log tables most (most + all_add commands tables) (omega arith) within in
-    let here = within_at p f (entry_of_glance g ∷ []) tables (most + all_add commands tables) adds (within_snapshot p.engine.size.records p.log (entry_of_glance g) tables (most + all_add commands tables) refl more) in
-    subst (λ (after : TableMap). LeavesWithin f.engine.size.records f.log after (most + all_add commands tables)) (sym (reads_stay commands tables reads)) here
+    let more = within_weaker p.shared.size.records p.log tables most (most + all_add commands tables) (omega arith) within in
+    let here = within_at p f (entry_of_glance g ∷ []) tables (most + all_add commands tables) adds (within_snapshot p.shared.size.records p.log (entry_of_glance g) tables (most + all_add commands tables) refl more) in
+    subst (λ (after : TableMap). LeavesWithin f.shared.size.records f.log after (most + all_add commands tables)) (sym (reads_stay commands tables reads)) here

@@ -96,7 +96,7 @@ gives_outcome s s' p q r block more placed outcome next is commits place others 
   session_is = is;
   entries = commits.entry ∷ others.entries;
   are_entries = result commits.entry others.entries block [] (placed, outcome) [] (record { place = place; is_entry = commits.is_entry; weighs = commits.weighs })
-      (AreEntries-others p.engine.size.records others.entries (subst (λ (e : EngineView). (entry : _) → Among entry others.entries → LeavesTables e.size.records entry) commits.adds.engine others.keep));
+      (AreEntries-others p.shared.size.records others.entries (subst (λ (e : EngineView). (entry : _) → Among entry others.entries → LeavesTables e.size.records entry) commits.adds.engine others.keep));
   adds = Adds-trans p q r (commits.entry ∷ []) others.entries commits.adds others.adds;
   once = once;
 }

@@ -1,6 +1,6 @@
 -- What a promotion leaves of a pass.
 use Rattle.std.proofs.Common.{◌≡◌, ℕ, ◌+◌, ◌<◌, ◌≤◌, List, [], ◌∷◌, Option, None, Some, Result, Ok, Err, inl, inr, refl, sym, ap, subst, ◌∙◌, arith}
-use Rattle.std.specs.Prelude.{IfOk, IfErr}
+use Rattle.std.specs.Prelude.{IfOk, IfErr, OnOk}
 use Rattle.std.proofs.lemmas.Bool.Decides.{eqb_tells}
 use Rattle.std.proofs.lemmas.List.Elements.{All-head}
 use Rattle.plain_data.specs.declared.entry.Entry.{Entry}
@@ -9,9 +9,12 @@ use Rattle.stamp_base.specs.Stamp.{stamp_of}
 use Rattle.history_replay.specs.Results.{KeepsTables}
 use Rattle.seat_post.specs.Glance.{GlanceView}
 use Rattle.txn_engine.specs.Pass.{PassView, IsIdle}
-use Rattle.txn_engine.specs.Promoting.{Promotes, FailsToPromote, IsPromoted, promoted}
+use Rattle.txn_engine.specs.Promoting.{Promotes, boost_after}
+use Rattle.seat_post.specs.Logs.{IsAbove}
+use Rattle.seat_post.specs.Post.{PostView, observing}
+use Rattle.seat_post.specs.Promoting.{rewritten_at, PromotesPost, FailsPost}
 use Rattle.seat_post.specs.Rewriting.{rewriting}
-use Rattle.seat_post.specs.Seats.{Known}
+use Rattle.seat_post.specs.Seats.{Known, Observed, Placed}
 use Rattle.seat_post.specs.declared.promoting.Promotion.{Promotion}
 use Rattle.seat_post.specs.declared.promoting.Promotion.TheVariants.{Promoted, Inline, Absent, Occupied}
 use Rattle.seat_post.specs.declared.promoting.PromoteFault.{PromoteFault}
@@ -62,11 +65,11 @@ pub record Leaves (p q : PassView) (clock : ℕ) : Type 0 where
   pub at_most : q.clock ≤ clock
 
 -- no entry was added
-leaves_none : (p q : PassView) (clock now published boost : ℕ) (known : Known) (glance : Option GlanceView) → IsIdle p → p.clock ≤ now → now ≤ clock → q ≡ record p { clock = now; published = published; boost = boost; known = known; glance = glance } → Leaves p q clock
-leaves_none p q clock now published boost known glance idle later low is = rw is (record {
+leaves_none : (p q : PassView) (clock now published boost : ℕ) (known : Known) (glance : Option GlanceView) (observed : Observed) (placed : List Placed) → IsIdle p → p.clock ≤ now → now ≤ clock → q ≡ record p { post = record p.post { clock = now; published = published; known = known; glance = glance; observed = observed; placed = placed }; boost = boost } → Leaves p q clock
+leaves_none p q clock now published boost known glance observed placed idle later low is = rw is (record {
   others = record {
     entries = [];
-    adds = Adds-no_entry p (record p { clock = now; published = published; boost = boost; known = known; glance = glance }) refl refl refl idle refl later (omega arith) (omega arith);
+    adds = Adds-no_entry p (record p { post = record p.post { clock = now; published = published; known = known; glance = glance; observed = observed; placed = placed }; boost = boost }) refl refl refl idle refl later (omega arith) (omega arith);
     keep = λ entry among. absurd among;
   };
   refusals = refl;
@@ -75,13 +78,13 @@ leaves_none p q clock now published boost known glance idle later low is = rw is
 })
 
 -- the entry of a promotion was added
-leaves_one : (kept : State → Type 0) (p q : PassView) (rid clock stamp : ℕ) → IsIdle p → p.clock < clock → IsPromoted kept rid clock p q stamp → Leaves p q clock
-leaves_one kept p q rid clock stamp idle later is = rw is.after (record {
+leaves_one : (p q : PassView) (rid clock : ℕ) (words : List ℕ) (observed : Observed) → IsIdle p → p.clock < clock → IsAbove p.log (stamp_of clock p.seat) → q ≡ record p { post = observing (rewritten_at p.post clock rid rid (Some words)) observed; boost = 0 } → Leaves p q clock
+leaves_one p q rid clock words observed idle later above is = rw is (record {
   others = record {
     entries = entry ∷ [];
-    adds = Adds-one p (promoted p clock rid (Some is.words)) entry next refl refl refl idle refl (omega arith) (omega arith) (omega arith);
-    keep = λ e among. elim among as (λ _. LeavesTables p.engine.size.records e) [
-      | inl same ↦ subst (λ (x : Entry). LeavesTables p.engine.size.records x) same (leaves_rewritten p.engine.size.records (stamp_of clock p.seat) rid (Some is.words))
+    adds = Adds-one p (record p { post = observing (rewritten_at p.post clock rid rid (Some words)) observed; boost = 0 }) entry next refl refl refl idle refl (omega arith) (omega arith) (omega arith);
+    keep = λ e among. elim among as (λ _. LeavesTables p.shared.size.records e) [
+      | inl same ↦ subst (λ (x : Entry). LeavesTables p.shared.size.records x) same (leaves_rewritten p.shared.size.records (stamp_of clock p.seat) rid (Some words))
       | inr none ↦ absurd none
     ];
   };
@@ -90,20 +93,22 @@ leaves_one kept p q rid clock stamp idle later is = rw is.after (record {
   at_most = omega arith;
 }) where
   entry : Entry
-  entry = rewriting (stamp_of clock p.seat) rid (Some is.words)
+  entry = rewriting (stamp_of clock p.seat) rid (Some words)
 
   next : IsNext p entry
-  next = record {
-    commit_clock = λ _. omega arith;
-    commit_log = λ _ e among kind. subst (λ (n : ℕ). e.stamp < n) is.at (is.above e among kind);
-    snapshot_met = λ snapshot. cc;
-    snapshot_log = λ snapshot. cc;
-  }
+  next = record { commit_clock = λ _. omega arith; commit_log = λ _. above; snapshot_met = λ snapshot. cc; snapshot_log = λ snapshot. cc }
 
-pub leaves_promoted : (kept : State → Type 0) (p q : PassView) (rid clock : ℕ) (told : Result Promotion PromoteFault) → IsIdle p → p.clock < clock → IfOk told (Promotes kept rid clock p q) → IfErr told (FailsToPromote rid clock p q) → Leaves p q clock
-leaves_promoted kept p q rid clock (Ok (Promoted stamp)) idle later ok err = leaves_one kept p q rid clock stamp idle later ok
-leaves_promoted kept p q rid clock (Ok Inline) idle later ok err = leaves_none p q clock clock (stamp_of clock p.seat) p.boost p.known None idle (omega arith) (omega arith) ok
-leaves_promoted kept p q rid clock (Ok Absent) idle later ok err = leaves_none p q clock clock (stamp_of clock p.seat) p.boost p.known None idle (omega arith) (omega arith) ok
-leaves_promoted kept p q rid clock (Ok Occupied) idle later ok err = leaves_none p q clock clock (stamp_of clock p.seat) p.boost p.known None idle (omega arith) (omega arith) ok
-leaves_promoted kept p q rid clock (Err fault.ClockOut) idle later ok err = leaves_none p q clock p.clock p.published p.boost p.known p.glance idle (omega arith) (omega arith) err
-leaves_promoted kept p q rid clock (Err (fault.Conflict conflict)) idle later ok err = leaves_none p q clock clock (stamp_of clock p.seat) 1024 q.known None idle (omega arith) (omega arith) err.after
+-- its post is this one, and its boost
+over : (p q : PassView) (post : PostView) (boost : ℕ) → q ≡ record p { post = q.post; boost = boost } → q.post ≡ post → q ≡ record p { post = post; boost = boost }
+over p q post boost beside is = beside ∙ ap (λ (x : PostView). record p { post = x; boost = boost }) is
+
+leaves_told : (kept : State → Type 0) (p q : PassView) (rid clock : ℕ) (told : Result Promotion PromoteFault) → IsIdle p → p.clock < clock → IfOk told (PromotesPost kept rid clock p.post q.post) → IfErr told (FailsPost rid clock p.post q.post) → OnOk told (IsAbove p.log (stamp_of clock p.seat)) → q ≡ record p { post = q.post; boost = boost_after told p.boost } → Leaves p q clock
+leaves_told kept p q rid clock (Ok (Promoted stamp)) idle later ok err above beside = leaves_one p q rid clock ok.words q.observed idle later above (over p q _ 0 beside ok.after)
+leaves_told kept p q rid clock (Ok Inline) idle later ok err above beside = leaves_none p q clock clock (stamp_of clock p.seat) p.boost p.known None q.observed [] idle (omega arith) (omega arith) (over p q _ p.boost beside ok)
+leaves_told kept p q rid clock (Ok Absent) idle later ok err above beside = leaves_none p q clock clock (stamp_of clock p.seat) p.boost p.known None q.observed [] idle (omega arith) (omega arith) (over p q _ p.boost beside ok)
+leaves_told kept p q rid clock (Ok Occupied) idle later ok err above beside = leaves_none p q clock clock (stamp_of clock p.seat) p.boost p.known None q.observed [] idle (omega arith) (omega arith) (over p q _ p.boost beside ok)
+leaves_told kept p q rid clock (Err fault.ClockOut) idle later ok err above beside = leaves_none p q clock p.clock p.published p.boost p.known p.glance p.observed p.placed idle (omega arith) (omega arith) (over p q p.post p.boost beside err)
+leaves_told kept p q rid clock (Err (fault.Conflict conflict)) idle later ok err above beside = leaves_none p q clock clock (stamp_of clock p.seat) 1024 q.known None q.observed q.placed idle (omega arith) (omega arith) (over p q _ 1024 beside err.after)
+
+pub leaves_promoted : (kept : State → Type 0) (p q : PassView) (rid clock : ℕ) (told : Result Promotion PromoteFault) → IsIdle p → p.clock < clock → Promotes kept rid clock p q told → Leaves p q clock
+leaves_promoted kept p q rid clock told idle later is = leaves_told kept p q rid clock told idle later is.ok is.err is.above is.beside

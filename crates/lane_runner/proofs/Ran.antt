@@ -4,9 +4,8 @@ use Rattle.plain_data.specs.declared.entry.Entry.{Entry}
 use Rattle.plain_data.specs.State.{State, Agrees, Fits, overlay}
 use Rattle.stored_tables.specs.Declare.{Declares, with_index}
 use Rattle.stored_tables.specs.Kept.{KeepsTables}
-use Rattle.stored_tables.specs.Blocks.{MayAskOnce}
 use Rattle.stored_tables.specs.Places.{Places, with_head, fixed_records}
-use Rattle.stored_tables.specs.Plan.{MayAskIn, run_plan}
+use Rattle.stored_tables.specs.Plan.{MayAsk, run_plan}
 use Rattle.stored_tables.specs.Tables.{StandsFor, EachTables}
 use Rattle.histories.specs.History.{Lawful, Leaves}
 use Rattle.histories.specs.Laws.{NextStateIsOverlay}
@@ -24,7 +23,7 @@ use Rattle.replay_model.specs.TableMap.{TableMap}
 use Rattle.seat_post.specs.Leaves.{AreLeft}
 use Rattle.txn_engine.specs.Leaves.{HoldsAbsent, NoneLeft}
 use Rattle.txn_engine.specs.Lists.{IsRoomy}
-use Rattle.txn_engine.specs.Pass.{EngineView, PassView, Frame, frame, IsIdle, IsAlone, begun, committed, knowing, entry_of, store_of, meaning_of_pass}
+use Rattle.txn_engine.specs.Pass.{EngineView, PassView, frame, IsIdle, IsAlone, begun, committed, knowing, entry_of, store_of, meaning_of_pass, engine_of, desk_of, observing, placing}
 use Rattle.seat_post.specs.Logs.{IsAbove}
 use Rattle.txn_engine.specs.Accounts.{accounted}
 use Rattle.seat_post.specs.Seats.{Known}
@@ -43,25 +42,25 @@ use Rattle.lane_runner.proofs.Within.{within_more, within_at}
 
 module _ (p b q : PassView) (clock : ℕ) (began : b ≡ begun p clock) (rest : frame q ≡ frame b) where
   -- what was said of its meaning holds of what it has read and written
-  pub leads_at : (tables tables' : TableMap) (more : ℕ) → LeadsTo (meaning_of_pass b).size (meaning_of_pass q).reads (meaning_of_pass q).writes tables tables' more → LeadsTo p.engine.size.records q.desk.reads q.desk.writes tables tables' more
+  pub leads_at : (tables tables' : TableMap) (more : ℕ) → LeadsTo (meaning_of_pass b).size (meaning_of_pass q).reads (meaning_of_pass q).writes tables tables' more → LeadsTo p.shared.size.records q.reads q.writes tables tables' more
   leads_at tables tables' more leads =
-      let size : (meaning_of_pass b).size ≡ p.engine.size.records = ap (λ (x : PassView). (meaning_of_pass x).size) began in
-      let sized : LeadsTo p.engine.size.records (meaning_of_pass q).reads (meaning_of_pass q).writes tables tables' more = subst (λ (n : ℕ). LeadsTo n (meaning_of_pass q).reads (meaning_of_pass q).writes tables tables' more) size leads in
-      subst (λ (m : Meaning). LeadsTo p.engine.size.records m.reads m.writes tables tables' more) (meaning_open q (is_open p b q clock began rest)) sized
+      let size : (meaning_of_pass b).size ≡ p.shared.size.records = ap (λ (x : PassView). (meaning_of_pass x).size) began in
+      let sized : LeadsTo p.shared.size.records (meaning_of_pass q).reads (meaning_of_pass q).writes tables tables' more = subst (λ (n : ℕ). LeadsTo n (meaning_of_pass q).reads (meaning_of_pass q).writes tables tables' more) size leads in
+      subst (λ (m : Meaning). LeadsTo p.shared.size.records m.reads m.writes tables tables' more) (meaning_open q (is_open p b q clock began rest)) sized
 
   -- so does what is said of each state
-  pub each_at : (P : State → Places → TableMap → Type 0) → EachTables (meaning_of_pass b) (meaning_of_pass q) P → (state : State) (places : Places) (tables : TableMap) → Agrees state q.desk.reads → StandsFor p.engine.size.records state places tables → P state places tables
+  pub each_at : (P : State → Places → TableMap → Type 0) → EachTables (meaning_of_pass b) (meaning_of_pass q) P → (state : State) (places : Places) (tables : TableMap) → Agrees state q.reads → StandsFor p.shared.size.records state places tables → P state places tables
   each_at P each state places tables agrees holds =
-      let size : (meaning_of_pass b).size ≡ p.engine.size.records = ap (λ (x : PassView). (meaning_of_pass x).size) began in
+      let size : (meaning_of_pass b).size ≡ p.shared.size.records = ap (λ (x : PassView). (meaning_of_pass x).size) began in
       each state places tables
       (subst (λ (m : Meaning). Agrees state m.reads) (sym (meaning_open q (is_open p b q clock began rest))) agrees)
       (with_none (meaning_of_pass b).size (meaning_of_pass b).writes state places tables (none_written p b q clock began rest) (subst (λ (n : ℕ). StandsFor n state places tables) (sym size) holds))
 
   -- what was written and given
-  pub known_at : (state : State) → WritesKnown (meaning_of_pass b) (meaning_of_pass q) state → (rid : ℕ) → IsSome (value_at q.desk.writes rid) → Contains q.given rid ⊎ IsKnown q.engine.fixed state rid
+  pub known_at : (state : State) → WritesKnown (meaning_of_pass b) (meaning_of_pass q) state → (rid : ℕ) → IsSome (value_at q.writes rid) → Contains q.given rid ⊎ IsKnown q.fixed state rid
   known_at state known rid written =
       let stored : WritesKnown (meaning_of_pass b) (store_of q) state = subst (λ (m : Meaning). WritesKnown (meaning_of_pass b) m state) (meaning_open q (is_open p b q clock began rest)) known in
-      let fixed : (meaning_of_pass b).fixed ≡ q.engine.fixed = ap (λ (x : PassView). (meaning_of_pass x).fixed) began ∙ sym (ap (λ (f : Frame). f.engine.fixed) (kept_frame p b q clock began rest)) in
+      let fixed : (meaning_of_pass b).fixed ≡ q.fixed = ap (λ (x : PassView). (meaning_of_pass x).fixed) began ∙ sym (ap (λ (f : PassView). f.fixed) (kept_frame p b q clock began rest)) in
       subst (λ (n : ℕ). Contains q.given rid ⊎ IsKnown n state rid) fixed (known_writes (meaning_of_pass b) (store_of q) state (none_written p b q clock began rest) stored rid written)
 
   pub given_at : (asks : ℕ) → GivesFewer asks (meaning_of_pass b) (meaning_of_pass q) → length q.given < asks
@@ -69,26 +68,26 @@ module _ (p b q : PassView) (clock : ℕ) (began : b ≡ begun p clock) (rest : 
       let none : (meaning_of_pass b).given ≡ [] = ap (λ (x : PassView). (meaning_of_pass x).given) began in
       subst (λ (m : Meaning). length m.given < asks) (meaning_open q (is_open p b q clock began rest)) (few_given asks (meaning_of_pass b) (meaning_of_pass q) none fewer)
 
-  pub lawful_at : Lawful (StandsForSome stands) p.engine.size.records p.log → Lawful (StandsForSome stands) q.engine.size.records q.log
-  lawful_at lawful = subst (λ (f : Frame). Lawful (StandsForSome stands) f.engine.size.records f.log) (sym (kept_frame p b q clock began rest)) lawful
+  pub lawful_at : Lawful (StandsForSome stands) p.shared.size.records p.log → Lawful (StandsForSome stands) q.shared.size.records q.log
+  lawful_at lawful = subst (λ (f : PassView). Lawful (StandsForSome stands) f.shared.size.records f.log) (sym (kept_frame p b q clock began rest)) lawful
 
-  pub few_at : length (meaning_of_pass q).writes ≤ 8192 → length q.desk.writes ≤ 8192
+  pub few_at : length (meaning_of_pass q).writes ≤ 8192 → length q.writes ≤ 8192
   few_at few = subst (λ (m : Meaning). length m.writes ≤ 8192) (meaning_open q (is_open p b q clock began rest)) few
 
-  pub above_at : IsAbove p.log b.desk.stamp → IsAbove p.log q.desk.stamp
-  above_at above = subst (λ (n : ℕ). IsAbove p.log n) (sym (ap (λ (f : Frame). f.stamp) rest)) above
+  pub above_at : IsAbove p.log b.stamp → IsAbove p.log q.stamp
+  above_at above = subst (λ (n : ℕ). IsAbove p.log n) (sym (ap (λ (f : PassView). f.stamp) rest)) above
 
-  pub engine_at : (engine : EngineView) → p.engine ≡ engine → q.engine ≡ engine
-  engine_at engine is = ap (λ (f : Frame). f.engine) (kept_frame p b q clock began rest) ∙ is
+  pub engine_at : (engine : EngineView) → engine_of p ≡ engine → engine_of q ≡ engine
+  engine_at engine is = ap engine_of (kept_frame p b q clock began rest) ∙ is
 
 -- an index was declared
 module _ (p b q : PassView) (clock : ℕ) (began : b ≡ begun p clock) (rest : frame q ≡ frame b) (table column : ℕ) where
-  pub leads_declared : EachTables (meaning_of_pass b) (meaning_of_pass q) (λ state places tables. Declares table column (meaning_of_pass q) true state (places, tables)) → (tables : TableMap) → LeadsTo p.engine.size.records q.desk.reads q.desk.writes tables (with_index tables table column) 0
+  pub leads_declared : EachTables (meaning_of_pass b) (meaning_of_pass q) (λ state places tables. Declares table column (meaning_of_pass q) true state (places, tables)) → (tables : TableMap) → LeadsTo p.shared.size.records q.reads q.writes tables (with_index tables table column) 0
   leads_declared each tables state places agrees holds =
       let declared = each_at p b q clock began rest (λ state places tables. Declares table column (meaning_of_pass q) true state (places, tables)) each state places tables agrees holds in
-      let stored : StandsFor q.engine.size.records (overlay q.desk.writes state) (with_head places table column) (with_index tables table column) =
+      let stored : StandsFor q.shared.size.records (overlay q.writes state) (with_head places table column) (with_index tables table column) =
       subst (λ (m : Meaning). StandsFor m.size (overlay m.writes state) (with_head places table column) (with_index tables table column)) (meaning_open q (is_open p b q clock began rest)) declared.2 in
-      (with_head places table column, subst (λ (n : ℕ). StandsFor n (overlay q.desk.writes state) (with_head places table column) (with_index tables table column)) (same_records p b q clock began rest) stored, at_most_more (weight places) 0)
+      (with_head places table column, subst (λ (n : ℕ). StandsFor n (overlay q.writes state) (with_head places table column) (with_index tables table column)) (same_records p b q clock began rest) stored, at_most_more (weight places) 0)
 
 -- writes that lead from tables to tables keep what is kept
 pub fits_leads : (kept : State → Type 0) (records : ℕ) (entry : Entry) (after' : TableMap → TableMap) (more : ℕ) → KeepsTables kept → records ≤ record_limit → ((tables : TableMap) → LeadsTo records entry.reads entry.writes tables (after' tables) more) → Fits kept records entry
@@ -98,14 +97,14 @@ fits_leads kept records entry after' more keeps few leads = λ state is_state is
     keeps.keeps records (overlay entry.writes state) few (after' held.0, (step.0, step.1))
 
 -- what the log leaves once such a transaction has committed
-pub leaves_committed : (p q r w : PassView) (clock : ℕ) (tables tables' : TableMap) (most more : ℕ) → NextStateIsOverlay → frame q ≡ frame (begun p clock) → Lawful (StandsForSome stands) p.engine.size.records p.log
-    → Adds p r (entry_of q.desk ∷ []) → Lawful (StandsForSome stands) r.engine.size.records r.log → IsAbove p.log q.desk.stamp → AreLeft q.log q.desk.stamp q.desk.reads
-    → LeadsTo p.engine.size.records q.desk.reads q.desk.writes tables tables' more → Adds p w (entry_of q.desk ∷ []) → LeavesWithin p.engine.size.records p.log tables most → LeavesWithin w.engine.size.records w.log tables' (most + more)
+pub leaves_committed : (p q r w : PassView) (clock : ℕ) (tables tables' : TableMap) (most more : ℕ) → NextStateIsOverlay → frame q ≡ frame (begun p clock) → Lawful (StandsForSome stands) p.shared.size.records p.log
+    → Adds p r (entry_of q ∷ []) → Lawful (StandsForSome stands) r.shared.size.records r.log → IsAbove p.log q.stamp → AreLeft q.log q.stamp q.reads
+    → LeadsTo p.shared.size.records q.reads q.writes tables tables' more → Adds p w (entry_of q ∷ []) → LeavesWithin p.shared.size.records p.log tables most → LeavesWithin w.shared.size.records w.log tables' (most + more)
 leaves_committed p q r w clock tables tables' most more overlays kept lawful committed told above left leads adds within =
-    let at_log : Lawful (StandsForSome stands) r.engine.size.records (p.log ++ entry_of q.desk ∷ []) = subst (λ (log : List Entry). Lawful (StandsForSome stands) r.engine.size.records log) committed.log told in
-    let next : Lawful (StandsForSome stands) p.engine.size.records (p.log ++ entry_of q.desk ∷ []) = subst (λ (e : EngineView). Lawful (StandsForSome stands) e.size.records (p.log ++ entry_of q.desk ∷ [])) committed.engine at_log in
-    let reads : AreLeft p.log q.desk.stamp q.desk.reads = subst (λ (log : List Entry). AreLeft log q.desk.stamp q.desk.reads) (ap (λ (f : Frame). f.log) kept) left in
-    within_at p w (entry_of q.desk ∷ []) tables' (most + more) adds (within_more (StandsForSome stands) p.engine.size.records p.log (entry_of q.desk) tables tables' most more overlays lawful next.each refl above reads leads within)
+    let at_log : Lawful (StandsForSome stands) r.shared.size.records (p.log ++ entry_of q ∷ []) = subst (λ (log : List Entry). Lawful (StandsForSome stands) r.shared.size.records log) committed.log told in
+    let next : Lawful (StandsForSome stands) p.shared.size.records (p.log ++ entry_of q ∷ []) = subst (λ (e : EngineView). Lawful (StandsForSome stands) e.size.records (p.log ++ entry_of q ∷ [])) committed.engine at_log in
+    let reads : AreLeft p.log q.stamp q.reads = subst (λ (log : List Entry). AreLeft log q.stamp q.reads) (ap (λ (f : PassView). f.log) kept) left in
+    within_at p w (entry_of q ∷ []) tables' (most + more) adds (within_more (StandsForSome stands) p.shared.size.records p.log (entry_of q) tables tables' most more overlays lawful next.each refl above reads leads within)
 
 -- ---- the way of such a transaction
 
@@ -116,11 +115,11 @@ pub record Opened (p b q : PassView) : Type 0 where
   pub drawn : clock ≤ clock_after p.clock 1
   pub began : b ≡ begun p clock
   pub rest : frame q ≡ frame b
-  pub above : IsAbove p.log q.desk.stamp
+  pub above : IsAbove p.log q.stamp
   pub absent : HoldsAbsent q
   pub roomy : IsRoomy q
 
-pub opened : (p b q : PassView) (clock : ℕ) → p.clock < clock → clock ≤ clock_after p.clock 1 → b ≡ begun p clock → frame q ≡ frame b → IsAbove p.log b.desk.stamp → IsAlone p → accounted q ≡ accounted b → HoldsAbsent b → IsRoomy p → Opened p b q
+pub opened : (p b q : PassView) (clock : ℕ) → p.clock < clock → clock ≤ clock_after p.clock 1 → b ≡ begun p clock → frame q ≡ frame b → IsAbove p.log b.stamp → IsAlone p → accounted q ≡ accounted b → HoldsAbsent b → IsRoomy p → Opened p b q
 opened p b q clock later drawn began rest above alone accounts absent roomy = record {
   clock = clock;
   later = later;
@@ -133,40 +132,40 @@ opened p b q clock later drawn began rest above alone accounts absent roomy = re
 }
 
 -- where what the log leaves finds room with what the commands add, it does not run out of records
-pub never_out : (p b q : PassView) (o : Opened p b q) (commands : List Command) (asks : ℕ) → RecordLeft → Lawful (StandsForSome stands) p.engine.size.records p.log → AreLeft q.log q.desk.stamp q.desk.reads → HasRecords p (all_add commands)
-    → AreKnown commands → fixed_records ≤ p.engine.fixed → MayAskOnce commands (meaning_of_pass b) (meaning_of_pass q) asks → GivesFewer asks (meaning_of_pass b) (meaning_of_pass q)
+pub never_out : (p b q : PassView) (o : Opened p b q) (commands : List Command) (asks : ℕ) → RecordLeft → Lawful (StandsForSome stands) p.shared.size.records p.log → AreLeft q.log q.stamp q.reads → HasRecords p (all_add commands)
+    → AreKnown commands → fixed_records ≤ p.fixed → EachTables (meaning_of_pass b) (meaning_of_pass q) (λ _ places tables. MayAsk (run_plan commands tables) places asks) → GivesFewer asks (meaning_of_pass b) (meaning_of_pass q)
     → EachTables (meaning_of_pass b) (meaning_of_pass q) (λ state _ _. WritesKnown (meaning_of_pass b) (meaning_of_pass q) state) → NoneLeft q → ⊥
 never_out p b q o commands asks left lawful reads has known fixed may fewer written none =
     let kept = kept_frame p b q o.clock o.began o.rest in
-    let engine = ap (λ (f : Frame). f.engine) kept in
+    let engine = ap engine_of kept in
     let state = has.leaves.state in
-    let agrees : Agrees state q.desk.reads = agrees_open p q o.clock has.tables has.most kept lawful o.above reads has.leaves in
+    let agrees : Agrees state q.reads = agrees_open p q o.clock has.tables has.most kept lawful o.above reads has.leaves in
     no_ask_refused (StandsForSome stands) q commands asks has.most state has.leaves.places has.tables left none (lawful_at p b q o.clock o.began o.rest lawful)
-    (subst (λ (log : List Entry). Leaves (Contains log) state) (sym (ap (λ (f : Frame). f.log) kept)) has.leaves.left)
+    (subst (λ (log : List Entry). Leaves (Contains log) state) (sym (ap (λ (f : PassView). f.log) kept)) has.leaves.left)
     (subst (λ (e : EngineView). StandsFor e.size.records state has.leaves.places has.tables) (sym engine) has.leaves.stands_for) has.leaves.light known
-    (each_at p b q o.clock o.began o.rest (λ _ places tables. MayAskIn (run_plan commands tables) places asks) may state has.leaves.places has.tables agrees has.leaves.stands_for)
+    (each_at p b q o.clock o.began o.rest (λ _ places tables. MayAsk (run_plan commands tables) places asks) may state has.leaves.places has.tables agrees has.leaves.stands_for)
     (subst (λ (e : EngineView). fixed_records ≤ e.fixed) (sym engine) fixed)
     (subst (λ (e : EngineView). e.fixed + (has.most + all_add commands has.tables) ≤ e.size.records) (sym engine) has.room)
     (given_at p b q o.clock o.began o.rest asks fewer)
     (known_at p b q o.clock o.began o.rest state (each_at p b q o.clock o.began o.rest (λ s _ _. WritesKnown (meaning_of_pass b) (meaning_of_pass q) s) written state has.leaves.places has.tables agrees has.leaves.stands_for))
 
 -- it has committed
-module _ (p b q r : PassView) (known : Known) (o : Opened p b q) (ends : r ≡ committed (knowing q known)) where
-  pub adds_entered : Adds p r (entry_of q.desk ∷ [])
+module _ (p b q r : PassView) (known : Known) (o : Opened p b q) (ends : r ≡ observing (placing (committed (knowing q known)) r.placed) r.observed) where
+  pub adds_entered : Adds p r (entry_of q ∷ [])
   adds_entered = Adds-committed p q r o.clock known o.later o.above (kept_frame p b q o.clock o.began o.rest) ends
 
-  pub leaves_entered : NextStateIsOverlay → Holds p → AreLeft q.log q.desk.stamp q.desk.reads → Lawful (StandsForSome stands) r.engine.size.records r.log → (tables tables' : TableMap) (most more : ℕ)
-      → LeadsTo p.engine.size.records q.desk.reads q.desk.writes tables tables' more → LeavesWithin p.engine.size.records p.log tables most → LeavesWithin r.engine.size.records r.log tables' (most + more)
+  pub leaves_entered : NextStateIsOverlay → Holds p → AreLeft q.log q.stamp q.reads → Lawful (StandsForSome stands) r.shared.size.records r.log → (tables tables' : TableMap) (most more : ℕ)
+      → LeadsTo p.shared.size.records q.reads q.writes tables tables' more → LeavesWithin p.shared.size.records p.log tables most → LeavesWithin r.shared.size.records r.log tables' (most + more)
   leaves_entered overlays holds left lawful tables tables' most more leads within =
       leaves_committed p q r r o.clock tables tables' most more overlays (kept_frame p b q o.clock o.began o.rest) holds.lawful adds_entered lawful o.above left leads adds_entered within
 
   pub clock_entered : r.clock ≤ clock_after p.clock 1
   clock_entered =
-      let e : r.clock ≡ o.clock = ap (λ (x : PassView). x.clock) ends ∙ ap (λ (f : Frame). f.clock) (kept_frame p b q o.clock o.began o.rest) in
+      let e : r.clock ≡ o.clock = ap (λ (x : PassView). x.clock) ends ∙ ap (λ (f : PassView). f.clock) (kept_frame p b q o.clock o.began o.rest) in
       subst (λ (n : ℕ). n ≤ clock_after p.clock 1) (sym e) o.drawn
 
   pub idle_entered : IsIdle r
-  idle_entered = ap (λ (x : PassView). x.desk) ends
+  idle_entered = ap desk_of ends
 
 -- ---- the seat as it is known where the call ends
 
@@ -184,8 +183,8 @@ awaits_as there here awaits same = subst (λ (x : AloneView). Awaits x) (sym sam
 
 -- ---- once it is closed
 
-pub leaves_closed : (r w : PassView) (tables : TableMap) (most : ℕ) → Adds r w [] → LeavesWithin r.engine.size.records r.log tables most → LeavesWithin w.engine.size.records w.log tables most
-leaves_closed r w tables most adds within = within_at r w [] tables most adds (subst (λ (log : List Entry). LeavesWithin r.engine.size.records log tables most) (sym (append-nil r.log)) within)
+pub leaves_closed : (r w : PassView) (tables : TableMap) (most : ℕ) → Adds r w [] → LeavesWithin r.shared.size.records r.log tables most → LeavesWithin w.shared.size.records w.log tables most
+leaves_closed r w tables most adds within = within_at r w [] tables most adds (subst (λ (log : List Entry). LeavesWithin r.shared.size.records log tables most) (sym (append-nil r.log)) within)
 
 pub some_closed : (p r w : PassView) → AddsSome p r → Adds r w [] → AddsSome p w
 some_closed p r w some none = (some.0 ++ [], Adds-trans p r w some.0 [] some.1 none)

@@ -14,7 +14,7 @@ use Rattle.replay_model.specs.Running.{tables_after}
 use Rattle.replay_model.specs.TableMap.{TableMap}
 use Rattle.stored_tables.specs.Weight.{all_add}
 use Rattle.stored_tables.specs.Weights.{AddsAfter}
-use Rattle.txn_engine.specs.Pass.{EngineView, PassView}
+use Rattle.txn_engine.specs.Pass.{EngineView, PassView, engine_of}
 use Rattle.lane_runner.specs.declared.done.LaneDone.{LaneDone}
 use Rattle.lane_runner.specs.Blocks.{IsPlaceOf, Commits}
 use Rattle.lane_runner.specs.Holding.{Holds, HasRecords, LeavesAfter, IsBehind}
@@ -43,7 +43,7 @@ room_here p block blocks has = record {
   room = let whole = sum_by-cons (λ (b : Block). all_add b.commands has.tables) block blocks in omega (arith, has.room, whole);
 }
 
-pub room_next : (p q : PassView) (block : Block) (blocks : List Block) → AddsAfter → q.engine ≡ p.engine → LeavesAfter block.commands p q → HasRecords p (blocks_add (block ∷ blocks)) → HasRecords q (blocks_add blocks)
+pub room_next : (p q : PassView) (block : Block) (blocks : List Block) → AddsAfter → engine_of q ≡ engine_of p → LeavesAfter block.commands p q → HasRecords p (blocks_add (block ∷ blocks)) → HasRecords q (blocks_add blocks)
 room_next p q block blocks after engine leaves has = record {
   tables = tables_after block.commands has.tables;
   most = has.most + all_add block.commands has.tables;
@@ -51,8 +51,8 @@ room_next p q block blocks after engine leaves has = record {
   room =
       let whole = sum_by-cons (λ (b : Block). all_add b.commands has.tables) block blocks in
       let same = blocks_after after block.commands blocks has.tables in
-      let fixed : q.engine.fixed ≡ p.engine.fixed = ap (λ (e : EngineView). e.fixed) engine in
-      let records : q.engine.size.records ≡ p.engine.size.records = ap (λ (e : EngineView). e.size.records) engine in
+      let fixed : q.fixed ≡ p.fixed = ap (λ (e : EngineView). e.fixed) engine in
+      let records : q.shared.size.records ≡ p.shared.size.records = ap (λ (e : EngineView). e.size.records) engine in
       omega (arith, has.room, whole, same, fixed, records);
 }
 

@@ -39,7 +39,7 @@ Runs-others blocks results rest p q r so_far more = record {
   done = so_far.done;
   blocks_are = so_far.blocks_are;
   entries = so_far.entries ++ more.entries;
-  are_entries = AreEntries-behind p.engine.size.records so_far.entries so_far.done results more.entries so_far.are_entries (subst (λ (e : EngineView). (entry : Entry) → Among entry more.entries → LeavesTables e.size.records entry) so_far.adds.engine more.keep);
+  are_entries = AreEntries-behind p.shared.size.records so_far.entries so_far.done results more.entries so_far.are_entries (subst (λ (e : EngineView). (entry : Entry) → Among entry more.entries → LeavesTables e.size.records entry) so_far.adds.engine more.keep);
   adds = Adds-trans p q r so_far.entries more.entries so_far.adds more.adds;
 }
 
@@ -51,12 +51,12 @@ Runs-result blocks results rest p q r block placed outcome results' so_far none_
   blocks_are = subst (λ (left : List Block). blocks ++ block ∷ [] ≡ (so_far.done ++ block ∷ []) ++ left) (sym none_kept)
       (ap (λ (xs : List Block). xs ++ block ∷ []) (so_far.blocks_are ∙ ap (λ (left : List Block). so_far.done ++ left) none_kept ∙ append-nil so_far.done) ∙ sym (append-nil (so_far.done ++ block ∷ [])));
   entries = so_far.entries ++ commits.entry ∷ [];
-  are_entries = subst (λ (xs : List (Placed × Outcome)). AreEntries p.engine.size.records (so_far.entries ++ commits.entry ∷ []) (so_far.done ++ block ∷ []) xs) (sym pushed)
-      (AreEntries-append p.engine.size.records so_far.entries so_far.done results (commits.entry ∷ []) (block ∷ []) ((placed, outcome) ∷ []) so_far.are_entries
+  are_entries = subst (λ (xs : List (Placed × Outcome)). AreEntries p.shared.size.records (so_far.entries ++ commits.entry ∷ []) (so_far.done ++ block ∷ []) xs) (sym pushed)
+      (AreEntries-append p.shared.size.records so_far.entries so_far.done results (commits.entry ∷ []) (block ∷ []) ((placed, outcome) ∷ []) so_far.are_entries
       (result commits.entry [] block [] (placed, outcome) [] is none));
   adds = Adds-trans p q r so_far.entries (commits.entry ∷ []) so_far.adds commits.adds;
 } where
-  is : IsResult p.engine.size.records block (placed, outcome) commits.entry
+  is : IsResult p.shared.size.records block (placed, outcome) commits.entry
   is = subst (λ (e : EngineView). IsResult e.size.records block (placed, outcome) commits.entry) so_far.adds.engine (record { place = place; is_entry = commits.is_entry; weighs = commits.weighs })
 
 -- one more block is kept
@@ -88,7 +88,7 @@ Runs-new results rest p no_results no_rest idle = record {
   done = [];
   blocks_are = sym no_rest;
   entries = [];
-  are_entries = subst (λ (xs : List (Placed × Outcome)). AreEntries p.engine.size.records [] [] xs) (sym no_results) none;
+  are_entries = subst (λ (xs : List (Placed × Outcome)). AreEntries p.shared.size.records [] [] xs) (sym no_results) none;
   adds = Adds-none p idle;
 }
 

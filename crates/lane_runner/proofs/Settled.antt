@@ -9,7 +9,7 @@ use Rattle.replay_model.specs.declared.input.Block.{Block}
 use Rattle.txn_engine.specs.Collecting.{collected}
 use Rattle.seat_post.specs.Leaves.{IsPresent, LeavesAs, AreAbsent}
 use Rattle.txn_engine.specs.Lists.{IsRoomy}
-use Rattle.txn_engine.specs.Pass.{EngineView, PassView, IsIdle}
+use Rattle.txn_engine.specs.Pass.{EngineView, PassView, IsIdle, engine_of, desk_of, observing, removing, with_met}
 use Rattle.seat_post.specs.Logs.{IsAbove}
 use Rattle.txn_engine.specs.Rescan.{rescanned}
 use Rattle.seat_post.specs.Seats.{Known}
@@ -35,9 +35,9 @@ listed : (b : Bool) (log : List Entry) (r limit : ℕ) (spare : List ℕ) → is
 listed true log r limit spare is above left = inl is
 listed false log r limit spare is above left = inr (present_all log r limit above left)
 
-module _ (p c d t : PassView) (met met' : ℕ) (known : Known) (spare : List ℕ) (first : c ≡ collected p met known []) (second : d ≡ rescanned c spare) (third : t ≡ record d { met = met' }) (idle : IsIdle p) where
-  whole : t ≡ record (rescanned (collected p met known []) spare) { met = met' }
-  whole = third ∙ ap (λ (x : PassView). record x { met = met' }) (second ∙ ap (λ (x : PassView). rescanned x spare) first)
+module _ (p c d t : PassView) (met met' : ℕ) (known : Known) (spare : List ℕ) (first : c ≡ removing (observing (collected p met known []) c.observed) c.gone) (second : d ≡ observing (rescanned c spare) d.observed) (third : t ≡ observing (with_met d met') t.observed) (idle : IsIdle p) where
+  whole : t ≡ removing (observing (with_met (rescanned (collected p met known []) spare) met') t.observed) c.gone
+  whole = third ∙ ap (λ (x : PassView). observing (with_met x met') t.observed) (second ∙ ap (λ (x : PassView). observing (rescanned x spare) d.observed) first)
 
   above_settled : IsAbove p.log c.published → IsAbove p.log d.published
   above_settled above e among commit =
@@ -45,17 +45,17 @@ module _ (p c d t : PassView) (met met' : ℕ) (known : Known) (spare : List ℕ
       let later : c.published ≤ d.published = let is = ap (λ (x : PassView). x.published) second in omega (arith, is) in
       omega arith
 
-  pub Holds-settled : Lawful (StandsForSome stands) d.engine.size.records d.log → IsAbove p.log c.published → AreAbsent c.log d.published c.engine.fixed c.engine.size.records spare → IsRoomy c → Holds t
+  pub Holds-settled : Lawful (StandsForSome stands) d.shared.size.records d.log → IsAbove p.log c.published → AreAbsent c.log d.published c.fixed c.shared.size.records spare → IsRoomy c → Holds t
   Holds-settled lawful above absent roomy = record {
-    idle = ap (λ (x : PassView). x.desk) whole ∙ idle;
+    idle = ap desk_of whole ∙ idle;
     none_queued = ap (λ (x : PassView). x.queue) whole;
-    lawful = subst (λ (x : PassView). Lawful (StandsForSome stands) x.engine.size.records x.log) (sym third) lawful;
+    lawful = subst (λ (x : PassView). Lawful (StandsForSome stands) x.shared.size.records x.log) (sym third) lawful;
     above = subst (λ (log : List Entry). IsAbove log t.published) (sym (ap (λ (x : PassView). x.log) whole)) (subst (λ (n : ℕ). IsAbove p.log n) (sym (ap (λ (x : PassView). x.published) third)) (above_settled above));
-    absent = absent_same (record c { given = []; spare = spare }) t (ap (λ (x : PassView). x.engine) third ∙ ap (λ (x : PassView). x.engine) second) (ap (λ (x : PassView). x.given) whole) (ap (λ (x : PassView). x.spare) whole)
+    absent = absent_same (record c { given = []; spare = spare }) t (ap engine_of third ∙ ap engine_of second) (ap (λ (x : PassView). x.given) whole) (ap (λ (x : PassView). x.spare) whole)
         (ap (λ (x : PassView). x.log) third ∙ ap (λ (x : PassView). x.log) second)
         (λ r from within. listed (is_on spare r) c.log r d.published spare refl
         (subst (λ (log : List Entry). IsAbove log d.published) (sym (ap (λ (x : PassView). x.log) first)) (above_settled above)) (absent.each r from within));
-    roomy = roomy_same c t (ap (λ (x : PassView). x.engine) third ∙ ap (λ (x : PassView). x.engine) second) (ap (λ (x : PassView). x.known) third ∙ ap (λ (x : PassView). x.known) second) roomy;
+    roomy = roomy_same c t (ap engine_of third ∙ ap engine_of second) (ap (λ (x : PassView). x.known) third ∙ ap (λ (x : PassView). x.known) second) roomy;
   }
 
   pub clock_settled : t.clock ≡ p.clock
@@ -66,7 +66,7 @@ module _ (p c d t : PassView) (met met' : ℕ) (known : Known) (spare : List ℕ
       let last_met : t.met ≡ met' = ap (λ (x : PassView). x.met) whole in
       let later : c.published ≤ d.met = let is = ap (λ (x : PassView). x.met) second in omega (arith, is) in
       let same_refusals : t.refusals ≡ p.refusals = ap (λ (x : PassView). x.refusals) whole in
-      Adds-no_entry p t (ap (λ (x : PassView). x.engine) whole) (ap (λ (x : PassView). x.seat) whole) (ap (λ (x : PassView). x.others) whole) (ap (λ (x : PassView). x.desk) whole ∙ idle) (ap (λ (x : PassView). x.log) whole)
+      Adds-no_entry p t (ap engine_of whole) (ap (λ (x : PassView). x.seat) whole) (ap (λ (x : PassView). x.others) whole) (ap desk_of whole ∙ idle) (ap (λ (x : PassView). x.log) whole)
       (let same = clock_settled in omega (arith, same)) (omega arith) (omega arith)
 
 -- ---- the lanes in their order
@@ -81,11 +81,11 @@ pub room_order : (p t : PassView) (done order : List LaneDone) → Adds p t [] �
 room_order p t done order adds same has = record {
   tables = has.tables;
   most = has.most;
-  leaves = within_at p t [] has.tables has.most adds (subst (λ (log : List Entry). LeavesWithin p.engine.size.records log has.tables has.most) (sym (append-nil p.log)) has.leaves);
+  leaves = within_at p t [] has.tables has.most adds (subst (λ (log : List Entry). LeavesWithin p.shared.size.records log has.tables has.most) (sym (append-nil p.log)) has.leaves);
   room =
       let whole : blocks_add (rests_of order) has.tables ≡ rests_add done has.tables = rests_add_is order has.tables ∙ sum_by-IsPermutation (λ (l : LaneDone). blocks_add l.rest has.tables) done order same in
-      let fixed : t.engine.fixed ≡ p.engine.fixed = ap (λ (e : EngineView). e.fixed) adds.engine in
-      let records : t.engine.size.records ≡ p.engine.size.records = ap (λ (e : EngineView). e.size.records) adds.engine in
+      let fixed : t.fixed ≡ p.fixed = ap (λ (e : EngineView). e.fixed) adds.engine in
+      let records : t.shared.size.records ≡ p.shared.size.records = ap (λ (e : EngineView). e.size.records) adds.engine in
       omega (arith, has.room, whole, fixed, records);
 }
 

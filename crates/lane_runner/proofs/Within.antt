@@ -77,7 +77,7 @@ within_weaker records log tables most most' below within = record {
 }
 
 -- the same of a pass that has added these entries
-pub within_at : (p q : PassView) (entries : List Entry) (tables : TableMap) (most : ℕ) → Adds p q entries → LeavesWithin p.engine.size.records (p.log ++ entries) tables most → LeavesWithin q.engine.size.records q.log tables most
+pub within_at : (p q : PassView) (entries : List Entry) (tables : TableMap) (most : ℕ) → Adds p q entries → LeavesWithin p.shared.size.records (p.log ++ entries) tables most → LeavesWithin q.shared.size.records q.log tables most
 within_at p q entries tables most adds within =
-    let at_log : LeavesWithin p.engine.size.records q.log tables most = subst (λ (log : List Entry). LeavesWithin p.engine.size.records log tables most) (sym adds.log) within in
+    let at_log : LeavesWithin p.shared.size.records q.log tables most = subst (λ (log : List Entry). LeavesWithin p.shared.size.records log tables most) (sym adds.log) within in
     subst (λ (records : ℕ). LeavesWithin records q.log tables most) (sym (ap (λ (e : EngineView). e.size.records) adds.engine)) at_log

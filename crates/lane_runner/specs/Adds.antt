@@ -3,7 +3,7 @@ use Rattle.std.specs.Prelude.{◌≡◌, ℕ, ◌+◌, ◌<◌, ◌≤◌, true,
 use Rattle.plain_data.specs.declared.entry.Entry.{Entry}
 use Rattle.stamp_base.specs.Stamp.{bound_of_clock}
 use Rattle.core_rule.specs.Views.{Among}
-use Rattle.txn_engine.specs.Pass.{PassView, IsIdle}
+use Rattle.txn_engine.specs.Pass.{PassView, IsIdle, engine_of}
 use Rattle.seat_post.specs.Logs.{IsAbove}
 
 -- no snapshot entry of the log is stamped above this number
@@ -30,7 +30,7 @@ AreInOrder (first ∷ entries) = ((second : Entry) → Among second entries → 
 -- Exactly these entries stand behind the log of the pass, which is of the same seat, idle again, and takes the same seats as open. Its
 -- clock, its count of refusals and the greatest `min_wts` that it has met do not fall.
 pub record Adds (before after' : PassView) (entries : List Entry) : Type 0 where
-  pub engine : after'.engine ≡ before.engine
+  pub engine : engine_of after' ≡ engine_of before
   pub seat : after'.seat ≡ before.seat
   pub others : after'.others ≡ before.others
   pub idle : IsIdle after'

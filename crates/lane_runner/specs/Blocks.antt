@@ -22,8 +22,8 @@ pub record IsPlaceOf (block : Block) (placed : Placed) : Type 0 where
 pub record Commits (commands : List Command) (before after' : PassView) (placed : Placed) (outcome : Outcome) : Type 0 where
   pub entry : Entry
   pub adds : Adds before after' (entry ∷ [])
-  pub is_entry : IsEntryOf stands before.engine.size.records commands placed outcome entry
-  pub weighs : entry.snapshot ≡ false → WeighsAtMost before.engine.size.records commands entry
+  pub is_entry : IsEntryOf stands before.shared.size.records commands placed outcome entry
+  pub weighs : entry.snapshot ≡ false → WeighsAtMost before.shared.size.records commands entry
 
 -- no entry was added, and so many refusals were counted
 pub record IsRefused (times : ℕ) (before after' : PassView) : Type 0 where
@@ -38,4 +38,4 @@ pub record CountsOnce (before after' : PassView) : Type 0 where
 pub record AddsOthers (before after' : PassView) : Type 0 where
   pub entries : List Entry
   pub adds : Adds before after' entries
-  pub keep : (entry : Entry) → Among entry entries → LeavesTables before.engine.size.records entry
+  pub keep : (entry : Entry) → Among entry entries → LeavesTables before.shared.size.records entry

@@ -27,7 +27,7 @@ use Rattle.lane_runner.specs.Blocks.{Commits}
 pub record Holds (p : PassView) : Type 0 where
   pub idle : IsIdle p
   pub none_queued : p.queue ≡ []
-  pub lawful : Lawful (StandsForSome stands) p.engine.size.records p.log
+  pub lawful : Lawful (StandsForSome stands) p.shared.size.records p.log
   pub above : IsAbove p.log p.published
   pub absent : HoldsAbsent p
   pub roomy : IsRoomy p
@@ -49,8 +49,8 @@ pub record LeavesWithin (records : ℕ) (log : List Entry) (tables : TableMap) (
 -- commands lead from the tables that the log left to those that it leaves, and add no more to the weight than is said of them
 abbrev pub LeavesAfter : List Command → (before after' : PassView) → Type 0
 LeavesAfter commands before after' =
-    (tables : TableMap) (most : ℕ) → LeavesWithin before.engine.size.records before.log tables most
-    → LeavesWithin after'.engine.size.records after'.log (tables_after commands tables) (most + all_add commands tables)
+    (tables : TableMap) (most : ℕ) → LeavesWithin before.shared.size.records before.log tables most
+    → LeavesWithin after'.shared.size.records after'.log (tables_after commands tables) (most + all_add commands tables)
 
 -- one entry was added, that of the commands with this outcome, wherever its block has its place
 abbrev pub CommitsAt : List Command → (before after' : PassView) → (stamp : ℕ) (snap : Bool) → Outcome → Type 0
@@ -60,7 +60,7 @@ CommitsAt commands before after' stamp snap outcome =
 -- so they were entered at the seat, which has not collected yet; what the log leaves is told where it is lawful
 pub record Enters (commands : List Command) (before after' : AloneView) (stamp : ℕ) (snap : Bool) (outcome : Outcome) : Type 0 where
   pub committed : CommitsAt commands before.pass after'.pass stamp snap outcome
-  pub leaves : Lawful (StandsForSome stands) after'.pass.engine.size.records after'.pass.log → LeavesAfter commands before.pass after'.pass
+  pub leaves : Lawful (StandsForSome stands) after'.pass.shared.size.records after'.pass.log → LeavesAfter commands before.pass after'.pass
   pub clock : after'.pass.clock ≤ clock_after before.pass.clock 1
 
 -- it has been shared out or not, as before
@@ -69,16 +69,19 @@ pub record KeepsShared (before after' : AloneView) : Type 0 where
 
 -- ---- room
 
--- beside one place for each record there are more than a block may write: 64 commands write 128 records each at most
+-- places that a block may want beside one for each record: 64 commands write 128 records each at most, and one place more is kept
+abbrev pub block_places : ℕ
+block_places = 8193
+
 abbrev pub HasPlaces : EngineView → Type 0
-HasPlaces engine = engine.size.records + 8193 ≤ engine.size.spare
+HasPlaces engine = engine.size.records + block_places ≤ engine.size.spare
 
 -- the log leaves tables, and the records from `fixed` on are enough for their weight and what is added
 pub record HasRecords (p : PassView) (added : TableMap → ℕ) : Type 0 where
   pub tables : TableMap
   pub most : ℕ
-  pub leaves : LeavesWithin p.engine.size.records p.log tables most
-  pub room : p.engine.fixed + (most + added tables) ≤ p.engine.size.records
+  pub leaves : LeavesWithin p.shared.size.records p.log tables most
+  pub room : p.fixed + (most + added tables) ≤ p.shared.size.records
 
 -- no commit entry of the log is stamped above this number
 abbrev pub IsBehind : List Entry → ℕ → Type 0

@@ -41,7 +41,7 @@ pub record Runs (blocks : List Block) (results : List (Placed × Outcome)) (rest
   pub done : List Block
   pub blocks_are : blocks ≡ done ++ rest
   pub entries : List Entry
-  pub are_entries : AreEntries before.engine.size.records entries done results
+  pub are_entries : AreEntries before.shared.size.records entries done results
   pub adds : Adds before after' entries
 
 -- what a block adds to a run, whatever ran before it

@@ -38,7 +38,7 @@ AreRowsOf rows = All (λ (row : ℕ × ℕ × Row). row.0 < 8) rows
 -- the log leaves such tables, within a weight that finds room with so much more
 pub record HasLoaded (tables : TableMap) (most : ℕ) (before after' : PassView) : Type 0 where
   pub holds : Holds after'
-  pub leaves : LeavesWithin after'.engine.size.records after'.log tables most
+  pub leaves : LeavesWithin after'.shared.size.records after'.log tables most
   pub adds : AddsSome before after'
 
 -- one more row
@@ -54,7 +54,7 @@ pub record LacksRows (table : ℕ) (p : PassView) : Type 0 where
   pub holds : Holds p
   pub tables : TableMap
   pub most : ℕ
-  pub leaves : LeavesWithin p.engine.size.records p.log tables most
+  pub leaves : LeavesWithin p.shared.size.records p.log tables most
   pub empty : IsEmpty table tables
   pub no_index : index_of table tables ≡ None
 
@@ -65,9 +65,9 @@ DeclaresIndex table column before after' =
 -- it was entered at the seat, which has not collected yet; what the log leaves is told where it is lawful
 pub record EntersIndex (table column : ℕ) (before after' : AloneView) : Type 0 where
   pub adds : AddsSome before.pass after'.pass
-  pub leaves : Lawful (StandsForSome stands) after'.pass.engine.size.records after'.pass.log
-      → (tables : TableMap) (most : ℕ) → LeavesWithin before.pass.engine.size.records before.pass.log tables most
-      → LeavesWithin after'.pass.engine.size.records after'.pass.log (with_index tables table column) most
+  pub leaves : Lawful (StandsForSome stands) after'.pass.shared.size.records after'.pass.log
+      → (tables : TableMap) (most : ℕ) → LeavesWithin before.pass.shared.size.records before.pass.log tables most
+      → LeavesWithin after'.pass.shared.size.records after'.pass.log (with_index tables table column) most
   pub clock : after'.pass.clock ≤ clock_after before.pass.clock 1
 
 -- indexes of the first 8 tables, one of each at most
@@ -82,6 +82,6 @@ pub record AreIndexesOf (indexes : List (ℕ × ℕ)) : Type 0 where
 -- holds between blocks
 pub record Loads (input : Input) (before after' : PassView) : Type 0 where
   pub holds : Holds after'
-  pub leaves : LeavesWithin after'.engine.size.records after'.log (loaded input.rows input.indexes) (rows_add input.rows input.indexes)
+  pub leaves : LeavesWithin after'.shared.size.records after'.log (loaded input.rows input.indexes) (rows_add input.rows input.indexes)
   pub tables : LeaveTables stands (Contains after'.log) (loaded input.rows input.indexes)
   pub adds : AddsSome before after'

@@ -5,7 +5,7 @@ use Rattle.replay_model.specs.declared.outcome.Outcome.{Outcome}
 use Rattle.replay_model.specs.declared.outcome.Placed.{Placed}
 use Rattle.txn_engine.specs.Leaves.{HoldsAbsent}
 use Rattle.txn_engine.specs.Lists.{IsRoomy, IsRoomyOnceCollected}
-use Rattle.txn_engine.specs.Pass.{PassView, IsAlone}
+use Rattle.txn_engine.specs.Pass.{PassView, IsAlone, engine_of}
 use Rattle.lane_runner.specs.Lanes.{Runs}
 use Rattle.lane_runner.specs.Weighs.{blocks_add}
 use Rattle.lane_runner.specs.Holding.{HasPlaces, HasRecords}
@@ -35,6 +35,6 @@ pub record HasRecordsFor (p : PassView) (blocks : List Block) : Type 0 where
 -- a pass that refuses none of these blocks
 pub record IsAmple (p : PassView) (blocks : List Block) : Type 0 where
   pub ready : IsReady p
-  pub places : HasPlaces p.engine
+  pub places : HasPlaces (engine_of p)
   pub may : All MayFinish blocks
   pub records : HasRecordsFor p blocks

@@ -46,7 +46,7 @@ pub record GivesOutcome (before after' : SessionView) (p q : PassView) : Type 0 
   pub next_is : to_try before ≡ block ∷ more
   pub session_is : after' ≡ record before { results = before.results ++ result ∷ []; left = more; refused = 0 }
   pub entries : List Entry
-  pub are_entries : AreEntries p.engine.size.records entries (block ∷ []) (result ∷ [])
+  pub are_entries : AreEntries p.shared.size.records entries (block ∷ []) (result ∷ [])
   pub adds : Adds p q entries
   pub once : q.refusals ≤ p.refusals + 1
 

@@ -6,6 +6,8 @@ ghost use Rattle.history_replay.specs.Results.{StandsForSome};
 ghost use Rattle.replay_model.specs.Input.{AreCommands};
 ghost use Rattle.stored_tables.specs.Answers.{IsShort, ReadsAlone};
 ghost use Rattle.stored_tables.specs.Weight.{all_add};
+ghost use Rattle.stored_tables.specs.Places.{fixed_records};
+ghost use Rattle.txn_engine.specs.Pass.{engine_of};
 ghost use Rattle.lane_runner.specs.Rows.{stands};
 ghost use Rattle.lane_runner.specs.Adds.{Adds};
 ghost use Rattle.lane_runner.specs.Blocks.{IsPlaceOf, Commits};
@@ -25,10 +27,10 @@ use txn_engine::{Alone, AloneFault, BeginFault, Engine};
 
 /// Tells that the log is lawful, and collects.
 pub(crate) fn close(engine: &Engine<RowsLawful>, alone: &mut Alone<RowsLawful>)
-    requires engine { alone.old.pass.engine ≡ engine.now }
+    requires engine { engine_of alone.old.pass ≡ engine.now }
     requires awaits { Awaits alone.old }
     ensures holds { Holds alone.new.pass }
-    ensures lawful { Lawful (StandsForSome stands) alone.old.pass.engine.size.records alone.old.pass.log }
+    ensures lawful { Lawful (StandsForSome stands) alone.old.pass.shared.size.records alone.old.pass.log }
     ensures adds { Adds alone.old.pass alone.new.pass [] }
     ensures clock { alone.new.pass.clock ≡ alone.old.pass.clock }
     ensures shared { alone.new.shared ≡ alone.old.shared }
@@ -46,12 +48,12 @@ fn commit_commands(
     alone: &mut Alone<RowsLawful>,
     commands: &Commands,
 ) -> Result<(u64, Outcome), NoMemory>
-    requires engine { alone.old.pass.engine ≡ engine.now }
+    requires engine { engine_of alone.old.pass ≡ engine.now }
     requires holds { Holds alone.old.pass }
     requires commands { AreCommands 8 commands.now }
     requires short { All IsShort commands.now }
     requires few { length commands.now ≤ 64 }
-    requires fixed { 4112 ≤ engine.now.fixed }
+    requires fixed { fixed_records ≤ engine.now.fixed }
     requires places { HasPlaces engine.now }
     requires records { HasRecords alone.old.pass (all_add commands.now) }
     requires room { HasRoom alone.old.pass.clock 1 }
@@ -105,12 +107,12 @@ pub(crate) fn run_commands(
     alone: &mut Alone<RowsLawful>,
     commands: &Commands,
 ) -> Result<(u64, Outcome), NoMemory>
-    requires engine { alone.old.pass.engine ≡ engine.now }
+    requires engine { engine_of alone.old.pass ≡ engine.now }
     requires holds { Holds alone.old.pass }
     requires commands { AreCommands 8 commands.now }
     requires short { All IsShort commands.now }
     requires few { length commands.now ≤ 64 }
-    requires fixed { 4112 ≤ engine.now.fixed }
+    requires fixed { fixed_records ≤ engine.now.fixed }
     requires places { HasPlaces engine.now }
     requires records { HasRecords alone.old.pass (all_add commands.now) }
     requires room { HasRoom alone.old.pass.clock 1 }
@@ -132,12 +134,12 @@ fn see_commands(
     alone: &mut Alone<RowsLawful>,
     commands: &Commands,
 ) -> Result<(u64, Outcome), NoMemory>
-    requires engine { alone.old.pass.engine ≡ engine.now }
+    requires engine { engine_of alone.old.pass ≡ engine.now }
     requires holds { Holds alone.old.pass }
     requires commands { AreCommands 8 commands.now }
     requires short { All IsShort commands.now }
     requires reads { All ReadsAlone commands.now }
-    requires size { 4112 ≤ engine.now.size.records }
+    requires size { fixed_records ≤ engine.now.size.records }
     requires room { HasRoom alone.old.pass.clock 1 }
     ensures enters { IfOk result (λ done. Enters commands.now alone.old alone.new done.0 true done.1) }
     ensures awaits { OnOk result (Awaits alone.new) }
@@ -165,12 +167,12 @@ fn look_up(
     alone: &mut Alone<RowsLawful>,
     commands: &Commands,
 ) -> Result<(u64, Outcome), NoMemory>
-    requires engine { alone.old.pass.engine ≡ engine.now }
+    requires engine { engine_of alone.old.pass ≡ engine.now }
     requires holds { Holds alone.old.pass }
     requires commands { AreCommands 8 commands.now }
     requires short { All IsShort commands.now }
     requires reads { All ReadsAlone commands.now }
-    requires size { 4112 ≤ engine.now.size.records }
+    requires size { fixed_records ≤ engine.now.size.records }
     requires room { HasRoom alone.old.pass.clock 1 }
     ensures holds { OnOk result (Holds alone.new.pass) }
     ensures committed { IfOk result (λ done. CommitsAt commands.now alone.old.pass alone.new.pass done.0 true done.1) }
@@ -190,10 +192,10 @@ pub(crate) fn run_block(
     alone: &mut Alone<RowsLawful>,
     block: &Block,
 ) -> Result<(Placed, Outcome), NoMemory>
-    requires engine { alone.old.pass.engine ≡ engine.now }
+    requires engine { engine_of alone.old.pass ≡ engine.now }
     requires holds { Holds alone.old.pass }
     requires block { MayFinish block.now }
-    requires fixed { 4112 ≤ engine.now.fixed }
+    requires fixed { fixed_records ≤ engine.now.fixed }
     requires places { HasPlaces engine.now }
     requires records { HasRecords alone.old.pass (all_add block.now.commands) }
     requires room { HasRoom alone.old.pass.clock 1 }

@@ -4,7 +4,8 @@ ghost use Rattle.std.specs.Prelude.{◌≡◌, ◌+◌, ◌≤◌, [], true, Non
 ghost use Rattle.record_store.specs.Walks.{IfTorn};
 ghost use Rattle.replay_model.specs.Input.{AreCommands};
 ghost use Rattle.stored_tables.specs.Answers.{IsShort, ReadsAlone};
-ghost use Rattle.txn_engine.specs.Pass.{IsIdle, IsAlone};
+ghost use Rattle.stored_tables.specs.Places.{fixed_records};
+ghost use Rattle.txn_engine.specs.Pass.{IsIdle, IsAlone, engine_of};
 ghost use Rattle.lane_runner.specs.Room.{HasRoom, clock_after};
 ghost use Rattle.lane_runner.specs.Blocks.{IsPlaceOf, Commits, CountsOnce};
 ghost use Rattle.lane_runner.specs.Lanes.{AddsSome};
@@ -40,13 +41,13 @@ fn read_block(
     block: &Block,
     reading: u64,
 ) -> Result<BlockDone, NoMemory>
-    requires engine { pass.old.engine ≡ engine.now }
+    requires engine { engine_of pass.old ≡ engine.now }
     requires idle { IsIdle pass.old }
     requires kind { block.now.snap ≡ true }
     requires commands { AreCommands 8 block.now.commands }
     requires short { All IsShort block.now.commands }
     requires reads { All ReadsAlone block.now.commands }
-    requires fixed { 4112 ≤ engine.now.fixed }
+    requires fixed { fixed_records ≤ engine.now.fixed }
     requires room { HasRoom pass.old.clock 1 }
     ensures committed { IfOk result (λ done. Commits block.now.commands pass.old pass.new done.placed done.outcome) }
     ensures placed { IfOk result (λ done. IsPlaceOf block.now done.placed) }
@@ -92,13 +93,13 @@ pub(crate) fn run_snap<G: Meets>(
     reading: u64,
     gate: &G,
 ) -> Result<BlockDone, NoMemory>
-    requires engine { pass.old.engine ≡ engine.now }
+    requires engine { engine_of pass.old ≡ engine.now }
     requires idle { IsIdle pass.old }
     requires kind { block.now.snap ≡ true }
     requires commands { AreCommands 8 block.now.commands }
     requires short { All IsShort block.now.commands }
     requires reads { All ReadsAlone block.now.commands }
-    requires fixed { 4112 ≤ engine.now.fixed }
+    requires fixed { fixed_records ≤ engine.now.fixed }
     requires room { HasRoom pass.old.clock 1 }
     ensures committed { IfOk result (λ done. Commits block.now.commands pass.old pass.new done.placed done.outcome) }
     ensures placed { IfOk result (λ done. IsPlaceOf block.now done.placed) }

@@ -2,7 +2,8 @@
 
 ghost use Rattle.std.specs.Prelude.{◌≡◌, ◌<◌, ◌≤◌, List, [], ◌∷◌, IfOk, IfSome, IfNone, IsSome, OnOk, OnErr};
 ghost use Rattle.replay_model.specs.declared.input.Block.{Block};
-ghost use Rattle.txn_engine.specs.Pass.{IsIdle, IsAlone};
+ghost use Rattle.stored_tables.specs.Places.{fixed_records};
+ghost use Rattle.txn_engine.specs.Pass.{IsIdle, IsAlone, engine_of};
 ghost use Rattle.lane_runner.specs.Room.{HasRoom, clock_after};
 ghost use Rattle.lane_runner.specs.Blocks.{IsPlaceOf, Commits, IsRefused, CountsOnce};
 ghost use Rattle.lane_runner.specs.Lanes.{MayRun, AddsSome};
@@ -14,13 +15,22 @@ use crate::trying::try_once;
 use outside_io::{Meets, Reads};
 use replay_model::{Block, NoMemory};
 use std::alloc::Global;
+use std::thread;
 use stored_tables::RowsLawful;
 use txn_engine::{Engine, Pass};
 
+/// Lets other threads run before a further try: behind each refusal twice as often as behind the one before, and at most 1,024 times. It
+/// waits for none of them.
+fn give_way(refused: u32) {
+    for _ in 0..1_u32 << refused.min(10) {
+        thread::yield_now();
+    }
+}
+
 /// Synchronises the pass before a further try: behind the first refusal with the seat behind its own, then with the next one, and so on,
-/// round and without its own. With one seat there is none.
+/// round and without its own. Other threads may run first. With one seat there is none.
 fn sync_in_turn(engine: &Engine<RowsLawful>, pass: &mut Pass<RowsLawful>, refused: u32)
-    requires engine { pass.old.engine ≡ engine.now }
+    requires engine { engine_of pass.old ≡ engine.now }
     requires idle { IsIdle pass.old }
     ensures first { refused ≡ 0 → pass.new ≡ pass.old }
     ensures none { IsRefused 0 pass.old pass.new }
@@ -31,6 +41,7 @@ fn sync_in_turn(engine: &Engine<RowsLawful>, pass: &mut Pass<RowsLawful>, refuse
     if refused == 0 || seats == 1 {
         return;
     }
+    give_way(refused);
     let steps = 1 + (refused - 1) % (seats - 1);
     pass.sync(engine, (pass.seat() + steps) % seats);
 }
@@ -46,10 +57,10 @@ pub(crate) fn try_block<C: Reads, G: Meets>(
     gate: &G,
     refused: u32,
 ) -> Result<Option<BlockDone>, NoMemory>
-    requires engine { pass.old.engine ≡ engine.now }
+    requires engine { engine_of pass.old ≡ engine.now }
     requires idle { IsIdle pass.old }
     requires block { MayRun block.now }
-    requires fixed { 4112 ≤ engine.now.fixed }
+    requires fixed { fixed_records ≤ engine.now.fixed }
     requires room { HasRoom pass.old.clock 1 }
     ensures committed { IfOk result (λ answer. IfSome answer (λ done. Commits block.now.commands pass.old pass.new done.placed done.outcome)) }
     ensures placed { IfOk result (λ answer. IfSome answer (λ done. IsPlaceOf block.now done.placed)) }

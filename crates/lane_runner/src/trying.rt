@@ -6,7 +6,8 @@ ghost use Rattle.history_replay.specs.Results.{StandsForSome};
 ghost use Rattle.replay_model.specs.declared.input.Block.{Block};
 ghost use Rattle.replay_model.specs.Input.{AreCommands};
 ghost use Rattle.stored_tables.specs.Answers.{IsShort};
-ghost use Rattle.txn_engine.specs.Pass.{IsIdle, IsAlone};
+ghost use Rattle.stored_tables.specs.Places.{fixed_records};
+ghost use Rattle.txn_engine.specs.Pass.{IsIdle, IsAlone, engine_of};
 ghost use Rattle.lane_runner.specs.Rows.{stands};
 ghost use Rattle.lane_runner.specs.Room.{HasRoom, clock_after};
 ghost use Rattle.lane_runner.specs.Adds.{Adds};
@@ -35,12 +36,12 @@ fn try_txn<G: Meets>(
     reading: u64,
     gate: &G,
 ) -> Result<Option<BlockDone>, NoMemory>
-    requires engine { pass.old.engine ≡ engine.now }
+    requires engine { engine_of pass.old ≡ engine.now }
     requires idle { IsIdle pass.old }
     requires kind { block.now.snap ≡ false }
     requires commands { AreCommands 8 block.now.commands }
     requires short { All IsShort block.now.commands }
-    requires fixed { 4112 ≤ engine.now.fixed }
+    requires fixed { fixed_records ≤ engine.now.fixed }
     requires room { HasRoom pass.old.clock 1 }
     ensures committed { IfOk result (λ answer. IfSome answer (λ done. Commits block.now.commands pass.old pass.new done.placed done.outcome)) }
     ensures placed { IfOk result (λ answer. IfSome answer (λ done. IsPlaceOf block.now done.placed)) }
@@ -49,7 +50,7 @@ fn try_txn<G: Meets>(
     ensures once { IfOk result (λ answer. IfSome answer (λ _. CountsOnce pass.old pass.new)) }
     ensures fault { OnErr result (Adds pass.old pass.new []) }
     ensures clock { pass.new.clock ≤ clock_after pass.old.clock 1 }
-    ensures granted { Lawful (StandsForSome stands) pass.old.engine.size.records pass.old.log → (more : List Block) → IsAmple pass.old (block.now ∷ more) → IfOk result IsSome }
+    ensures granted { Lawful (StandsForSome stands) pass.old.shared.size.records pass.old.log → (more : List Block) → IsAmple pass.old (block.now ∷ more) → IfOk result IsSome }
     ensures ready { IfOk result (λ answer. IfSome answer (λ _. IsReady pass.old → IsReadyOnceCollected pass.new)) }
 {
     keeps_tables();
@@ -115,12 +116,12 @@ pub(crate) fn try_once<G: Meets>(
     reading: u64,
     gate: &G,
 ) -> Result<Option<BlockDone>, NoMemory>
-    requires engine { pass.old.engine ≡ engine.now }
+    requires engine { engine_of pass.old ≡ engine.now }
     requires idle { IsIdle pass.old }
     requires kind { block.now.snap ≡ false }
     requires commands { AreCommands 8 block.now.commands }
     requires short { All IsShort block.now.commands }
-    requires fixed { 4112 ≤ engine.now.fixed }
+    requires fixed { fixed_records ≤ engine.now.fixed }
     requires room { HasRoom pass.old.clock 1 }
     ensures committed { IfOk result (λ answer. IfSome answer (λ done. Commits block.now.commands pass.old pass.new done.placed done.outcome)) }
     ensures placed { IfOk result (λ answer. IfSome answer (λ done. IsPlaceOf block.now done.placed)) }

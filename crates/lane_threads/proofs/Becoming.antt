@@ -32,7 +32,7 @@ use Rattle.lane_threads.proofs.BecomingOrder.{lanes_kept}
 module _ (input : Input) (tries due : ℕ) (loaded : PassView) (alone : AloneView) (done : List LaneDone) (last : PassView) (results : List (Placed × Outcome))
     (run : HasRun input tries due loaded alone done) (finish : Finishes done alone.pass last results) where
   abbrev records : ℕ
-  records = loaded.engine.size.records
+  records = loaded.shared.size.records
 
   abbrev added : List Entry
   added = all_added run.runs.grown

@@ -1,9 +1,10 @@
 -- What workers leave together, worker behind worker.
-use Rattle.std.proofs.Common.{◌≡◌, ℕ, suc, ◌+◌, Result, Ok, Err, List, [], ◌∷◌, ◌++◌, map, refl, sym, ap, subst, ◌∙◌, append-nil, append_assoc, length, All, arith}
-use Rattle.std.specs.Prelude.{max, IfOk}
+use Rattle.std.proofs.Common.{◌≡◌, ℕ, suc, ◌+◌, Result, Ok, Err, List, [], ◌∷◌, ◌++◌, map, refl, sym, ap, subst, ◌∙◌, append-nil, append_assoc, length, get_or, take, drop, All, arith}
+use Rattle.std.specs.Prelude.{◌<◌, max, IfOk}
 use Rattle.std.specs.List.{AllByRecursion}
 use Rattle.std.specs.Result.{IsOkAnd}
-use Rattle.std.proofs.lemmas.List.{map-append}
+use Rattle.std.proofs.lemmas.List.{map-append, length-append}
+use Rattle.std.proofs.lemmas.List.Elements.{All-nil, All-cons}
 use Rattle.plain_data.specs.declared.entry.Entry.{Entry}
 use Rattle.atomic_table.specs.Seated.{TableId}
 use Rattle.replay_model.specs.TableMap.{TableMap}
@@ -12,16 +13,15 @@ use Rattle.lane_queue.specs.Passes.{Taker, IsFresh, IsSamePass, HasEnded, taken_
 use Rattle.txn_engine.specs.Pass.{PassView, EngineView}
 use Rattle.txn_engine.specs.Retired.{RetiredView, retired}
 use Rattle.txn_engine.specs.Joining.{AreOfEngine, logs_of, refusals_of, greatest_clock_of, greatest_met_of}
-use Rattle.lane_threads.specs.declared.all.Begun.{Begun}
 use Rattle.lane_runner.specs.declared.done.LaneDone.{LaneDone}
 use Rattle.lane_threads.specs.declared.workers.Worker.{Worker}
 use Rattle.lane_threads.specs.declared.workers.Worked.{Worked}
 use Rattle.lane_threads.specs.declared.workers.Left.{Left}
 use Rattle.lane_threads.specs.declared.gathering.Gathered.{Gathered}
 use Rattle.lane_threads.specs.All.{Grown, IsGrown, grown_logs, all_added, AreOfLanes, all_refusals, latest_clock, greatest_met}
-use Rattle.lane_threads.specs.Workers.{MayWork, MayBegin, DoesLanes, DoesAndReads, WorksAndReads, WorksAndRetires, draws_of}
+use Rattle.lane_threads.specs.Workers.{MayWork, MayBegin, DoesLanes, DoesAndReads, WorksAndReads, WorksAndRetires, EachRetires, draws_of}
 use Rattle.lane_threads.specs.Seen.{IsRead, met_first}
-use Rattle.lane_threads.specs.Gathers.{Starts, GoesOn, Gathers, GathersIn, fresh_again}
+use Rattle.lane_threads.specs.Gathers.{Starts, GoesOn, GoesOnByEach, Gathers, GathersIn, fresh_again}
 use Rattle.lane_threads.proofs.LaneLists.{AreOfLanes-append, draws_append, rests_append}
 
 -- ---- one more at the end of a list
@@ -29,14 +29,6 @@ use Rattle.lane_threads.proofs.LaneLists.{AreOfLanes-append, draws_append, rests
 pub each_push : {X : Type 0} (P : X → Type 0) (xs : List X) (x : X) → AllByRecursion P xs → P x → AllByRecursion P (xs ++ x ∷ [])
 each_push P [] x all one = (one, tt)
 each_push P (y ∷ xs) x all one = (all.0, each_push P xs x all.1 one)
-
-pub each_last : {X : Type 0} (P : X → Type 0) (xs : List X) (x : X) → AllByRecursion P (xs ++ x ∷ []) → P x
-each_last P [] x all = all.0
-each_last P (y ∷ xs) x all = each_last P xs x all.1
-
-pub each_front : {X : Type 0} (P : X → Type 0) (xs : List X) (x : X) → AllByRecursion P (xs ++ x ∷ []) → AllByRecursion P xs
-each_front P [] x all = tt
-each_front P (y ∷ xs) x all = (all.0, each_front P xs x all.1)
 
 of_engine_push : (engine : EngineView) (rs : List RetiredView) (r : RetiredView) → AreOfEngine engine rs → r.engine ≡ engine → AreOfEngine engine (rs ++ r ∷ [])
 of_engine_push engine [] r all one = (one, tt)
@@ -82,13 +74,6 @@ greatest_push : (ps : List PassView) (p : PassView) → greatest_met (ps ++ p �
 greatest_push [] p = omega arith
 greatest_push (x ∷ ps) p = let rest : greatest_met (ps ++ p ∷ []) ≡ max (greatest_met ps) p.met = greatest_push ps p in omega arith
 
--- of all, what holds of the last one and of those before it
-pub last_of : {X : Type 0} (P : X → Type 0) (all front : List X) (x : X) → all ≡ front ++ x ∷ [] → AllByRecursion P all → P x
-last_of P all front x is each = each_last P front x (subst (AllByRecursion P) is each)
-
-pub front_of : {X : Type 0} (P : X → Type 0) (all front : List X) (x : X) → all ≡ front ++ x ∷ [] → AllByRecursion P all → AllByRecursion P front
-front_of P all front x is each = each_front P front x (subst (AllByRecursion P) is each)
-
 -- one more does not change what the first has met
 met_stays : (seat : ℕ) (seats : List ℕ) (passes : List PassView) (p : PassView) → seat ∷ seats ≡ map (λ (x : PassView). x.seat) passes → met_first (passes ++ p ∷ []) ≡ met_first passes
 met_stays seat seats [] p same = absurd (let count : suc (length seats) ≡ 0 = ap (λ (xs : List ℕ). length xs) same in omega arith)
@@ -101,16 +86,6 @@ pub done_of : {T E : Type 0} (answer : Result T E) (P Q : T → Type 0) → IsOk
 done_of (Ok done) P Q is so = (done, is, so)
 done_of (Err fault) P Q is so = elim is [ ]
 
--- the same of equal values
-pub works_again : (tries tries' : ℕ) (p p' : PassView) (t t' : Taker) (left left' : Left) → tries' ≡ tries → p' ≡ p → t' ≡ t → left ≡ left' → WorksAndRetires tries' p' t' left' → WorksAndRetires tries p t left
-works_again tries tries' p p' t t' left left' of_tries of_pass of_taker of_left = subst (λ (y : ℕ × PassView × Taker × Left). WorksAndRetires y.0 y.1 y.2 y.3) (λ i. (of_tries i, of_pass i, of_taker i, sym of_left i))
-
--- the same of what a thread was begun with
-pub works_told : (tries : ℕ) (p : PassView) (t : Taker) (told begun : Begun) (left left' : Left) → told ≡ begun → begun.tries ≡ tries → begun.pass.value ≡ p → begun.taker.value ≡ t → left ≡ left'
-    → WorksAndRetires told.tries told.pass.value told.taker.value left' → WorksAndRetires tries p t left
-works_told tries p t told begun left left' same of_tries of_pass of_taker of_left =
-    works_again tries told.tries p told.pass.value t told.taker.value left left' (ap (λ (b : Begun). b.tries) same ∙ of_tries) (ap (λ (b : Begun). b.pass.value) same ∙ of_pass) (ap (λ (b : Begun). b.taker.value) same ∙ of_taker) of_left
-
 -- its right to take lanes is the one that it began with
 fresh_same : (t u : Taker) → IsFresh t → IsSamePass t u → fresh_again u ≡ t
 fresh_same t u fresh same = λ i. record { queue = same.same_queue i; lanes = same.same_lanes i; share = same.same_share i; took = sym fresh.took_none i; ended = sym fresh.goes_on i }
@@ -121,6 +96,31 @@ module _ {C : Type 0} where
 
   abbrev pub takers_of : List (Worker C) → List Taker
   takers_of workers = map (λ (w : Worker C). w.taker) workers
+
+-- the first of all, when the others are split off
+pub first_is : {X : Type 0} (all front : List X) (x : X) → 0 < length all → take 1 all ≡ front ++ x ∷ [] → all ≡ x ∷ drop 1 all
+first_is [] front x some is = absurd (omega (arith, some))
+first_is (y ∷ ys) [] x some is = ap (λ zs. get_or zs 0 y ∷ ys) is
+first_is (y ∷ ys) (z ∷ zs) x some is = absurd (let count : 1 ≡ suc (length (zs ++ x ∷ [])) = ap (λ ws. length ws) is in omega (arith, length-append zs (x ∷ [])))
+
+all_of_each : {X : Type 0} (P : X → Type 0) (xs : List X) → AllByRecursion P xs → All P xs
+all_of_each P [] each = All-nil P
+all_of_each P (x ∷ xs) each = All-cons P x xs each.0 (all_of_each P xs each.1)
+
+-- so of the first what holds of all, and of each of the others
+pub of_first : {X : Type 0} (P : X → Type 0) (all front : List X) (x : X) → 0 < length all → take 1 all ≡ front ++ x ∷ [] → AllByRecursion P all → P x
+of_first P all front x some is each = (subst (AllByRecursion P) (first_is all front x some is) each).0
+
+pub of_others : {X : Type 0} (P : X → Type 0) (all others : List X) → others ≡ drop 1 all → AllByRecursion P all → All P others
+of_others P [] others is each = subst (All P) (sym is) (All-nil P)
+of_others P (x ∷ xs) others is each = subst (All P) (sym is) (all_of_each P xs each.1)
+
+-- what the workers behind the first have left
+others_retire : {C : Type 0} {tries : ℕ} (w : Worker C) (more : List (Worker C)) (one : Left) (left : List Left) → EachRetires tries (w ∷ more) (one ∷ left) → EachRetires tries more left
+others_retire w more one left all = record {
+  count = (let count : suc (length left) ≡ suc (length more) = all.count in omega arith);
+  each = λ i v other below. all.each (suc i) v other (omega (arith, below));
+}
 
 module _ (engine : EngineView) (queue : TableId) (tries : ℕ) where
   -- the first one
@@ -199,16 +199,33 @@ module _ (engine : EngineView) (queue : TableId) (tries : ℕ) where
   -- ---- the same of a list of workers
 
   module _ {C : Type 0} where
-    pub workers_start : (due : ℕ) (all front : List (Worker C)) (w : Worker C) (worked : Worked) (readings : List (ℕ × TableMap)) (g : Gathered) → all ≡ front ++ w ∷ [] → front ≡ [] → AllByRecursion (MayBegin engine queue tries) all
-        → WorksAndReads due tries w.pass w.taker worked readings → Starts worked g → GathersIn engine tries due (passes_of all) (takers_of all) g readings
-    workers_start due all front w worked readings g is none begin works starts =
-        let only : all ≡ w ∷ [] = is ∙ ap (λ (ws : List (Worker C)). ws ++ w ∷ []) none in
-        subst (λ (ws : List (Worker C)). GathersIn engine tries due (passes_of ws) (takers_of ws) g readings) (sym only)
-        (gathers_start due w.pass w.taker worked readings g (last_of (MayBegin engine queue tries) all front w is begin) works starts)
-
-    pub workers_next : (due : ℕ) (all front : List (Worker C)) (w : Worker C) (g g' : Gathered) (readings : List (ℕ × TableMap)) (left : Left) → all ≡ front ++ w ∷ [] → AllByRecursion (MayBegin engine queue tries) all
-        → GathersIn engine tries due (passes_of front) (takers_of front) g readings → WorksAndRetires tries w.pass w.taker left → GoesOn g g' left → GathersIn engine tries due (passes_of all) (takers_of all) g' readings
-    workers_next due all front w g g' readings left is begin so_far works goes =
+    -- one more of them
+    workers_next : (due : ℕ) (front : List (Worker C)) (w : Worker C) (g g' : Gathered) (readings : List (ℕ × TableMap)) (left : Left) → MayBegin engine queue tries w
+        → WorksAndRetires tries w.pass w.taker left → GoesOn g g' left → GathersIn engine tries due (passes_of front) (takers_of front) g readings
+        → GathersIn engine tries due (passes_of (front ++ w ∷ [])) (takers_of (front ++ w ∷ [])) g' readings
+    workers_next due front w g g' readings left may works goes so_far =
         subst (λ (y : List PassView × List Taker). GathersIn engine tries due y.0 y.1 g' readings)
-        (λ i. ((sym (map-append (λ (x : Worker C). x.pass) front (w ∷ [])) ∙ ap passes_of (sym is)) i, (sym (map-append (λ (x : Worker C). x.taker) front (w ∷ [])) ∙ ap takers_of (sym is)) i))
-        (gathers_next due (passes_of front) (takers_of front) g g' readings w.pass w.taker left so_far (last_of (MayBegin engine queue tries) all front w is begin) works goes)
+        (λ i. (sym (map-append (λ (x : Worker C). x.pass) front (w ∷ [])) i, sym (map-append (λ (x : Worker C). x.taker) front (w ∷ [])) i))
+        (gathers_next due (passes_of front) (takers_of front) g g' readings w.pass w.taker left so_far may works goes)
+
+    -- and each of some behind others
+    workers_go_on : (due : ℕ) (front more : List (Worker C)) (left : List Left) (g g' : Gathered) (readings : List (ℕ × TableMap)) → AllByRecursion (MayBegin engine queue tries) more
+        → EachRetires tries more left → GoesOnByEach g left g' → GathersIn engine tries due (passes_of front) (takers_of front) g readings
+        → GathersIn engine tries due (passes_of (front ++ more)) (takers_of (front ++ more)) g' readings
+    workers_go_on due front [] [] g g' readings begin each goes so_far =
+        subst (λ (y : List (Worker C) × Gathered). GathersIn engine tries due (passes_of y.0) (takers_of y.0) y.1 readings) (λ i. (sym (append-nil front) i, sym goes i)) so_far
+    workers_go_on due front [] (one ∷ left) g g' readings begin each goes so_far = absurd (let count : suc (length left) ≡ 0 = each.count in omega arith)
+    workers_go_on due front (w ∷ more) [] g g' readings begin each goes so_far = absurd (let count : 0 ≡ suc (length more) = each.count in omega arith)
+    workers_go_on due front (w ∷ more) (one ∷ left) g g' readings begin each goes so_far =
+        subst (λ (ws : List (Worker C)). GathersIn engine tries due (passes_of ws) (takers_of ws) g' readings) (append_assoc front (w ∷ []) more)
+        (workers_go_on due (front ++ w ∷ []) more left goes.0 g' readings begin.1 (others_retire w more one left each) goes.2
+        (workers_next due front w g goes.0 readings one begin.0 (each.each 0 w one (omega arith)) goes.1 so_far))
+
+    -- all of them, the first first
+    pub workers_gather : (due : ℕ) (all : List (Worker C)) (w : Worker C) (more : List (Worker C)) (worked : Worked) (left : List Left) (g g' : Gathered) (readings : List (ℕ × TableMap)) → all ≡ w ∷ more
+        → AllByRecursion (MayBegin engine queue tries) all → WorksAndReads due tries w.pass w.taker worked readings → Starts worked g → EachRetires tries more left → GoesOnByEach g left g'
+        → GathersIn engine tries due (passes_of all) (takers_of all) g' readings
+    workers_gather due all w more worked left g g' readings is begin works starts each goes =
+        let may = subst (AllByRecursion (MayBegin engine queue tries)) is begin in
+        subst (λ (ws : List (Worker C)). GathersIn engine tries due (passes_of ws) (takers_of ws) g' readings) (sym is)
+        (workers_go_on due (w ∷ []) more left g g' readings may.1 each goes (gathers_start due w.pass w.taker worked readings g may.0 works starts))

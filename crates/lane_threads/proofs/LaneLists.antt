@@ -87,7 +87,7 @@ may_numbered n lanes may = each_numbered MayRun n lanes may
 
 -- ---- entries of what they come to
 
-pub AreOfLane-run : (lane : Lane) (done : LaneDone) (p q : PassView) → (does : DoesLane lane done p q) → AreOfLane p.engine.size.records does.runs.entries lane done
+pub AreOfLane-run : (lane : Lane) (done : LaneDone) (p q : PassView) → (does : DoesLane lane done p q) → AreOfLane p.shared.size.records does.runs.entries lane done
 AreOfLane-run lane done p q does = record { lane_is = does.lane_is; first = does.runs.done; blocks_are = does.runs.blocks_are; are_entries = does.runs.are_entries; order = does.order }
 
 pub AreOfLanes-one : (records : ℕ) (entries : List Entry) (lane : Lane) (done : LaneDone) → AreOfLane records entries lane done → AreOfLanes records entries (lane ∷ []) (done ∷ [])
@@ -136,7 +136,7 @@ pub RunsLanes-append : (tries m n : ℕ) (p q r : PassView) (lanes more : List L
 RunsLanes-append tries m n p q r lanes more dones dones' first second = record {
   entries = first.entries ++ second.entries;
   adds = Adds-trans p q r first.entries second.entries first.adds second.adds;
-  are_of_lanes = AreOfLanes-append p.engine.size.records first.entries second.entries lanes more dones dones' first.are_of_lanes
+  are_of_lanes = AreOfLanes-append p.shared.size.records first.entries second.entries lanes more dones dones' first.are_of_lanes
       (subst (λ (e : EngineView). AreOfLanes e.size.records second.entries more dones') first.adds.engine second.are_of_lanes);
   refusals = omega (arith, first.refusals, second.refusals, rests_append tries dones dones');
   clock = omega (arith, first.clock, second.clock);
@@ -153,7 +153,7 @@ RunsLanes-next tries m n p q r lanes lanes' lane dones dones' done taken pushed 
     here = record {
       entries = does.runs.entries;
       adds = does.runs.adds;
-      are_of_lanes = AreOfLanes-one q.engine.size.records does.runs.entries lane done (AreOfLane-run lane done q r does);
+      are_of_lanes = AreOfLanes-one q.shared.size.records does.runs.entries lane done (AreOfLane-run lane done q r does);
       refusals =
           let counted : q.refusals + tries_of_rest tries done.rest ≤ r.refusals = rest_counted tries done.rest q.refusals r.refusals rest does.runs.adds.refusals in
           omega (arith, counted);

@@ -10,7 +10,7 @@ use Rattle.histories.specs.History.{Lawful}
 use Rattle.history_replay.specs.Results.{StandsForSome}
 use Rattle.replay_model.specs.declared.input.Block.{Block}
 use Rattle.replay_model.specs.TableMap.{TableMap}
-use Rattle.txn_engine.specs.Pass.{EngineView, PassView}
+use Rattle.txn_engine.specs.Pass.{EngineView, PassView, observing, with_met}
 use Rattle.txn_engine.specs.Alone.{AloneView, with_pass}
 use Rattle.lane_runner.specs.declared.done.LaneDone.{LaneDone}
 use Rattle.lane_runner.specs.Rows.{stands}
@@ -110,7 +110,7 @@ module _ (engine : EngineView) (passes : List PassView) (lanes : List (List Bloc
       (λ e among. subst (Among e) (sym reads.others.adds.log) (Among-left e alone.pass.log more among)) reads.others.adds.clock earlier both.each)
       (read_later alone.pass.met (met_first passes) alone'.pass alone'.pass (omega (arith, runs.met, met_below passes)) refl refl (λ e among. among) (omega arith) reads.more reads.each))
 
-  pub seen_beside : ReadingsAreSeen → Lawful (StandsForSome stands) alone'.pass.engine.size.records alone'.pass.log → AreSeen due passes alone' seen
+  pub seen_beside : ReadingsAreSeen → Lawful (StandsForSome stands) alone'.pass.shared.size.records alone'.pass.log → AreSeen due passes alone' seen
   seen_beside law lawful = record { count = reads.count; each = law passes alone' seen lawful each_read }
 
   draws_are : length earlier + length reads.more ≡ due
@@ -181,7 +181,7 @@ room_beside engine (p ∷ ps) lanes tries due alone done earlier some are both r
 -- ---- and what was met since
 
 -- one load of the minimum changes what was met alone
-module _ (alone told : AloneView) (is : told ≡ with_pass alone (record alone.pass { met = told.pass.met })) (not_back : alone.pass.met ≤ told.pass.met) where
+module _ (alone told : AloneView) (is : told ≡ with_pass alone (observing (with_met alone.pass told.pass.met) told.pass.observed)) (not_back : alone.pass.met ≤ told.pass.met) where
   pub runs_told : (engine : EngineView) (passes : List PassView) (lanes : List (List Block)) (tries due : ℕ) (done : List LaneDone) → RunsAll engine passes lanes tries due alone done → RunsAll engine passes lanes tries due told done
   runs_told engine passes lanes tries due done runs = subst (λ (a : AloneView). RunsAll engine passes lanes tries due a done) (sym is) (record {
     together = record {
@@ -211,6 +211,6 @@ module _ (alone told : AloneView) (is : told ≡ with_pass alone (record alone.p
   pub seen_told : (due : ℕ) (passes : List PassView) (seen : List (ℕ × TableMap)) → AreSeen due passes alone seen → AreSeen due passes told seen
   seen_told due passes seen are = subst (λ (a : AloneView). AreSeen due passes a seen) (sym is) (record {
     count = are.count;
-    each = All-weaker (IsSeen passes alone) (IsSeen passes (with_pass alone (record alone.pass { met = told.pass.met })))
+    each = All-weaker (IsSeen passes alone) (IsSeen passes (with_pass alone (observing (with_met alone.pass told.pass.met) told.pass.observed)))
         (λ x s. record { tables = s.tables; leaves = s.leaves; rows = s.rows; up_to = s.up_to; met = s.met }) seen are.each;
   })

@@ -9,7 +9,7 @@ use Rattle.histories.specs.Laws.{LawfulHasStates}
 use Rattle.histories.proofs.States.{time-commit, time-snapshot, IsValue-same}
 use Rattle.history_replay.specs.Results.{StandsForSome}
 use Rattle.replay_model.specs.TableMap.{TableMap}
-use Rattle.txn_engine.specs.Pass.{EngineView, PassView}
+use Rattle.txn_engine.specs.Pass.{EngineView, PassView, engine_of}
 use Rattle.txn_engine.specs.Alone.{AloneView}
 use Rattle.lane_runner.specs.Rows.{stands}
 use Rattle.lane_runner.proofs.Elements.{contains_of}
@@ -17,7 +17,7 @@ use Rattle.lane_threads.specs.Seen.{IsReadingOf, IsRead, IsSeen, met_first, Read
 
 -- ---- at a later pass, whose log has more
 
-pub read_later : (m m' : ℕ) (p q : PassView) → m' ≤ m → q.engine ≡ p.engine → q.seat ≡ p.seat → AllIn p.log q.log → p.clock ≤ q.clock → (readings : List (ℕ × TableMap)) → All (IsRead m p) readings → All (IsRead m' q) readings
+pub read_later : (m m' : ℕ) (p q : PassView) → m' ≤ m → engine_of q ≡ engine_of p → q.seat ≡ p.seat → AllIn p.log q.log → p.clock ≤ q.clock → (readings : List (ℕ × TableMap)) → All (IsRead m p) readings → All (IsRead m' q) readings
 read_later m m' p q low engine seat logs clock readings each = All-weaker (IsRead m p) (IsRead m' q) (λ x is. record {
   entry = is.entry;
   in_log = logs is.entry is.in_log;
@@ -36,13 +36,13 @@ earlier : (log : List Entry) (entry e : Entry) → entry.snapshot ≡ true → e
 earlier log entry e snapshot commit up = (up.0, (let t = up.1 in omega (arith, t, time-commit e commit, time-snapshot entry snapshot)))
 
 seen_at : LawfulHasStates (StandsForSome stands) → (passes : List PassView) (alone : AloneView) (reading : ℕ × TableMap)
-    → Lawful (StandsForSome stands) alone.pass.engine.size.records alone.pass.log → IsRead (met_first passes) alone.pass reading → IsSeen passes alone reading
+    → Lawful (StandsForSome stands) alone.pass.shared.size.records alone.pass.log → IsRead (met_first passes) alone.pass reading → IsSeen passes alone reading
 seen_at has passes alone reading lawful read =
     let log = alone.pass.log in
     let entry = read.entry in
     let is = read.is_reading in
-    let Met : Entry → Type 0 = λ e. (before : State) × LeavesKept (StandsForSome stands) alone.pass.engine.size.records (Before log e) before × Agrees before e.reads in
-    let at : Met entry = All-contains Met log entry (has alone.pass.engine.size.records log lawful).0 (contains_of log entry read.in_log) in
+    let Met : Entry → Type 0 = λ e. (before : State) × LeavesKept (StandsForSome stands) alone.pass.shared.size.records (Before log e) before × Agrees before e.reads in
+    let at : Met entry = All-contains Met log entry (has alone.pass.shared.size.records log lawful).0 (contains_of log entry read.in_log) in
     let left : Leaves (UpTo log entry.stamp) at.0 = λ rid. IsValue-same (Before log entry) (UpTo log entry.stamp) rid (at.0 rid)
     (λ e commit b. up_to log entry e is.kind commit b) (λ e commit u. earlier log entry e is.kind commit u) (at.1.left rid) in
     record {

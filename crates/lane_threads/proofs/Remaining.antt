@@ -20,7 +20,7 @@ use Rattle.stamp_base.specs.Stamp.{bound_of_clock}
 use Rattle.stored_tables.specs.Weight.{all_add}
 use Rattle.stored_tables.specs.Weights.{AddsAfter}
 use Rattle.txn_engine.specs.Alone.{AloneView}
-use Rattle.txn_engine.specs.Pass.{EngineView, PassView, unglanced}
+use Rattle.txn_engine.specs.Pass.{EngineView, PassView, bare, engine_of}
 use Rattle.txn_engine.specs.Sharing.{announced, first_share, share_at, shares}
 use Rattle.lane_runner.specs.declared.done.LaneDone.{LaneDone}
 use Rattle.lane_runner.specs.Rows.{stands}
@@ -38,7 +38,7 @@ use Rattle.lane_threads.specs.Whole.{blocks_of, loaded_rows, HasRun, CanFinish, 
 use Rattle.lane_runner.proofs.Run.{AreEntries-others}
 use Rattle.lane_threads.proofs.Merging.{merged_entries}
 use Rattle.lane_threads.proofs.LaneLists.{each_numbered}
-use Rattle.lane_threads.proofs.Shared.{each_unglanced, each_share, each_pass}
+use Rattle.lane_threads.proofs.Shared.{each_bare, each_share, each_pass}
 use Rattle.lane_runner.proofs.Weighing.{runs_weigh_after}
 
 -- ---- blocks that ran, and those that remain
@@ -128,30 +128,30 @@ behind_first [] = []
 behind_first (p ∷ ps) = ps
 
 -- the log of the pass that was shared, and behind it all that was added
-pub logs_shared : (p : PassView) (gs : List Grown) → map unglanced (map (λ (g : Grown). g.pass) gs) ≡ shares p → grown_logs gs ≡ p.log ++ all_added gs
+pub logs_shared : (p : PassView) (gs : List Grown) → map bare (map (λ (g : Grown). g.pass) gs) ≡ shares p → grown_logs gs ≡ p.log ++ all_added gs
 logs_shared p [] are = cc
 logs_shared p (g ∷ gs) are =
     (λ i. (first i ++ g.added) ++ logs_of_none gs others i) ∙ append_assoc p.log g.added (all_added gs)
   where
-    head : unglanced g.pass ≡ first_share (announced p)
+    head : bare g.pass ≡ first_share (announced p)
     head = ap (first_of p) are
 
     first : g.pass.log ≡ p.log
     first = ap (λ (q : PassView). q.log) head
 
-    tail : map unglanced (map (λ (x : Grown). x.pass) gs) ≡ map (share_at (announced p)) (range_with_len 1 (p.engine.size.seats - 1))
+    tail : map bare (map (λ (x : Grown). x.pass) gs) ≡ map (share_at (announced p)) (range_with_len 1 (p.shared.size.seats - 1))
     tail = ap behind_first are
 
     others : AllByRecursion (λ (x : Grown). x.pass.log ≡ []) gs
-    others = each_grown (λ q. q.log ≡ []) gs (each_unglanced (λ q. q.log ≡ []) (map (λ (x : Grown). x.pass) gs) (λ q is. is)
-        (subst (AllByRecursion (λ (q : PassView). q.log ≡ [])) (sym tail) (each_share (λ q. q.log ≡ []) (announced p) (range_with_len 1 (p.engine.size.seats - 1)) (λ seat. refl))))
+    others = each_grown (λ q. q.log ≡ []) gs (each_bare (λ q. q.log ≡ []) (map (λ (x : Grown). x.pass) gs) (λ q is. is)
+        (subst (AllByRecursion (λ (q : PassView). q.log ≡ [])) (sym tail) (each_share (λ q. q.log ≡ []) (announced p) (range_with_len 1 (p.shared.size.seats - 1)) (λ seat. refl))))
 
 -- a pass of a share, as it was handed in
 record IsShare (p q : PassView) : Type 0 where
   clock : q.clock ≡ p.clock
   met : bound_of_clock p.clock ≤ q.met
 
-shares_are : (p : PassView) (passes : List PassView) → map unglanced passes ≡ shares p → AllByRecursion (IsShare p) passes
+shares_are : (p : PassView) (passes : List PassView) → map bare passes ≡ shares p → AllByRecursion (IsShare p) passes
 shares_are p passes are = each_pass (IsShare p) p passes (λ q is. record { clock = is.clock; met = is.met }) are (record { clock = refl; met = omega arith }) (λ seat. record { clock = refl; met = omega arith })
 
 -- what was added to it comes behind its clock
@@ -171,9 +171,9 @@ added_behind p (g ∷ gs) entry are grown among =
 -- ---- the law
 
 module _ (adds_after : AddsAfter) (input : Input) (tries due : ℕ) (loaded : PassView) (alone : AloneView) (done : List LaneDone) (run : HasRun input tries due loaded alone done)
-    (lawful : Lawful (StandsForSome stands) loaded.engine.size.records alone.pass.log) (may : All (All MayFinish) input.lanes) where
+    (lawful : Lawful (StandsForSome stands) loaded.shared.size.records alone.pass.log) (may : All (All MayFinish) input.lanes) where
   abbrev records : ℕ
-  records = loaded.engine.size.records
+  records = loaded.shared.size.records
 
   abbrev start : ℕ
   start = bound_of_clock loaded.clock - 1
@@ -184,8 +184,8 @@ module _ (adds_after : AddsAfter) (input : Input) (tries due : ℕ) (loaded : Pa
   abbrev tables : TableMap
   tables = loaded_rows input
 
-  passes_are : map unglanced (map (λ (g : Grown). g.pass) run.runs.grown) ≡ shares loaded
-  passes_are = ap (λ (passes : List PassView). map unglanced passes) run.runs.passes_are ∙ run.shared.are_shares
+  passes_are : map bare (map (λ (g : Grown). g.pass) run.runs.grown) ≡ shares loaded
+  passes_are = ap (λ (passes : List PassView). map bare passes) run.runs.passes_are ∙ run.shared.are_shares
 
   log_is : alone.pass.log ≡ loaded.log ++ added
   log_is = run.runs.log_is ∙ logs_shared loaded run.runs.grown passes_are
@@ -207,22 +207,22 @@ module _ (adds_after : AddsAfter) (input : Input) (tries due : ℕ) (loaded : Pa
   after = runs_weigh_after adds_after records start loaded.log added ran.blocks ran.results tables (rows_add input.rows input.indexes)
       (subst (λ (log : List Entry). Lawful (StandsForSome stands) records log) log_is lawful) run.loads.leaves up_to (λ entry among. (behind entry among).commit) ran.are_entries
 
-  engine_is : alone.pass.engine ≡ loaded.engine
+  engine_is : engine_of alone.pass ≡ engine_of loaded
   engine_is = run.runs.together.engine_is
 
-  leaves_at : LeavesWithin alone.pass.engine.size.records alone.pass.log after.after (rows_add input.rows input.indexes + blocks_add ran.blocks tables)
+  leaves_at : LeavesWithin alone.pass.shared.size.records alone.pass.log after.after (rows_add input.rows input.indexes + blocks_add ran.blocks tables)
   leaves_at = subst (λ (at : EngineView × List Entry). LeavesWithin at.0.size.records at.1 after.after (rows_add input.rows input.indexes + blocks_add ran.blocks tables)) (λ i. (sym engine_is i, sym log_is i)) after.leaves
 
   rests_same : rests_add done after.after ≡ rests_add done tables
   rests_same = λ i. sum_by (λ (lane : LaneDone). sum_by (λ (block : Block). after.same block.commands i) lane.rest) done
 
-  room_at : loaded.engine.fixed + (rows_add input.rows input.indexes + blocks_add (blocks_of input.lanes) tables) ≤ loaded.engine.size.records
-      → alone.pass.engine.fixed + (rows_add input.rows input.indexes + blocks_add ran.blocks tables + rests_add done after.after) ≤ alone.pass.engine.size.records
+  room_at : loaded.fixed + (rows_add input.rows input.indexes + blocks_add (blocks_of input.lanes) tables) ≤ loaded.shared.size.records
+      → alone.pass.fixed + (rows_add input.rows input.indexes + blocks_add ran.blocks tables + rests_add done after.after) ≤ alone.pass.shared.size.records
   room_at room = subst (λ (engine : EngineView). engine.fixed + (rows_add input.rows input.indexes + blocks_add ran.blocks tables + rests_add done after.after) ≤ engine.size.records) (sym engine_is)
       (let all : blocks_add ran.blocks tables + rests_add done tables ≡ blocks_add (blocks_of input.lanes) tables = all_blocks (λ (blocks : List Block). blocks_add blocks tables) (adds_sum tables) in
       omega (arith, all, rests_same, room))
 
-  pub can_finish : loaded.engine.fixed + (rows_add input.rows input.indexes + blocks_add (blocks_of input.lanes) tables) ≤ loaded.engine.size.records → CanFinish input alone done
+  pub can_finish : loaded.fixed + (rows_add input.rows input.indexes + blocks_add (blocks_of input.lanes) tables) ≤ loaded.shared.size.records → CanFinish input alone done
   can_finish room = record {
     blocks = each_rest MayFinish records added run.runs.taken done run.runs.are_of_lanes
         (All-permutation (λ (lane : Lane). All MayFinish lane.blocks) (numbered 1 input.lanes) run.runs.taken run.runs.each_once (each_numbered MayFinish 1 input.lanes may));

@@ -14,7 +14,7 @@ use Rattle.replay_model.specs.declared.input.Block.{Block}
 use Rattle.replay_model.specs.TableMap.{TableMap}
 use Rattle.lane_queue.specs.declared.lane.Lane.{Lane}
 use Rattle.lane_queue.specs.Passes.{Taker, IsFresh, AreAll, AreOf, numbered, taken_by}
-use Rattle.txn_engine.specs.Pass.{EngineView, PassView, IsIdle, IsAlone, with_glance}
+use Rattle.txn_engine.specs.Pass.{EngineView, PassView, IsIdle, IsAlone, with_glance, engine_of, desk_of}
 use Rattle.seat_post.specs.Glance.{GlanceView}
 use Rattle.txn_engine.specs.Retired.{RetiredView}
 use Rattle.txn_engine.specs.Alone.{AloneView}
@@ -37,7 +37,7 @@ pub count_passes : (engine : EngineView) (passes : List PassView) → AreAllPass
 count_passes engine passes are = sym (length-map passes (λ (p : PassView). p.seat)) ∙ ap length are.seats ∙ length-range_with_len 0 engine.size.seats
 
 module _ {C : Type 0} (engine : EngineView) (queue : TableId) (tries : ℕ) (lanes : List (List Block)) where
-  begin_each : (ws : List (Worker C)) → AllByRecursion (λ p. p.engine ≡ engine) (passes_of ws) → AllByRecursion IsIdle (passes_of ws) → AllByRecursion (λ t. t.queue ≡ queue) (takers_of ws) → AllByRecursion IsFresh (takers_of ws)
+  begin_each : (ws : List (Worker C)) → AllByRecursion (λ p. engine_of p ≡ engine) (passes_of ws) → AllByRecursion IsIdle (passes_of ws) → AllByRecursion (λ t. t.queue ≡ queue) (takers_of ws) → AllByRecursion IsFresh (takers_of ws)
       → AreOf (numbered 1 lanes) (takers_of ws) → All (All MayRun) lanes → AllByRecursion (λ p. HasRoom p.clock (all_draws lanes tries)) (passes_of ws) → AllByRecursion (MayBegin engine queue tries) ws
   begin_each [] engines idle queues fresh of may room = tt
   begin_each (w ∷ ws) engines idle queues fresh of may room = (
@@ -55,7 +55,7 @@ module _ {C : Type 0} (engine : EngineView) (queue : TableId) (tries : ℕ) (lan
   pub begin_all : (passes : List PassView) (takers : List Taker) (ws : List (Worker C)) → passes_of ws ≡ passes → takers_of ws ≡ takers → AreAllPasses engine passes → AreAll queue takers → AllByRecursion IsFresh takers
       → AreOf (numbered 1 lanes) takers → All (All MayRun) lanes → AllByRecursion (λ p. HasRoom p.clock (all_draws lanes tries)) passes → AllByRecursion (MayBegin engine queue tries) ws
   begin_all passes takers ws passes_are takers_are are all fresh of may room =
-      begin_each ws (subst (AllByRecursion (λ p. p.engine ≡ engine)) (sym passes_are) are.engines) (subst (AllByRecursion IsIdle) (sym passes_are) are.idle) (subst (AllByRecursion (λ t. t.queue ≡ queue)) (sym takers_are) all.each)
+      begin_each ws (subst (AllByRecursion (λ p. engine_of p ≡ engine)) (sym passes_are) are.engines) (subst (AllByRecursion IsIdle) (sym passes_are) are.idle) (subst (AllByRecursion (λ t. t.queue ≡ queue)) (sym takers_are) all.each)
       (subst (AllByRecursion IsFresh) (sym takers_are) fresh) (subst (AreOf (numbered 1 lanes)) (sym takers_are) of) may (subst (AllByRecursion (λ p. HasRoom p.clock (all_draws lanes tries))) (sym passes_are) room)
 
 -- ---- their room
@@ -138,10 +138,10 @@ module _ (engine : EngineView) (passes : List PassView) (takers : List Taker) (l
     runs = record {
       together = record {
         shared = shared;
-        engine_is = ap (λ (p : PassView). p.engine) is ∙ gathers.engine_is;
+        engine_is = ap engine_of is ∙ gathers.engine_is;
         first = ap (λ (p : PassView). p.seat) is ∙ first_seat;
         is_alone = is_alone;
-        idle = ap (λ (p : PassView). p.desk) is ∙ gathers.idle;
+        idle = ap desk_of is ∙ gathers.idle;
         none_given = ap (λ (p : PassView). p.given) is;
         none_queued = ap (λ (p : PassView). p.queue) is;
         no_boost = ap (λ (p : PassView). p.boost) is;
@@ -160,7 +160,7 @@ module _ (engine : EngineView) (passes : List PassView) (takers : List Taker) (l
       met = omega (arith, gathers.met, ap (λ (p : PassView). p.met) is);
     };
     few = gathers.few;
-    each = read_later (met_first passes) (met_first passes) first alone.pass (omega arith) (ap (λ (p : PassView). p.engine) is) (ap (λ (p : PassView). p.seat) is)
+    each = read_later (met_first passes) (met_first passes) first alone.pass (omega arith) (ap engine_of is) (ap (λ (p : PassView). p.seat) is)
         (λ e among. subst (Among e) (sym (ap (λ (p : PassView). p.log) is)) (Among-left e first.log (logs_of others) among))
         (omega (arith, clock_grows first.clock others, ap (λ (p : PassView). p.clock) is)) readings gathers.each_read;
   }

@@ -8,7 +8,7 @@ use Rattle.replay_model.specs.declared.input.Block.{Block}
 use Rattle.replay_model.specs.TableMap.{TableMap}
 use Rattle.lane_queue.specs.declared.lane.Lane.{Lane}
 use Rattle.lane_queue.specs.Passes.{numbered}
-use Rattle.txn_engine.specs.Pass.{EngineView, PassView, IsIdle, IsAlone}
+use Rattle.txn_engine.specs.Pass.{EngineView, PassView, IsIdle, IsAlone, engine_of}
 use Rattle.txn_engine.specs.Alone.{AloneView}
 use Rattle.lane_runner.specs.declared.done.LaneDone.{LaneDone}
 use Rattle.lane_runner.specs.Room.{clock_after}
@@ -23,7 +23,7 @@ use Rattle.lane_runner.specs.Lanes.{AreEntries, KeepOrder, lane_draws}
 
 -- all passes of an engine, in the order of their seats, with no transaction in flight
 pub record AreAllPasses (engine : EngineView) (passes : List PassView) : Type 0 where
-  pub engines : AllByRecursion (λ p. p.engine ≡ engine) passes
+  pub engines : AllByRecursion (λ p. engine_of p ≡ engine) passes
   pub idle : AllByRecursion IsIdle passes
   pub seats : map (λ p. p.seat) passes ≡ range_with_len 0 engine.size.seats
 
@@ -93,7 +93,7 @@ all_added (g ∷ gs) = g.added ++ all_added gs
 -- all seats of an engine have come together, and nothing is in flight or left over
 pub record IsTogether (engine : EngineView) (alone : AloneView) : Type 0 where
   pub shared : alone.shared ≡ true
-  pub engine_is : alone.pass.engine ≡ engine
+  pub engine_is : engine_of alone.pass ≡ engine
   pub first : alone.pass.seat ≡ 0
   pub is_alone : IsAlone alone.pass
   pub idle : IsIdle alone.pass

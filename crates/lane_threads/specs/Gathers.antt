@@ -4,7 +4,7 @@ use Rattle.std.specs.List.{AllByRecursion}
 use Rattle.std.specs.Result.{IsOkAnd}
 use Rattle.replay_model.specs.TableMap.{TableMap}
 use Rattle.lane_queue.specs.Passes.{Taker, HasEnded, taken_by}
-use Rattle.txn_engine.specs.Pass.{EngineView, PassView, IsIdle}
+use Rattle.txn_engine.specs.Pass.{EngineView, PassView, IsIdle, engine_of}
 use Rattle.txn_engine.specs.Retired.{RetiredView}
 use Rattle.txn_engine.specs.Joining.{AreOfEngine, logs_of, refusals_of, greatest_clock_of, greatest_met_of}
 use Rattle.lane_runner.specs.declared.done.LaneDone.{LaneDone}
@@ -30,6 +30,11 @@ pub record GoesOn (before after' : Gathered) (left : Left) : Type 0 where
   pub takers_are : after'.takers.items ≡ before.takers.items ++ left.taker ∷ []
   pub done_is : IsOkAnd left.done (λ done. after'.done.items ≡ before.done.items ++ done.items)
 
+-- what each of these workers left is, one behind another
+abbrev pub GoesOnByEach : (before : Gathered) → List Left → (after' : Gathered) → Type 0
+GoesOnByEach before [] after' = after' ≡ before
+GoesOnByEach before (left ∷ more) after' = (between : Gathered) × GoesOn before between left × GoesOnByEach between more after'
+
 -- a right to take lanes as it was when nothing was taken yet
 abbrev pub fresh_again : Taker → Taker
 fresh_again taker = record taker { took = []; ended = false }
@@ -37,7 +42,7 @@ fresh_again taker = record taker { took = []; ended = false }
 -- What workers leave that began with these passes and these rights to take lanes: the first pass, which is open, the others, which have
 -- retired, the rights, with what was taken, what the lanes came to, and what the worker of the first pass has read beside them.
 pub record Gathers (engine : EngineView) (tries due : ℕ) (passes : List PassView) (takers : List Taker) (first : PassView) (others : List RetiredView) (ended : List Taker) (done : List LaneDone) (readings : List (ℕ × TableMap)) : Type 0 where
-  pub engine_is : first.engine ≡ engine
+  pub engine_is : engine_of first ≡ engine
   pub idle : IsIdle first
   pub of_engine : AreOfEngine engine others
   pub seats : first.seat ∷ map (λ r. r.seat) others ≡ map (λ p. p.seat) passes

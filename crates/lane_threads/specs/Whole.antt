@@ -15,7 +15,7 @@ use Rattle.history_replay.specs.Results.{StandsForSome, LeaveTables, KeepsLane, 
 use Rattle.stamp_base.specs.Stamp.{bound_of_clock}
 use Rattle.seat_post.specs.Logs.{IsAbove}
 use Rattle.txn_engine.specs.Alone.{AloneView}
-use Rattle.txn_engine.specs.Pass.{PassView, IsIdle, unglanced}
+use Rattle.txn_engine.specs.Pass.{PassView, IsIdle, bare, engine_of}
 use Rattle.txn_engine.specs.Sharing.{shares}
 use Rattle.lane_runner.specs.declared.done.LaneDone.{LaneDone}
 use Rattle.lane_runner.specs.Rows.{stands}
@@ -64,7 +64,7 @@ WholeRunsAreResults =
 pub record AreShared (p : PassView) (passes : List PassView) : Type 0 where
   pub idle : IsIdle p
   pub first : p.seat ≡ 0
-  pub are_shares : map unglanced passes ≡ shares p
+  pub are_shares : map bare passes ≡ shares p
   pub above : IsAbove p.log (bound_of_clock p.clock)
 
 -- the lanes of an input were run on all passes that a share gave of the seat that had loaded it
@@ -74,7 +74,7 @@ pub record HasRun (input : Input) (tries due : ℕ) (loaded : PassView) (alone :
   pub loads : Loads input first loaded
   pub passes : List PassView
   pub shared : AreShared loaded passes
-  pub runs : RunsAll loaded.engine passes input.lanes tries due alone done
+  pub runs : RunsAll (engine_of loaded) passes input.lanes tries due alone done
 
 -- the tables that the loading leaves
 abbrev pub loaded_rows : Input → TableMap
@@ -90,9 +90,9 @@ abbrev pub RunsCanFinish : Type 0
 RunsCanFinish =
     (input : Input) (tries due : ℕ) (loaded : PassView) (alone : AloneView) (done : List LaneDone)
     → HasRun input tries due loaded alone done
-    → Lawful (StandsForSome stands) loaded.engine.size.records alone.pass.log
+    → Lawful (StandsForSome stands) loaded.shared.size.records alone.pass.log
     → All (All MayFinish) input.lanes
-    → loaded.engine.fixed + (rows_add input.rows input.indexes + blocks_add (blocks_of input.lanes) (loaded_rows input)) ≤ loaded.engine.size.records
+    → loaded.fixed + (rows_add input.rows input.indexes + blocks_add (blocks_of input.lanes) (loaded_rows input)) ≤ loaded.shared.size.records
     → CanFinish input alone done
 
 -- and when they have run, each block of the input has run once
@@ -101,4 +101,4 @@ RunsBecomeWhole =
     (input : Input) (tries due : ℕ) (loaded : PassView) (alone : AloneView) (done : List LaneDone) (last : PassView) (results : List (Placed × Outcome))
     → HasRun input tries due loaded alone done
     → Finishes done alone.pass last results
-    → RunsWhole loaded.engine.size.records (bound_of_clock loaded.clock - 1) last.log input results
+    → RunsWhole loaded.shared.size.records (bound_of_clock loaded.clock - 1) last.log input results

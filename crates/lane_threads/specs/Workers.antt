@@ -1,12 +1,12 @@
 -- What a worker begins with, and what it leaves.
-use Rattle.std.specs.Prelude.{◌≡◌, ℕ, ◌+◌, ◌≤◌, List, [], All, IfOk, length}
+use Rattle.std.specs.Prelude.{◌≡◌, ℕ, ◌+◌, ◌≤◌, ◌<◌, List, [], All, IfOk, length, slice_index_or}
 use Rattle.std.specs.List.{sum_by}
 use Rattle.atomic_table.specs.Seated.{TableId}
 use Rattle.plain_data.specs.declared.entry.Entry.{Entry}
 use Rattle.replay_model.specs.TableMap.{TableMap}
 use Rattle.lane_queue.specs.declared.lane.Lane.{Lane}
 use Rattle.lane_queue.specs.Passes.{Taker, IsFresh, IsSamePass, HasEnded}
-use Rattle.txn_engine.specs.Pass.{EngineView, PassView, IsIdle}
+use Rattle.txn_engine.specs.Pass.{EngineView, PassView, IsIdle, engine_of}
 use Rattle.txn_engine.specs.Retired.{retired}
 use Rattle.lane_runner.specs.declared.done.LaneDone.{LaneDone}
 use Rattle.lane_threads.specs.declared.workers.Worker.{Worker}
@@ -28,7 +28,7 @@ draws_of lanes tries = sum_by (λ lane. lane_draws lane.blocks tries) lanes
 
 -- a pass of this engine, and a right to take lanes of this queue that has taken none yet, which may run any of its lanes
 pub record MayWork (engine : EngineView) (queue : TableId) (tries : ℕ) (pass : PassView) (taker : Taker) : Type 0 where
-  pub engine_is : pass.engine ≡ engine
+  pub engine_is : engine_of pass ≡ engine
   pub idle : IsIdle pass
   pub queue_is : taker.queue ≡ queue
   pub fresh : IsFresh taker
@@ -39,7 +39,7 @@ pub record MayWork (engine : EngineView) (queue : TableId) (tries : ℕ) (pass :
 pub record RunsLanes (tries draws : ℕ) (before after' : PassView) (lanes : List Lane) (done : List LaneDone) : Type 0 where
   pub entries : List Entry
   pub adds : Adds before after' entries
-  pub are_of_lanes : AreOfLanes before.engine.size.records entries lanes done
+  pub are_of_lanes : AreOfLanes before.shared.size.records entries lanes done
   pub refusals : before.refusals + tries_of_rests tries done ≤ after'.refusals
   pub clock : after'.clock ≤ clock_after before.clock draws
 
@@ -89,3 +89,8 @@ module _ {C : Type 0} where
   -- there is room for so many draws besides
   abbrev pub HasRoomBeside : (due tries : ℕ) → Worker C → Type 0
   HasRoomBeside due tries worker = HasRoom worker.pass.clock (draws_of worker.taker.lanes tries + due)
+
+  -- each of these workers has left this, in their order
+  pub record EachRetires (tries : ℕ) (workers : List (Worker C)) (left : List Left) : Type 0 where
+    pub count : length left ≡ length workers
+    pub each : (i : ℕ) (w : Worker C) (one : Left) → i < length workers → WorksAndRetires tries (slice_index_or workers i w).pass (slice_index_or workers i w).taker (slice_index_or left i one)

@@ -2,104 +2,53 @@
 
 ghost use Rattle.std.specs.Prelude.{◌≡◌, ◌+◌, ◌<◌, ◌≤◌, ◌^◌, [], All, IfOk, length, map};
 ghost use Rattle.std.specs.List.{AllByRecursion};
+ghost use Rattle.stored_tables.specs.Places.{fixed_records};
 ghost use Rattle.lane_runner.specs.Room.{HasRoom};
 ghost use Rattle.lane_runner.specs.Lanes.{MayRun};
-ghost use Rattle.lane_threads.specs.Workers.{MayBegin, HasRoomBeside, WorksAndRetires};
+ghost use Rattle.lane_threads.specs.Workers.{MayBegin, HasRoomBeside, WorksAndReads, WorksAndRetires, EachRetires};
 ghost use Rattle.lane_threads.specs.Gathers.{GathersIn};
 ghost use Rattle.lane_threads.specs.All.{AreAllPasses, all_draws, RunsAll, RunsAndReads};
 ghost use Rattle.lane_threads.specs.Seen.{AreSeen};
 
-use crate::gathering::{Gathered, gather, start_gathering};
+use crate::gathering::{Gathered, gather_others, start_gathering};
 use crate::lane_run::{LaneRun, Workers};
 use crate::seeing::readings_are_seen;
-use crate::workers::{Left, Work, Worker, work_and_retire};
+use crate::workers::{Left, Work, Worked, Worker, work_and_retire};
 use lane_queue::{LanePass, LaneQueue};
 use lane_runner::LaneDone;
 use outside_io::{Clock, Gate};
 use replay_model::{Lanes, NoMemory};
 use std::alloc::Global;
-use std::snapshot::Snapshot;
 use std::sync::Wait;
 use std::thread;
-use std::thread::{Promise, Scope, Threads};
+use std::thread::Threads;
 use stored_tables::RowsLawful;
 use txn_engine::{Alone, Engine, Pass};
 
-/// What a thread promises: the work of the worker that it was given.
-#[derive(Drop)]
-pub(crate) struct Begun {
-    pass: Snapshot<Pass<RowsLawful>>,
-    taker: Snapshot<LanePass>,
-    tries: u32,
-}
-
-impl Promise<Left> for Begun {
-    ghost use Rattle.lane_threads.specs.Workers.{WorksAndRetires};
-
-    ghost kept_by = { λ begun left. WorksAndRetires begun.tries begun.pass.value begun.taker.value left };
-}
-
-/// Starts the last worker, runs the others in the same way, and joins it. The first works here, after all others were started; one
-/// whose start is refused works here behind it.
-fn run_workers<
-    's,
-    E,
-    R: Threads + Wait + Sync + 's,
-    C: Clock + 's,
-    G: Gate + 's,
-    W: Work<C, G> + 's,
-    L: LaneRun<C, G, Way = W>,
->(
-    rt: &'s R,
+/// Runs each of these workers in a thread of its own, or behind another where none can be made, and joins them.
+fn run_others<R: Threads + Wait + Sync, C: Clock, G: Gate, W: Work<C, G>>(
+    rt: &R,
     alloc: Global,
-    scope: &'s Scope<'s, E>,
-    engine: &'s Engine<RowsLawful>,
-    queue: &'s LaneQueue,
-    way: &'s W,
-    reader: L::Reader,
-    gate: &'s G,
-    mut workers: Vec<Worker<C>>,
+    engine: &Engine<RowsLawful>,
+    queue: &LaneQueue,
+    way: &W,
+    gate: &G,
+    workers: Vec<Worker<C>>,
     tries: u32,
-) -> Result<(Gathered, L::Reader), NoMemory>
-    requires some { 0 < length workers.items }
-    requires begin { AllByRecursion (MayBegin engine.now queue.now tries) workers.items }
-    requires fixed { 4112 ≤ engine.now.fixed }
-    requires room { AllByRecursion (HasRoomBeside (L.may_read reader) tries) workers.items }
-    requires none { L.has_read reader ≡ [] }
-    ensures { IfOk result (λ run. GathersIn engine.now tries (L.may_read reader) (map (λ w. w.pass) workers.items) (map (λ w. w.taker) workers.items) run.0 (L.has_read run.1)) }
+) -> Result<Vec<Left>, NoMemory>
+    requires begin { All (MayBegin engine.now queue.now tries) workers.items }
+    requires fixed { fixed_records ≤ engine.now.fixed }
+    ensures { IfOk result (λ left. EachRetires tries workers.items left.items) }
 {
-    let Some(worker) = workers.pop() else {
-        unreachable!()
-    };
-    if workers.is_empty() {
-        let (worked, reader) = L::first(rt, alloc, engine, queue, way, reader, worker, gate, tries);
-        return Ok((start_gathering(alloc, worked)?, reader));
-    }
-    let begun = Begun {
-        pass: Snapshot::of(&worker.pass),
-        taker: Snapshot::of(&worker.taker),
-        tries,
-    };
-    let started = scope.spawn_with(
-        begun,
-        move || -> Left
-            requires { MayBegin engine.now queue.now tries worker × (4112 ≤ engine.now.fixed) }
-            ensures { WorksAndRetires tries worker.pass worker.taker result }
-        { work_and_retire(rt, alloc, engine, queue, way, worker, gate, tries) },
-    );
-    let gathered = run_workers::<E, R, C, G, W, L>(
-        rt, alloc, scope, engine, queue, way, reader, gate, workers, tries,
-    );
-    let left = match started {
-        Ok(handle) => handle.join(rt),
-        Err(refused) => (refused.value)(),
-    };
-    let (gathered, reader) = gathered?;
-    Ok((gather(gathered, left)?, reader))
+    let work = move |worker: Worker<C>| -> Left
+        requires { MayBegin engine.now queue.now tries worker × (fixed_records ≤ engine.now.fixed) }
+        ensures { WorksAndRetires tries worker.pass worker.taker result }
+    { work_and_retire(rt, alloc, engine, queue, way, worker, gate, tries) };
+    Ok(thread::map_vec(rt, workers, &work)?)
 }
 
-/// The same in a scope of its own.
-fn run_in_scope<
+/// Runs the first worker here, and beside it the others.
+fn run_beside<
     R: Threads + Wait + Sync,
     C: Clock,
     G: Gate,
@@ -113,29 +62,65 @@ fn run_in_scope<
     way: &W,
     reader: L::Reader,
     gate: &G,
-    workers: Vec<Worker<C>>,
+    first: Worker<C>,
+    others: Vec<Worker<C>>,
+    tries: u32,
+) -> (Result<Vec<Left>, NoMemory>, (Worked, L::Reader))
+    requires first { MayBegin engine.now queue.now tries first }
+    requires others { All (MayBegin engine.now queue.now tries) others.items }
+    requires fixed { fixed_records ≤ engine.now.fixed }
+    requires room { HasRoomBeside (L.may_read reader) tries first }
+    requires none { L.has_read reader ≡ [] }
+    ensures others { IfOk result.0 (λ left. EachRetires tries others.items left.items) }
+    ensures first { WorksAndReads (L.may_read reader) tries first.pass first.taker result.1.0 (L.has_read result.1.1) }
+{
+    thread::join(
+        rt,
+        move || -> Result<Vec<Left>, NoMemory>
+            requires { All (MayBegin engine.now queue.now tries) others.items × (fixed_records ≤ engine.now.fixed) }
+            ensures { IfOk result (λ left. EachRetires tries others.items left.items) }
+        { run_others(rt, alloc, engine, queue, way, gate, others, tries) },
+        move || -> (Worked, L::Reader)
+            requires { MayBegin engine.now queue.now tries first × (fixed_records ≤ engine.now.fixed) × HasRoomBeside (L.may_read reader) tries first × (L.has_read reader ≡ []) }
+            ensures { WorksAndReads (L.may_read reader) tries first.pass first.taker result.0 (L.has_read result.1) }
+        { L::first(rt, alloc, engine, queue, way, reader, first, gate, tries) },
+    )
+}
+
+/// Runs all workers, and brings together what they leave.
+fn run_workers<
+    R: Threads + Wait + Sync,
+    C: Clock,
+    G: Gate,
+    W: Work<C, G>,
+    L: LaneRun<C, G, Way = W>,
+>(
+    rt: &R,
+    alloc: Global,
+    engine: &Engine<RowsLawful>,
+    queue: &LaneQueue,
+    way: &W,
+    reader: L::Reader,
+    gate: &G,
+    mut workers: Vec<Worker<C>>,
     tries: u32,
 ) -> Result<(Gathered, L::Reader), NoMemory>
     requires some { 0 < length workers.items }
     requires begin { AllByRecursion (MayBegin engine.now queue.now tries) workers.items }
-    requires fixed { 4112 ≤ engine.now.fixed }
+    requires fixed { fixed_records ≤ engine.now.fixed }
     requires room { AllByRecursion (HasRoomBeside (L.may_read reader) tries) workers.items }
     requires none { L.has_read reader ≡ [] }
     ensures { IfOk result (λ run. GathersIn engine.now tries (L.may_read reader) (map (λ w. w.pass) workers.items) (map (λ w. w.taker) workers.items) run.0 (L.has_read run.1)) }
 {
-    thread::scope(
-        thread::scope_env(),
-        rt,
-        move |scope| -> Result<(Gathered, L::Reader), NoMemory>
-            requires { (0 < length workers.items) × AllByRecursion (MayBegin engine.now queue.now tries) workers.items × (4112 ≤ engine.now.fixed)
-                × AllByRecursion (HasRoomBeside (L.may_read reader) tries) workers.items × (L.has_read reader ≡ []) }
-            ensures { IfOk result (λ run. GathersIn engine.entry.now tries (L.may_read reader) (map (λ w. w.pass) workers.items) (map (λ w. w.taker) workers.items) run.0 (L.has_read run.1)) }
-        {
-            run_workers::<_, R, C, G, W, L>(
-                rt, alloc, scope, engine, queue, way, reader, gate, workers, tries,
-            )
-        },
-    )
+    let others = workers.split_off(1)?;
+    let Some(first) = workers.pop() else {
+        unreachable!()
+    };
+    let (left, (worked, reader)) = run_beside::<R, C, G, W, L>(
+        rt, alloc, engine, queue, way, reader, gate, first, others, tries,
+    );
+    let gathered = gather_others(start_gathering(alloc, worked)?, left?)?;
+    Ok((gathered, reader))
 }
 
 /// Puts passes, rights to take lanes, and clocks together, in their order.
@@ -164,8 +149,8 @@ fn workers_of<C: Clock>(
 
 /// Runs all lanes on the passes of an engine, and brings the seats together again. Each pass is a worker, which takes lanes until none
 /// is left, runs them in this way and then retires. The worker of the first pass is the caller's thread: it may read all rows beside its
-/// lanes, and its pass stays open until the others have retired. The other workers are threads of a scope; one whose start is refused is
-/// run by the caller, behind its own.
+/// lanes, and its pass stays open until the others have retired. Each other worker has a thread of its own; one for which none can be
+/// made works behind another, on that one's thread.
 ///
 /// `NoMemory` may come at any point of the run; all threads are joined first, and passes and lanes are dropped.
 fn run_all_in<R: Threads + Wait + Sync, C: Clock, G: Gate, L: LaneRun<C, G>>(
@@ -184,14 +169,14 @@ fn run_all_in<R: Threads + Wait + Sync, C: Clock, G: Gate, L: LaneRun<C, G>>(
     requires clocks { length passes.items ≤ length clocks.items }
     requires blocks { All (All MayRun) lanes }
     requires few { length lanes < 2 ^ 32 }
-    requires fixed { 4112 ≤ engine.now.fixed }
+    requires fixed { fixed_records ≤ engine.now.fixed }
     requires room { AllByRecursion (λ p. HasRoom p.clock (all_draws lanes tries + L.may_read reader)) passes.items }
     requires none { L.has_read reader ≡ [] }
     ensures { IfOk result (λ run. RunsAndReads engine.now passes.items lanes tries (L.may_read reader) run.0 run.1.items (L.has_read run.2)) }
 {
     let (queue, takers) = LaneQueue::fill(rt, alloc, lanes, engine.seats())?;
     let workers = workers_of(alloc, passes, takers, clocks)?;
-    let (gathered, reader) = run_in_scope::<R, C, G, L::Way, L>(
+    let (gathered, reader) = run_workers::<R, C, G, L::Way, L>(
         rt, alloc, engine, &queue, way, reader, gate, workers, tries,
     )?;
     let Gathered {
@@ -204,8 +189,8 @@ fn run_all_in<R: Threads + Wait + Sync, C: Clock, G: Gate, L: LaneRun<C, G>>(
     Ok((engine.alone(pass, retired), done, reader))
 }
 
-/// Runs all lanes in this way, and brings the seats together again. The worker of seat 0 is the caller's thread; the others are threads of
-/// a scope, and one whose start is refused is run by the caller. It may wait for its threads and in the gate.
+/// Runs all lanes in this way, and brings the seats together again. The worker of seat 0 is the caller's thread; each other one has a
+/// thread of its own, or works behind another where none can be made. It may wait for its threads and in the gate.
 ///
 /// `NoMemory` may come at any point of the run; all threads are joined first, and passes and lanes are dropped.
 pub fn run_all_by<R: Threads + Wait + Sync, C: Clock, G: Gate, L: LaneRun<C, G>>(
@@ -223,7 +208,7 @@ pub fn run_all_by<R: Threads + Wait + Sync, C: Clock, G: Gate, L: LaneRun<C, G>>
     requires clocks { length passes.items ≤ length clocks.items }
     requires blocks { All (All MayRun) lanes }
     requires few { length lanes < 2 ^ 32 }
-    requires fixed { 4112 ≤ engine.now.fixed }
+    requires fixed { fixed_records ≤ engine.now.fixed }
     requires room { AllByRecursion (λ p. HasRoom p.clock (all_draws lanes tries + L.due run.old)) passes.items }
     ensures due { L.due run.new ≡ L.due run.old }
     ensures ran { IfOk result (λ ran. RunsAll engine.now passes.items lanes tries (L.due run.old) ran.0 ran.1.items) }
@@ -254,7 +239,7 @@ pub fn run_all<R: Threads + Wait + Sync, C: Clock, G: Gate>(
     requires clocks { length passes.items ≤ length clocks.items }
     requires blocks { All (All MayRun) lanes }
     requires few { length lanes < 2 ^ 32 }
-    requires fixed { 4112 ≤ engine.now.fixed }
+    requires fixed { fixed_records ≤ engine.now.fixed }
     requires room { AllByRecursion (λ p. HasRoom p.clock (all_draws lanes tries)) passes.items }
     ensures { IfOk result (λ run. RunsAll engine.now passes.items lanes tries 0 run.0 run.1.items) }
 {

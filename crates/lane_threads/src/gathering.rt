@@ -1,7 +1,7 @@
 //! What the workers leave, gathered.
 
 ghost use Rattle.std.specs.Prelude.{◌≡◌, IfOk};
-ghost use Rattle.lane_threads.specs.Gathers.{Starts, GoesOn};
+ghost use Rattle.lane_threads.specs.Gathers.{Starts, GoesOn, GoesOnByEach};
 
 use crate::workers::{Left, Worked};
 use lane_queue::LanePass;
@@ -37,7 +37,7 @@ pub(crate) fn start_gathering(alloc: Global, worked: Worked) -> Result<Gathered,
 }
 
 /// Adds what another worker left.
-pub(crate) fn gather(gathered: Gathered, left: Left) -> Result<Gathered, NoMemory>
+fn gather(gathered: Gathered, left: Left) -> Result<Gathered, NoMemory>
     ensures { IfOk result (λ more. GoesOn gathered more left) }
 {
     let Gathered {
@@ -56,4 +56,15 @@ pub(crate) fn gather(gathered: Gathered, left: Left) -> Result<Gathered, NoMemor
         takers,
         done,
     })
+}
+
+/// Adds what each of these workers left, in their order.
+pub(crate) fn gather_others(gathered: Gathered, left: Vec<Left>) -> Result<Gathered, NoMemory>
+    ensures { IfOk result (λ all. GoesOnByEach gathered left.items all) }
+{
+    let mut gathered = gathered;
+    for one in left {
+        gathered = gather(gathered, one)?;
+    }
+    Ok(gathered)
 }

@@ -1,7 +1,7 @@
 use Rattle.std.proofs.Common.{◌≡◌, ℕ, ◌≤◌, ◌+◌, sym, ap, subst, ◌∙◌, arith}
 use Rattle.word_layout.specs.Size.{size_of}
 use Rattle.txn_engine.specs.Alone.{AloneView}
-use Rattle.txn_engine.specs.Pass.{PassView}
+use Rattle.txn_engine.specs.Pass.{PassView, engine_of}
 use Rattle.input_runner.proofs.Few.{few_indexes}
 use Rattle.input_runner.proofs.running.start.Goals as goal
 
@@ -20,7 +20,7 @@ returns-clause-engine c = record {
 
 pub returns-clause-loaded : goal.returns-clause-loaded
 returns-clause-loaded c = record {
-  engine_is = c.in_ok-load_rows.ensures.loads.adds.1.engine ∙ ap (λ (a : AloneView). a.pass.engine) c.in-Ok.ensures.alone;
+  engine_is = c.in_ok-load_rows.ensures.loads.adds.1.engine ∙ ap (λ (a : AloneView). engine_of a.pass) c.in-Ok.ensures.alone;
   unshared = c.load_rows.ensures.shared ∙ ap (λ (a : AloneView). a.shared) c.in-Ok.ensures.alone;
   first = c.in-Ok.made.1.pass;
   loads = c.in_ok-load_rows.ensures.loads;

@@ -12,7 +12,7 @@ use Rattle.lane_runner.specs.Holding.{Enters}
 use Rattle.lane_runner.proofs.Clocks.{clock_later, clock_drawn}
 use Rattle.lane_runner.proofs.Entries.{never_stood}
 use Rattle.lane_runner.proofs.Held.{roomy_once}
-use Rattle.lane_runner.proofs.Looked.{seen_as, Sought, sought, size_looked, none_looked, reads_looked, is_entry_looked, torn_looked, leaves_looked}
+use Rattle.lane_runner.proofs.Looked.{Sought, sought, size_looked, none_looked, reads_looked, is_entry_looked, torn_looked, leaves_looked}
 use Rattle.lane_runner.proofs.Seen.{not_torn}
 use Rattle.lane_runner.proofs.Ran.{enters_as, awaits_as}
 use Rattle.lane_runner.proofs.alone_block.see_commands.Goals as goal
@@ -24,7 +24,7 @@ sight c =
     let s1 = c.exec_snap-told.new.store.alone.now.pass in
     let f = c.finish-stamp.new.self.0 in
     sought p c.tick.new.self.pass c.snapshot-snapshot.result.alone.now.pass s1 f.pass (next_clock p 0) c.finish-stamp.result c.snapshot-snapshot.ensures.begins (clock_later p 0) (clock_drawn p 0) c.requires.holds.idle
-    (ap (λ (a : AloneView). a.pass) c.in-Ok.ensures.ok) (ap (λ (x : AloneGlanceRest). x.of_pass) c.exec_snap-told.ensures.rest) (seen_as s1 c.exec_snap-told.new.store.alone.now f s1.glance c.finish-stamp.ensures.after) c.finish-stamp.ensures.stamp c.shared.ensures.alone
+    (ap (λ (a : AloneView). a.pass) c.in-Ok.ensures.ok) (ap (λ (x : AloneGlanceRest). x.of_pass) c.exec_snap-told.ensures.rest) c.finish-stamp.ensures.finishes.after c.finish-stamp.ensures.finishes.stamp c.shared.ensures.alone
     (subst (λ (n : ℕ). IsAbove p.log n) (c.in-Ok.ensures.stamp ∙ sym (ap (λ (a : AloneView). a.pass.published) c.in-Ok.ensures.ok)) c.in-Ok.ensures.above)
 
 pub untorn-requires : goal.untorn-requires
@@ -36,11 +36,11 @@ untorn-requires c =
     let begins = c.snapshot-snapshot.ensures.begins in
     let tick = ap (λ (a : AloneView). a.pass) c.in-Ok.ensures.ok in
     let o = sight (goal.at.untorn-requires c).After-finish-stamp in
-    let records : s1.engine.size.records ≡ p.engine.size.records = ap (λ (x : AloneGlanceRest). x.of_pass.engine.size.records) c.exec_snap-told.ensures.rest ∙ ap (λ (x : PassView). x.engine.size.records) begins.pass ∙ ap (λ (x : PassView). x.engine.size.records) tick in
-    let stood = subst (λ (g : Option GlanceView). IfSome g (λ g. Stood (StandsForSome stands) s1.engine.size.records s1.log (entry_of_glance g))) o.seen c.finish-stamp.ensures.stood in
+    let records : s1.shared.size.records ≡ p.shared.size.records = ap (λ (x : AloneGlanceRest). x.of_pass.shared.size.records) c.exec_snap-told.ensures.rest ∙ ap (λ (x : PassView). x.shared.size.records) begins.pass ∙ ap (λ (x : PassView). x.shared.size.records) tick in
+    let stood = subst (λ (g : Option GlanceView). IfSome g (λ g. Stood (StandsForSome stands) s1.shared.size.records s1.log (entry_of_glance g))) o.seen c.finish-stamp.ensures.finishes.stood in
     not_torn c.exec_snap-told.result _ c.exec_snap-told.ensures.torn
-    (λ torn. never_stood (StandsForSome stands) s1.engine.size.records s1.log (entry_of_glance o.glance) c.keeps_tables.ensures stood
-    (torn_looked s1.engine.size.records (meaning_of_glance s0) (meaning_of_glance s1) o.glance (size_looked p t s0 s1 (next_clock p 0) begins tick o.glance o.seen ∙ sym records) (none_looked p t s0 s1 (next_clock p 0) begins tick o.glance o.seen) (reads_looked p t s0 s1 (next_clock p 0) begins tick o.glance o.seen) torn))
+    (λ torn. never_stood (StandsForSome stands) s1.shared.size.records s1.log (entry_of_glance o.glance) c.keeps_tables.ensures stood
+    (torn_looked s1.shared.size.records (meaning_of_glance s0) (meaning_of_glance s1) o.glance (size_looked p t s0 s1 (next_clock p 0) begins tick o.glance o.seen ∙ sym records) (none_looked p t s0 s1 (next_clock p 0) begins tick o.glance o.seen) (reads_looked p t s0 s1 (next_clock p 0) begins tick o.glance o.seen) torn))
 
 enters : (c : In_ok-outcome) → Enters c.args.commands.now c.args.alone.now c.finish-stamp.new.self.0 c.finish-stamp.result true c.in_ok-outcome.outcome
 enters c =
@@ -55,7 +55,7 @@ enters c =
       committed = λ placed stamp kind. record {
         entry = entry_of_glance o.glance;
         adds = o.adds;
-        is_entry = is_entry_looked p.engine.size.records (meaning_of_glance s0) (meaning_of_glance s1) c.args.commands.now c.in_ok-outcome.outcome placed o.glance c.fits_records.ensures (size_looked p t s0 s1 (next_clock p 0) begins tick o.glance o.seen)
+        is_entry = is_entry_looked p.shared.size.records (meaning_of_glance s0) (meaning_of_glance s1) c.args.commands.now c.in_ok-outcome.outcome placed o.glance c.fits_records.ensures (size_looked p t s0 s1 (next_clock p 0) begins tick o.glance o.seen)
             (none_looked p t s0 s1 (next_clock p 0) begins tick o.glance o.seen) (reads_looked p t s0 s1 (next_clock p 0) begins tick o.glance o.seen) (rw c.in_ok-outcome.ensures at c.exec_snap-told.ensures.outcome) (sym (stamp ∙ o.stamp_is)) kind;
         weighs = λ commit. cc;
       };

@@ -2,7 +2,7 @@ use Rattle.std.proofs.Common.{◌≡◌, ℕ, ◌≤◌, List, [], length, sym, 
 use Rattle.std.proofs.lemmas.List.Sorted.{answers_always}
 use Rattle.replay_model.specs.declared.input.Block.{Block}
 use Rattle.txn_engine.specs.Alone.{AloneView}
-use Rattle.txn_engine.specs.Pass.{EngineView}
+use Rattle.txn_engine.specs.Pass.{EngineView, engine_of, PassView}
 use Rattle.plain_data.specs.declared.entry.Entry.{Entry}
 use Rattle.histories.specs.History.{Lawful}
 use Rattle.history_replay.specs.Results.{StandsForSome}
@@ -13,7 +13,7 @@ use Rattle.lane_runner.specs.Finishing.{MayFinish}
 use Rattle.lane_runner.specs.Weighs.{blocks_add}
 use Rattle.lane_runner.specs.Holding.{HasRecords}
 use Rattle.lane_runner.specs.Room.{HasRoom, clock_after}
-use Rattle.lane_runner.proofs.Held.{roomy_once}
+use Rattle.lane_runner.proofs.Held.{roomy_once, collected_alone}
 use Rattle.lane_runner.proofs.Settled.{Holds-settled, Adds-settled, clock_settled, may_order, count_order, room_order, Finishes-whole}
 use Rattle.lane_runner.proofs.finishing.finish_settled.Goals as goal
 use Rattle.lane_runner.proofs.finishing.finish_settled.Goals.{After-tell}
@@ -24,17 +24,17 @@ adds c =
     let here = c.collect.new.self.pass in
     let d = c.rescan.new.self.pass in
     let t = c.tell.new.self.pass in
-    Adds-settled p here d t here.met t.met here.known d.spare (ap (λ (a : AloneView). a.pass) c.collect.ensures.after) (ap (λ (a : AloneView). a.pass) c.rescan.ensures.after) (ap (λ (a : AloneView). a.pass) c.tell.ensures.value) c.requires.idle
-    c.collect.ensures.met c.collect.ensures.seen c.tell.ensures.not_back
+    Adds-settled p here d t here.met t.met here.known d.spare (collected_alone p here c.collect.ensures.collects.after (c.collect.ensures.collects.alone c.collect.ensures.alone)) (ap (λ (a : AloneView). a.pass) c.rescan.ensures.after) (ap (λ (a : AloneView). a.pass) c.tell.ensures.value) c.requires.idle
+    c.collect.ensures.collects.met (c.collect.ensures.collects.seen c.collect.ensures.alone) c.tell.ensures.not_back
 
 -- the log that was told to be lawful is that of before
-lawful_before : (c : After-tell) → Lawful (StandsForSome stands) c.args.alone.now.pass.engine.size.records c.args.alone.now.pass.log
+lawful_before : (c : After-tell) → Lawful (StandsForSome stands) c.args.alone.now.pass.shared.size.records c.args.alone.now.pass.log
 lawful_before c =
     let p = c.args.alone.now.pass in
     let d = c.rescan.new.self.pass in
-    let engine : d.engine ≡ p.engine = ap (λ (a : AloneView). a.pass.engine) c.rescan.ensures.after ∙ ap (λ (a : AloneView). a.pass.engine) c.collect.ensures.after in
-    let log : d.log ≡ p.log = ap (λ (a : AloneView). a.pass.log) c.rescan.ensures.after ∙ ap (λ (a : AloneView). a.pass.log) c.collect.ensures.after in
-    subst (λ (es : List Entry). Lawful (StandsForSome stands) p.engine.size.records es) log (subst (λ (e : EngineView). Lawful (StandsForSome stands) e.size.records d.log) engine c.tell.ensures.lawful)
+    let engine : engine_of d ≡ engine_of p = ap (λ (a : AloneView). engine_of a.pass) c.rescan.ensures.after ∙ ap engine_of c.collect.ensures.collects.after in
+    let log : d.log ≡ p.log = ap (λ (a : AloneView). a.pass.log) c.rescan.ensures.after ∙ ap (λ (x : PassView). x.log) c.collect.ensures.collects.after in
+    subst (λ (es : List Entry). Lawful (StandsForSome stands) p.shared.size.records es) log (subst (λ (e : EngineView). Lawful (StandsForSome stands) e.size.records d.log) engine c.tell.ensures.lawful)
 
 same_clock : (c : After-tell) → c.tell.new.self.pass.clock ≡ c.args.alone.now.pass.clock
 same_clock c =
@@ -42,7 +42,7 @@ same_clock c =
     let here = c.collect.new.self.pass in
     let d = c.rescan.new.self.pass in
     let t = c.tell.new.self.pass in
-    clock_settled p here d t here.met t.met here.known d.spare (ap (λ (a : AloneView). a.pass) c.collect.ensures.after) (ap (λ (a : AloneView). a.pass) c.rescan.ensures.after) (ap (λ (a : AloneView). a.pass) c.tell.ensures.value) c.requires.idle
+    clock_settled p here d t here.met t.met here.known d.spare (collected_alone p here c.collect.ensures.collects.after (c.collect.ensures.collects.alone c.collect.ensures.alone)) (ap (λ (a : AloneView). a.pass) c.rescan.ensures.after) (ap (λ (a : AloneView). a.pass) c.tell.ensures.value) c.requires.idle
 
 pub run_rests-requires-clause-holds : goal.run_rests-requires-clause-holds
 run_rests-requires-clause-holds c =
@@ -50,8 +50,8 @@ run_rests-requires-clause-holds c =
     let here = c.collect.new.self.pass in
     let d = c.rescan.new.self.pass in
     let t = c.tell.new.self.pass in
-    Holds-settled p here d t here.met t.met here.known d.spare (ap (λ (a : AloneView). a.pass) c.collect.ensures.after) (ap (λ (a : AloneView). a.pass) c.rescan.ensures.after) (ap (λ (a : AloneView). a.pass) c.tell.ensures.value) c.requires.idle
-    c.tell.ensures.lawful c.collect.ensures.above c.rescan.ensures.absent (c.collect.ensures.roomy (roomy_once p c.requires.roomy))
+    Holds-settled p here d t here.met t.met here.known d.spare (collected_alone p here c.collect.ensures.collects.after (c.collect.ensures.collects.alone c.collect.ensures.alone)) (ap (λ (a : AloneView). a.pass) c.rescan.ensures.after) (ap (λ (a : AloneView). a.pass) c.tell.ensures.value) c.requires.idle
+    c.tell.ensures.lawful c.collect.ensures.collects.above c.rescan.ensures.absent (c.collect.ensures.collects.roomy c.collect.ensures.alone (roomy_once p c.requires.roomy))
 
 pub run_rests-requires-clause-blocks : goal.run_rests-requires-clause-blocks
 run_rests-requires-clause-blocks c =

@@ -1,12 +1,13 @@
 use Rattle.std.proofs.Common.{◌≡◌, ◌≤◌, [], take}
 use Rattle.replay_model.specs.TableMap.{loaded}
+use Rattle.txn_engine.specs.Pass.{engine_of}
 use Rattle.lane_runner.specs.Loading.{HasLoaded}
 use Rattle.lane_runner.specs.Room.{clock_after}
 use Rattle.lane_runner.proofs.loading.declare_indexes.Given as goal
 
 abbrev pub invariant-loop-table : goal.invariant-loop-table
 invariant-loop-table l = record {
-  engine : l.alone.pass.engine ≡ l.engine;
+  engine : engine_of l.alone.pass ≡ l.engine;
   loaded : HasLoaded (loaded [] (take l.table-index l.indexes)) 0 l.initial.alone.pass l.alone.pass;
   clock : l.alone.pass.clock ≤ clock_after l.initial.alone.pass.clock l.table-index;
   shared : l.alone.shared ≡ l.initial.alone.shared;

@@ -2,7 +2,7 @@ use Rattle.std.proofs.Common.{◌≡◌, ℕ, ◌+◌, ◌≤◌, List, [], leng
 use Rattle.record_store.specs.Limits.{record_limit}
 use Rattle.replay_model.specs.Input.{RowsDiffer}
 use Rattle.replay_model.specs.TableMap.{Row, loaded}
-use Rattle.txn_engine.specs.Pass.{EngineView}
+use Rattle.txn_engine.specs.Pass.{EngineView, engine_of}
 use Rattle.lane_runner.specs.Loading.{HasLoaded, AreIndexesOf, AreRowsOf, rows_add}
 use Rattle.lane_runner.specs.Room.{HasRoom, clock_after}
 use Rattle.lane_runner.proofs.Clocks.{drawn_both, room_behind, room_part}
@@ -43,7 +43,7 @@ returns-clause-loads c =
     subst (λ (xs : List (ℕ × ℕ × Row)). HasLoaded (loaded xs c.as_slice-3.result.now) (rows_add xs c.as_slice-3.result.now) q w) c.as_slice-2.ensures c.in_ok-put_rows.ensures.loaded in
     let so_far : HasLoaded (loaded input.rows input.indexes) (rows_add input.rows input.indexes) q w =
     subst (λ (xs : List (ℕ × ℕ)). HasLoaded (loaded input.rows xs) (rows_add input.rows xs) q w) c.as_slice-3.ensures rows in
-    let engine : w.engine ≡ c.args.engine.now = so_far.adds.1.engine ∙ before.1.engine ∙ c.requires.engine in
+    let engine : engine_of w ≡ c.args.engine.now = so_far.adds.1.engine ∙ before.1.engine ∙ c.requires.engine in
     Loads-whole input p q w c.fits_more.ensures (subst (λ (e : EngineView). e.size.records ≤ record_limit) (sym engine) c.records.ensures.in_range.records_in_range) before so_far
 
 pub returns-clause-clock : goal.returns-clause-clock

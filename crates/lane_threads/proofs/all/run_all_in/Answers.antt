@@ -9,14 +9,14 @@ use Rattle.lane_threads.proofs.all.run_all_in.Goals as goal
 pub workers_of-requires-clause-takers : goal.workers_of-requires-clause-takers
 workers_of-requires-clause-takers g c κs within = count_passes c.args.engine.now c.args.passes.items c.requires.passes ∙ sym c.seats.ensures.value ∙ sym c.in_ok-queue.ensures.count
 
-pub run_in_scope-requires-clause-begin : goal.run_in_scope-requires-clause-begin
-run_in_scope-requires-clause-begin g c κs within =
+pub run_workers-requires-clause-begin : goal.run_workers-requires-clause-begin
+run_workers-requires-clause-begin g c κs within =
     begin_all c.args.engine.now c.in_ok-queue.queue c.args.tries c.args.lanes c.args.passes.items c.in_ok-queue.takers.items c.in_ok-workers.workers.items c.in_ok-workers.ensures.passes c.in_ok-workers.ensures.takers
     c.requires.passes c.in_ok-queue.ensures.all c.in_ok-queue.ensures.fresh c.in_ok-queue.ensures.lanes c.requires.blocks
     (less_room c.args.passes.items _ (g.L.LaneRun.may_read c.args.reader) c.requires.room)
 
-pub run_in_scope-requires-clause-room : goal.run_in_scope-requires-clause-room
-run_in_scope-requires-clause-room g c κs within =
+pub run_workers-requires-clause-room : goal.run_workers-requires-clause-room
+run_workers-requires-clause-room g c κs within =
     room_all c.args.tries (g.L.LaneRun.may_read c.args.reader) c.args.lanes c.args.passes.items c.in_ok-queue.takers.items c.in_ok-workers.workers.items c.in_ok-workers.ensures.passes c.in_ok-workers.ensures.takers c.in_ok-queue.ensures.lanes c.requires.room
 
 pub close-requires-clause-all : goal.close-requires-clause-all
@@ -47,8 +47,8 @@ returns g c =
 pub workers_of-requires-clause-clocks : goal.workers_of-requires-clause-clocks
 workers_of-requires-clause-clocks g c κs within = c.requires.clocks
 
-pub run_in_scope-requires-clause-fixed : goal.run_in_scope-requires-clause-fixed
-run_in_scope-requires-clause-fixed g c κs within = c.requires.fixed
+pub run_workers-requires-clause-fixed : goal.run_workers-requires-clause-fixed
+run_workers-requires-clause-fixed g c κs within = c.requires.fixed
 
 pub returns-in_err-queue : goal.returns-in_err-queue
 returns-in_err-queue g c = not_ok c.from_residual.result _ c.from_residual.ensures.0

@@ -9,4 +9,6 @@ invariant-loop-pass g l = record {
   passes : map (λ w. w.pass) l.workers.items ++ into_iter_items l.pass-iterator ≡ into_iter_items l.initial.pass-iterator;
   takers : map (λ w. w.taker) l.workers.items ++ into_iter_items l.takers ≡ into_iter_items l.initial.takers;
   remain : length (into_iter_items l.pass-iterator) ≡ into_iter_len l.pass-iterator;
+  takers_remain : length (into_iter_items l.takers) ≡ into_iter_len l.takers;
+  clocks_remain : length (into_iter_items l.clocks) ≡ into_iter_len l.clocks;
 }

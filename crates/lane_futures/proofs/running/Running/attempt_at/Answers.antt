@@ -1,5 +1,6 @@
 use Rattle.std.proofs.Common.{◌≤◌, sym, subst, ◌∙◌, refl, arith}
 use Rattle.std.proofs.lemmas.List.{length-set}
+use Rattle.stored_tables.specs.Places.{fixed_records}
 use Rattle.txn_engine.specs.Pass.{EngineView}
 use Rattle.lane_futures.proofs.Turned.{place_within, room_in_turn, takes_turn, adds_turn}
 use Rattle.lane_futures.proofs.running.Running.attempt_at.Goals as goal
@@ -17,7 +18,7 @@ pub attempt-requires-clause-idle : goal.attempt-requires-clause-idle
 attempt-requires-clause-idle g c = c.self.invariant.1
 
 pub attempt-requires-clause-fixed : goal.attempt-requires-clause-fixed
-attempt-requires-clause-fixed g c = subst (λ (e : EngineView). 4112 ≤ e.fixed) c.self.invariant.0 c.self.invariant.2
+attempt-requires-clause-fixed g c = subst (λ (e : EngineView). fixed_records ≤ e.fixed) c.self.invariant.0 c.self.invariant.2
 
 pub attempt-requires-clause-room : goal.attempt-requires-clause-room
 attempt-requires-clause-room g c = room_in_turn _ c.args.self.now c.args.place c.index_mut.result.now c.self.view_is c.requires.in_turn c.index_mut.ensures.value c.self.invariant.1 c.requires.room
@@ -37,11 +38,11 @@ invariant_of-self g c =
     let adds = c.attempt.ensures.adds.1 in
     let within = place_within _ c.args.self.now c.args.place c.self.view_is c.requires.in_turn in
     let same = length-set c.self.inside.sessions.items c.args.place c.attempt.new.self in
-    (adds.engine ∙ c.self.invariant.0, adds.idle, subst (λ (e : EngineView). 4112 ≤ e.fixed) (sym adds.engine) c.self.invariant.2, omega (arith, within, same, c.self.invariant.3), c.self.invariant.4, omega (arith, same, c.self.invariant.5))
+    (adds.engine ∙ c.self.invariant.0, adds.idle, subst (λ (e : EngineView). fixed_records ≤ e.fixed) (sym adds.engine) c.self.invariant.2, omega (arith, within, same, c.self.invariant.3), c.self.invariant.4, omega (arith, same, c.self.invariant.5))
 
 pub invariant_of-self-2 : goal.invariant_of-self-2
 invariant_of-self-2 g c =
     let adds = c.attempt.ensures.adds.1 in
     let within = place_within _ c.args.self.now c.args.place c.self.view_is c.requires.in_turn in
     let same = length-set c.self.inside.sessions.items c.args.place c.attempt.new.self in
-    (adds.engine ∙ c.self.invariant.0, adds.idle, subst (λ (e : EngineView). 4112 ≤ e.fixed) (sym adds.engine) c.self.invariant.2, omega (arith, within, same, c.self.invariant.3), c.self.invariant.4, omega (arith, same, c.self.invariant.5))
+    (adds.engine ∙ c.self.invariant.0, adds.idle, subst (λ (e : EngineView). fixed_records ≤ e.fixed) (sym adds.engine) c.self.invariant.2, omega (arith, within, same, c.self.invariant.3), c.self.invariant.4, omega (arith, same, c.self.invariant.5))

@@ -109,6 +109,16 @@ only_input bytes input short is never WriteFault cause = absurd cause
 only_input bytes input short is never NoMemory cause = absurd cause
 only_input bytes input short is never Differs cause = absurd cause
 
+pub only_generated : (seed : ℕ) (bytes : List ℕ) (status : Status) → Causes (Generate seed) bytes status → status ≡ Done
+only_generated seed bytes Done cause = refl
+only_generated seed bytes Usage cause = absurd cause
+only_generated seed bytes Input cause = absurd cause
+only_generated seed bytes TooLong cause = absurd cause
+only_generated seed bytes ReadFault cause = absurd cause
+only_generated seed bytes WriteFault cause = absurd cause
+only_generated seed bytes NoMemory cause = absurd cause
+only_generated seed bytes Differs cause = absurd cause
+
 pub only_fault : (bytes : List ℕ) (line : ℕ) (kind : Kind) → length bytes ≤ most_input → IsFault bytes line kind
     → ((i : InputValue) (line : ℕ) (kind : Kind) → IsInput bytes i → IsFault bytes line kind → ⊥)
     → (status : Status) → Causes Run bytes status → status ≡ Input

@@ -5,3 +5,4 @@ pub mod WordLaws
 pub mod PlainWords
 pub mod GivenSettings
 pub mod RunLaws
+pub mod Together

@@ -1,5 +1,5 @@
 -- THE TEXTS: what is due for what was received, and the status at which a run ends that writes it whole.
-use Rattle.std.specs.Prelude.{◌≡◌, ◌≢◌, ◌⊎◌, ℕ, ◌+◌, ◌*◌, ◌<◌, ◌≤◌, ◌++◌, List, [], length, codes, decimal, slice_get, Option, None, Some}
+use Rattle.std.specs.Prelude.{◌≡◌, ◌≢◌, ◌⊎◌, ℕ, ◌<◌, ◌≤◌, ◌++◌, List, [], length, codes, decimal, Option, None, Some}
 use Rattle.replay_model.specs.declared.input.Input.{Input as InputValue}
 use Rattle.replay_model.specs.declared.outcome.Placed.{Placed}
 use Rattle.replay_model.specs.Order.{IsOrder}

@@ -34,7 +34,7 @@ IsInputFor Check bytes input = ⊥
 
 -- the log of all transactions is a lawful history
 abbrev pub IsLawfulEnd : PassView → Type 0
-IsLawfulEnd end = Lawful (StandsForSome stands) end.engine.size.records end.log
+IsLawfulEnd end = Lawful (StandsForSome stands) end.shared.size.records end.log
 
 -- The log has an entry of each block of the order, of its stamp and kind; and what its transactions up to there leave stands for the tables
 -- behind that block in the replay.

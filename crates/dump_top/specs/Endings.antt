@@ -1,0 +1,110 @@
+-- How a run with dumps ends: the text that is due, and what each status says of what was received and written.
+use Rattle.std.specs.Prelude.{◌≡◌, ◌≢◌, ◌⊎◌, ℕ, ◌<◌, ◌≤◌, List, [], ◌++◌, length, Option, None, IsSome, ◌↔◌}
+use Rattle.std.specs.Io.KnownBytes.{append_known, IsAtEnd}
+use Rattle.outside_io.specs.declared.sink.SinkFault.{SinkFault}
+use Rattle.outside_io.specs.declared.sink.SinkFault.TheVariants.{Failed, NoMemory as NoRoom}
+use Rattle.replay_model.specs.declared.input.Input.{Input as InputValue}
+use Rattle.replay_model.specs.declared.outcome.Placed.{Placed}
+use Rattle.replay_model.specs.Order.{IsOrder}
+use Rattle.replay_model.specs.Report.{report}
+use Rattle.txn_script.specs.declared.fault.InputFault.{InputFault}
+use Rattle.txn_script.specs.Grammar.{IsInput}
+use Rattle.cicada_top.specs.declared.finish.Finish.{Finish}
+use Rattle.cicada_top.specs.declared.finish.Status.{Status}
+use Rattle.cicada_top.specs.declared.finish.Status.TheVariants.{Done, Usage, Input, TooLong, ReadFault, WriteFault, NoMemory, Differs}
+use Rattle.cicada_top.specs.declared.mode.Mode.TheVariants.{Run}
+use Rattle.cicada_top.specs.Received.{most_input, Receives}
+use Rattle.cicada_top.specs.Due.{IsDueAt}
+use Rattle.cicada_top.specs.Delivery.{EndsAs, WritesNothing}
+use Rattle.cicada_top.specs.Runs.{GoesWith, IsDecided, Streams}
+use Rattle.dump_top.specs.Parts.{IsWrittenInPart}
+use Rattle.dump_top.specs.Texts.{dumps_text}
+use Rattle.dump_top.specs.Words.{Text, AsksFor, AreTaken, AreRefusedHere}
+
+-- THE TEXT: the report of the input in the order, and behind it exactly the asked number of dumps, each of the tables that the transaction
+-- blocks of the order leave whose stamps are not above its own, in that order, over the loaded rows
+pub record IsReportWithDumps (words : List Text) (bytes : List ℕ) (order : List Placed) (due : List ℕ) : Type 0 where
+  pub short : length bytes ≤ most_input
+  pub input : InputValue
+  pub accepted : IsInput bytes input
+  pub ordered : IsOrder input order
+  pub stamps : List ℕ
+  pub asked : AsksFor words (length stamps)
+  pub said : due ≡ report input order ++ dumps_text input order stamps
+
+-- the bytes are refused, and the text says so
+pub record IsRefusal (bytes : List ℕ) (order : List Placed) (due : List ℕ) : Type 0 where
+  pub status : Status
+  pub fault : Option InputFault
+  pub is_due : IsDueAt status Run bytes order fault due
+  pub refuses : status ≢ Done
+
+abbrev pub IsDueHere : List Text → List ℕ → List Placed → List ℕ → Type 0
+IsDueHere words bytes order due = IsReportWithDumps words bytes order due ⊎ IsRefusal bytes order due
+
+-- bytes were received, and the report and the dumps of them were written whole
+pub record WritesDumps (words : List Text) (order : List Placed) (left left' before after : Option (List ℕ)) : Type 0 where
+  pub bytes : List ℕ
+  pub received : Receives most_input left left' bytes
+  pub at_end : IsAtEnd left'
+  pub due : List ℕ
+  pub is_due : IsReportWithDumps words bytes order due
+  pub written : after ≡ append_known before due
+
+-- bytes were received, and of the text due for them `sent` was written, and `rest` was not
+pub record WritesPart (words : List Text) (order : List Placed) (left left' before after : Option (List ℕ)) (sent rest : List ℕ) : Type 0 where
+  pub bytes : List ℕ
+  pub received : Receives most_input left left' bytes
+  pub is_due : IsDueHere words bytes order (sent ++ rest)
+  pub written : after ≡ append_known before sent
+
+-- THE TABLE: at a refusal and at a fault of the source a run with dumps ends as a run does
+abbrev pub EndsWithDumps : Status → List Text → List Placed → Option InputFault → Option (List ℕ) → Option (List ℕ) → Option (List ℕ) → Option (List ℕ) → Type 0
+EndsWithDumps Done words order fault left left' before after = WritesDumps words order left left' before after × (fault ≡ None)
+EndsWithDumps Usage words order fault left left' before after = WritesNothing order fault before after
+EndsWithDumps Input words order fault left left' before after = EndsAs Input Run order fault left left' before after
+EndsWithDumps TooLong words order fault left left' before after = EndsAs TooLong Run order fault left left' before after
+EndsWithDumps ReadFault words order fault left left' before after = EndsAs ReadFault Run order fault left left' before after
+EndsWithDumps WriteFault words order fault left left' before after =
+    (sent : List ℕ) × (rest : List ℕ) × WritesPart words order left left' before after sent rest × (0 < length rest) × (fault ≡ None)
+EndsWithDumps NoMemory words order fault left left' before after =
+    ((sent : List ℕ) × (rest : List ℕ) × WritesPart words order left left' before after sent rest × (0 < length sent) × (fault ≡ None))
+    ⊎ WritesNothing order fault before after
+EndsWithDumps Differs words order fault left left' before after = ⊥
+
+-- ---- the whole contract
+
+-- What comes of a run with dumps whose words are taken: the table, and what goes with a status as in a run without.
+pub record DumpsAs (words : List Text) (finish : Finish) (before after : Streams) : Type 0 where
+  pub ends : EndsWithDumps finish.status words finish.order.items finish.fault before.left after.left before.taken after.taken
+  pub beside : GoesWith Run finish before after
+
+-- What comes of a run with dumps that words ask for: where they are refused, that is said; where they are taken, what the source holds
+-- decides.
+pub record DumpsBy (words : List Text) (finish : Finish) (before after : Streams) : Type 0 where
+  pub asked : DumpsAs words finish before after
+  pub usage : finish.status ≡ Usage → AreRefusedHere words
+  pub refused : AreRefusedHere words → (finish.status ≡ Usage) ⊎ (finish.status ≡ NoMemory)
+  pub usage_text : IsSome finish.usage ↔ (finish.status ≡ Usage)
+  pub complete : (dumps : ℕ) → AreTaken words dumps → IsDecided Run finish.status before after
+
+-- ---- the dumps behind a report
+
+-- the status where a sink stops
+abbrev pub status_at : SinkFault → Status
+status_at Failed = WriteFault
+status_at NoRoom = NoMemory
+
+-- a run that was done and whose dumps the sink stopped: of what it answered the order stays
+abbrev pub stopped : SinkFault → Finish → Finish
+stopped why finish = record finish { status = status_at why; tables = []; fault = None; usage = None; end = None; verdict = None }
+
+-- the dumps of a run that is done were written in part
+pub record StopsInDumps (before after' : Finish) (text : List ℕ) (taken taken' : Option (List ℕ)) : Type 0 where
+  pub why : SinkFault
+  pub is : after' ≡ stopped why before
+  pub part : IsWrittenInPart text taken taken'
+
+-- they were written whole, and nothing else is changed; or in part
+abbrev pub DeliversDumps : (before after' : Finish) (text : List ℕ) (taken taken' : Option (List ℕ)) → Type 0
+DeliversDumps before after' text taken taken' = ((after' ≡ before) × (taken' ≡ append_known taken text)) ⊎ StopsInDumps before after' text taken taken'

@@ -1,0 +1,5 @@
+pub mod Tagged
+pub mod Dumped
+pub mod Made
+pub mod Placed
+pub mod Worked

@@ -1,0 +1,240 @@
+-- Dumps that are made between the blocks of a lane, and at the seat that is alone.
+use Rattle.std.proofs.Common.{◌≡◌, ◌≢◌, inl, inr, ⊎_elim, ℕ, ◌+◌, ◌-◌, ◌≤◌, true, false, List, [], ◌∷◌, ◌++◌, length, Option, None, Some, refl, sym, ap, subst, ◌∙◌, arith}
+use Rattle.std.specs.Prelude.{IfSome}
+use Rattle.std.proofs.lemmas.List.{append-nil, append_assoc, length-append}
+use Rattle.std.proofs.lemmas.List.Elements.{All-nil, All-cons, All-append, All-weaker}
+use Rattle.plain_data.specs.declared.entry.Entry.{Entry}
+use Rattle.plain_data.specs.State.{overlay}
+use Rattle.core_rule.specs.Views.{Among}
+use Rattle.core_rule.proofs.Among.{Among-left, Among-right, Among-split}
+use Rattle.replay_model.specs.declared.outcome.Outcome.{Outcome}
+use Rattle.replay_model.specs.declared.outcome.Placed.{Placed}
+use Rattle.replay_model.specs.TableMap.{TableMap}
+use Rattle.stamp_base.specs.Stamp.{stamp_of}
+use Rattle.seat_post.specs.Glance.{GlanceView}
+use Rattle.txn_engine.specs.Alone.{AloneView, with_pass}
+use Rattle.txn_engine.specs.Pass.{PassView, EngineView, IsIdle}
+use Rattle.lane_runner.specs.Adds.{Adds, IsNext}
+use Rattle.lane_runner.specs.Blocks.{AddsOthers}
+use Rattle.lane_queue.specs.declared.lane.Lane.{Lane}
+use Rattle.lane_runner.specs.Done.{DoesLane}
+use Rattle.lane_runner.specs.Lanes.{AddsSome, AreEntries, KeepOrder}
+use Rattle.lane_runner.specs.Room.{HasRoom, clock_after}
+use Rattle.lane_runner.specs.Rows.{stands}
+use Rattle.lane_runner.specs.Session.{SessionView, GoesOn, done_of, draws_left, new_session, to_try}
+use Rattle.lane_runner.specs.Weighs.{LeavesTables}
+use Rattle.lane_runner.proofs.Adding.{Adds-none, Adds-trans}
+use Rattle.lane_runner.proofs.Attempted.{Steps, goes_trans, room_for_try, steps_none}
+use Rattle.lane_runner.proofs.Results.{keep_order}
+use Rattle.lane_runner.proofs.Run.{AreEntries-others}
+use Rattle.lane_threads.specs.Seen.{IsRead, IsReadingOf}
+use Rattle.snap_dump.specs.declared.dump.Dump.{Dump}
+use Rattle.snap_dump.specs.Dumps.{Dumps, DumpsMade, KeepsOthers, how_many, seen_of}
+
+-- ---- the entry of a dump leaves the tables
+
+pub entry_leaves : (records : ℕ) (seen : ℕ × TableMap) (entry : Entry) → IsReadingOf records seen entry → entry.writes ≡ [] → LeavesTables records entry
+entry_leaves records seen entry is no_writes = record {
+  keeps = λ state tables is_state holds agrees.
+      let P : List (ℕ × Option (List ℕ)) → Type 0 = λ ws. stands (overlay ws state) tables in
+      subst P (sym no_writes) holds;
+  weighs = λ commit. let both : true ≡ false = sym is.kind ∙ commit in cc;
+}
+
+pub dump_others : (p q : PassView) (dump : Dump) → Dumps p q dump → AddsOthers p q
+dump_others p q dump made = record {
+  entries = made.entry ∷ [];
+  adds = made.adds;
+  keep = only;
+} where
+  only : (entry : Entry) → Among entry (made.entry ∷ []) → LeavesTables p.shared.size.records entry
+  only entry (inl is) = subst (λ (e : Entry). LeavesTables p.shared.size.records e) is (entry_leaves p.shared.size.records (seen_of dump) made.entry made.reading made.no_writes)
+  only entry (inr among) = absurd among
+
+pub none_others : (p : PassView) → IsIdle p → AddsOthers p p
+none_others p idle = record { entries = []; adds = Adds-none p idle; keep = λ entry among. absurd among }
+
+pub others_then : (p q r : PassView) → AddsOthers p q → AddsOthers q r → AddsOthers p r
+others_then p q r first second = record {
+  entries = first.entries ++ second.entries;
+  adds = Adds-trans p q r first.entries second.entries first.adds second.adds;
+  keep = λ e among. ⊎_elim (λ h. first.keep e h)
+      (λ h. subst (λ (v : EngineView). LeavesTables v.size.records e) first.adds.engine (second.keep e h))
+      (Among-split e first.entries second.entries among);
+}
+
+pub others_some : (p q : PassView) → AddsOthers p q → AddsSome p q
+others_some p q more = (more.entries, more.adds)
+
+pub some_then : (p q r : PassView) → AddsSome p q → AddsSome q r → AddsSome p r
+some_then p q r first second = (first.0 ++ second.0, Adds-trans p q r first.0 second.0 first.1 second.1)
+
+-- ---- one dump behind others
+
+stamp_later : (a b seat : ℕ) → a ≤ b → stamp_of a seat ≤ stamp_of b seat
+stamp_later a b seat less = omega arith
+
+-- what was made stays as the log goes on
+goes_on : (minimum : ℕ) (q r : PassView) (entries : List Entry) (seen : ℕ × TableMap) → Adds q r entries → IsRead minimum q seen → IsRead minimum r seen
+goes_on minimum q r entries seen adds is = record {
+  entry = is.entry;
+  in_log = subst (Among is.entry) (sym adds.log) (Among-left is.entry q.log entries is.in_log);
+  is_reading = subst (λ (e : EngineView). IsReadingOf e.size.records seen is.entry) (sym adds.engine) is.is_reading;
+  up_to = (let later = stamp_later q.clock r.clock q.seat adds.clock in let seat : stamp_of r.clock r.seat ≡ stamp_of r.clock q.seat = ap (stamp_of r.clock) adds.seat in let low = is.up_to in omega (arith, later, seat, low));
+  behind = is.behind;
+}
+
+-- it was made behind an earlier pass too
+begins_earlier : (p q r : PassView) (entries : List Entry) (seen : ℕ × TableMap) → Adds p q entries → IsRead q.met r seen → IsRead p.met r seen
+begins_earlier p q r entries seen adds is = record {
+  entry = is.entry;
+  in_log = is.in_log;
+  is_reading = is.is_reading;
+  up_to = is.up_to;
+  behind = (let m = adds.met in let low = is.behind in omega (arith, m, low));
+}
+
+abbrev IsDumpOf : PassView → PassView → Dump → Type 0
+IsDumpOf p q dump = IsRead p.met q (seen_of dump)
+
+-- none was made, whatever was added
+pub made_none : (p q : PassView) (old : List Dump) → DumpsMade p q old old
+made_none p q old = record { more = []; grown = sym (append-nil old); each = All-nil (IsDumpOf p q) }
+
+pub made_one : (p q : PassView) (old new : List Dump) (dump : Dump) → Dumps p q dump → new ≡ old ++ dump ∷ [] → DumpsMade p q old new
+made_one p q old new dump made grown = record {
+  more = dump ∷ [];
+  grown = grown;
+  each = All-cons (IsDumpOf p q) dump [] is (All-nil (IsDumpOf p q));
+} where
+  next : IsNext p made.entry
+  next = made.adds.each made.entry (inl refl)
+
+  is : IsDumpOf p q dump
+  is = record {
+    entry = made.entry;
+    in_log = subst (Among made.entry) (sym made.adds.log) (Among-right made.entry p.log (made.entry ∷ []) (inl refl));
+    is_reading = subst (λ (e : EngineView). IsReadingOf e.size.records (seen_of dump) made.entry) (sym made.adds.engine) made.reading;
+    up_to = (let low = made.below in let stamp = made.reading.stamp in omega (arith, low, stamp));
+    behind = (let low = next.snapshot_met made.reading.kind in let stamp = made.reading.stamp in omega (arith, low, stamp));
+  }
+
+-- one part behind the other
+pub made_then : (p q r : PassView) (old mid new : List Dump) → AddsSome p q → AddsSome q r → DumpsMade p q old mid → DumpsMade q r mid new → DumpsMade p r old new
+made_then p q r old mid new before after first second = record {
+  more = first.more ++ second.more;
+  grown = second.grown ∙ ap (λ ds. ds ++ second.more) first.grown ∙ append_assoc old first.more second.more;
+  each = All-append (IsDumpOf p r) first.more second.more
+      (All-weaker (IsDumpOf p q) (IsDumpOf p r) (λ dump is. goes_on p.met q r after.0 (seen_of dump) after.1 is) first.more first.each)
+      (All-weaker (IsDumpOf q r) (IsDumpOf p r) (λ dump is. begins_earlier p q r before.0 (seen_of dump) before.1 is) second.more second.each);
+}
+
+-- dumps do not become fewer
+pub made_more : (p q : PassView) (old new : List Dump) → DumpsMade p q old new → length old ≤ length new
+made_more p q old new made = let longer = ap length made.grown in let sum = length-append old made.more in omega (arith, longer, sum)
+
+-- one dump more is one more
+pub count_more : (old mid new : List Dump) (dump : Dump) (n : ℕ) → length mid ≡ length old + n → new ≡ mid ++ dump ∷ [] → length new ≡ length old + (n + 1)
+count_more old mid new dump n so_far grown =
+    let longer = ap length grown in
+    let sum = length-append mid (dump ∷ []) in
+    omega (arith, so_far, longer, sum)
+
+-- ---- tries of a session, with dumps between them
+
+-- from one pass and one session to another: these entries, no more draws than the tries and so many dumps allow, and as many refusals
+pub record StepsDumping (p q : PassView) (before after' : SessionView) (dumps : ℕ) : Type 0 where
+  pub entries : List Entry
+  pub adds : Adds p q entries
+  pub goes : GoesOn p.shared.size.records entries before after'
+  pub clock : clock_after q.clock (draws_left after') ≤ clock_after p.clock (draws_left before + dumps)
+  pub refusals : p.refusals + after'.refused ≤ q.refusals + before.refused
+
+-- tries alone
+pub steps_alone : (p q : PassView) (s t : SessionView) → Steps p q s t → StepsDumping p q s t 0
+steps_alone p q s t steps = record {
+  entries = steps.entries;
+  adds = steps.adds;
+  goes = steps.goes;
+  clock = (let to = steps.clock in omega (arith, to));
+  refusals = steps.refusals;
+}
+
+-- dumps alone
+pub steps_dumps : (p q : PassView) (s : SessionView) (dumps : ℕ) → AddsOthers p q → q.clock ≤ clock_after p.clock dumps → StepsDumping p q s s dumps
+steps_dumps p q s dumps others clock = record {
+  entries = others.entries;
+  adds = others.adds;
+  goes = record {
+    lane = refl;
+    tries = refl;
+    done = [];
+    more = [];
+    left_is = refl;
+    results_are = sym (append-nil s.results);
+    are_entries = AreEntries-others p.shared.size.records others.entries others.keep;
+  };
+  clock = omega (arith, clock);
+  refusals = (let grows = others.adds.refusals in omega (arith, grows));
+}
+
+pub steps_then : (p q r : PassView) (s t u : SessionView) (m n : ℕ) → StepsDumping p q s t m → StepsDumping q r t u n → StepsDumping p r s u (m + n)
+steps_then p q r s t u m n first second = record {
+  entries = first.entries ++ second.entries;
+  adds = Adds-trans p q r first.entries second.entries first.adds second.adds;
+  goes = goes_trans p.shared.size.records first.entries second.entries s t u first.goes
+      (subst (λ (e : EngineView). GoesOn e.size.records second.entries t u) first.adds.engine second.goes);
+  clock = (let a = first.clock in let b = second.clock in omega (arith, a, b));
+  refusals = (let a = first.refusals in let b = second.refusals in omega (arith, a, b));
+}
+
+-- a try, and the dumps behind it
+pub steps_more : (p q r v : PassView) (s t u : SessionView) (old mid new : List Dump) → length old ≤ length mid → length mid ≤ length new
+    → StepsDumping p q s t (how_many old mid) → Steps q r t u → AddsOthers r v → v.clock ≤ clock_after r.clock (how_many mid new) → StepsDumping p v s u (how_many old new)
+steps_more p q r v s t u old mid new low high so_far try others clock =
+    let sum : how_many old mid + how_many mid new ≡ how_many old new = omega (arith, low, high) in
+    let none_more : 0 + how_many mid new ≡ how_many mid new = omega arith in
+    subst (StepsDumping p v s u) sum
+    (steps_then p q v s t u (how_many old mid) (how_many mid new) so_far
+    (subst (StepsDumping q v t u) none_more (steps_then q r v t u u 0 (how_many mid new) (steps_alone q r t u try) (steps_dumps r v u (how_many mid new) others clock))))
+
+-- there is room for the draws that are left, and for the dumps that are
+pub room_left : (p q : PassView) (s t : SessionView) (old mid : List Dump) (draws due : ℕ) → StepsDumping p q s t (how_many old mid) → draws_left s ≤ draws → length old ≤ length mid → length mid ≤ due
+    → HasRoom p.clock (draws + (due - length old)) → HasRoom q.clock (draws_left t + (due - length mid))
+room_left p q s t old mid draws due so_far few low high room = let to = so_far.clock in omega (arith, to, few, low, high, room)
+
+pub room_to_try : (q : PassView) (t : SessionView) (more : ℕ) → IsIdle q → to_try t ≢ [] → HasRoom q.clock (draws_left t + more) → HasRoom q.clock 2
+room_to_try q t more idle some room = room_for_try q q t t (draws_left t) (steps_none q t idle) some (omega arith) (omega (arith, room))
+
+-- behind a try
+pub room_behind : (q r : PassView) (t u : SessionView) (more : ℕ) → Steps q r t u → HasRoom q.clock (draws_left t + more) → HasRoom r.clock more
+room_behind q r t u more try room = let to = try.clock in omega (arith, to, room)
+
+-- a whole lane
+pub does_lane_dumping : (lane : Lane) (tries : ℕ) (p q : PassView) (s : SessionView) (dumps : ℕ) → StepsDumping p q (new_session lane tries) s dumps → DoesLane lane (done_of s) p q
+does_lane_dumping lane tries p q s dumps steps =
+    let done_is : steps.goes.more ≡ s.results = sym steps.goes.results_are in
+    record {
+      lane_is = steps.goes.lane;
+      runs = record {
+        done = steps.goes.done;
+        blocks_are = steps.goes.left_is;
+        entries = steps.entries;
+        are_entries = subst (λ (xs : List (Placed × Outcome)). AreEntries p.shared.size.records steps.entries steps.goes.done xs) done_is steps.goes.are_entries;
+        adds = steps.adds;
+      };
+      order = subst KeepOrder done_is (keep_order p.shared.size.records steps.entries steps.goes.done steps.goes.more steps.goes.are_entries steps.adds.in_order);
+    }
+
+-- ---- at the seat that is alone
+
+pub keeps_none : (a : AloneView) → KeepsOthers a a
+keeps_none a = record { shared = refl; given = refl; queue = refl; boost = refl }
+
+pub keeps_then : (a b c : AloneView) → KeepsOthers a b → KeepsOthers b c → KeepsOthers a c
+keeps_then a b c first second = record {
+  shared = second.shared ∙ first.shared;
+  given = second.given ∙ first.given;
+  queue = second.queue ∙ first.queue;
+  boost = second.boost ∙ first.boost;
+}

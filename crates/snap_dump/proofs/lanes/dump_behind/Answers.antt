@@ -1,0 +1,8 @@
+use Rattle.snap_dump.proofs.Made.{dump_others, made_one}
+use Rattle.snap_dump.proofs.lanes.dump_behind.Goals as goal
+
+pub returns-clause-others : goal.returns-clause-others
+returns-clause-others g c = dump_others c.args.pass.now c.dump_at_pass.new.pass c.in_ok-dump.dump c.in_ok-dump.ensures.dumps
+
+pub returns-clause-made : goal.returns-clause-made
+returns-clause-made g c = made_one c.args.pass.now c.dump_at_pass.new.pass c.args.made.now.items c.push.new.self.items c.in_ok-dump.dump c.in_ok-dump.ensures.dumps c.in_ok-push.ensures.items

@@ -1,0 +1,88 @@
+use Rattle.std.proofs.Common.{◌-◌, ◌≤◌, length, sym, subst, ◌∙◌, arith}
+use Rattle.lane_runner.specs.declared.done.LaneDone.{LaneDone}
+use Rattle.lane_runner.specs.Done.{DoesLane}
+use Rattle.lane_runner.specs.Lanes.{lane_draws}
+use Rattle.lane_runner.specs.Session.{SessionView, draws_left}
+use Rattle.lane_runner.proofs.Attempted.{steps_none, steps_attempt, tries_attempt, draws_new}
+use Rattle.snap_dump.specs.Dumps.{how_many}
+use Rattle.snap_dump.proofs.Made.{StepsDumping, does_lane_dumping, made_more, made_none, made_then, room_behind, room_left, room_to_try, some_then, steps_alone, steps_more}
+use Rattle.snap_dump.proofs.lanes.run_lane_dumping.Goals as goal
+
+pub attempts-init : goal.attempts-init
+attempts-init g c = record {
+  engine = c.requires.engine;
+  steps = subst (StepsDumping c.args.pass.now c.args.pass.now c.new-session.result c.new-session.result) (omega arith)
+      (steps_alone c.args.pass.now c.args.pass.now c.new-session.result c.new-session.result (steps_none c.args.pass.now c.new-session.result c.requires.idle));
+  made = made_none c.args.pass.now c.args.pass.now c.args.made.now.items;
+  within = c.requires.within;
+}
+
+pub attempt-requires-clause-engine : goal.attempt-requires-clause-engine
+attempt-requires-clause-engine g c = c.attempts.invariant.engine
+
+pub attempt-requires-clause-idle : goal.attempt-requires-clause-idle
+attempt-requires-clause-idle g c = c.attempts.invariant.steps.adds.idle
+
+pub attempt-requires-clause-room : goal.attempt-requires-clause-room
+attempt-requires-clause-room g c =
+    let i = c.attempts.invariant in
+    let few : draws_left c.new-session.result ≤ lane_draws c.args.lane.blocks c.args.tries = subst (λ (s : SessionView). draws_left s ≤ lane_draws c.args.lane.blocks c.args.tries) (sym c.new-session.ensures) (draws_new c.args.lane c.args.tries) in
+    let room = room_left c.args.pass.now c.attempts.pass c.new-session.result c.attempts.session c.args.made.now.items c.attempts.made.items (lane_draws c.args.lane.blocks c.args.tries) c.args.due i.steps few
+    (made_more c.args.pass.now c.attempts.pass c.args.made.now.items c.attempts.made.items i.made) i.within c.requires.room in
+    let left = c.args.due - length c.attempts.made.items in
+    room_to_try c.attempts.pass c.attempts.session left i.steps.adds.idle (c.has_next.ensures.yes c.attempts-test.true) room
+
+pub dump_behind-requires-clause-engine : goal.dump_behind-requires-clause-engine
+dump_behind-requires-clause-engine g c = c.attempt.ensures.adds.1.engine ∙ c.attempts.invariant.engine
+
+pub dump_behind-requires-clause-idle : goal.dump_behind-requires-clause-idle
+dump_behind-requires-clause-idle g c = c.attempt.ensures.adds.1.idle
+
+pub dump_behind-requires-clause-room : goal.dump_behind-requires-clause-room
+dump_behind-requires-clause-room g c =
+    let i = c.attempts.invariant in
+    let few : draws_left c.new-session.result ≤ lane_draws c.args.lane.blocks c.args.tries = subst (λ (s : SessionView). draws_left s ≤ lane_draws c.args.lane.blocks c.args.tries) (sym c.new-session.ensures) (draws_new c.args.lane c.args.tries) in
+    let room = room_left c.args.pass.now c.attempts.pass c.new-session.result c.attempts.session c.args.made.now.items c.attempts.made.items (lane_draws c.args.lane.blocks c.args.tries) c.args.due i.steps few
+    (made_more c.args.pass.now c.attempts.pass c.args.made.now.items c.attempts.made.items i.made) i.within c.requires.room in
+    let left = c.args.due - length c.attempts.made.items in
+    let try = steps_attempt c.in_ok-turn.turn c.attempts.pass c.attempt.new.pass c.attempts.session c.attempt.new.self i.steps.adds.idle c.in_ok-turn.ensures.attempts c.in_ok-turn.ensures.clock in
+    room_behind c.attempts.pass c.attempt.new.pass c.attempts.session c.attempt.new.self left try room
+
+pub attempts-smaller : goal.attempts-smaller
+attempts-smaller g c = tries_attempt c.in_ok-turn.turn c.attempts.pass c.attempt.new.pass c.attempts.session c.attempt.new.self (c.has_next.ensures.yes c.attempts-test.true) c.in_ok-turn.ensures.attempts
+
+pub attempts-preserved : goal.attempts-preserved
+attempts-preserved g c =
+    let i = c.attempts.invariant in
+    let p = c.args.pass.now in
+    let q = c.attempts.pass in
+    let r = c.attempt.new.pass in
+    let v = c.dump_behind.new.pass in
+    let old = c.args.made.now.items in
+    let mid = c.attempts.made.items in
+    let new = c.dump_behind.new.made.items in
+    let try = steps_attempt c.in_ok-turn.turn c.attempts.pass c.attempt.new.pass c.attempts.session c.attempt.new.self i.steps.adds.idle c.in_ok-turn.ensures.attempts c.in_ok-turn.ensures.clock in
+    let dumped = c.in_ok-dump_behind.ensures in
+    let fresh = made_then q r v mid mid new c.attempt.ensures.adds c.dump_behind.ensures.adds (made_none q r mid) dumped.made in
+    record {
+      engine = c.dump_behind.ensures.adds.1.engine ∙ c.attempt.ensures.adds.1.engine ∙ i.engine;
+      steps = steps_more p q r v c.new-session.result c.attempts.session c.attempt.new.self old mid new (made_more p q old mid i.made) (made_more q v mid new fresh) i.steps try dumped.others dumped.clock;
+      made = made_then p q v old mid new (i.steps.entries, i.steps.adds) (some_then q r v c.attempt.ensures.adds c.dump_behind.ensures.adds) i.made fresh;
+      within = dumped.within;
+    }
+
+pub returns-in_err-turn-clause-adds : goal.returns-in_err-turn-clause-adds
+returns-in_err-turn-clause-adds g c =
+    some_then c.args.pass.now c.attempts.pass c.attempt.new.pass (c.attempts.invariant.steps.entries, c.attempts.invariant.steps.adds) c.attempt.ensures.adds
+
+pub returns-in_err-dump_behind-clause-adds : goal.returns-in_err-dump_behind-clause-adds
+returns-in_err-dump_behind-clause-adds g c =
+    some_then c.args.pass.now c.attempts.pass c.dump_behind.new.pass (c.attempts.invariant.steps.entries, c.attempts.invariant.steps.adds)
+    (some_then c.attempts.pass c.attempt.new.pass c.dump_behind.new.pass c.attempt.ensures.adds c.dump_behind.ensures.adds)
+
+pub returns-clause-does : goal.returns-clause-does
+returns-clause-does g c =
+    let dumps = how_many c.args.made.now.items c.attempts.made.items in
+    subst (λ (done : LaneDone). DoesLane c.args.lane done c.args.pass.now c.attempts.pass) (sym c.finish.ensures)
+    (does_lane_dumping c.args.lane c.args.tries c.args.pass.now c.attempts.pass c.attempts.session dumps
+    (subst (λ (s : SessionView). StepsDumping c.args.pass.now c.attempts.pass s c.attempts.session dumps) c.new-session.ensures c.attempts.invariant.steps))

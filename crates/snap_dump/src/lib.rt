@@ -1,0 +1,13 @@
+//! Dumps of all tables, each by one snapshot, beside the lanes that run.
+#![tactic(auto)]
+
+mod at_alone;
+mod at_pass;
+mod dump;
+mod dumping;
+mod lanes;
+mod work;
+
+pub use at_pass::dump_at_pass;
+pub use dump::Dump;
+pub use dumping::{Dumping, DumpsDue};

@@ -44,11 +44,7 @@ fn commit<R: Abort>(
 }
 
 /// Two records are written, and settled; then the first is written twice again.
-pub fn commit_and_settle<R: Abort>(
-    rt: &R,
-    engine: &Engine<AnyState>,
-    mut alone: Alone<AnyState>,
-)
+pub fn commit_and_settle<R: Abort>(rt: &R, engine: &Engine<AnyState>, mut alone: Alone<AnyState>)
     requires { IsIdleOf engine.now alone.pass }
 {
     commit(rt, engine, &mut alone, 0, (0, 1), 0);

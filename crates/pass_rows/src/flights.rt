@@ -147,10 +147,7 @@ fn cross<R: Abort>(
 }
 
 /// Settles what is left, where a seat is alone.
-pub fn settled(
-    engine: &Engine<AnyState>,
-    alone: &mut Alone<AnyState>,
-) -> Result<Settled, ClockOut>
+pub fn settled(engine: &Engine<AnyState>, alone: &mut Alone<AnyState>) -> Result<Settled, ClockOut>
     requires { IsIdleOf engine.now alone.old.pass }
     ensures { IsIdleOf engine.now alone.new.pass }
 {

@@ -200,8 +200,8 @@ post_read core hand hand' stamp rid place wts value reads reads' writes sets set
             let here = post_left hand hand' stamp rid place wts value finds is.at.begun.in_flight is.at.at before in
             rw (finds.view, more) (All-push (λ read. LeavesValue (map entry_of hand.view.log) read.0 stamp read.1) reads (rid, value) (is.at.left before) here);
         found = λ e among. elim (among_append sets.reads d e (subst (λ (ds : List Read). Among e ds) set_reads among)) as (λ _. WasFound stamp e.record_number e.version hand'.view.seen.loads) [
-            | inl earlier ↦ were_found stamp sets.reads hand.view hand'.view finds.grows is.at.found e earlier
-            | inr same ↦ subst (λ (x : Read). WasFound stamp x.record_number x.version hand'.view.seen.loads) same (found_at hand.view hand'.view stamp rid place wts value finds (is.at.begun.in_flight ∙ ap writing (sym is.at.at)))
+          | inl earlier ↦ were_found stamp sets.reads hand.view hand'.view finds.grows is.at.found e earlier
+          | inr same ↦ subst (λ (x : Read). WasFound stamp x.record_number x.version hand'.view.seen.loads) same (found_at hand.view hand'.view stamp rid place wts value finds (is.at.begun.in_flight ∙ ap writing (sym is.at.at)))
         ];
       };
     }

@@ -1,5 +1,5 @@
 -- A place out of reach: every active stamp sees a later version of its record. So no step frees a place that one can select.
-use Rattle.std.proofs.Common.{◌≡◌, ℕ, suc, ◌<◌, ◌≤◌, ◌⊎◌, true, false, List, [], ◌∷◌, refl, sym, ap, subst, ⊎_elim, arith, inl, inr, Some}
+use Rattle.std.proofs.Common.{◌≡◌, ℕ, ◌<◌, ◌≤◌, ◌⊎◌, true, false, List, [], ◌∷◌, refl, sym, ap, subst, ⊎_elim, arith, inl, inr, Some}
 use mathlib.Core.Logic.{dite}
 use native.Mathlib.Decide.{dec_lt}
 use Rattle.plain_data.specs.State.{State}
@@ -10,7 +10,6 @@ use Rattle.core_rule.specs.World.{World}
 use Rattle.core_rule.specs.View.{View, Flight, writing, freeing}
 use Rattle.core_rule.specs.Views.{At, Has, SomeView}
 use Rattle.core_rule.specs.Searching.{IsFinal, shown_at}
-use Rattle.core_rule.specs.Entries.{Wrote}
 use Rattle.core_rule.specs.Visible.{IsVisible, IsActive, writing_at, reading_at, OutOfReach}
 use Rattle.core_rule.specs.Kinds.{free_place}
 use Rattle.core_rule.specs.Rule.{Rule, status_words, floor_words}

@@ -3,13 +3,15 @@ use Rattle.std.specs.Prelude.{◌≡◌, ℕ, true, false, ◌==◌, if◌then�
 use Rattle.plain_data.specs.declared.entry.Entry.{Entry}
 use Rattle.plain_data.specs.State.{State, Agrees, Fits}
 use Rattle.histories.specs.History.{Lawful, LeavesKept, Before}
+use Rattle.core_rule.specs.Status.{status_word}
+use Rattle.core_rule.specs.declared.status.Status.TheVariants.{Deleted}
 use Rattle.core_rule.specs.View.{Flight, resting, writing, Write, Read, Work, Logged}
 use Rattle.core_rule.specs.Views.{Among}
 use Rattle.core_rule.specs.Searching.{IsWhole}
 
 -- the value of a version that was read, and of one that was written: none where it is a deletion
 abbrev pub read_value : Read → Option (List ℕ)
-read_value d = if d.status == 4 then None else Some d.cells
+read_value d = if d.status == status_word Deleted then None else Some d.cells
 
 abbrev pub value_of : List ℕ → Option (List ℕ)
 value_of [] = None

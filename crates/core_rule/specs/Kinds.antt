@@ -6,14 +6,16 @@ use Rattle.word_layout.specs.Limits.{cells_of_value}
 use Rattle.stamp_base.specs.Limits.{end_of_stamps, greatest_clock}
 use Rattle.stamp_base.specs.Stamp.{stamp_of, clock_of, bound_of_clock}
 use Rattle.plain_data.specs.State.{State}
+use Rattle.core_rule.specs.Status.{status_word}
+use Rattle.core_rule.specs.declared.status.Status.TheVariants.{Pending}
 use Rattle.core_rule.specs.Stamps.{adopted}
-use Rattle.core_rule.specs.View.{View, resting, writing, Scan, no_scan, Splitting, Fill, Aim, links, again, checks, Joint, Stand, Look, blank, stamped, shown, still, marks, stands, Read, Write, Work, no_work, forgotten, no_front, at_front, locked, above_floor, seeks, passes, found, floored, cut_off, freeing, no_item, collects}
+use Rattle.core_rule.specs.View.{View, resting, writing, Scan, no_scan, Splitting, Fill, Aim, links, checks, Joint, Stand, Look, blank, stamped, shown, still, marks, stands, Read, Write, Work, no_work, forgotten, no_front, at_front, locked, above_floor, seeks, passes, found, floored, cut_off, freeing, no_item, collects}
 use Rattle.core_rule.specs.Views.{Has, Among, AllIn, IsAlone}
 use Rattle.core_rule.specs.Memory.{Memory}
 use Rattle.core_rule.specs.World.{World, free, held, marked, linked, at_number, behind, up_to, from_behind, cut_from, all_but_first}
 use Rattle.core_rule.specs.Ways.{Way, loads, meets, stores, raises_to, exchanges, swaps, told, written, seen_after}
 use Rattle.core_rule.specs.Offers.{made_of, offered_write, offered_read, MayOffer, HasOffered, IsSettled}
-use Rattle.core_rule.specs.Searching.{limit_of, IsPassed, IsLate, stamp_seen, ends, AsksStatus, moved, Rests, Ends, read_place, read_cells, more_read, IsLoading, write_of, FitsPlace, IsNotLinked, Begins, IsFinal, is_final, reads_with, finished_with, IsWhole, IsNotRead, IsWholeFill, shown_at, OthersPassed, counted_more, counted_one, counted_cut}
+use Rattle.core_rule.specs.Searching.{limit_of, IsPassed, IsLate, stamp_seen, ends, AsksStatus, moved, Rests, Ends, read_place, read_cells, more_read, IsLoading, write_of, FitsPlace, IsNotLinked, Begins, IsFinal, reads_with, finished_with, IsWhole, IsNotRead, IsWholeFill, shown_at, OthersPassed, counted_more, counted_one, counted_cut}
 use Rattle.core_rule.specs.Deciding.{stamp_in, commit_of, snapshot_of, AreReads, IsFitting, IsUndecided}
 use Rattle.core_rule.specs.Collecting.{HasEntry, rests_at}
 use Rattle.core_rule.specs.Holding.{filled_place, filled_cells, reset_fill, more_cells, without, without_fill, is_usable, IsFilling}
@@ -169,7 +171,7 @@ way fill_reset v = stores 0
 way (fill_cell word) v = stores word
 way (meet_cell word) v = meets
 way (give place) v = stores 0
-way (mark r f) v = stores 2
+way (mark r f) v = stores (status_word Pending)
 way (point s j w) v = stores (suc s.place)
 way (link_head s j w) v = exchanges (suc s.place) (suc j.write.place)
 way (link_next s j above w) v = exchanges (suc s.place) (suc j.write.place)

@@ -5,6 +5,8 @@ use Rattle.word_layout.specs.Limits.{cells_of_value}
 use Rattle.stamp_base.specs.Limits.{end_of_stamps}
 use Rattle.stamp_base.specs.Stamp.{stamp_of, clock_of, seat_of}
 use Rattle.plain_data.specs.State.{State}
+use Rattle.core_rule.specs.Status.{status_word, IsStatusWord}
+use Rattle.core_rule.specs.declared.status.Status.TheVariants.{Pending}
 use Rattle.core_rule.specs.View.{View, resting, Aim, links, again, Logged}
 use Rattle.core_rule.specs.Views.{AllOf, Has, Among, IsAlone}
 use Rattle.core_rule.specs.Searching.{limit_of, IsFinal, read_cells, newest, newest_stamp}
@@ -13,7 +15,7 @@ use Rattle.core_rule.specs.Snapshots.{AreAlike, AreLeft}
 use Rattle.core_rule.specs.Reckoning.{Reckons}
 use Rattle.core_rule.specs.Spares.{KnowsFree}
 use Rattle.core_rule.specs.Left.{IsLeft, LeavesCells}
-use Rattle.core_rule.specs.Kinds.{Kind, publish_stamp, hear, scan_writes, scan_reads, load_min_write, load_min_read, raise_min_write, raise_min_read, take, load_head, load_next, load_stamp, load_status, load_cell, link_head, link_next, load_read_stamp, decide_by_check, decide_bare, finish, take_lock, load_floor, seek_head, seek_stamp, seek_next, cut, follow, front_head, after}
+use Rattle.core_rule.specs.Kinds.{Kind, publish_stamp, hear, scan_writes, scan_reads, load_min_write, load_min_read, raise_min_write, raise_min_read, take, load_head, load_next, load_stamp, load_status, load_cell, link_head, link_next, load_read_stamp, decide_by_check, decide_bare, finish, take_lock, load_floor, seek_head, seek_stamp, seek_next, cut, follow, front_head, front_status, after}
 
 -- a number that a stamp at the place that is searched for is not under
 abbrev pub least_of : Aim → ℕ
@@ -72,9 +74,8 @@ Learnt kept (load_stamp s) v n = (least_of s.aim ≤ n) × (n < s.under)
 -- a pending version is that of another seat, and a snapshot meets none. What a second search finds in place of the version read is
 -- above it, and another seat's. A seat that is alone finds what its log leaves
 Learnt kept (load_status s w) v n =
-    (2 ≤ n)
-    × (n ≤ 5)
-    × (n ≡ 2 → (seat_of w ≢ v.number) × (seat_of w < v.size.seats) × (v.flight ≢ resting) × (IsAlone v → ⊥))
+    IsStatusWord n
+    × (n ≡ status_word Pending → (seat_of w ≢ v.number) × (seat_of w < v.size.seats) × (v.flight ≢ resting) × (IsAlone v → ⊥))
     × IsOvertaken v s.aim w n
     × (IsAlone v → IsFinal n → IsLeft v.log s.record_number (limit_of v.flight v.published.read) w n)
 -- with the last cell a seat that is alone has loaded the value that its log leaves
@@ -102,6 +103,7 @@ Learnt kept (seek_next r c p w) v n = IsLink (places v.size) n
 Learnt kept (cut r c p) v n = (n ≤ places v.size) × (0 < n → 0 < c)
 Learnt kept (follow r c to) v n = (n ≤ places v.size) × (0 < n → 1 < v.gone.left)
 Learnt kept (front_head r) v n = IsLink (places v.size) n
+Learnt kept (front_status r p w) v n = IsStatusWord n
 Learnt kept _ v n = Unit {0}
 
 -- what a step tells its seat

@@ -1,5 +1,7 @@
 -- What a log leaves of a record.
 use Rattle.std.specs.Prelude.{◌≡◌, ◌⊎◌, ℕ, ◌<◌, ◌≤◌, true, false, List}
+use Rattle.core_rule.specs.Status.{status_word}
+use Rattle.core_rule.specs.declared.status.Status.TheVariants.{Deleted}
 use Rattle.core_rule.specs.View.{Write, Logged}
 use Rattle.core_rule.specs.Views.{Among}
 use Rattle.core_rule.specs.Searching.{shown_at}
@@ -22,7 +24,7 @@ pub record IsWritten (log : List Logged) (r w status : ℕ) : Type 0 where
 -- where there is none, the deleted version 0
 pub record IsLeft (log : List Logged) (r limit w status : ℕ) : Type 0 where
   pub last : NoneAbove log r limit w
-  pub from : ((w ≡ 0) × (status ≡ 4) × NoneBelow log r limit) ⊎ IsWritten log r w status
+  pub from : ((w ≡ 0) × (status ≡ status_word Deleted) × NoneBelow log r limit) ⊎ IsWritten log r w status
 
 -- the last write of record r below the limit is that at the stamp w, with these cells
 pub record LeavesCells (log : List Logged) (r limit w : ℕ) (cells : List ℕ) : Type 0 where

@@ -15,6 +15,7 @@ pub mod Searching
 pub mod Snapshots
 pub mod Spares
 pub mod Stamps
+pub mod Status
 pub mod View
 pub mod Visible
 pub mod Versions

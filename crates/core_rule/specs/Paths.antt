@@ -1,6 +1,8 @@
 -- The path that a search for a visible version takes.
 use Rattle.std.specs.Prelude.{◌≡◌, ℕ, ◌-◌, ◌<◌, ◌≤◌, List, [], ◌∷◌, ◌++◌}
 use Rattle.word_layout.specs.Name.{Name, head, next, wts, status}
+use Rattle.core_rule.specs.Status.{status_word}
+use Rattle.core_rule.specs.declared.status.Status.TheVariants.{Pending, Deleted, Aborted}
 use Rattle.core_rule.specs.View.{Load, Look, blank, stamped, shown}
 
 abbrev pub load : Name → ℕ → Load
@@ -17,7 +19,7 @@ glanced p (shown w s) = load (wts p) w ∷ load (status p) s ∷ []
 pub data Way (limit r : ℕ) : List Load → ℕ → Type 0 where
   from_head : (n : ℕ) → Way limit r (load (head r) n ∷ []) (n - 1)
   past_late : (ls : List Load) (p w n : ℕ) → Way limit r ls p → limit ≤ w → Way limit r (ls ++ load (wts p) w ∷ load (next p) n ∷ []) (n - 1)
-  past_aborted : (ls : List Load) (p w n : ℕ) → Way limit r ls p → Way limit r (ls ++ load (wts p) w ∷ load (status p) 5 ∷ load (next p) n ∷ []) (n - 1)
+  past_aborted : (ls : List Load) (p w n : ℕ) → Way limit r ls p → Way limit r (ls ++ load (wts p) w ∷ load (status p) (status_word Aborted) ∷ load (next p) n ∷ []) (n - 1)
 
 -- they end at place p, which was loaded neither as too late nor as aborted
 pub record EndsAt (limit r p w s : ℕ) (before after' : List Load) : Type 0 where
@@ -25,4 +27,4 @@ pub record EndsAt (limit r p w s : ℕ) (before after' : List Load) : Type 0 whe
   pub leads : Way limit r way p
   pub loads : after' ≡ before ++ (way ++ glanced p (shown w s))
   pub early : w < limit
-  pub state : (2 ≤ s) × (s ≤ 4)
+  pub state : (status_word Pending ≤ s) × (s ≤ status_word Deleted)

@@ -2,6 +2,8 @@
 use Rattle.std.specs.Prelude.{◌≡◌, ◌≢◌, ◌⊎◌, ℕ, suc, ◌-◌, ◌<◌, ◌≤◌, Bool, false, ◌==◌, ◌&&◌, nat_le, nat_lt, if◌then◌else◌, List, [], ◌∷◌, ◌++◌, length, Option, Some, None}
 use Rattle.word_layout.specs.Size.{Size, kept_place}
 use Rattle.word_layout.specs.Limits.{cells_of_value}
+use Rattle.core_rule.specs.Status.{status_word}
+use Rattle.core_rule.specs.declared.status.Status.TheVariants.{Committed, Deleted, Aborted}
 use Rattle.core_rule.specs.Views.{Among, Has}
 use Rattle.core_rule.specs.View.{Flight, resting, writing, Fill, Write, Read, Joint, Aim, reads, links, again, checks, Stand, Look, blank, stamped, shown, Search, still, marks, stands, no_item, Work, Bound, Count, Kept, nothing_kept, version_kept, maybe_kept, Counted, Top, Front, no_front, at_front}
 
@@ -14,7 +16,7 @@ limit_of resting read = suc read
 abbrev pub IsPassed : ℕ → Look → Type 0
 IsPassed limit blank = ⊥
 IsPassed limit (stamped w) = limit ≤ w
-IsPassed limit (shown w s) = s ≡ 5
+IsPassed limit (shown w s) = s ≡ status_word Aborted
 
 abbrev pub stamp_seen : Look → ℕ
 stamp_seen blank = 0
@@ -28,10 +30,10 @@ IsLate aim look = Unit {0}
 
 -- committed or deleted
 abbrev pub IsFinal : ℕ → Type 0
-IsFinal s = (3 ≤ s) × (s ≤ 4)
+IsFinal s = (status_word Committed ≤ s) × (s ≤ status_word Deleted)
 
 abbrev pub is_final : ℕ → Bool
-is_final s = nat_le 3 s && nat_le s 4
+is_final s = nat_le (status_word Committed) s && nat_le s (status_word Deleted)
 
 -- a write stamp and a status at which the search has found what it was for
 abbrev pub ends : Aim → (version status : ℕ) → Bool
@@ -81,14 +83,14 @@ finished_with _ ds = ds
 
 -- all of the version was loaded
 abbrev pub IsWhole : Read → Type 0
-IsWhole d = (d.status ≡ 4) ⊎ ((d.status ≡ 3) × (length d.cells ≡ cells_of_value))
+IsWhole d = (d.status ≡ status_word Deleted) ⊎ ((d.status ≡ status_word Committed) × (length d.cells ≡ cells_of_value))
 
 -- no read of record r is among these
 abbrev pub IsNotRead : ℕ → List Read → Type 0
 IsNotRead r ds = (d : Read) → Among d ds → d.record_number ≢ r
 
 abbrev pub no_read : Read
-no_read = record { record_number = 0; place = 0; version = 0; status = 4; cells = [] }
+no_read = record { record_number = 0; place = 0; version = 0; status = status_word Deleted; cells = [] }
 
 -- the read whose cells are loaded; its place, and how many cells were loaded
 abbrev pub newest : List Read → Read
@@ -109,7 +111,7 @@ more_read word (r ∷ rs) = record r { cells = r.cells ++ word ∷ [] } ∷ rs
 
 abbrev pub IsLoading : List Read → Type 0
 IsLoading [] = ⊥
-IsLoading (r ∷ rs) = r.status ≡ 3
+IsLoading (r ∷ rs) = r.status ≡ status_word Committed
 
 -- the version of record r that is filled
 abbrev pub write_of : ℕ → Fill → Write
@@ -132,8 +134,8 @@ IsWholeFill f = (f.cells ≡ []) ⊎ (length f.cells ≡ cells_of_value)
 
 -- the last status of what was linked
 abbrev pub shown_at : Bool → List ℕ → ℕ
-shown_at decided [] = if decided then 4 else 5
-shown_at decided (x ∷ xs) = if decided then 3 else 5
+shown_at decided [] = if decided then status_word Deleted else status_word Aborted
+shown_at decided (x ∷ xs) = if decided then status_word Committed else status_word Aborted
 
 -- each of these but that of record r has passed the check; each read but this one was searched again
 abbrev pub AllPassed : List Write → List ℕ → Type 0

@@ -6,6 +6,7 @@ ghost use Rattle.stamp_base.specs.Limits.{end_of_stamps};
 ghost use Rattle.core_rule.specs.View.{reads, links, blank, stamped, marks, writing, shown, at_front};
 ghost use Rattle.core_rule.specs.Searching.{IsAt, stand_in, look_in, joint_in, write_in, first_joint, stamp_seen, Rests, IsPassed, IsLate, AsksStatus, limit_of, IsLoading, read_place, read_cells, FitsPlace, IsNotLinked, front_fill, IsWholeFill};
 ghost use Rattle.core_rule.specs.Holding.{filled_place, IsFilling};
+ghost use Rattle.core_rule.specs.Status.{status_word};
 ghost use Rattle.core_rule.specs.Views.{IsAlone};
 ghost use Rattle.core_rule.specs.Hands.{IsReady, Steps};
 ghost use Rattle.core_rule.specs.Kinds.{load_head, load_next, load_stamp, load_status, load_cell, mark, point, link_head, link_next, front_head, front_stamp, front_status, front_next};
@@ -13,11 +14,9 @@ ghost use Rattle.word_layout.specs.Limits.{cells_of_value};
 
 use crate::hand::Hand;
 use crate::shared::Core;
+use crate::status::Status;
 use histories::Keeps;
 use std::marker::Brand;
-
-/// The status of a pending version.
-const PENDING: u64 = 2;
 
 impl<J: Keeps> Core<J> {
     /// Begins a search for a read: loads the head of a record's list.
@@ -57,17 +56,18 @@ impl<J: Keeps> Core<J> {
     }
 
     /// Loads the status there, of a version of this stamp that is not too late.
-    pub fn load_status(&self, hand: &mut Hand<J>, place: u32, stamp: u64) -> u64
+    pub fn load_status(&self, hand: &mut Hand<J>, place: u32, stamp: u64) -> Status
         requires ready { IsReady self.now hand.old }
         requires here { IsAt place hand.old.view.work.search }
         requires place { place < places self.now.size }
         requires seen { look_in hand.old.view.work.search ≡ stamped stamp }
         requires early { stamp < limit_of hand.old.view.flight hand.old.view.published.read }
         requires asks { AsksStatus (stand_in hand.old.view.work.search).aim }
-        ensures { Steps J.kept (load_status (stand_in hand.old.view.work.search) stamp) hand.old result hand.new }
+        ensures { Steps J.kept (load_status (stand_in hand.old.view.work.search) stamp) hand.old (status_word result) hand.new }
     {
         let word = self.layout.status(place);
-        self.load::<Brand>(&mut hand.seat, word, stamp)
+        let found = self.load::<Brand>(&mut hand.seat, word, stamp);
+        Status::shown_by(found)
     }
 
     /// Loads the next cell of the version that was found last, whose first cell stands in the word `first`.
@@ -110,10 +110,10 @@ impl<J: Keeps> Core<J> {
         requires only { IsNotLinked rid hand.old.view.work.linked }
         requires whole { IsWholeFill (front_fill hand.old.view.places.fills) }
         requires undecided { hand.old.view.work.decided ≡ false }
-        ensures { Steps J.kept (mark rid (front_fill hand.old.view.places.fills)) hand.old PENDING hand.new }
+        ensures { Steps J.kept (mark rid (front_fill hand.old.view.places.fills)) hand.old (status_word Status.Pending) hand.new }
     {
         let word = self.layout.status(place);
-        self.store::<Brand>(&mut hand.seat, word, PENDING, rid.into());
+        self.store::<Brand>(&mut hand.seat, word, Status::Pending.word(), rid.into());
     }
 
     /// Stores in the own link of a marked version the place below, where the search stands.
@@ -199,14 +199,15 @@ impl<J: Keeps> Core<J> {
     }
 
     /// Loads its status.
-    pub fn front_status(&self, hand: &mut Hand<J>, rid: u32, place: u32, stamp: u64) -> u64
+    pub fn front_status(&self, hand: &mut Hand<J>, rid: u32, place: u32, stamp: u64) -> Status
         requires ready { IsReady self.now hand.old }
         requires front { hand.old.view.front ≡ at_front rid place (stamped stamp) }
         requires place { place < places self.now.size }
-        ensures { Steps J.kept (front_status rid place stamp) hand.old result hand.new }
+        ensures { Steps J.kept (front_status rid place stamp) hand.old (status_word result) hand.new }
     {
         let word = self.layout.status(place);
-        self.load::<Brand>(&mut hand.seat, word, stamp)
+        let found = self.load::<Brand>(&mut hand.seat, word, stamp);
+        Status::shown_by(found)
     }
 
     /// Loads its link: 0 where it is the only version, and then the seat knows so.
@@ -216,12 +217,12 @@ impl<J: Keeps> Core<J> {
         rid: u32,
         place: u32,
         stamp: u64,
-        state: u64,
+        status: Status,
     ) -> u64
         requires ready { IsReady self.now hand.old }
-        requires front { hand.old.view.front ≡ at_front rid place (shown stamp state) }
+        requires front { hand.old.view.front ≡ at_front rid place (shown stamp (status_word status)) }
         requires place { place < places self.now.size }
-        ensures { Steps J.kept (front_next rid place stamp state) hand.old result hand.new }
+        ensures { Steps J.kept (front_next rid place stamp (status_word status)) hand.old result hand.new }
     {
         let word = self.layout.next(place);
         self.load::<Brand>(&mut hand.seat, word, 0)

@@ -3,6 +3,7 @@ ghost use Rattle.std.specs.Prelude.{◌≡◌, ◌≢◌, ◌<◌, ◌≤◌, tr
 ghost use Rattle.word_layout.specs.Size.{places};
 ghost use Rattle.stamp_base.specs.Limits.{end_of_stamps};
 ghost use Rattle.core_rule.specs.View.{again, checks, stamped, shown, resting, writing, no_item};
+ghost use Rattle.core_rule.specs.Status.{status_word};
 ghost use Rattle.core_rule.specs.Views.{Among, Has, AllIn};
 ghost use Rattle.core_rule.specs.Searching.{IsAt, stand_in, look_in, stamp_seen, state_seen, checked_in, Rests, IsFinal, IsWhole, IsNotRead, Begins, OthersPassed, shown_at};
 ghost use Rattle.core_rule.specs.Deciding.{stamp_in, commit_of, IsFitting, IsUndecided};
@@ -12,16 +13,10 @@ ghost use Rattle.core_rule.specs.Kinds.{load_head, raise_read_stamp, load_read_s
 
 use crate::hand::Hand;
 use crate::shared::Core;
+use crate::status::Status;
 use crate::versions::{ReadVersion, WrittenVersion};
 use histories::Keeps;
 use std::marker::Brand;
-
-/// The last statuses of a version.
-const COMMITTED: u64 = 3;
-
-const DELETED: u64 = 4;
-
-const ABORTED: u64 = 5;
 
 impl<J: Keeps> Core<J> {
     /// Raises the read stamp of a version that was read to the stamp in flight, and gives what it was before.
@@ -121,7 +116,7 @@ impl<J: Keeps> Core<J> {
     {
         let word = self.layout.status(write.place());
         let last = last_status(write, decided);
-        self.store_of::<Brand, WrittenVersion>(&mut hand.seat, word, last, write);
+        self.store_of::<Brand, WrittenVersion>(&mut hand.seat, word, last.word(), write);
     }
 
     /// Ends a snapshot with all that it has read, at a load of the own published read word: its entry enters the log. The
@@ -139,14 +134,14 @@ impl<J: Keeps> Core<J> {
 }
 
 /// The last status of a version.
-fn last_status(write: &WrittenVersion, decided: bool) -> u64
-    ensures { result ≡ shown_at decided write.now.cells }
+fn last_status(write: &WrittenVersion, decided: bool) -> Status
+    ensures { status_word result ≡ shown_at decided write.now.cells }
 {
     if !decided {
-        ABORTED
+        Status::Aborted
     } else if write.is_deletion() {
-        DELETED
+        Status::Deleted
     } else {
-        COMMITTED
+        Status::Committed
     }
 }

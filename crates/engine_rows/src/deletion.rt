@@ -10,7 +10,7 @@ ghost use Rattle.core_rule.specs.Versions.{written_version};
 use crate::due::same;
 use crate::rule::publish;
 use crate::tables::first_seat;
-use core_rule::{AnyState, Core, Hand, WrittenVersion};
+use core_rule::{AnyState, Core, Hand, Status, WrittenVersion};
 use stamp_base::Stamp;
 use std::test::*;
 use version_search::{find_to_check, link};
@@ -55,7 +55,7 @@ fn decide_deletion(
     ensures decided { IfSome result (λ read. hand.new.view.work ≡ record no_work { linked = write.now ∷ []; passed = (if nat_le read stamp then 0 ∷ [] else []); decided = nat_le read stamp }) }
 {
     let below = find_to_check(core, hand, write, stamp.number());
-    if below.place != 0 || below.wts != 0 || below.status != 4 {
+    if below.place != 0 || below.wts != 0 || below.status != Status::Deleted {
         return None;
     }
     Some(core.decide_by_check(hand, below.place))

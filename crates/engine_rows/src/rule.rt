@@ -12,7 +12,7 @@ ghost use Rattle.core_rule.specs.Versions.{read_version};
 
 use crate::due::{hold, same};
 use crate::tables::{first_seat, two_seats};
-use core_rule::{AnyState, Core, Hand, ReadVersion};
+use core_rule::{AnyState, Core, Hand, ReadVersion, Status};
 use stamp_base::Stamp;
 use std::test::Fail;
 use std::thread::join;
@@ -154,7 +154,7 @@ fn find_absent(core: &Core<AnyState>, hand: &mut Hand<AnyState>, stamp: Stamp) -
     if version >= stamp.number() {
         return None;
     }
-    if core.load_status(hand, 0, version) != 4 {
+    if core.load_status(hand, 0, version) != Status::Deleted {
         return None;
     }
     Some(version)
@@ -183,7 +183,7 @@ fn read_again(
     if core.load_stamp(hand, 0) != version {
         return None;
     }
-    if core.load_status(hand, 0, version) != 4 {
+    if core.load_status(hand, 0, version) != Status::Deleted {
         return None;
     }
     core.decide_bare(hand);

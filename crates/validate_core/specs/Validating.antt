@@ -2,6 +2,8 @@
 use Rattle.std.specs.Prelude.{◌≡◌, ◌⊎◌, ℕ, ◌<◌, Bool, true, List, [], ◌∷◌, ◌++◌}
 use Rattle.plain_data.specs.State.{State}
 use Rattle.word_layout.specs.Name.{rts}
+use Rattle.core_rule.specs.Status.{status_word}
+use Rattle.core_rule.specs.declared.status.Status.TheVariants.{Pending as PendingStatus}
 use Rattle.core_rule.specs.View.{View, Flight, writing, Read, Write, Work, Load, Seen, no_item}
 use Rattle.core_rule.specs.Views.{Among, Has}
 use Rattle.core_rule.specs.Searching.{Rests, Ends, IsFinal, AllPassed}
@@ -119,7 +121,7 @@ Touches rid s = ((version : ℕ) × HasRead rid version s) ⊎ Writes rid s
 
 -- the conflict was shown by the loads of the call between two views
 abbrev pub IsShown : ℕ → SetsView → View → View → Conflict → Type 0
-IsShown stamp s v w (Pending rid wts) = (wts < stamp) × IsOfAnother w wts × Touches rid s × Met stamp rid wts 2 no_more v.seen.loads w.seen.loads
+IsShown stamp s v w (Pending rid wts) = (wts < stamp) × IsOfAnother w wts × Touches rid s × Met stamp rid wts (status_word PendingStatus) no_more v.seen.loads w.seen.loads
 IsShown stamp s v w (ReadLater rid wts read_stamp) =
     (stamp < read_stamp) × IsOfAnother w read_stamp × Writes rid s × MetFinal stamp rid wts (its_read_stamp read_stamp) v.seen.loads w.seen.loads
 IsShown stamp s v w (Overtaken rid seen now) =

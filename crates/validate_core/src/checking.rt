@@ -2,6 +2,7 @@
 ghost use Rattle.std.specs.Prelude.{◌≡◌, ◌≢◌, ◌<◌, ◌+◌, [], take, length, OnOk, OnErr, IfOk, IfErr};
 ghost use Rattle.word_layout.specs.Size.{places};
 ghost use Rattle.core_rule.specs.View.{Write, checks, writing};
+ghost use Rattle.core_rule.specs.Status.{status_word};
 ghost use Rattle.core_rule.specs.Deciding.{commit_of, IsFitting};
 ghost use Rattle.core_rule.specs.Hands.{IsReady, StaysReady};
 ghost use Rattle.version_search.specs.Finding.{Finds};
@@ -10,11 +11,8 @@ ghost use Rattle.validate_core.specs.Validating.{Works, Stage, Stopped, Decides,
 
 use crate::conflict::Conflict;
 use crate::sets::Sets;
-use core_rule::{Core, Hand, Keeps};
+use core_rule::{Core, Hand, Keeps, Status};
 use version_search::{Shown, find_again, find_to_check};
-
-/// The status of a pending version.
-const PENDING: u64 = 2;
 
 /// Validates a transaction whose writes are linked, up to the load that decides it.
 pub(crate) fn validate<J: Keeps>(
@@ -73,7 +71,7 @@ fn search_again<J: Keeps>(
     for i in 0..sets.count_reads() {
         let read = sets.read_at(i);
         let shown = find_again(core, hand, read, stamp);
-        if shown.status == PENDING {
+        if shown.status == Status::Pending {
             return Err(Conflict::Pending {
                 rid: read.rid(),
                 wts: shown.wts,
@@ -133,8 +131,8 @@ fn find_overwritten<J: Keeps>(
     requires inside { IsInside core.now.size sets.now }
     requires number { i < length sets.now.writes }
     requires stage { Stage stamp sets.now sets.now.reads sets.now.reads (take i sets.now.writes) hand.old.view }
-    ensures finds { IfOk result (λ shown. (u : Write) → Turn i sets.now.writes u → Finds (checks u) stamp u.record_number shown.place shown.wts shown.status hand.old.view hand.new.view) }
-    ensures not_pending { IfOk result (λ shown. shown.status ≢ 2) }
+    ensures finds { IfOk result (λ shown. (u : Write) → Turn i sets.now.writes u → Finds (checks u) stamp u.record_number shown.place shown.wts (status_word shown.status) hand.old.view hand.new.view) }
+    ensures not_pending { IfOk result (λ shown. status_word shown.status ≢ status_word Status.Pending) }
     ensures place { IfOk result (λ shown. shown.place < places core.now.size) }
     ensures works { OnErr result (Works hand.old.view hand.new.view) }
     ensures stopped { OnErr result (Stopped sets.now hand.new.view) }
@@ -143,7 +141,7 @@ fn find_overwritten<J: Keeps>(
 {
     let write = sets.write_at(i);
     let shown = find_to_check(core, hand, write, stamp);
-    if shown.status == PENDING {
+    if shown.status == Status::Pending {
         return Err(Conflict::Pending {
             rid: write.rid(),
             wts: shown.wts,

@@ -44,16 +44,16 @@ module _ (aim : Aim) (limit rid place under w n : ℕ) (v : View) where
       let x_of : x ≡ after (load_status here w) u n = subst (λ (p : Stand). x ≡ after (load_status p w) u n) u_here second in
       let told : Learnt kept (load_status here w) u n = subst (λ (p : Stand). Learnt kept (load_status p w) u n) u_here learnt in
       let at_limit : limit_of x.flight x.published.read ≡ limit = ap (λ (y : View). limit_of y.flight y.published.read) x_here ∙ sym limit_is in
-      let low = told.0 in let high = told.1 in record {
+      let low = told.0.0 in let high = told.0.1 in record {
         reaches = record {
           under = under;
           early = early;
           state = (low, omega arith);
           met = λ is. subst (λ (y : View). IsMet y w) (sym x_of)
-              (let m = told.2 is in met_after w u _ _ record { another = m.0; within = m.1; in_flight = m.2; not_alone = m.3 });
-          overtaken = subst (λ (y : View). IsOvertaken y aim w n) (sym x_of) (overtaken_after aim w n u _ _ told.3);
+              (let m = told.1 is in met_after w u _ _ record { another = m.0; within = m.1; in_flight = m.2; not_alone = m.3 });
+          overtaken = subst (λ (y : View). IsOvertaken y aim w n) (sym x_of) (overtaken_after aim w n u _ _ told.2);
           left = subst (λ (l : ℕ). IsAlone x → IsFinal n → IsLeft x.log rid l w n) at_limit
-              (subst (λ (y : View). IsAlone y → IsFinal n → IsLeft y.log rid (limit_of y.flight y.published.read) w n) (sym x_of) told.4);
+              (subst (λ (y : View). IsAlone y → IsFinal n → IsLeft y.log rid (limit_of y.flight y.published.read) w n) (sym x_of) told.3);
           lost = ap (λ (y : View). y.seen.lost) x_here;
           view = x_here ∙ (λ i. record v { work = reached here w n v.work; seen = seen_is i });
         };

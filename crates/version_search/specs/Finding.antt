@@ -5,6 +5,8 @@ use Rattle.core_rule.specs.View.{View, resting, Aim, Stand, Look, blank, shown, 
 use Rattle.core_rule.specs.Views.{IsAlone}
 use Rattle.core_rule.specs.Searching.{stand_in, IsPassed, IsFinal, stamp_seen, ends, reads_with, finished_with}
 use Rattle.core_rule.specs.Left.{IsLeft}
+use Rattle.core_rule.specs.Status.{status_word}
+use Rattle.core_rule.specs.declared.status.Status.TheVariants.{Pending as PendingStatus, Committed, Deleted}
 use Rattle.core_rule.specs.Learnt.{IsOvertaken}
 use Rattle.core_rule.specs.Paths.{glanced, Way, EndsAt}
 use Rattle.version_search.specs.declared.finding.Found.{Found}
@@ -20,7 +22,7 @@ IfPending (Pending wts) P = P wts
 
 -- the status of a version that is committed, or deleted
 abbrev pub status_of : Bool → ℕ
-status_of absent = if absent then 4 else 3
+status_of absent = status_word (if absent then Deleted else Committed)
 
 -- the view after loads that change the search alone
 abbrev pub with_work : View → Search → Seen → View
@@ -63,8 +65,8 @@ reached p w s work = record work {
 pub record Reaches (aim : Aim) (limit rid place w s : ℕ) (v x : View) : Type 0 where
   pub under : ℕ
   pub early : w < limit
-  pub state : (2 ≤ s) × (s ≤ 4)
-  pub met : s ≡ 2 → IsMet x w
+  pub state : (status_word PendingStatus ≤ s) × (s ≤ status_word Deleted)
+  pub met : s ≡ status_word PendingStatus → IsMet x w
   pub overtaken : IsOvertaken x aim w s
   -- a seat that is alone finds what its log leaves
   pub left : IsAlone x → IsFinal s → IsLeft x.log rid limit w s

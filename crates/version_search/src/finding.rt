@@ -3,12 +3,13 @@ ghost use Rattle.std.specs.Prelude.{ℕ, ◌≡◌, ◌+◌, ◌<◌, ◌≤◌,
 ghost use Rattle.word_layout.specs.Size.{places};
 ghost use Rattle.stamp_base.specs.Limits.{end_of_stamps};
 ghost use Rattle.core_rule.specs.View.{reads, again, checks, writing, resting};
+ghost use Rattle.core_rule.specs.Status.{status_word};
 ghost use Rattle.core_rule.specs.Searching.{Rests, Begins, limit_of};
 ghost use Rattle.core_rule.specs.Hands.{IsReady, StaysReady};
 ghost use Rattle.version_search.specs.Finding.{IfVersion, IfPending, Finds, Reads, status_of};
 
 use crate::walking::{Shown, walk};
-use core_rule::{Core, Hand, Keeps, ReadVersion, WrittenVersion, link_place};
+use core_rule::{Core, Hand, Keeps, ReadVersion, Status, WrittenVersion, link_place};
 
 /// What a search found.
 #[derive(Clone, Copy, Drop)]
@@ -35,7 +36,7 @@ pub fn find<J: Keeps>(
     requires up_to { included ≡ true → (hand.old.view.flight ≡ resting) × (hand.old.view.published.read ≡ stamp) }
     ensures version { IfVersion result (λ place wts absent. Reads (if included then stamp + 1 else stamp) rid place wts (status_of absent) hand.old.view hand.new.view) }
     ensures place { IfVersion result (λ place wts absent. place < places core.now.size) }
-    ensures pending { IfPending result (λ wts. (place : ℕ) × Finds reads (if included then stamp + 1 else stamp) rid place wts 2 hand.old.view hand.new.view) }
+    ensures pending { IfPending result (λ wts. (place : ℕ) × Finds reads (if included then stamp + 1 else stamp) rid place wts (status_word Status.Pending) hand.old.view hand.new.view) }
     ensures answered { included ≡ true → IfPending result (λ wts. ⊥) }
     ensures stays { StaysReady core.now hand.old hand.new }
 {
@@ -43,13 +44,13 @@ pub fn find<J: Keeps>(
     let link = core.load_head(hand, rid);
     let from = link_place(&core.layout(), link);
     let shown = walk(core, hand, rid, from, limit);
-    if shown.status == 2 {
+    if shown.status == Status::Pending {
         Found::Pending { wts: shown.wts }
     } else {
         Found::Version {
             place: shown.place,
             wts: shown.wts,
-            absent: shown.status == 4,
+            absent: shown.status == Status::Deleted,
         }
     }
 }
@@ -74,7 +75,7 @@ pub fn find_again<J: Keeps>(
     requires begins { Begins (again read.now) read.now.record_number hand.old.view.work }
     requires in_flight { hand.old.view.flight ≡ writing stamp }
     ensures place { result.place < places core.now.size }
-    ensures finds { Finds (again read.now) stamp read.now.record_number result.place result.wts result.status hand.old.view hand.new.view }
+    ensures finds { Finds (again read.now) stamp read.now.record_number result.place result.wts (status_word result.status) hand.old.view hand.new.view }
     ensures stays { StaysReady core.now hand.old hand.new }
 {
     let link = core.load_head_again(hand, read);
@@ -94,7 +95,7 @@ pub fn find_to_check<J: Keeps>(
     requires begins { Begins (checks write.now) write.now.record_number hand.old.view.work }
     requires in_flight { hand.old.view.flight ≡ writing stamp }
     ensures place { result.place < places core.now.size }
-    ensures finds { Finds (checks write.now) stamp write.now.record_number result.place result.wts result.status hand.old.view hand.new.view }
+    ensures finds { Finds (checks write.now) stamp write.now.record_number result.place result.wts (status_word result.status) hand.old.view hand.new.view }
     ensures stays { StaysReady core.now hand.old hand.new }
 {
     let link = core.load_head_to_check(hand, write);

@@ -1,12 +1,13 @@
 //! The first version of a list, while no other seat is open.
-ghost use Rattle.std.specs.Prelude.{ℕ, ◌≡◌, ◌≢◌, ◌<◌, true, false, Some, nat_lt, if◌then◌else◌};
+ghost use Rattle.std.specs.Prelude.{ℕ, ◌≡◌, ◌≢◌, ◌<◌, true, false, Some, nat_lt, if◌then◌else◌, ◌==◌, ◌||◌};
+ghost use Rattle.core_rule.specs.Status.{status_word};
 ghost use Rattle.core_rule.specs.Views.{IsAlone};
 ghost use Rattle.core_rule.specs.Searching.{known_of, newest_stamp};
 ghost use Rattle.core_rule.specs.Hands.{IsReady, StaysReady};
 ghost use Rattle.version_search.specs.Looking.{Looked};
 
 use crate::fronts::First;
-use core_rule::{Core, Hand, Keeps, link_place};
+use core_rule::{Core, Hand, Keeps, Status, link_place};
 
 /// Loads the first version of a record's list, while no other seat is open.
 pub fn first<J: Keeps>(core: &Core<J>, hand: &mut Hand<J>, rid: u32) -> First
@@ -33,7 +34,17 @@ pub fn first<J: Keeps>(core: &Core<J>, hand: &mut Hand<J>, rid: u32) -> First
     First {
         place,
         wts,
-        decided: status == 3 || status == 4,
+        decided: is_final(status),
         single: next == 0,
+    }
+}
+
+// It is committed or deleted.
+fn is_final(status: Status) -> bool
+    ensures { result ≡ ((status_word status == status_word Status.Committed) || (status_word status == status_word Status.Deleted)) }
+{
+    match status {
+        Status::Committed | Status::Deleted => true,
+        Status::Pending | Status::Aborted => false,
     }
 }

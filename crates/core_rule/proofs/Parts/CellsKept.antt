@@ -1,5 +1,5 @@
 -- Cells: what steps fill and load are words.
-use Rattle.std.proofs.Common.{eqb-true, ◌≡◌, ℕ, suc, ◌-◌, ◌<◌, Bool, true, false, cond, eqb, List, [], ◌∷◌, ◌++◌, set, refl, sym, ap, ◌∙◌, subst, inl, inr, ⊎_elim, Some, None}
+use Rattle.std.proofs.Common.{eqb-true, ◌≡◌, ℕ, suc, ◌-◌, ◌<◌, Bool, true, false, cond, eqb, List, [], ◌∷◌, ◌++◌, set, refl, sym, ap, ◌∙◌, subst, inl, inr, ⊎_elim}
 use Rattle.plain_data.specs.State.{State}
 use Rattle.word_layout.specs.Size.{Size, IsSize}
 use Rattle.word_layout.specs.Name.{head, cell, status, next as next_word}
@@ -8,7 +8,7 @@ use Rattle.core_rule.specs.World.{World}
 use Rattle.core_rule.specs.View.{View, Fill, Read, Write, Aim, Joint, reads, links, again, checks, Stand, Look, blank, stamped, shown, still, stands, first_view}
 use Rattle.core_rule.specs.Views.{Among}
 use Rattle.core_rule.specs.Holding.{without_fill, reset_fill, more_cells}
-use Rattle.core_rule.specs.Searching.{ends, is_final, moved, reads_with, finished_with, read_found, more_read, read_place, read_cells, IsLoading, Begins}
+use Rattle.core_rule.specs.Searching.{ends, moved, reads_with, finished_with, read_found, more_read, read_place, read_cells, IsLoading, Begins}
 use Rattle.core_rule.specs.Kinds.{Kind, publish_stamp, publish_idle, retire_write, publish_bound, retire_read, take, fill_stamp, fill_reset, fill_cell, meet_cell, give, load_head, load_next, load_stamp, load_status, load_cell, mark, point, link_head, link_next, raise_read_stamp, load_read_stamp, decide_by_check, decide_bare, store_status, finish, name, after}
 use Rattle.core_rule.specs.Hands.{split_left, split_right, joined_view}
 use Rattle.core_rule.specs.Parts.Cells.{AreWords, AimWords, SearchWords, IsReadOnce, IsWrittenOnce, CellsOk}

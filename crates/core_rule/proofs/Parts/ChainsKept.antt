@@ -11,7 +11,6 @@ use Rattle.core_rule.specs.World.{World, Owner, free, held, marked, linked, cut_
 use Rattle.core_rule.specs.View.{View, Logged, stamped, Stage, locked, above_floor, seeks, passes, found, floored, cut_off, freeing, Item, no_item, collects, first_view}
 use Rattle.core_rule.specs.Views.{At, Has, Among, SomeView}
 use Rattle.core_rule.specs.Rule.{head_words}
-use Rattle.core_rule.specs.Searching.{is_final}
 use Rattle.core_rule.specs.Deciding.{stamp_in, commit_of}
 use Rattle.core_rule.specs.Collecting.{HasEntry, HasChain, Frees}
 use Rattle.core_rule.specs.Kinds.{Kind, publish_stamp, publish_idle, retire_write, publish_bound, retire_read, take, fill_stamp, give, mark, point, link_head, link_next, decide_by_check, decide_bare, finish, take_lock, load_floor, seek_head, seek_stamp, seek_next, raise_floor, cut, unlock, drop, follow, free_place, name, after, turned, changed}

@@ -12,7 +12,7 @@ use Rattle.core_rule.specs.Memory.{Memory, stored, start}
 use Rattle.core_rule.specs.World.{World, first_world}
 use Rattle.core_rule.specs.View.{View, Flight, resting, writing, Read, Write, Aim, reads, links, again, checks, Stand, Look, blank, stamped, shown, Search, still, marks, stands, Logged, first_view}
 use Rattle.core_rule.specs.Views.{At, Has, Among, SomeView}
-use Rattle.core_rule.specs.Searching.{limit_of, IsPassed, is_final, ends, moved, reads_with, more_read, read_place, read_cells, stamp_seen, shown_at}
+use Rattle.core_rule.specs.Searching.{limit_of, IsPassed, ends, moved, reads_with, more_read, read_place, read_cells, stamp_seen, shown_at}
 use Rattle.core_rule.specs.Deciding.{stamp_in, commit_of, snapshot_of}
 use Rattle.core_rule.specs.Rule.{status_words, floor_words}
 use Rattle.core_rule.specs.Kinds.{Kind, publish_stamp, publish_idle, retire_write, publish_bound, retire_read, raise_min_write, load_head, load_next, load_stamp, load_status, load_cell, mark, point, link_head, link_next, raise_read_stamp, load_read_stamp, decide_by_check, decide_bare, store_status, finish, name, after, turned, changed}
@@ -28,7 +28,7 @@ use Rattle.core_rule.proofs.EachView.{Each-set, Each-push, Each-join, Each-one, 
 use Rattle.core_rule.proofs.Step.{Step}
 use Rattle.core_rule.proofs.Making.{Split, Join}
 use Rattle.core_rule.proofs.Listed.{one_place, top, below}
-use Rattle.core_rule.proofs.Working.{stand_of, aim_of_read, aim_of_check}
+use Rattle.core_rule.proofs.Working.{stand_of, aim_of_check}
 use Rattle.core_rule.proofs.Claiming.{stamps_same}
 use Rattle.core_rule.proofs.Parts.SearchesKept.{left_is, next_is}
 use Rattle.core_rule.proofs.Parts.VersionsKept.{flight_seat, draws_later}

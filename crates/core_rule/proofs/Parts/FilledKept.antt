@@ -1,9 +1,9 @@
 -- Filled places: nobody but its holder stores in a place that is held.
-use Rattle.std.proofs.Common.{◌≡◌, ◌≢◌, ℕ, suc, ◌+◌, ◌<◌, max, true, false, Bool, cond, eqb, ◌&&◌, List, [], ◌∷◌, ◌++◌, length, set, refl, sym, ◌∙◌, subst, arith, eq-eqb, eqb-true, ne_eqb, inr, add-zero, zero-add, None, Some}
+use Rattle.std.proofs.Common.{◌≡◌, ◌≢◌, ℕ, suc, ◌+◌, ◌<◌, max, true, false, Bool, cond, eqb, ◌&&◌, List, [], ◌∷◌, ◌++◌, length, set, refl, sym, ◌∙◌, subst, arith, eq-eqb, eqb-true, ne_eqb, inr, add-zero, zero-add}
 use Rattle.plain_data.specs.State.{State}
 use Rattle.word_layout.specs.Size.{Size}
 use Rattle.core_rule.specs.Memory.{Memory, Stored, stored, start}
-use Rattle.core_rule.specs.World.{World, marked, linked, at_number}
+use Rattle.core_rule.specs.World.{World, linked, at_number}
 use Rattle.core_rule.specs.Views.{AllOf, Has}
 use Rattle.core_rule.specs.View.{View, Fill, first_view}
 use Rattle.core_rule.specs.Hands.{split_left, split_right, joined_view}
@@ -14,13 +14,10 @@ use Rattle.core_rule.specs.Holding.{filled_place, filled_cells, reset_fill, more
 use Rattle.core_rule.specs.Kinds.{Kind, take, fill_stamp, fill_reset, fill_cell, meet_cell, give, mark, point, link_next, raise_read_stamp, cut, name, after, changed}
 use Rattle.core_rule.specs.Parts.Filled.{CellsAre, Stands, Others, FillsOk, FilledOk, Filled}
 use Rattle.core_rule.proofs.EachView.{Each-set, Each-own, Each-push, Each-join, Each-one, AllOf-Has, joined}
-use Rattle.core_rule.proofs.Without.{ne_from_test, Has-without, Others-without, FillsOk-without}
+use Rattle.core_rule.proofs.Without.{Has-without, Others-without, FillsOk-without}
 use Rattle.core_rule.proofs.Parts.PlacesKept.{others_hold_not, not_held}
-use Rattle.core_rule.specs.View.{Places, stamped}
-use Rattle.core_rule.specs.Parts.Linking.{IsAbove}
-use Rattle.core_rule.specs.View.{floored}
-use Rattle.core_rule.proofs.Collected.{work_of}
-use Rattle.core_rule.proofs.Working.{joint_of, stand_of, raised_of}
+use Rattle.core_rule.specs.View.{Places}
+use Rattle.core_rule.proofs.Working.{raised_of}
 use Rattle.core_rule.specs.Deciding.{stamp_in}
 use Rattle.core_rule.specs.Views.{At}
 use Rattle.word_layout.specs.Name.{next as next_word}

@@ -5,15 +5,15 @@ use native.Mathlib.Decide.{dec_lt}
 use Rattle.atomic_table.proofs.Lists.{at_set, set_here, set_else}
 use Rattle.plain_data.specs.State.{State, IsEntry}
 use Rattle.word_layout.specs.Size.{Size, IsSize}
-use Rattle.word_layout.specs.Name.{rts, status}
+use Rattle.word_layout.specs.Name.{rts}
 use Rattle.core_rule.specs.Memory.{Memory, stored}
 use Rattle.core_rule.specs.World.{World}
-use Rattle.core_rule.specs.View.{View, Flight, resting, writing, Read, Write, Aim, again, checks, Stand, Look, stamped, shown, stands, Logged, first_view, spent_view}
+use Rattle.core_rule.specs.View.{View, Flight, resting, writing, Read, Write, Aim, checks, Stand, Look, shown, stands, Logged, first_view, spent_view}
 use Rattle.core_rule.specs.Views.{At, Has, Among, SomeView}
 use Rattle.core_rule.specs.Rule.{status_words, floor_words}
 use Rattle.core_rule.specs.Kinds.{Kind, decide_by_check, decide_bare, finish, name, after}
 use Rattle.core_rule.specs.Hands.{split_left, split_right, joined_view}
-use Rattle.core_rule.specs.Searching.{limit_of, is_final, IsWhole, shown_at}
+use Rattle.core_rule.specs.Searching.{limit_of, IsWhole, shown_at}
 use Rattle.core_rule.specs.Deciding.{entry_of, stamp_in, commit_of, snapshot_of, AreReads, IsFitting, IsUndecided}
 use Rattle.core_rule.specs.Entries.{InLog, Wrote, Precedes, AllDiffer, Across}
 use Rattle.core_rule.specs.Claims.{claim}
@@ -27,11 +27,11 @@ use Rattle.core_rule.specs.Parts.History as part
 use Rattle.core_rule.proofs.EachView.{Each-push, Each-join, Each-one, at_below, at_push, same_view, joined}
 use Rattle.core_rule.proofs.Step.{Step}
 use Rattle.core_rule.proofs.Making.{Split, Join}
-use Rattle.core_rule.proofs.Among.{Among-left, Among-last, Among-either, Among-split, if_more}
+use Rattle.core_rule.proofs.Among.{Among-left, Among-last, Among-split, if_more}
 use Rattle.core_rule.proofs.Logs.{InLog-set, InLog-push, InLog-unpush, InLog-join, InLog-unjoin}
 use Rattle.core_rule.proofs.Working.{in_flight_late}
 use Rattle.core_rule.proofs.Parts.ReachKept.{reach_kept}
-use Rattle.core_rule.proofs.Proper.{are_reads, are_writes, once_more, AreReads-once, AreReads-each, shown_true}
+use Rattle.core_rule.proofs.Proper.{are_reads, are_writes, AreReads-once, AreReads-each, shown_true}
 use Rattle.core_rule.proofs.LogGrows.{AllAcross, Across-swap, AllDiffer-append, same_logs, still, enters}
 use Rattle.core_rule.proofs.Fresh.{fresh}
 use Rattle.core_rule.proofs.Sources.{above_floor, source_of, snapshot_obeys}

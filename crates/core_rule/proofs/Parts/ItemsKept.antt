@@ -4,13 +4,13 @@ use Rattle.std.specs.Prelude.{nat_le}
 use Rattle.std.proofs.lemmas.Bool.{leb-true}
 use Rattle.plain_data.specs.State.{State}
 use Rattle.word_layout.specs.Size.{Size, IsSize}
-use Rattle.word_layout.specs.Name.{min_read, head, status, rts, next as next_word}
+use Rattle.word_layout.specs.Name.{min_read, head, rts, next as next_word}
 use Rattle.core_rule.specs.Memory.{Memory, Stored, stored, start}
 use Rattle.core_rule.specs.World.{World, linked, at_number, behind, up_to, first_world}
 use Rattle.core_rule.specs.View.{View, Logged, Joint, Stand, Stage, locked, above_floor, seeks, passes, found, floored, cut_off, freeing, Item, no_item, collects, first_view}
 use Rattle.core_rule.specs.Views.{At, Has, Among}
 use Rattle.core_rule.specs.Rule.{status_words, floor_words, lock_words}
-use Rattle.core_rule.specs.Searching.{IsFinal, is_final}
+use Rattle.core_rule.specs.Searching.{IsFinal}
 use Rattle.core_rule.specs.Deciding.{stamp_in, commit_of}
 use Rattle.core_rule.specs.Collecting.{HasEntry, HasLock}
 use Rattle.core_rule.specs.Kinds.{Kind, publish_stamp, publish_idle, retire_write, publish_bound, retire_read, raise_min_read, link_head, link_next, decide_by_check, decide_bare, finish, take_lock, load_floor, seek_head, seek_stamp, seek_next, raise_floor, cut, unlock, drop, follow, free_place, name, after, turned, changed}

@@ -12,16 +12,16 @@ use Rattle.stamp_base.specs.Stamp.{stamp_of, clock_of, seat_of}
 use Rattle.stamp_base.specs.Limits.{most_seats}
 use Rattle.core_rule.specs.Memory.{Memory, stored}
 use Rattle.core_rule.specs.World.{World, from_behind}
-use Rattle.core_rule.specs.View.{View, Flight, resting, writing, Read, Aim, reads, links, again, checks, Stand, Write, Logged, Look, blank, stamped, shown, stands, Splitting, single, sharing, offers_write, offers_both, shared, locked, above_floor, seeks, passes, freeing}
+use Rattle.core_rule.specs.View.{View, Flight, resting, writing, Aim, reads, links, again, checks, Stand, Write, Logged, Look, blank, stamped, shown, stands, Splitting, single, sharing, offers_write, offers_both, shared, locked, above_floor, seeks, passes, freeing}
 use Rattle.core_rule.specs.Views.{Has, At, Among, SomeView, IsAlone}
 use Rattle.core_rule.specs.Offers.{IsSettled}
-use Rattle.core_rule.specs.Searching.{limit_of, IsFinal, is_final}
+use Rattle.core_rule.specs.Searching.{limit_of}
 use Rattle.core_rule.specs.Deciding.{stamp_in, commit_of, snapshot_of, StoodAt, IsLawfulLog}
 use Rattle.core_rule.specs.Claims.{AimClaims, SearchClaims}
 use Rattle.core_rule.specs.Collecting.{Locking, Frees}
 use Rattle.core_rule.specs.Ways.{told}
 use Rattle.core_rule.specs.Rule.{write_words, read_words, status_words, head_words, lock_words}
-use Rattle.core_rule.specs.Kinds.{Kind, publish_stamp, hear, scan_writes, scan_reads, load_min_write, load_min_read, raise_min_write, raise_min_read, name, way, take, load_head, load_next, load_stamp, load_status, load_cell, link_head, link_next, load_read_stamp, decide_by_check, decide_bare, finish, take_lock, load_floor, seek_head, seek_stamp, seek_next, cut, follow, front_head, after, turned, changed}
+use Rattle.core_rule.specs.Kinds.{Kind, publish_stamp, hear, scan_writes, scan_reads, load_min_write, load_min_read, raise_min_write, raise_min_read, name, way, take, load_head, load_next, load_stamp, load_status, load_cell, link_head, link_next, load_read_stamp, decide_by_check, decide_bare, finish, take_lock, load_floor, seek_head, seek_stamp, seek_next, cut, follow, front_head, front_status, after, turned, changed}
 use Rattle.core_rule.specs.Learnt.{Learnt, IsOvertaken, IsOfAnother, least_of, IsLink}
 use Rattle.core_rule.specs.Parts.Closed.{OffersNot, ClosedAt}
 use Rattle.core_rule.specs.Parts.Splitting.{Makes}
@@ -34,8 +34,8 @@ use Rattle.core_rule.specs.Parts.Locks.{LocksAt}
 use Rattle.core_rule.proofs.EachView.{AllOf-map, AllOf-Has, same_view, at_below}
 use Rattle.core_rule.proofs.Step.{Step}
 use Rattle.core_rule.proofs.Alone.{none_else, as_this, taken_as, drawn_low, linked_low}
-use Rattle.core_rule.proofs.Listed.{top, one_place}
-use Rattle.core_rule.proofs.Working.{stand_of, aim_of, joint_of, late_of, aim_of_read, aim_of_check}
+use Rattle.core_rule.proofs.Listed.{top}
+use Rattle.core_rule.proofs.Working.{stand_of, aim_of, joint_of, late_of, aim_of_read, aim_of_check, front_of}
 use Rattle.core_rule.proofs.Collected.{work_of, chain_of}
 use Rattle.core_rule.proofs.Sought.{sought_next}
 use Rattle.core_rule.proofs.Cutting.{cut_work, cut_version, tail_linked, tail_low}
@@ -282,10 +282,8 @@ module _ (kept : State → Type 0) (z : Size) (g : World) (m : Memory) (vs : Lis
       let t = (next_is kept z g m vs id v _ s p look s.allowed.can.0 s.allowed.can.1 h).meets in link_in _ s p.record_number (m (next_word p.place)) h.kept.on_record t.positive t.there
   learnt (load_stamp p) s = (low_at p p.aim (aim_of kept z g m vs id v _ s p blank s.allowed.can), (stand_of kept z g m vs id v _ s p blank s.allowed.can).under)
   learnt (load_status p w) s =
-      let h = stand_of kept z g m vs id v _ s p (stamped w) s.allowed.can.0 in
-      let known = (s.rule.versions.each p.record_number p.place h.kept.on_record h.kept.there).known in (
-        known.0,
-        known.1,
+      let h = stand_of kept z g m vs id v _ s p (stamped w) s.allowed.can.0 in (
+        (s.rule.versions.each p.record_number p.place h.kept.on_record h.kept.there).known,
         met_pending p w s,
         overtaken p w s p.aim refl,
         λ alone final. search_left kept z g m vs s.rule id v s.at s.allowed.is_open (taken_as kept z g m vs s.rule id v s.at s.allowed.is_open alone) p w s.allowed.can.0 s.allowed.can.2 final,
@@ -356,4 +354,9 @@ module _ (kept : State → Type 0) (z : Size) (g : World) (m : Memory) (vs : Lis
       let lt : r < z.records = rw (← (s.rule.seats.each id v s.at s.allowed.is_open).size) s.allowed.can.0 in
       let l = s.rule.lists.each r lt in
       let t = top (stored m).stamps (stored m).links (g.lists r) (m (head r)) l.base.place l.spelled l.falls l.base.there in link_in _ s r (m (head r)) lt t.positive t.there
+  learnt (front_status r p w) s =
+      let f = front_of kept z g m vs id v _ s r p (stamped w) s.allowed.can in let first = f.2 in
+      let l = s.rule.lists.each r f.0 in
+      let t = top (stored m).stamps (stored m).links (g.lists r) (m (head r)) l.base.place l.spelled l.falls l.base.there in
+      let here : m (head r) - 1 ≡ p = omega arith in (s.rule.versions.each r p f.0 (subst (λ (q : ℕ). Has q (g.lists r)) here t.there)).known
   learnt k s = tt

@@ -10,7 +10,7 @@ use Rattle.core_rule.specs.World.{World, Owner, free, held, marked, linked, at_n
 use Rattle.core_rule.specs.View.{View, Flight, writing, Write, Joint, Aim, reads, links, again, checks, Stand, Look, blank, stamped, shown, Search, still, marks, stands, first_view}
 use Rattle.core_rule.specs.Views.{At, Has}
 use Rattle.core_rule.specs.Holding.{filled_place}
-use Rattle.core_rule.specs.Searching.{limit_of, IsPassed, IsLate, stamp_seen, ends, is_final, moved, Begins, IsNotLinked, HasWrite, FitsPlace}
+use Rattle.core_rule.specs.Searching.{limit_of, IsPassed, IsLate, stamp_seen, ends, moved, Begins, IsNotLinked, HasWrite, FitsPlace}
 use Rattle.core_rule.specs.Rule.{status_words}
 use Rattle.core_rule.specs.Kinds.{Kind, publish_stamp, publish_idle, retire_write, publish_bound, retire_read, take, fill_stamp, fill_reset, fill_cell, give, load_head, load_next, load_stamp, load_status, mark, point, link_head, link_next, raise_read_stamp, load_read_stamp, decide_by_check, decide_bare, store_status, finish, cut, free_place, name, after, turned, changed}
 use Rattle.core_rule.specs.Hands.{split_left, split_right, joined_view}

@@ -12,7 +12,7 @@ use Rattle.core_rule.specs.Memory.{Memory, stored, start}
 use Rattle.core_rule.specs.World.{World, Owner, linked, at_number, behind, first_world}
 use Rattle.core_rule.specs.View.{View, Flight, writing, Read, Write, Joint, Aim, reads, links, again, checks, Stand, Look, blank, stamped, shown, Search, still, marks, stands, no_work, first_view}
 use Rattle.core_rule.specs.Views.{At, Each, Has, Among}
-use Rattle.core_rule.specs.Searching.{limit_of, IsPassed, IsFinal, Begins, stamp_seen, moved, ends, is_final, shown_at}
+use Rattle.core_rule.specs.Searching.{limit_of, IsPassed, IsFinal, Begins, stamp_seen, moved, ends, shown_at}
 use Rattle.core_rule.specs.Deciding.{stamp_in}
 use Rattle.core_rule.specs.Claims.{Claim, claim, AimClaims, SearchClaims}
 use Rattle.core_rule.specs.Rule.{status_words}

@@ -8,9 +8,9 @@ use Rattle.word_layout.specs.Name.{head, status, next as next_word}
 use Rattle.stamp_base.specs.Limits.{end_of_stamps}
 use Rattle.core_rule.specs.Memory.{Memory, Stored, stored, start}
 use Rattle.core_rule.specs.World.{World, at_number, behind, up_to, first_world}
-use Rattle.core_rule.specs.View.{View, links, Flight, Stand, Joint, Look, blank, stamped, shown, Search, still, marks, stands, first_view}
+use Rattle.core_rule.specs.View.{View, links, Stand, Joint, Look, blank, stamped, shown, Search, still, marks, stands, first_view}
 use Rattle.core_rule.specs.Views.{At, Has}
-use Rattle.core_rule.specs.Searching.{limit_of, IsPassed, stamp_seen, ends, is_final, moved}
+use Rattle.core_rule.specs.Searching.{limit_of, IsPassed, stamp_seen, ends, moved}
 use Rattle.core_rule.specs.Rule.{status_words}
 use Rattle.core_rule.specs.Kinds.{Kind, publish_stamp, publish_idle, retire_write, publish_bound, retire_read, load_head, load_next, load_stamp, load_status, mark, point, link_head, link_next, load_read_stamp, decide_by_check, decide_bare, store_status, finish, cut, name, after, turned, changed}
 use Rattle.core_rule.specs.Hands.{split_left, split_right, joined_view}
@@ -23,7 +23,7 @@ use Rattle.core_rule.proofs.Making.{Split, Join}
 use Rattle.core_rule.proofs.Listed.{Follows, Grown, one_place, top, below, grown_head, grown_behind}
 use Rattle.core_rule.proofs.Touched.{Untouched, Quiet, quiet}
 use Rattle.core_rule.proofs.Cutting.{IsKept-cut}
-use Rattle.core_rule.proofs.Working.{stand_of, joint_of, aim_of_read, before_stamp, below_limit}
+use Rattle.core_rule.proofs.Working.{stand_of, joint_of, before_stamp, below_limit}
 
 -- ---- what changes words of no linked place
 

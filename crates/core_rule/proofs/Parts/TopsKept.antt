@@ -10,7 +10,7 @@ use Rattle.core_rule.specs.World.{World, at_number}
 use Rattle.core_rule.specs.View.{View, Aim, reads, links, again, checks, Joint, Stand, Look, blank, stamped, shown, still, stands, Splitting, single, sharing, offers_write, offers_both, shared, first_view}
 use Rattle.core_rule.specs.Views.{At, OthersTaken}
 use Rattle.core_rule.specs.Offers.{MayOffer, HasOffered, offered_write, offered_read}
-use Rattle.core_rule.specs.Searching.{ends, moved, is_final, stamp_seen}
+use Rattle.core_rule.specs.Searching.{ends, moved, stamp_seen}
 use Rattle.core_rule.specs.Rule.{Rule, head_words}
 use Rattle.core_rule.specs.Kinds.{Kind, offer_write_word, offer_read_word, publish_stamp, publish_idle, retire_write, publish_bound, retire_read, load_head, load_next, load_stamp, load_status, mark, point, link_head, link_next, load_read_stamp, decide_by_check, decide_bare, store_status, finish, name, after, changed}
 use Rattle.core_rule.specs.Hands.{split_left, split_right, joined_view}

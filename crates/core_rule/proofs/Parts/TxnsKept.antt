@@ -8,8 +8,8 @@ use Rattle.stamp_base.specs.Limits.{end_of_stamps}
 use Rattle.core_rule.specs.Memory.{Memory}
 use Rattle.core_rule.specs.World.{World}
 use Rattle.core_rule.specs.View.{View, writing, Read, Write, Aim, Joint, reads, links, again, checks, Stand, Look, blank, stamped, shown, Search, still, marks, stands, Work, first_view}
-use Rattle.core_rule.specs.Views.{Has, Among, AllIn}
-use Rattle.core_rule.specs.Searching.{ends, is_final, moved, stamp_seen, finished_with, IsWhole, AllPassed, OthersPassed, Begins}
+use Rattle.core_rule.specs.Views.{Has, Among}
+use Rattle.core_rule.specs.Searching.{ends, moved, stamp_seen, finished_with, IsWhole, AllPassed, OthersPassed, Begins}
 use Rattle.core_rule.specs.Deciding.{stamp_in, commit_of}
 use Rattle.core_rule.specs.Kinds.{Kind, publish_stamp, publish_idle, retire_write, publish_bound, retire_read, load_head, load_next, load_stamp, load_status, mark, point, link_head, link_next, raise_read_stamp, load_read_stamp, decide_by_check, decide_bare, store_status, finish, name, after}
 use Rattle.core_rule.specs.Hands.{split_left, split_right, joined_view}

@@ -12,7 +12,7 @@ use Rattle.core_rule.specs.World.{World, Owner, linked, at_number, behind, first
 use Rattle.core_rule.specs.View.{View, writing, Read, Write, Stand, Joint, Logged, first_view}
 use Rattle.core_rule.specs.Views.{Has, Among, SomeView}
 use Rattle.core_rule.specs.Rule.{status_words, floor_words}
-use Rattle.core_rule.specs.Searching.{IsFinal, is_final, shown_at, Ends}
+use Rattle.core_rule.specs.Searching.{IsFinal, shown_at, Ends}
 use Rattle.core_rule.specs.Deciding.{stamp_in, commit_of, snapshot_of, IsUndecided}
 use Rattle.core_rule.specs.Entries.{InLog, Wrote}
 use Rattle.core_rule.specs.Kinds.{Kind, publish_stamp, publish_idle, retire_write, publish_bound, retire_read, link_head, link_next, decide_by_check, decide_bare, store_status, finish, name, after, turned, changed}

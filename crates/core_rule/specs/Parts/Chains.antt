@@ -1,5 +1,5 @@
 -- Chains: the places that a seat has cut off and not yet freed are spelled by the link to go on from, and out of reach.
-use Rattle.std.specs.Prelude.{◌≡◌, ℕ, ◌<◌, ◌≤◌, List, [], ◌∷◌, Some, None}
+use Rattle.std.specs.Prelude.{◌≡◌, ℕ, ◌<◌, List, [], ◌∷◌, Some, None}
 use Rattle.word_layout.specs.Size.{Size, places}
 use Rattle.core_rule.specs.World.{Owner, cut_by}
 use Rattle.core_rule.specs.View.{View, Logged, Stage, cut_off, freeing, Item, no_item, collects}

@@ -1,5 +1,7 @@
 -- Reads in reach: the second search will meet a version committed above the one read, or no writer between has passed its check.
 use Rattle.std.specs.Prelude.{◌≡◌, ◌≢◌, ◌⊎◌, ℕ, ◌<◌, ◌≤◌, List}
+use Rattle.core_rule.specs.Status.{status_word}
+use Rattle.core_rule.specs.declared.status.Status.TheVariants.{Pending, Aborted}
 use Rattle.core_rule.specs.View.{View, writing, Aim, checks, Stand, Search, stands, Work}
 use Rattle.core_rule.specs.Views.{Each, Has}
 use Rattle.core_rule.specs.Searching.{IsFinal}
@@ -34,7 +36,7 @@ pub record Passed (lists : ℕ → List ℕ) (stamps statuses : ℕ → ℕ) (c 
 -- (b): each version between the position and the stamp that is not aborted is pending, and its writer waits
 abbrev pub Clear : (ℕ → List ℕ) → (stamps statuses : ℕ → ℕ) → List View → Claim → Type 0
 Clear lists stamps statuses vs c =
-    (p : ℕ) → Has p (lists c.record_number) → c.position < stamps p → stamps p < c.stamp → statuses p ≢ 5 → (statuses p ≡ 2) × Each (Waits stamps c.record_number c.version (stamps p)) vs
+    (p : ℕ) → Has p (lists c.record_number) → c.position < stamps p → stamps p < c.stamp → statuses p ≢ status_word Aborted → (statuses p ≡ status_word Pending) × Each (Waits stamps c.record_number c.version (stamps p)) vs
 
 pub record InReach (lists : ℕ → List ℕ) (stamps statuses : ℕ → ℕ) (vs : List View) (c : Claim) : Type 0 where
   pub low : c.version ≤ c.position

@@ -2,6 +2,8 @@
 use Rattle.std.specs.Prelude.{◌≡◌, ℕ, ◌<◌, ◌≤◌, List}
 use Rattle.word_layout.specs.Size.{Size}
 use Rattle.stamp_base.specs.Limits.{end_of_stamps}
+use Rattle.core_rule.specs.Status.{status_word}
+use Rattle.core_rule.specs.declared.status.Status.TheVariants.{Committed, Aborted}
 use Rattle.core_rule.specs.View.{View, Stand, Look, blank, stamped, shown, Search, stands}
 use Rattle.core_rule.specs.Views.{Each, Has}
 use Rattle.core_rule.specs.Searching.{limit_of}
@@ -11,13 +13,13 @@ pub record IsKept (z : Size) (lists : ℕ → List ℕ) (stamps statuses : ℕ �
   pub on_record : r < z.records
   pub there : Has q (lists r)
   pub is_open : settled < end_of_stamps
-  pub above : (p : ℕ) → Has p (lists r) → stamps q < stamps p → stamps p ≤ settled → statuses p ≡ 5
+  pub above : (p : ℕ) → Has p (lists r) → stamps q < stamps p → stamps p ≤ settled → statuses p ≡ status_word Aborted
 
 -- the write stamp, and a status that does not change any more
 abbrev pub IsSeen : (limit stamp status : ℕ) → Look → Type 0
 IsSeen limit stamp status blank = Unit {0}
 IsSeen limit stamp status (stamped w) = stamp ≡ w
-IsSeen limit stamp status (shown w s) = (stamp ≡ w) × (w < limit) × (3 ≤ s → status ≡ s)
+IsSeen limit stamp status (shown w s) = (stamp ≡ w) × (w < limit) × (status_word Committed ≤ s → status ≡ s)
 
 pub record StandOk (z : Size) (lists : ℕ → List ℕ) (stamps statuses : ℕ → ℕ) (limit settled : ℕ) (s : Stand) (look : Look) : Type 0 where
   pub kept : IsKept z lists stamps statuses settled s.record_number s.place

@@ -3,6 +3,8 @@
 use Rattle.std.specs.Prelude.{◌≡◌, ◌≢◌, ◌⊎◌, ℕ, ◌<◌, true, List, [], length}
 use Rattle.word_layout.specs.Limits.{cells_of_value}
 use Rattle.word_layout.specs.Size.{Size}
+use Rattle.core_rule.specs.Status.{status_word}
+use Rattle.core_rule.specs.declared.status.Status.TheVariants.{Pending, Aborted}
 use Rattle.core_rule.specs.View.{View, writing, Write, Logged}
 use Rattle.core_rule.specs.Views.{Has, Among, SomeView}
 use Rattle.core_rule.specs.Searching.{IsFinal, shown_at}
@@ -32,9 +34,9 @@ pub record IsInstalled (lists : ℕ → List ℕ) (stamps : ℕ → ℕ) (cells 
   pub there : Has u.place (lists u.record_number)
   pub stamp : stamps u.place ≡ w
   pub value : CellsAre (cells u.place) 0 u.cells
-  pub shows : (statuses u.place ≡ shown_at true u.cells) ⊎ ((statuses u.place ≡ 2) × SomeView (Publishes w u) vs)
+  pub shows : (statuses u.place ≡ shown_at true u.cells) ⊎ ((statuses u.place ≡ status_word Pending) × SomeView (Publishes w u) vs)
 
 pub record Values (z : Size) (lists : ℕ → List ℕ) (floors stamps : ℕ → ℕ) (cells : ℕ → ℕ → ℕ) (statuses : ℕ → ℕ) (vs : List View) : Type 0 where
   pub each : (r p : ℕ) → r < z.records → Has p (lists r) → IsFinal (statuses p) → 0 < stamps p → WrittenBy stamps cells statuses vs r p
   pub installed : (r : ℕ) (e : Logged) (u : Write) → Wrote vs r e u → (r < z.records) × ((e.stamp < floors r) ⊎ IsInstalled lists stamps cells statuses vs e.stamp u)
-  pub aborted : (r p : ℕ) → r < z.records → Has p (lists r) → statuses p ≡ 5 → (e : Logged) (u : Write) → Wrote vs r e u → e.stamp ≢ stamps p
+  pub aborted : (r p : ℕ) → r < z.records → Has p (lists r) → statuses p ≡ status_word Aborted → (e : Logged) (u : Write) → Wrote vs r e u → e.stamp ≢ stamps p

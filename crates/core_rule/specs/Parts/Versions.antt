@@ -5,6 +5,8 @@ use Rattle.word_layout.specs.Limits.{cells_of_value}
 use Rattle.stamp_base.specs.Limits.{end_of_stamps}
 use Rattle.stamp_base.specs.Stamp.{seat_of}
 use Rattle.word_layout.specs.Size.{Size}
+use Rattle.core_rule.specs.Status.{status_word, IsStatusWord}
+use Rattle.core_rule.specs.declared.status.Status.TheVariants.{Pending, Deleted}
 use Rattle.core_rule.specs.View.{View, Flight, writing, Write}
 use Rattle.core_rule.specs.Views.{Each, Has, Among, SomeView}
 use Rattle.core_rule.specs.Searching.{HasWrite, shown_at}
@@ -19,9 +21,9 @@ pub record VersionOk (z : Size) (drawn : ℕ → ℕ) (stamps statuses : ℕ →
   pub early : stamps p < end_of_stamps
   pub within : seat_of (stamps p) < z.seats
   pub not_above_drawn : stamps p ≤ drawn (seat_of (stamps p))
-  pub known : (2 ≤ statuses p) × (statuses p ≤ 5)
-  pub base : stamps p ≡ 0 → statuses p ≡ 4
-  pub pending : statuses p ≡ 2 → SomeView (HasLinked r p (stamps p)) vs
+  pub known : IsStatusWord (statuses p)
+  pub base : stamps p ≡ 0 → statuses p ≡ status_word Deleted
+  pub pending : statuses p ≡ status_word Pending → SomeView (HasLinked r p (stamps p)) vs
 
 -- what a transaction has linked: pending until its last status is stored
 pub record LinkedOk (z : Size) (lists : ℕ → List ℕ) (stamps : ℕ → ℕ) (cells : ℕ → ℕ → ℕ) (statuses : ℕ → ℕ) (flight : Flight) (settled : List ℕ) (decided : Bool) (u : Write) : Type 0 where
@@ -29,7 +31,7 @@ pub record LinkedOk (z : Size) (lists : ℕ → List ℕ) (stamps : ℕ → ℕ)
   pub there : Has u.place (lists u.record_number)
   pub in_flight : flight ≡ writing u.stamp
   pub stamp : stamps u.place ≡ u.stamp
-  pub pending : (Has u.record_number settled → ⊥) → statuses u.place ≡ 2
+  pub pending : (Has u.record_number settled → ⊥) → statuses u.place ≡ status_word Pending
   pub stored : Has u.record_number settled → statuses u.place ≡ shown_at decided u.cells
   pub value : CellsAre (cells u.place) 0 u.cells
   pub whole : (u.cells ≡ []) ⊎ (length u.cells ≡ cells_of_value)

@@ -1,4 +1,7 @@
-use Rattle.std.proofs.Common.{◌≡◌, ◌≢◌, ◌≤◌, ℕ, refl, sym, ◌∙◌, subst, inl, length, arith}
+use Rattle.std.proofs.Common.{◌≡◌, ◌≢◌, ◌≤◌, ℕ, refl, sym, ◌∙◌, subst, inl, length, arith, ap}
+use Rattle.core_rule.specs.Status.{status_word}
+use Rattle.core_rule.specs.declared.status.Status.TheVariants.{Pending as PendingStatus}
+use Rattle.version_search.proofs.Statuses.{word_is, word_is_not}
 use Rattle.core_rule.specs.View.{again}
 use Rattle.validate_core.specs.Validating.{IsShown}
 use Rattle.validate_core.specs.declared.conflict.Conflict.TheVariants.{Pending, Overtaken}
@@ -20,15 +23,15 @@ returns-then-shown-wts-clause-conflict g c =
     let d = c.read_at-read.result.now in let f = c.find_again-shown.result in let seen = c.wts-then-shown-wts.ensures in
     let x = c.find_again-shown.new.hand.view in
     let apart : f.wts ≢ d.version = λ e. c.if-shown-wts.true (e ∙ sym c.wts.ensures) in
-    let t : IsShown c.args.stamp c.args.sets.now c.loop-i.hand.view x (Overtaken d.record_number d.version f.wts) = overtaken_shown c.args.stamp c.args.sets.now c.loop-i.i d f.place f.wts f.status c.loop-i.hand.view c.find_again-shown.new.hand.view c.read_at-read.ensures c.find_again-shown.ensures.finds c.if-shown-eq-PENDING.false apart in
+    let t : IsShown c.args.stamp c.args.sets.now c.loop-i.hand.view x (Overtaken d.record_number d.version f.wts) = overtaken_shown c.args.stamp c.args.sets.now c.loop-i.i d f.place f.wts (status_word f.status) c.loop-i.hand.view c.find_again-shown.new.hand.view c.read_at-read.ensures c.find_again-shown.ensures.finds (word_is_not f.status PendingStatus (sym c.eq.ensures ∙ c.if-eq.false)) apart in
     shown_earlier c.args.stamp c.args.sets.now c.args.hand.now.view c.loop-i.hand.view x (Overtaken c.rid-then-shown-wts.result c.wts-then-shown-wts.result f.wts) c.loop-i.invariant.works
     (subst (λ (n : ℕ). IsShown c.args.stamp c.args.sets.now c.loop-i.hand.view x (Overtaken n c.wts-then-shown-wts.result f.wts)) (sym c.rid-then-shown-wts.ensures)
     (subst (λ (n : ℕ). IsShown c.args.stamp c.args.sets.now c.loop-i.hand.view x (Overtaken d.record_number n f.wts)) (sym seen) t))
 
-pub returns-then-shown-eq-PENDING-clause-conflict : goal.returns-then-shown-eq-PENDING-clause-conflict
-returns-then-shown-eq-PENDING-clause-conflict g c =
+pub returns-then-eq-clause-conflict : goal.returns-then-eq-clause-conflict
+returns-then-eq-clause-conflict g c =
     let d = c.read_at-read.result.now in let f = c.find_again-shown.result in let x = c.find_again-shown.new.hand.view in
-    let t = pending_shown c.args.stamp c.args.sets.now (again d) d.record_number f.place f.wts f.status c.loop-i.hand.view x c.if-shown-eq-PENDING.true c.find_again-shown.ensures.finds in
+    let t = pending_shown c.args.stamp c.args.sets.now (again d) d.record_number f.place f.wts (status_word f.status) c.loop-i.hand.view x (word_is f.status PendingStatus (sym c.eq.ensures ∙ c.if-eq.true)) c.find_again-shown.ensures.finds in
     let h : IsShown c.args.stamp c.args.sets.now c.loop-i.hand.view x (Pending d.record_number f.wts) = (t.0, t.1, inl (d.version, record { read = d; among = among_turn c.loop-i.i c.args.sets.now.reads d c.read_at-read.ensures; of_record = refl; at = refl }), t.2) in
     shown_earlier c.args.stamp c.args.sets.now c.args.hand.now.view c.loop-i.hand.view x (Pending c.rid.result f.wts) c.loop-i.invariant.works
     (subst (λ (r : ℕ). IsShown c.args.stamp c.args.sets.now c.loop-i.hand.view x (Pending r f.wts)) (sym c.rid.ensures) h)
@@ -37,33 +40,33 @@ pub loop-i-preserved : goal.loop-i-preserved
 loop-i-preserved g c =
     let d = c.read_at-read.result.now in let f = c.find_again-shown.result in let at = c.find_again-shown.new.hand in
     let is : f.wts ≡ d.version = c.if-shown-wts.false ∙ c.wts.ensures in
-    again_next c.args.core.now c.args.hand.now c.args.stamp c.args.sets.now c.loop-i.i d f.place f.wts f.status c.loop-i.hand at c.read_at-read.ensures c.loop-i.invariant c.find_again-shown.ensures.stays
-    c.find_again-shown.ensures.finds c.if-shown-eq-PENDING.false is
+    again_next c.args.core.now c.args.hand.now c.args.stamp c.args.sets.now c.loop-i.i d f.place f.wts (status_word f.status) c.loop-i.hand at c.read_at-read.ensures c.loop-i.invariant c.find_again-shown.ensures.stays
+    c.find_again-shown.ensures.finds (word_is_not f.status PendingStatus (sym c.eq.ensures ∙ c.if-eq.false)) is
 
 -- ---- what stops the search
 
-pub returns-then-shown-eq-PENDING-clause-works : goal.returns-then-shown-eq-PENDING-clause-works
-returns-then-shown-eq-PENDING-clause-works g c =
+pub returns-then-eq-clause-works : goal.returns-then-eq-clause-works
+returns-then-eq-clause-works g c =
     let d = c.read_at-read.result.now in let f = c.find_again-shown.result in let x = c.find_again-shown.new.hand.view in
-    works_both c.args.hand.now.view c.loop-i.hand.view x c.loop-i.invariant.works (found_works (again d) c.args.stamp d.record_number f.place f.wts f.status c.loop-i.hand.view x c.find_again-shown.ensures.finds)
+    works_both c.args.hand.now.view c.loop-i.hand.view x c.loop-i.invariant.works (found_works (again d) c.args.stamp d.record_number f.place f.wts (status_word f.status) c.loop-i.hand.view x c.find_again-shown.ensures.finds)
 
-pub returns-then-shown-eq-PENDING-clause-stopped : goal.returns-then-shown-eq-PENDING-clause-stopped
-returns-then-shown-eq-PENDING-clause-stopped g c =
+pub returns-then-eq-clause-stopped : goal.returns-then-eq-clause-stopped
+returns-then-eq-clause-stopped g c =
     let d = c.read_at-read.result.now in let f = c.find_again-shown.result in
-    found_stops c.args.stamp c.args.sets.now _ _ _ (again d) c.args.stamp d.record_number f.place f.wts f.status c.loop-i.hand.view c.find_again-shown.new.hand.view tt c.loop-i.invariant.stage c.find_again-shown.ensures.finds
+    found_stops c.args.stamp c.args.sets.now _ _ _ (again d) c.args.stamp d.record_number f.place f.wts (status_word f.status) c.loop-i.hand.view c.find_again-shown.new.hand.view tt c.loop-i.invariant.stage c.find_again-shown.ensures.finds
 
-pub returns-then-shown-eq-PENDING-clause-stays : goal.returns-then-shown-eq-PENDING-clause-stays
-returns-then-shown-eq-PENDING-clause-stays g c = ready_both c.args.core.now c.args.hand.now c.loop-i.hand c.find_again-shown.new.hand c.loop-i.invariant.stays c.find_again-shown.ensures.stays
+pub returns-then-eq-clause-stays : goal.returns-then-eq-clause-stays
+returns-then-eq-clause-stays g c = ready_both c.args.core.now c.args.hand.now c.loop-i.hand c.find_again-shown.new.hand c.loop-i.invariant.stays c.find_again-shown.ensures.stays
 
 pub returns-then-shown-wts-clause-works : goal.returns-then-shown-wts-clause-works
 returns-then-shown-wts-clause-works g c =
     let d = c.read_at-read.result.now in let f = c.find_again-shown.result in let x = c.find_again-shown.new.hand.view in
-    works_both c.args.hand.now.view c.loop-i.hand.view x c.loop-i.invariant.works (found_works (again d) c.args.stamp d.record_number f.place f.wts f.status c.loop-i.hand.view x c.find_again-shown.ensures.finds)
+    works_both c.args.hand.now.view c.loop-i.hand.view x c.loop-i.invariant.works (found_works (again d) c.args.stamp d.record_number f.place f.wts (status_word f.status) c.loop-i.hand.view x c.find_again-shown.ensures.finds)
 
 pub returns-then-shown-wts-clause-stopped : goal.returns-then-shown-wts-clause-stopped
 returns-then-shown-wts-clause-stopped g c =
     let d = c.read_at-read.result.now in let f = c.find_again-shown.result in
-    found_stops c.args.stamp c.args.sets.now _ _ _ (again d) c.args.stamp d.record_number f.place f.wts f.status c.loop-i.hand.view c.find_again-shown.new.hand.view tt c.loop-i.invariant.stage c.find_again-shown.ensures.finds
+    found_stops c.args.stamp c.args.sets.now _ _ _ (again d) c.args.stamp d.record_number f.place f.wts (status_word f.status) c.loop-i.hand.view c.find_again-shown.new.hand.view tt c.loop-i.invariant.stage c.find_again-shown.ensures.finds
 
 pub returns-then-shown-wts-clause-stays : goal.returns-then-shown-wts-clause-stays
 returns-then-shown-wts-clause-stays g c = ready_both c.args.core.now c.args.hand.now c.loop-i.hand c.find_again-shown.new.hand c.loop-i.invariant.stays c.find_again-shown.ensures.stays

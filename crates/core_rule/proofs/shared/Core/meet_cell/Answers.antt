@@ -1,4 +1,4 @@
-use Rattle.std.proofs.Common.{ℕ, refl, sym, ap, ◌∙◌, subst, ◌<◌, ◌+◌, arith}
+use Rattle.std.proofs.Common.{ℕ, refl, sym, ap, ◌∙◌, subst, ◌<◌, arith}
 use Rattle.word_layout.specs.Size.{places}
 use Rattle.word_layout.specs.Name.{cell, word_of}
 use Rattle.core_rule.specs.Hands.{Seated}

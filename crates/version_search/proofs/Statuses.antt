@@ -1,5 +1,5 @@
 -- Statuses and the words that show them.
-use Rattle.std.proofs.Common.{◌≡◌, ◌≢◌, ℕ, true, false, eqb, eqb-true, eq-eqb, refl, sym, ◌∙◌}
+use Rattle.std.proofs.Common.{◌≡◌, ◌≢◌, true, false, eqb, eqb-true, eq-eqb, refl, sym, ◌∙◌}
 use denote.Enum.Bare.{sameb}
 use Rattle.core_rule.specs.Status.{status_word}
 use Rattle.core_rule.specs.contracts.status.Status.{the_type}

@@ -1,13 +1,12 @@
-use Rattle.std.proofs.Common.{◌≡◌, ◌≤◌, ℕ, refl, sym, ap, subst, arith, inr}
+use Rattle.std.proofs.Common.{◌≡◌, ◌≤◌, ℕ, refl, sym, ap, subst, arith}
 use Rattle.core_rule.specs.Status.{status_word}
-use Rattle.core_rule.specs.View.{View, checks}
+use Rattle.core_rule.specs.View.{View}
 use Rattle.core_rule.specs.Deciding.{stamp_in}
 use Rattle.validate_core.specs.Validating.{IsShown}
-use Rattle.validate_core.specs.declared.conflict.Conflict.TheVariants.{Pending, ReadLater}
-use Rattle.validate_core.proofs.Checks.{check_begins, found_at, found_look, found_final, found_aim, passes_works, passes_stage, found_stage, later_shown}
+use Rattle.validate_core.specs.declared.conflict.Conflict.TheVariants.{ReadLater}
+use Rattle.validate_core.proofs.Checks.{found_at, found_look, found_final, found_aim, passes_works, passes_stage, found_stage, later_shown}
 use Rattle.validate_core.proofs.LastCheck.{load_stops}
-use Rattle.validate_core.proofs.Staging.{pending_shown, found_stops, found_works}
-use Rattle.validate_core.proofs.Works.{among_turn, works_step, ready_both, ready_over}
+use Rattle.validate_core.proofs.Works.{works_step, ready_both, ready_over}
 use Rattle.validate_core.proofs.checking.check.Goals as goal
 
 pub returns-then-rts-stamp-clause-works : goal.returns-then-rts-stamp-clause-works

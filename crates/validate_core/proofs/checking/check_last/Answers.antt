@@ -1,14 +1,14 @@
-use Rattle.std.proofs.Common.{◌≡◌, ◌≤◌, ℕ, refl, sym, ap, subst, arith, inr}
+use Rattle.std.proofs.Common.{◌≡◌, ◌≤◌, ℕ, refl, sym, ap, subst, arith}
 use Rattle.core_rule.specs.Status.{status_word}
 use Rattle.word_layout.specs.Size.{Size}
 use Rattle.core_rule.specs.View.{View, checks}
 use Rattle.core_rule.specs.Deciding.{stamp_in}
 use Rattle.validate_core.specs.Validating.{IsShown, Decides}
-use Rattle.validate_core.specs.declared.conflict.Conflict.TheVariants.{Pending, ReadLater}
-use Rattle.validate_core.proofs.Checks.{check_begins, found_at, found_look, found_final, found_aim, others_passed, found_stage, later_shown, refused_works, fits_found}
+use Rattle.validate_core.specs.declared.conflict.Conflict.TheVariants.{ReadLater}
+use Rattle.validate_core.proofs.Checks.{found_at, found_look, found_final, found_aim, others_passed, found_stage, later_shown, refused_works, fits_found}
 use Rattle.validate_core.proofs.LastCheck.{check_stops, check_decides}
-use Rattle.validate_core.proofs.Staging.{pending_shown, found_stops, found_works, decides_earlier}
-use Rattle.validate_core.proofs.Works.{among_turn, works_both, ready_both, ready_over}
+use Rattle.validate_core.proofs.Staging.{found_works, decides_earlier}
+use Rattle.validate_core.proofs.Works.{works_both, ready_both, ready_over}
 use Rattle.validate_core.proofs.checking.check_last.Goals as goal
 
 pub returns-then-rts-stamp-clause-conflict : goal.returns-then-rts-stamp-clause-conflict

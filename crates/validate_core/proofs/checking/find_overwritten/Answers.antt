@@ -1,17 +1,15 @@
-use Rattle.std.proofs.Common.{◌≡◌, ◌≤◌, ℕ, refl, sym, ap, subst, arith, inr, ◌∙◌}
+use Rattle.std.proofs.Common.{ℕ, refl, sym, subst, inr, ◌∙◌}
 use Rattle.core_rule.specs.Status.{status_word}
 use Rattle.core_rule.specs.declared.status.Status.TheVariants.{Pending as PendingStatus}
 use Rattle.version_search.proofs.Statuses.{word_is}
-use Rattle.core_rule.specs.View.{View, Write, checks}
+use Rattle.core_rule.specs.View.{Write, checks}
 use Rattle.version_search.specs.Finding.{Finds}
 use Rattle.validate_core.proofs.Writes.{turn_same}
-use Rattle.core_rule.specs.Deciding.{stamp_in}
 use Rattle.validate_core.specs.Validating.{IsShown}
-use Rattle.validate_core.specs.declared.conflict.Conflict.TheVariants.{Pending, ReadLater}
-use Rattle.validate_core.proofs.Checks.{check_begins, found_at, found_look, found_final, found_aim, passes_works, passes_stage, found_stage, later_shown}
-use Rattle.validate_core.proofs.LastCheck.{load_stops}
+use Rattle.validate_core.specs.declared.conflict.Conflict.TheVariants.{Pending}
+use Rattle.validate_core.proofs.Checks.{check_begins}
 use Rattle.validate_core.proofs.Staging.{pending_shown, found_stops, found_works}
-use Rattle.validate_core.proofs.Works.{among_turn, works_step, ready_both, ready_over}
+use Rattle.validate_core.proofs.Works.{among_turn}
 use Rattle.validate_core.proofs.checking.find_overwritten.Goals as goal
 
 pub find_to_check-shown-requires-clause-rid : goal.find_to_check-shown-requires-clause-rid

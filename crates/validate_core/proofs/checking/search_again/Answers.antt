@@ -1,4 +1,4 @@
-use Rattle.std.proofs.Common.{◌≡◌, ◌≢◌, ◌≤◌, ℕ, refl, sym, ◌∙◌, subst, inl, length, arith, ap}
+use Rattle.std.proofs.Common.{◌≡◌, ◌≢◌, ◌≤◌, ℕ, refl, sym, ◌∙◌, subst, inl, length, arith}
 use Rattle.core_rule.specs.Status.{status_word}
 use Rattle.core_rule.specs.declared.status.Status.TheVariants.{Pending as PendingStatus}
 use Rattle.version_search.proofs.Statuses.{word_is, word_is_not}

@@ -24,6 +24,7 @@ use Rattle.version_search.specs.Loading.{with_value, IsLeftIn, cells_loaded}
 use Rattle.version_search.specs.Growing.{Grows}
 use Rattle.version_search.proofs.Grown.{grows_both}
 use Rattle.validate_core.specs.Validating.{Met}
+use Rattle.version_search.specs.Finding.{status_of}
 use Rattle.seat_post.specs.Reading.{value_loaded}
 use Rattle.seat_post.specs.Searched.{Finds}
 use Rattle.seat_post.specs.Leaves.{StampedBelow, LeavesValue, LeavesSome, LeavesAs, AreLeft, IsPresent}
@@ -109,7 +110,7 @@ left_some log r limit w left early = elim left.from as (λ _. LeavesSome (map en
 ]
 
 -- a search that has found a version tells what is left
-pub left_as : (log : List Logged) (r limit w s : ℕ) (absent : Bool) → IsLeft log r limit w s → w < limit → s ≡ cond absent 4 3 → LeavesAs (map entry_of log) r limit absent
+pub left_as : (log : List Logged) (r limit w s : ℕ) (absent : Bool) → IsLeft log r limit w s → w < limit → s ≡ status_of absent → LeavesAs (map entry_of log) r limit absent
 left_as log r limit w s true is early shows = left_absent log r limit w (subst (λ n. IsLeft log r limit w n) shows is) early
 left_as log r limit w s false is early shows = left_some log r limit w (subst (λ n. IsLeft log r limit w n) shows is) early
 

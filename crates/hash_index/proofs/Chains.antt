@@ -9,10 +9,10 @@ use Rattle.hash_index.specs.declared.search.Link.{Link}
 use Rattle.hash_index.specs.declared.search.Place.{Place}
 use Rattle.hash_index.specs.declared.search.Place.TheVariants.{Found, Room, Full, Empty}
 use Rattle.hash_index.specs.Node.{IsNode, pairs_of}
-use Rattle.hash_index.specs.Chain.{Leads, IsChain, EachChain, Tears, start_of, record_at, record_of, row_pairs, bucket_of}
-use Rattle.hash_index.specs.Answers.{IsTorn}
+use Rattle.hash_index.specs.Chain.{Leads, IsChain, EachChain, RowTears, start_of, record_at, record_of, row_pairs, bucket_of}
+use Rattle.hash_index.specs.Answers.{IsTornChain}
 use Rattle.record_store.specs.States.{EachState}
-use Rattle.hash_index.specs.Search.{Reaches, InRow, IsPlace}
+use Rattle.hash_index.specs.Search.{RowReaches, InRow, IsPlace}
 use Rattle.hash_index.proofs.Pairs.{position-found, record_at-behind, record_at-before}
 use Rattle.hash_index.proofs.Rows.{Leads-follow, row_pairs-append, start_absent}
 
@@ -54,7 +54,7 @@ pub record RowAt (before whole : List (ℕ × List ℕ)) (rid : ℕ) (words : Li
   pub after : List (ℕ × List ℕ)
   pub joined : whole ≡ before ++ (rid, words) ∷ after
 
-pub row_at : (size bucket key : ℕ) (state : State) (link : Link) (whole : List (ℕ × List ℕ)) → (r : Reaches size bucket key state link) → Leads size state 0 (start_of state bucket) whole None → RowAt r.before whole link.at r.words
+pub row_at : (size bucket key : ℕ) (state : State) (link : Link) (whole : List (ℕ × List ℕ)) → (r : RowReaches size bucket key state link) → Leads size state 0 (start_of state bucket) whole None → RowAt r.before whole link.at r.words
 row_at size bucket key state link whole r leads =
     let follows = Leads-follow size state 0 (start_of state bucket) (Some link.at) r.before whole r.reached leads in
     let first = begins size (0 + length r.before) link.at state follows.rest follows.leads in
@@ -69,7 +69,7 @@ pub row_pairs-around : (before after : List (ℕ × List ℕ)) (rid : ℕ) (word
 row_pairs-around before after rid words = row_pairs-append before ((rid, words) ∷ after)
 
 -- the key was found
-pub found_in : (size base key index : ℕ) (state : State) (rows : ℕ → List (ℕ × List ℕ)) (link : Link) → IsChain size base state rows → Reaches size (base + bucket_of key) key state link → position (λ pair. pair.0 == key) (pairs_of link.words) ≡ Some index → record_of rows key ≡ Some (get_or (pairs_of link.words) index (0, 0)).1
+pub found_in : (size base key index : ℕ) (state : State) (rows : ℕ → List (ℕ × List ℕ)) (link : Link) → IsChain size base state rows → RowReaches size (base + bucket_of key) key state link → position (λ pair. pair.0 == key) (pairs_of link.words) ≡ Some index → record_of rows key ≡ Some (get_or (pairs_of link.words) index (0, 0)).1
 found_in size base key index state rows link chain r is =
     let at = row_at size (base + bucket_of key) key state link (rows (bucket_of key)) r (chain.walks (bucket_of key) (bucket_below key)) in
     let found = position-found (pairs_of link.words) key index is in
@@ -95,7 +95,7 @@ pub not_in_empty : (size base key : ℕ) (state : State) (rows : ℕ → List (�
 not_in_empty size base key state rows chain absent = ap (λ row. record_at (row_pairs row) key) (empty_row size base key state rows chain absent)
 
 -- no chain is lawful where a walk meets what is no node
-pub torn_no_chain : (size base key rid : ℕ) (state : State) (rows : ℕ → List (ℕ × List ℕ)) → Tears size (base + bucket_of key) key state rid → IsChain size base state rows → ⊥
+pub torn_no_chain : (size base key rid : ℕ) (state : State) (rows : ℕ → List (ℕ × List ℕ)) → RowTears size (base + bucket_of key) key state rid → IsChain size base state rows → ⊥
 torn_no_chain size base key rid state rows tears chain =
     let follows = Leads-follow size state 0 (start_of state (base + bucket_of key)) (Some rid) tears.nodes (rows (bucket_of key)) tears.reached (chain.walks (bucket_of key) (bucket_below key)) in
     let first = begins size (0 + length tears.nodes) rid state follows.rest follows.leads in
@@ -103,10 +103,10 @@ torn_no_chain size base key rid state rows tears chain =
     let place : 0 + length tears.nodes ≡ length tears.nodes = omega arith in
     tears.no_node first.words first.here (subst P place first.node)
 
-pub is_torn : (base key size rid : ℕ) (before after : Meaning) → size ≡ before.size → EachState before after (λ state. Tears size (base + bucket_of key) key state rid) → IsTorn base key before after rid
+pub is_torn : (base key size rid : ℕ) (before after : Meaning) → size ≡ before.size → EachState before after (λ state. RowTears size (base + bucket_of key) key state rid) → IsTornChain base key before after rid
 is_torn base key size rid before after same tears = record {
   tears = rw (← same) tears;
-  no_chain = λ state rows agrees chain. torn_no_chain before.size base key rid (overlay before.writes state) rows (rw (← same) (tears state agrees)) chain;
+  none = λ state rows agrees chain. torn_no_chain before.size base key rid (overlay before.writes state) rows (rw (← same) (tears state agrees)) chain;
 }
 
 -- a search that ends without the key tells that the chain has it not

@@ -5,7 +5,8 @@ use Rattle.std.specs.Prelude.{option_map}
 use Rattle.std.proofs.lemmas.Bool.{cases_eq}
 use Rattle.std.proofs.lemmas.Option.{none-some}
 use Rattle.plain_data.specs.State.{State}
-use Rattle.hash_index.specs.Chain.{Leads, IsChain, start_of, records_of, row_pairs, bucket_of, record_at, record_of}
+use Rattle.hash_index.specs.Chain.{Leads, IsChain, start_of, row_pairs, bucket_of, record_at, record_of}
+use Rattle.record_store.specs.Links.{records_of}
 use Rattle.hash_index.proofs.Rows.{start_present}
 use Rattle.hash_index.proofs.Chains.{begins}
 use Rattle.hash_index.proofs.Frames.{Leads-frame, row_present}

@@ -9,9 +9,10 @@ use Rattle.std.proofs.lemmas.List.Elements.{All-head, All-tail, All-cons, All-ni
 use Rattle.std.proofs.lemmas.Map.Keys.{IsDistinct-from_apart}
 use Rattle.std.proofs.lemmas.Map.Steps.{length-le_from_distinct_below}
 use Rattle.plain_data.specs.State.{State}
-use Rattle.hash_index.specs.Node.{IsNode, pairs_of, next_of, position_of, words_of}
-use Rattle.hash_index.specs.Chain.{Leads, IsChain, start_of, records_of, row_pairs, bucket_of, record_at}
-use Rattle.hash_index.proofs.Words.{pairs_of-words_of, next_of-words_of}
+use Rattle.hash_index.specs.Node.{IsNode, pairs_of, next_node, position_of, chain_node_words}
+use Rattle.hash_index.specs.Chain.{Leads, IsChain, start_of, row_pairs, bucket_of, record_at}
+use Rattle.record_store.specs.Links.{records_of}
+use Rattle.hash_index.proofs.Words.{pairs_of-chain_node_words, next_node-chain_node_words}
 use Rattle.hash_index.proofs.Rows.{Leads-append, start_present, row_pairs-append}
 use Rattle.hash_index.proofs.Chains.{bucket_below}
 use Rattle.hash_index.proofs.Walked.{few_pairs}
@@ -25,14 +26,14 @@ use Rattle.hash_index.proofs.Edits.{Edited, edited_row, node_words, bucket_prese
 rows_below : (size : ℕ) (state : State) (position : ℕ) (from to : Option ℕ) (row : List (ℕ × List ℕ)) → IfSome from (λ rid. rid < size) → Leads size state position from row to → All (λ node. node.0 < size) row
 rows_below size state position from to [] first leads = All-nil (λ node. node.0 < size)
 rows_below size state position from to (node ∷ row) first leads =
-    All-cons (λ node. node.0 < size) node row (rw leads.0 at first) (rows_below size state (position + 1) (next_of node.1) to row leads.2.next leads.3)
+    All-cons (λ node. node.0 < size) node row (rw leads.0 at first) (rows_below size state (position + 1) (next_node node.1) to row leads.2.next leads.3)
 
 -- each node stands where its number in the row says
 place_at : (size : ℕ) (state : State) (position : ℕ) (from to : Option ℕ) (row : List (ℕ × List ℕ)) (i : ℕ) (d : ℕ × List ℕ) → Leads size state position from row to → i < length row → (state (get_or row i d).0 ≡ Some (get_or row i d).1) × (position_of (get_or row i d).1 ≡ position + i)
 place_at size state position from to [] i d leads low = absurd (omega arith)
 place_at size state position from to (node ∷ row) zero d leads low = (leads.1, omega (arith, leads.2.placed))
 place_at size state position from to (node ∷ row) (suc i) d leads low =
-    let more = place_at size state (position + 1) (next_of node.1) to row i d leads.3 (omega arith) in
+    let more = place_at size state (position + 1) (next_node node.1) to row i d leads.3 (omega arith) in
     (more.0, omega (arith, more.1))
 
 any_below : (xs : List ℕ) (n q : ℕ) → All (λ x. x < n) xs → list_any (eqb q) xs ≡ true → q < n
@@ -77,14 +78,14 @@ start_kept_by_two bucket at fresh words now state state' here absent changed oth
     ]
 
 -- the pairs and the records of a row with one node more
-pairs_behind : (row before : List (ℕ × List ℕ)) (at fresh key rid : ℕ) (words : List ℕ) → row ≡ before ++ (at, words) ∷ [] → row_pairs (before ++ (at, words_of (pairs_of words) (Some fresh) (position_of words)) ∷ (fresh, words_of ((key, rid) ∷ []) None (position_of words + 1)) ∷ []) ≡ row_pairs row ++ (key, rid) ∷ []
+pairs_behind : (row before : List (ℕ × List ℕ)) (at fresh key rid : ℕ) (words : List ℕ) → row ≡ before ++ (at, words) ∷ [] → row_pairs (before ++ (at, chain_node_words (pairs_of words) (Some fresh) (position_of words)) ∷ (fresh, chain_node_words ((key, rid) ∷ []) None (position_of words + 1)) ∷ []) ≡ row_pairs row ++ (key, rid) ∷ []
 pairs_behind row before at fresh key rid words joined =
-    let last_words : List ℕ = words_of (pairs_of words) (Some fresh) (position_of words) in
-    let new_words : List ℕ = words_of ((key, rid) ∷ []) None (position_of words + 1) in
+    let last_words : List ℕ = chain_node_words (pairs_of words) (Some fresh) (position_of words) in
+    let new_words : List ℕ = chain_node_words ((key, rid) ∷ []) None (position_of words + 1) in
     let was : row_pairs row ≡ row_pairs before ++ (pairs_of words ++ []) = ap row_pairs joined ∙ row_pairs-append before ((at, words) ∷ []) in
     row_pairs-append before ((at, last_words) ∷ (fresh, new_words) ∷ [])
-    ∙ ap (λ ps. row_pairs before ++ (ps ++ (pairs_of new_words ++ []))) (pairs_of-words_of (pairs_of words) (Some fresh) (position_of words))
-    ∙ ap (λ ps. row_pairs before ++ (pairs_of words ++ (ps ++ []))) (pairs_of-words_of ((key, rid) ∷ []) None (position_of words + 1))
+    ∙ ap (λ ps. row_pairs before ++ (ps ++ (pairs_of new_words ++ []))) (pairs_of-chain_node_words (pairs_of words) (Some fresh) (position_of words))
+    ∙ ap (λ ps. row_pairs before ++ (pairs_of words ++ (ps ++ []))) (pairs_of-chain_node_words ((key, rid) ∷ []) None (position_of words + 1))
     ∙ ap (λ ps. row_pairs before ++ ps) (sym (append_assoc (pairs_of words) [] ((key, rid) ∷ [])))
     ∙ sym (append_assoc (row_pairs before) (pairs_of words ++ []) ((key, rid) ∷ []))
     ∙ ap (λ ps. ps ++ (key, rid) ∷ []) (sym was)
@@ -95,12 +96,12 @@ records_behind row before at fresh words last_words new_words joined =
     ∙ sym (append_assoc (records_of before) (at ∷ []) (fresh ∷ []))
     ∙ ap (λ rs. rs ++ fresh ∷ []) (sym (ap records_of joined ∙ records-around before [] at words))
 
-pub linked : (size base key rid at fresh : ℕ) (state state' : State) (rows : ℕ → List (ℕ × List ℕ)) (before : List (ℕ × List ℕ)) (words : List ℕ) → IsChain size base state rows → rows (bucket_of key) ≡ before ++ (at, words) ∷ [] → record_at (row_pairs (rows (bucket_of key))) key ≡ None → state fresh ≡ None → base + 511 ≤ fresh → fresh < size → rid < size → state' fresh ≡ Some (words_of ((key, rid) ∷ []) None (position_of words + 1)) → state' at ≡ Some (words_of (pairs_of words) (Some fresh) (position_of words)) → ((other : ℕ) → other ≢ at → other ≢ fresh → state' other ≡ state other) → Edited size base key (Some rid) state state' rows (before ++ (at, words_of (pairs_of words) (Some fresh) (position_of words)) ∷ (fresh, words_of ((key, rid) ∷ []) None (position_of words + 1)) ∷ [])
+pub linked : (size base key rid at fresh : ℕ) (state state' : State) (rows : ℕ → List (ℕ × List ℕ)) (before : List (ℕ × List ℕ)) (words : List ℕ) → IsChain size base state rows → rows (bucket_of key) ≡ before ++ (at, words) ∷ [] → record_at (row_pairs (rows (bucket_of key))) key ≡ None → state fresh ≡ None → base + 511 ≤ fresh → fresh < size → rid < size → state' fresh ≡ Some (chain_node_words ((key, rid) ∷ []) None (position_of words + 1)) → state' at ≡ Some (chain_node_words (pairs_of words) (Some fresh) (position_of words)) → ((other : ℕ) → other ≢ at → other ≢ fresh → state' other ≡ state other) → Edited size base key (Some rid) state state' rows (before ++ (at, chain_node_words (pairs_of words) (Some fresh) (position_of words)) ∷ (fresh, chain_node_words ((key, rid) ∷ []) None (position_of words + 1)) ∷ [])
 linked size base key rid at fresh state state' rows before words chain joined not_there absent outside within stored new_here last_here others =
     let b = bucket_of key in
     let bucket = base + b in
-    let new_words : List ℕ = words_of ((key, rid) ∷ []) None (position_of words + 1) in
-    let last_words : List ℕ = words_of (pairs_of words) (Some fresh) (position_of words) in
+    let new_words : List ℕ = chain_node_words ((key, rid) ∷ []) None (position_of words + 1) in
+    let last_words : List ℕ = chain_node_words (pairs_of words) (Some fresh) (position_of words) in
     let row' : List (ℕ × List ℕ) = before ++ (at, last_words) ∷ (fresh, new_words) ∷ [] in
     let P : List (ℕ × List ℕ) → Type 0 = λ r. Leads size state 0 (start_of state bucket) r None in
     let leads = subst P joined (chain.walks b (bucket_below key)) in
@@ -121,7 +122,7 @@ linked size base key rid at fresh state state' rows before words chain joined no
     (λ same. none-some x.1 (sym absent ∙ ap state (sym same) ∙ p.here))) before (places size state 0 (start_of state bucket) parts.mid before parts.first) in
     let start = start_kept_by_two bucket at fresh present.0 last_words state state' present.1 absent last_here others in
     let walk = Leads-append size state' 0 (start_of state bucket) parts.mid None before ((at, last_words) ∷ (fresh, new_words) ∷ []) (Leads-frame size state state' 0 (start_of state bucket) parts.mid before front parts.first)
-    (parts.second.0, last_here, last_node, (next_of-words_of (pairs_of words) (Some fresh) (position_of words), new_here, new_node, next_of-words_of ((key, rid) ∷ []) None (position_of words + 1))) in
+    (parts.second.0, last_here, last_node, (next_node-chain_node_words (pairs_of words) (Some fresh) (position_of words), new_here, new_node, next_node-chain_node_words ((key, rid) ∷ []) None (position_of words + 1))) in
     let S : Option ℕ → Type 0 = λ o. Leads size state' 0 o row' None in
     let was : row_pairs (rows b) ≡ row_pairs before ++ (pairs_of words ++ []) = ap row_pairs joined ∙ row_pairs-append before ((at, words) ∷ []) in
     let now : row_pairs row' ≡ row_pairs (rows b) ++ (key, rid) ∷ [] = pairs_behind (rows b) before at fresh key rid words joined in

@@ -7,7 +7,8 @@ use Rattle.std.proofs.lemmas.List.{map-append, append-nil, append_assoc}
 use Rattle.std.proofs.lemmas.List.Elements.{Contains-append_left, Contains-append_right, Contains-append_cases, Contains-push_cases}
 use Rattle.plain_data.specs.State.{State}
 use Rattle.record_store.specs.Spots.{IsMoved}
-use Rattle.hash_index.specs.Chain.{Leads, IsChain, start_of, records_of, bucket_of}
+use Rattle.hash_index.specs.Chain.{Leads, IsChain, start_of, bucket_of}
+use Rattle.record_store.specs.Links.{records_of}
 use Rattle.hash_index.specs.Changes.{Puts, Removes}
 use Rattle.hash_index.specs.Changes.Puts.{replaced, added, began, linked}
 use Rattle.hash_index.specs.Changes.Removes.{removed}

@@ -4,7 +4,7 @@ use Rattle.std.specs.Prelude.{option_map}
 use Rattle.std.proofs.lemmas.Option.{same_Some, none-some}
 use Rattle.std.proofs.lemmas.Grind.{flat_map-append}
 use Rattle.plain_data.specs.State.{State}
-use Rattle.hash_index.specs.Node.{IsNode, pairs_of, next_of}
+use Rattle.hash_index.specs.Node.{IsNode, pairs_of, next_node}
 use Rattle.hash_index.specs.Chain.{Leads, start_of, row_pairs}
 
 -- the same row, from another name of its place or its first record
@@ -17,10 +17,10 @@ Leads-at size state position position' from from' to row place first leads =
 pub Leads-append : (size : ℕ) (state : State) (position : ℕ) (from mid to : Option ℕ) (xs ys : List (ℕ × List ℕ)) → Leads size state position from xs mid → Leads size state (position + length xs) mid ys to → Leads size state position from (xs ++ ys) to
 Leads-append size state position from mid to [] ys first second = Leads-at size state (position + 0) position mid from to ys (omega arith) (sym first) second
 Leads-append size state position from mid to (x ∷ xs) ys first second =
-    (first.0, first.1, first.2, Leads-append size state (position + 1) (next_of x.1) mid to xs ys first.3 (Leads-at size state (position + suc (length xs)) (position + 1 + length xs) mid mid to ys (omega arith) refl second))
+    (first.0, first.1, first.2, Leads-append size state (position + 1) (next_node x.1) mid to xs ys first.3 (Leads-at size state (position + suc (length xs)) (position + 1 + length xs) mid mid to ys (omega arith) refl second))
 
-pub Leads-push : (size : ℕ) (state : State) (position : ℕ) (from : Option ℕ) (rid : ℕ) (words : List ℕ) (xs : List (ℕ × List ℕ)) → Leads size state position from xs (Some rid) → state rid ≡ Some words → IsNode size (position + length xs) words → Leads size state position from (xs ++ (rid, words) ∷ []) (next_of words)
-Leads-push size state position from rid words xs row here node = Leads-append size state position from (Some rid) (next_of words) xs ((rid, words) ∷ []) row (refl, here, node, refl)
+pub Leads-push : (size : ℕ) (state : State) (position : ℕ) (from : Option ℕ) (rid : ℕ) (words : List ℕ) (xs : List (ℕ × List ℕ)) → Leads size state position from xs (Some rid) → state rid ≡ Some words → IsNode size (position + length xs) words → Leads size state position from (xs ++ (rid, words) ∷ []) (next_node words)
+Leads-push size state position from rid words xs row here node = Leads-append size state position from (Some rid) (next_node words) xs ((rid, words) ∷ []) row (refl, here, node, refl)
 
 -- one state has one row from a record on: a row to its end begins with each row to a record
 pub record Follows (size : ℕ) (state : State) (position : ℕ) (mid : Option ℕ) (xs ys : List (ℕ × List ℕ)) : Type 0 where
@@ -43,7 +43,7 @@ Leads-follow size state position from mid [] ys first whole = record {
 Leads-follow size state position from mid (x ∷ xs) [] first whole = absurd (none-some x.0 (sym whole ∙ first.0))
 Leads-follow size state position from mid (x ∷ xs) (y ∷ ys) first whole =
     let same : y ≡ x = same_node state from x y first.0 whole.0 first.1 whole.1 in
-    let more = Leads-follow size state (position + 1) (next_of x.1) mid xs ys first.3 (Leads-at size state (position + 1) (position + 1) (next_of y.1) (next_of x.1) None ys refl (ap (λ (n : ℕ × List ℕ). next_of n.1) same) whole.3) in
+    let more = Leads-follow size state (position + 1) (next_node x.1) mid xs ys first.3 (Leads-at size state (position + 1) (position + 1) (next_node y.1) (next_node x.1) None ys refl (ap (λ (n : ℕ × List ℕ). next_node n.1) same) whole.3) in
     record {
       rest = more.rest;
       joined = ap (λ n. n ∷ ys) same ∙ ap (λ ns. x ∷ ns) more.joined;

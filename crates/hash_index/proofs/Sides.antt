@@ -3,8 +3,8 @@ use Rattle.std.proofs.Common.{◌≡◌, ℕ, ◌+◌, suc, List, [], ◌∷◌,
 use Rattle.std.specs.Prelude.{is_some}
 use Rattle.std.proofs.lemmas.Option.{same_Some, none-some}
 use Rattle.plain_data.specs.State.{State}
-use Rattle.hash_index.specs.Node.{IsNode, next_of}
-use Rattle.hash_index.specs.Chain.{Leads, EndsWell, Tears, record_at, row_pairs}
+use Rattle.hash_index.specs.Node.{IsNode, next_node}
+use Rattle.hash_index.specs.Chain.{Leads, RowEndsWell, RowTears, record_at, row_pairs}
 use Rattle.hash_index.proofs.Pairs.{record_at-before}
 use Rattle.hash_index.proofs.Rows.{Leads-at, row_pairs-append, same_node}
 
@@ -28,7 +28,7 @@ passes size state position rid from to (x ∷ xs) [] no_node first second =
 passes size state position rid from to (x ∷ xs) (y ∷ ys) no_node first second =
     let same : y ≡ x = same_node state from x y first.0 second.0 first.1 second.1 in
     let place : position + 1 + length ys ≡ position + suc (length ys) = omega arith in
-    let rest = passes size state (position + 1) rid (next_of x.1) to xs ys (λ words is node. no_node words is (let P : ℕ → Type 0 = λ p. IsNode size p words in subst P place node)) first.3 (Leads-at size state (position + 1) (position + 1) (next_of y.1) (next_of x.1) (Some rid) ys refl (ap (λ (n : ℕ × List ℕ). next_of n.1) same) second.3) in
+    let rest = passes size state (position + 1) rid (next_node x.1) to xs ys (λ words is node. no_node words is (let P : ℕ → Type 0 = λ p. IsNode size p words in subst P place node)) first.3 (Leads-at size state (position + 1) (position + 1) (next_node y.1) (next_node x.1) (Some rid) ys refl (ap (λ (n : ℕ × List ℕ). next_node n.1) same) second.3) in
     record {
       more = rest.more;
       joined = ap (λ n. n ∷ ys) same ∙ ap (λ ns. x ∷ ns) rest.joined;
@@ -43,7 +43,7 @@ found_first : (found : Option ℕ) (xs ys : List (ℕ × ℕ)) (key : ℕ) → r
 found_first None xs ys key is some absent = cc
 found_first (Some rid) xs ys key is some absent = none-some rid (sym absent ∙ record_at-before xs ys key rid is)
 
-pub ends_not_torn : (size bucket key rid : ℕ) (state : State) → EndsWell size bucket key state → Tears size bucket key state rid → ⊥
+pub ends_not_torn : (size bucket key rid : ℕ) (state : State) → RowEndsWell size bucket key state → RowTears size bucket key state rid → ⊥
 ends_not_torn size bucket key rid state well tears =
     let place : 0 + length tears.nodes ≡ length tears.nodes = omega arith in
     let past = passes size state 0 rid _ well.to well.nodes tears.nodes (λ words is node. tears.no_node words is (let P : ℕ → Type 0 = λ p. IsNode size p words in subst P place node)) well.reached tears.reached in

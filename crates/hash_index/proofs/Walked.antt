@@ -8,10 +8,10 @@ use Rattle.std.proofs.lemmas.Option.{same_Some, none-some}
 use Rattle.plain_data.specs.State.{State}
 use Rattle.hash_index.specs.declared.search.Link.{Link}
 use Rattle.hash_index.specs.Changes.{IsFull}
-use Rattle.hash_index.specs.Search.{Stands, Reaches, InRow, IsInStore, IsRoom, IsWithin, IsUnfit, IsPlace, first_room, end_place}
+use Rattle.hash_index.specs.Search.{LinkStands, RowReaches, InRow, IsInStore, IsRoom, IsWithin, IsNoLink, IsPlace, first_room, end_place}
 use Rattle.hash_index.specs.declared.search.Place.TheVariants.{Room, Full}
-use Rattle.hash_index.specs.Node.{IsNode, pairs_of, next_of, paired}
-use Rattle.hash_index.specs.Chain.{Leads, start_of, record_at, row_pairs, Tears}
+use Rattle.hash_index.specs.Node.{IsNode, pairs_of, next_node, paired}
+use Rattle.hash_index.specs.Chain.{Leads, start_of, record_at, row_pairs, RowTears}
 use Rattle.hash_index.proofs.Pairs.{position-absent, record_at-behind}
 use Rattle.hash_index.proofs.Rows.{Leads-push, row_pairs-append, start_present}
 
@@ -21,7 +21,7 @@ pub record FirstRoom (size : ℕ) (state : State) (link : Link) (passed : List (
   pub words : List ℕ
   pub after : List (ℕ × List ℕ)
   pub joined : passed ≡ before ++ (link.at, words) ∷ after
-  pub stands : Stands size (length before) state link words
+  pub stands : LinkStands size (length before) state link words
   pub full_before : All IsFull before
 
 abbrev pub RoomAmong : ℕ → State → Option Link → List (ℕ × List ℕ) → Type 0
@@ -29,7 +29,7 @@ RoomAmong size state None passed = All IsFull passed
 RoomAmong size state (Some link) passed = FirstRoom size state link passed
 
 pub record Walked (size bucket key : ℕ) (state : State) (room : Option Link) (here : Link) : Type 0 where
-  pub reaches : Reaches size bucket key state here
+  pub reaches : RowReaches size bucket key state here
   pub first_room : RoomAmong size state room reaches.before
 
 -- the value in a `Some`
@@ -43,7 +43,7 @@ pub Leads-to : (size : ℕ) (state : State) (position : ℕ) (from to to' : Opti
 Leads-to size state position from to to' row same leads = let P : Option ℕ → Type 0 = Leads size state position from row in subst P same leads
 
 -- the position that a node was read with is its place in the row
-pub place_is : (size place : ℕ) (state : State) (link : Link) (words : List ℕ) → Stands size place state link words → link.position ≡ place
+pub place_is : (size place : ℕ) (state : State) (link : Link) (words : List ℕ) → LinkStands size place state link words → link.position ≡ place
 place_is size place state link words stands = stands.held.position ∙ stands.node.placed
 
 -- one node more does not have the key
@@ -54,11 +54,11 @@ not_there_push before at key words first last =
     ∙ ap (λ ps. record_at ps key) (append-nil (pairs_of words))
     ∙ last
 
-not_in_node : (size place key : ℕ) (state : State) (link : Link) (words : List ℕ) → Stands size place state link words → position (λ pair. eqb pair.0 key) (pairs_of link.words) ≡ None → record_at (pairs_of words) key ≡ None
+not_in_node : (size place key : ℕ) (state : State) (link : Link) (words : List ℕ) → LinkStands size place state link words → position (λ pair. eqb pair.0 key) (pairs_of link.words) ≡ None → record_at (pairs_of words) key ≡ None
 not_in_node size place key state link words stands absent = ap (λ ps. record_at ps key) (sym (ap pairs_of stands.held.words)) ∙ position-absent (pairs_of link.words) key absent
 
 -- the walk begins at the bucket
-pub walk_begins : (size bucket key : ℕ) (state : State) (link : Link) (words : List ℕ) → Stands size 0 state link words → link.at ≡ bucket → Walked size bucket key state None link
+pub walk_begins : (size bucket key : ℕ) (state : State) (link : Link) (words : List ℕ) → LinkStands size 0 state link words → link.at ≡ bucket → Walked size bucket key state None link
 walk_begins size bucket key state link words stands at = record {
   reaches = record {
     before = [];
@@ -70,19 +70,19 @@ walk_begins size bucket key state link words stands at = record {
   first_room = All-nil IsFull;
 }
 
-stands_at : (size place place' : ℕ) (state : State) (link : Link) (words : List ℕ) → place ≡ place' → Stands size place state link words → Stands size place' state link words
-stands_at size place place' state link words same stands = let P : ℕ → Type 0 = λ p. Stands size p state link words in subst P same stands
+stands_at : (size place place' : ℕ) (state : State) (link : Link) (words : List ℕ) → place ≡ place' → LinkStands size place state link words → LinkStands size place' state link words
+stands_at size place place' state link words same stands = let P : ℕ → Type 0 = λ p. LinkStands size p state link words in subst P same stands
 
 pub at_place : (size place place' : ℕ) (words : List ℕ) → place ≡ place' → IsNode size place words → IsNode size place' words
 at_place size place place' words same node = let P : ℕ → Type 0 = λ p. IsNode size p words in subst P same node
 
-full_from : (size place : ℕ) (state : State) (here : Link) (words : List ℕ) → Stands size place state here words → 14 ≤ length (pairs_of here.words) → length (pairs_of words) ≡ 14
+full_from : (size place : ℕ) (state : State) (here : Link) (words : List ℕ) → LinkStands size place state here words → 14 ≤ length (pairs_of here.words) → length (pairs_of words) ≡ 14
 full_from size place state here words stands many =
     let few = few_pairs size place words stands.node in
     let same : length (pairs_of here.words) ≡ length (pairs_of words) = ap length (ap pairs_of stands.held.words) in
     omega arith
 
-room_new : (test : Bool) (size place : ℕ) (state : State) (here : Link) (words : List ℕ) (before : List (ℕ × List ℕ)) → ltb (length (pairs_of here.words)) 14 ≡ test → length before ≡ place → Stands size place state here words → All IsFull before → RoomAmong size state (cond test (Some here) None) (before ++ (here.at, words) ∷ [])
+room_new : (test : Bool) (size place : ℕ) (state : State) (here : Link) (words : List ℕ) (before : List (ℕ × List ℕ)) → ltb (length (pairs_of here.words)) 14 ≡ test → length before ≡ place → LinkStands size place state here words → All IsFull before → RoomAmong size state (cond test (Some here) None) (before ++ (here.at, words) ∷ [])
 room_new true size place state here words before is long stands full = record {
   before = before;
   words = words;
@@ -93,7 +93,7 @@ room_new true size place state here words before is long stands full = record {
 }
 room_new false size place state here words before is long stands full = All-push IsFull before (here.at, words) full (full_from size place state here words stands (ltb-false (length (pairs_of here.words)) 14 is))
 
-room_step : (size place : ℕ) (state : State) (room : Option Link) (here : Link) (words : List ℕ) (before : List (ℕ × List ℕ)) → length before ≡ place → Stands size place state here words → RoomAmong size state room before → RoomAmong size state (first_room room here) (before ++ (here.at, words) ∷ [])
+room_step : (size place : ℕ) (state : State) (room : Option Link) (here : Link) (words : List ℕ) (before : List (ℕ × List ℕ)) → length before ≡ place → LinkStands size place state here words → RoomAmong size state room before → RoomAmong size state (first_room room here) (before ++ (here.at, words) ∷ [])
 room_step size place state (Some link) here words before long stands room = record {
   before = room.before;
   words = room.words;
@@ -105,7 +105,7 @@ room_step size place state (Some link) here words before long stands room = reco
 room_step size place state None here words before long stands room = room_new (ltb (length (pairs_of here.words)) 14) size place state here words before refl long stands room
 
 -- the walk passes a node without the key
-pub walk_steps : (size bucket key next : ℕ) (state : State) (room : Option Link) (here link : Link) (words : List ℕ) → Walked size bucket key state room here → position (λ pair. eqb pair.0 key) (pairs_of here.words) ≡ None → here.next ≡ Some next → link.at ≡ next → Stands size (here.position + 1) state link words → Walked size bucket key state (first_room room here) link
+pub walk_steps : (size bucket key next : ℕ) (state : State) (room : Option Link) (here link : Link) (words : List ℕ) → Walked size bucket key state room here → position (λ pair. eqb pair.0 key) (pairs_of here.words) ≡ None → here.next ≡ Some next → link.at ≡ next → LinkStands size (here.position + 1) state link words → Walked size bucket key state (first_room room here) link
 walk_steps size bucket key next state room here link words walked absent names at stands =
     let r = walked.reaches in
     let place = place_is size (length r.before) state here r.words r.stands in
@@ -113,7 +113,7 @@ walk_steps size bucket key next state room here link words walked absent names a
       reaches = record {
         before = r.before ++ (here.at, r.words) ∷ [];
         words = words;
-        reached = Leads-to size state 0 (start_of state bucket) (next_of r.words) (Some link.at) (r.before ++ (here.at, r.words) ∷ []) (sym r.stands.held.next ∙ names ∙ ap (λ n. Some n) (sym at)) (Leads-push size state 0 (start_of state bucket) here.at r.words r.before r.reached r.stands.here (at_place size (length r.before) (0 + length r.before) r.words (omega arith) r.stands.node));
+        reached = Leads-to size state 0 (start_of state bucket) (next_node r.words) (Some link.at) (r.before ++ (here.at, r.words) ∷ []) (sym r.stands.held.next ∙ names ∙ ap (λ n. Some n) (sym at)) (Leads-push size state 0 (start_of state bucket) here.at r.words r.before r.reached r.stands.here (at_place size (length r.before) (0 + length r.before) r.words (omega arith) r.stands.node));
         stands = stands_at size (here.position + 1) (length (r.before ++ (here.at, r.words) ∷ [])) state link words (omega (arith, length_push r.before (here.at, r.words))) stands;
         not_before = not_there_push r.before here.at key r.words r.not_before (not_in_node size (length r.before) key state here r.words r.stands absent);
       };
@@ -121,11 +121,11 @@ walk_steps size bucket key next state room here link words walked absent names a
     }
 
 -- the walk ends at a node without a next one
-row_of : (size bucket : ℕ) (state : State) (here : Link) (words : List ℕ) (before : List (ℕ × List ℕ)) → Leads size state 0 (start_of state bucket) before (Some here.at) → Stands size (length before) state here words → here.next ≡ None → Leads size state 0 (start_of state bucket) (before ++ (here.at, words) ∷ []) None
+row_of : (size bucket : ℕ) (state : State) (here : Link) (words : List ℕ) (before : List (ℕ × List ℕ)) → Leads size state 0 (start_of state bucket) before (Some here.at) → LinkStands size (length before) state here words → here.next ≡ None → Leads size state 0 (start_of state bucket) (before ++ (here.at, words) ∷ []) None
 row_of size bucket state here words before reached stands ends =
-    Leads-to size state 0 (start_of state bucket) (next_of words) None (before ++ (here.at, words) ∷ []) (sym stands.held.next ∙ ends) (Leads-push size state 0 (start_of state bucket) here.at words before reached stands.here (at_place size (length before) (0 + length before) words (omega arith) stands.node))
+    Leads-to size state 0 (start_of state bucket) (next_node words) None (before ++ (here.at, words) ∷ []) (sym stands.held.next ∙ ends) (Leads-push size state 0 (start_of state bucket) here.at words before reached stands.here (at_place size (length before) (0 + length before) words (omega arith) stands.node))
 
-in_row_last : (size bucket key : ℕ) (state : State) (here : Link) (r : Reaches size bucket key state here) → All IsFull r.before → position (λ pair. eqb pair.0 key) (pairs_of here.words) ≡ None → here.next ≡ None → InRow size bucket key state here
+in_row_last : (size bucket key : ℕ) (state : State) (here : Link) (r : RowReaches size bucket key state here) → All IsFull r.before → position (λ pair. eqb pair.0 key) (pairs_of here.words) ≡ None → here.next ≡ None → InRow size bucket key state here
 in_row_last size bucket key state here r full absent ends = record {
   before = r.before;
   words = r.words;
@@ -136,7 +136,7 @@ in_row_last size bucket key state here r full absent ends = record {
   not_there = not_there_push r.before here.at key r.words r.not_before (not_in_node size (length r.before) key state here r.words r.stands absent);
 }
 
-in_row_first : (size bucket key : ℕ) (state : State) (link here : Link) (r : Reaches size bucket key state here) → FirstRoom size state link r.before → position (λ pair. eqb pair.0 key) (pairs_of here.words) ≡ None → here.next ≡ None → InRow size bucket key state link
+in_row_first : (size bucket key : ℕ) (state : State) (link here : Link) (r : RowReaches size bucket key state here) → FirstRoom size state link r.before → position (λ pair. eqb pair.0 key) (pairs_of here.words) ≡ None → here.next ≡ None → InRow size bucket key state link
 in_row_first size bucket key state link here r room absent ends =
     let whole : r.before ++ (here.at, r.words) ∷ [] ≡ room.before ++ (link.at, room.words) ∷ (room.after ++ (here.at, r.words) ∷ []) = ap (λ xs. xs ++ (here.at, r.words) ∷ []) room.joined ∙ append_assoc room.before ((link.at, room.words) ∷ room.after) ((here.at, r.words) ∷ []) in
     let row = row_of size bucket state here r.words r.before r.reached r.stands ends in
@@ -152,14 +152,14 @@ in_row_first size bucket key state link here r room absent ends =
       not_there = ap (λ xs. record_at (row_pairs xs) key) (sym whole) ∙ not_there;
     }
 
-end_last : (test : Bool) (size bucket key : ℕ) (state : State) (here : Link) (r : Reaches size bucket key state here) → ltb (length (pairs_of here.words)) 14 ≡ test → All IsFull r.before → position (λ pair. eqb pair.0 key) (pairs_of here.words) ≡ None → here.next ≡ None → IsPlace size bucket key state (cond test (Room here) (Full here))
+end_last : (test : Bool) (size bucket key : ℕ) (state : State) (here : Link) (r : RowReaches size bucket key state here) → ltb (length (pairs_of here.words)) 14 ≡ test → All IsFull r.before → position (λ pair. eqb pair.0 key) (pairs_of here.words) ≡ None → here.next ≡ None → IsPlace size bucket key state (cond test (Room here) (Full here))
 unfolding in_row_last
 end_last true size bucket key state here r is full absent ends = in_row_last size bucket key state here r full absent ends
 end_last false size bucket key state here r is full absent ends =
     let all = full_from size (length r.before) state here r.words r.stands (ltb-false (length (pairs_of here.words)) 14 is) in
     (in_row_last size bucket key state here r full absent ends, refl, ap length (ap pairs_of r.stands.held.words) ∙ all)
 
-end_by : (room : Option Link) (size bucket key : ℕ) (state : State) (here : Link) (r : Reaches size bucket key state here) → RoomAmong size state room r.before → position (λ pair. eqb pair.0 key) (pairs_of here.words) ≡ None → here.next ≡ None → IsPlace size bucket key state (end_place room here)
+end_by : (room : Option Link) (size bucket key : ℕ) (state : State) (here : Link) (r : RowReaches size bucket key state here) → RoomAmong size state room r.before → position (λ pair. eqb pair.0 key) (pairs_of here.words) ≡ None → here.next ≡ None → IsPlace size bucket key state (end_place room here)
 end_by (Some link) size bucket key state here r room absent ends = in_row_first size bucket key state link here r room absent ends
 end_by None size bucket key state here r room absent ends = end_last (ltb (length (pairs_of here.words)) 14) size bucket key state here r refl room absent ends
 
@@ -167,26 +167,26 @@ pub walk_ends : (size bucket key : ℕ) (state : State) (room : Option Link) (he
 walk_ends size bucket key state room here walked absent ends = end_by room size bucket key state here walked.reaches walked.first_room absent ends
 
 -- the walk comes to a record that is no node at its place
-pub walk_tears : (size bucket key next : ℕ) (state : State) (room : Option Link) (here : Link) → Walked size bucket key state room here → position (λ pair. eqb pair.0 key) (pairs_of here.words) ≡ None → here.next ≡ Some next → ((words : List ℕ) → state next ≡ Some words → IsNode size (here.position + 1) words → ⊥) → Tears size bucket key state next
+pub walk_tears : (size bucket key next : ℕ) (state : State) (room : Option Link) (here : Link) → Walked size bucket key state room here → position (λ pair. eqb pair.0 key) (pairs_of here.words) ≡ None → here.next ≡ Some next → ((words : List ℕ) → state next ≡ Some words → IsNode size (here.position + 1) words → ⊥) → RowTears size bucket key state next
 walk_tears size bucket key next state room here walked absent names torn =
     let r = walked.reaches in
     let place = place_is size (length r.before) state here r.words r.stands in
     let passed : List (ℕ × List ℕ) = r.before ++ (here.at, r.words) ∷ [] in
     record {
       nodes = passed;
-      reached = Leads-to size state 0 (start_of state bucket) (next_of r.words) (Some next) passed (sym r.stands.held.next ∙ names) (Leads-push size state 0 (start_of state bucket) here.at r.words r.before r.reached r.stands.here (at_place size (length r.before) (0 + length r.before) r.words (omega arith) r.stands.node));
+      reached = Leads-to size state 0 (start_of state bucket) (next_node r.words) (Some next) passed (sym r.stands.held.next ∙ names) (Leads-push size state 0 (start_of state bucket) here.at r.words r.before r.reached r.stands.here (at_place size (length r.before) (0 + length r.before) r.words (omega arith) r.stands.node));
       no_node = λ words is node. torn words is (at_place size (length passed) (here.position + 1) words (omega (arith, length_push r.before (here.at, r.words))) node);
       not_before = not_there_push r.before here.at key r.words r.not_before (not_in_node size (length r.before) key state here r.words r.stands absent);
     }
 
-pub unfit : (size position rid : ℕ) (state : State) → IsUnfit size position state rid → (words : List ℕ) → state rid ≡ Some words → IsNode size position words → ⊥
+pub unfit : (size position rid : ℕ) (state : State) → IsNoLink size position state rid → (words : List ℕ) → state rid ≡ Some words → IsNode size position words → ⊥
 unfit size position rid state torn words is node = let P : List ℕ → Type 0 = IsNode size position in torn.2 (subst P (same_Some words torn.0 (sym is ∙ torn.1)) node)
 
 pub absent_unfit : (size position rid : ℕ) (state : State) → state rid ≡ None → (words : List ℕ) → state rid ≡ Some words → IsNode size position words → ⊥
 absent_unfit size position rid state absent words is node = none-some words (sym absent ∙ is)
 
 -- the bucket itself is no node
-pub bucket_tears : (size bucket key : ℕ) (state : State) → IsUnfit size 0 state bucket → Tears size bucket key state bucket
+pub bucket_tears : (size bucket key : ℕ) (state : State) → IsNoLink size 0 state bucket → RowTears size bucket key state bucket
 bucket_tears size bucket key state torn = record {
   nodes = [];
   reached = start_present state bucket torn.0 torn.1;

@@ -6,7 +6,7 @@ use Rattle.std.proofs.lemmas.List.{length-append, take_at, set_at, get_or_at, ap
 use Rattle.std.proofs.lemmas.Grind.{flat_map-append}
 use Rattle.record_store.specs.Links.{link_word}
 use Rattle.record_store.proofs.Links.{named_by-link_word}
-use Rattle.hash_index.specs.Node.{paired, pairs_of, next_of, position_of, pair_words, words_of}
+use Rattle.hash_index.specs.Node.{paired, pairs_of, next_node, position_of, pair_words, chain_node_words}
 
 -- words two by two, at a place
 length-paired : (words : List ℕ) (i : ℕ) → 2 * i + 1 < length words → i < length (paired words)
@@ -60,19 +60,19 @@ paired-append : (pairs : List (ℕ × ℕ)) (words : List ℕ) → paired (pair_
 paired-append [] words = refl
 paired-append (pair ∷ pairs) words = ap (λ more. (pair.0, pair.1) ∷ more) (paired-append pairs words)
 
-pub pairs_of-words_of : (pairs : List (ℕ × ℕ)) (next : Option ℕ) (position : ℕ) → pairs_of (words_of pairs next position) ≡ pairs
-pairs_of-words_of pairs next position =
+pub pairs_of-chain_node_words : (pairs : List (ℕ × ℕ)) (next : Option ℕ) (position : ℕ) → pairs_of (chain_node_words pairs next position) ≡ pairs
+pairs_of-chain_node_words pairs next position =
     let zeros = replicate (28 - 2 * length pairs) 0 in
     let back = position ∷ 0 ∷ [] in
     ap (λ words. take (length pairs) (paired words)) (append_assoc (pair_words pairs) zeros back)
     ∙ ap (take (length pairs)) (paired-append pairs (zeros ++ back))
     ∙ take_at pairs (paired (zeros ++ back)) (length pairs) refl
 
-pub next_of-words_of : (pairs : List (ℕ × ℕ)) (next : Option ℕ) (position : ℕ) → next_of (words_of pairs next position) ≡ next
-next_of-words_of pairs next position = named_by-link_word next
+pub next_node-chain_node_words : (pairs : List (ℕ × ℕ)) (next : Option ℕ) (position : ℕ) → next_node (chain_node_words pairs next position) ≡ next
+next_node-chain_node_words pairs next position = named_by-link_word next
 
-pub position_of-words_of : (pairs : List (ℕ × ℕ)) (next : Option ℕ) (position : ℕ) → length pairs ≤ 14 → position_of (words_of pairs next position) ≡ position
-position_of-words_of pairs next position few =
+pub position_of-chain_node_words : (pairs : List (ℕ × ℕ)) (next : Option ℕ) (position : ℕ) → length pairs ≤ 14 → position_of (chain_node_words pairs next position) ≡ position
+position_of-chain_node_words pairs next position few =
     let zeros = replicate (28 - 2 * length pairs) 0 in
     get_or_at (pair_words pairs ++ zeros) position (0 ∷ []) 0 28 (omega (arith, length-append (pair_words pairs) zeros, length-pair_words pairs, length-replicate {A = ℕ} (28 - 2 * length pairs) 0))
 
@@ -103,7 +103,7 @@ words_more words count link i pairs back within few before =
     ∙ ap (λ ws. count ∷ link ∷ (ws ++ (replicate n 0 ++ back))) (sym (pair_words-more pairs i within))
 
 -- the words once all pairs are written
-pub words_all : (words : List ℕ) (pairs : List (ℕ × ℕ)) (next : Option ℕ) (position i : ℕ) → i ≡ length pairs → words ≡ length pairs ∷ link_word next ∷ (pair_words (take i pairs) ++ (replicate (28 - 2 * i) 0 ++ position ∷ 0 ∷ [])) → words ≡ words_of pairs next position
+pub words_all : (words : List ℕ) (pairs : List (ℕ × ℕ)) (next : Option ℕ) (position i : ℕ) → i ≡ length pairs → words ≡ length pairs ∷ link_word next ∷ (pair_words (take i pairs) ++ (replicate (28 - 2 * i) 0 ++ position ∷ 0 ∷ [])) → words ≡ chain_node_words pairs next position
 words_all words pairs next position i all written =
     let zeros : List ℕ = replicate (28 - 2 * length pairs) 0 in
     let whole : take i pairs ≡ pairs = take_all i pairs (omega arith) in

@@ -2,27 +2,26 @@
 use Rattle.std.specs.Prelude.{◌≡◌, ℕ, ◌+◌, ◌<◌, ◌≤◌, ◌++◌, List, length, Option, option_to_list, IfSome, is_some, Bool, true, false, Result, OnOk}
 use Rattle.record_store.specs.Meaning.{Meaning}
 use Rattle.record_store.specs.Store.{IsFresh}
-use Rattle.record_store.specs.States.{EachState}
-use Rattle.record_store.specs.Writes.{WritesAtMost, GivesAtMost}
-use Rattle.hash_index.specs.Chain.{EachChain, Tears, record_of, bucket_of}
+use Rattle.record_store.specs.States.{IsTorn}
+use Rattle.record_store.specs.Writes.{WritesAtMost}
+use Rattle.hash_index.specs.Chain.{EachChain, IsChainBefore, RowTears, record_of, bucket_of}
 use Rattle.hash_index.specs.Changes.{IsPut, IsRemoved, NeedsNode}
 
 -- no state that agrees with the reads has a lawful chain: in each the walk for the key is torn at the record
-pub record IsTorn (base key : ℕ) (before after : Meaning) (rid : ℕ) : Type 0 where
-  pub tears : EachState before after (λ state. Tears before.size (base + bucket_of key) key state rid)
-  pub no_chain : EachChain base before after (λ _ _. ⊥)
+abbrev pub IsTornChain : ℕ → ℕ → Meaning → Meaning → ℕ → Type 0
+IsTornChain base key before after rid = IsTorn (λ state. RowTears before.size (base + bucket_of key) key state rid)
+    (IsChainBefore base before) before after
 
 -- `fresh` may be asked so often: once, where the key is not there and its bucket is present with each node full
-pub record MayAsk (base key : ℕ) (before after : Meaning) (asks : ℕ) : Type 0 where
+pub record PutMayAsk (base key : ℕ) (before after : Meaning) (asks : ℕ) : Type 0 where
   pub once : asks ≤ 1
   pub needs_node : EachChain base before after (λ _ rows. NeedsNode key rows)
 
--- How often `fresh` was asked: only where it may be, and where the pair is in, once for each record that was given; else at least so
--- often. Whatever is answered, one record is written at most, and one more for each ask.
-pub record Asks {E : Type 0} (base key : ℕ) (before after : Meaning) (answer : Result (Unit {0}) E) (asked : ℕ) : Type 0 where
-  pub may : 0 < asked → MayAsk base key before after asked
+-- How often `fresh` was asked: only where it may be, and where the pair is in, once for each record that was given. Whatever is answered,
+-- one record is written at most, and one more for each ask.
+pub record PutAsks {E : Type 0} (base key : ℕ) (before after : Meaning) (answer : Result (Unit {0}) E) (asked : ℕ) : Type 0 where
+  pub may : 0 < asked → PutMayAsk base key before after asked
   pub exact : OnOk answer (length after.given ≡ length before.given + asked)
-  pub given : GivesAtMost asked before after
   pub few : WritesAtMost (1 + asked) before after
 
 -- a pair is put, and where it takes a new node, that is the record that was given

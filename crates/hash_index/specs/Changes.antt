@@ -3,15 +3,16 @@ use Rattle.std.specs.Prelude.{◌≡◌, ◌≢◌, ℕ, ◌+◌, ◌<◌, ◌==
 use Rattle.plain_data.specs.State.{State, overlay}
 use Rattle.record_store.specs.Meaning.{Meaning}
 use Rattle.record_store.specs.Spots.{IsMoved}
-use Rattle.hash_index.specs.Node.{pairs_of, next_of, position_of, words_of}
-use Rattle.hash_index.specs.Chain.{IsChain, record_at, record_of, records_of, row_pairs, bucket_of}
+use Rattle.hash_index.specs.Node.{pairs_of, next_node, position_of, chain_node_words}
+use Rattle.hash_index.specs.Chain.{IsChain, record_at, record_of, row_pairs, bucket_of}
+use Rattle.record_store.specs.Links.{records_of}
 
 -- the node with other pairs, or with another next node
 abbrev pub with_pairs : ℕ × List ℕ → List (ℕ × ℕ) → ℕ × List ℕ
-with_pairs node pairs = (node.0, words_of pairs (next_of node.1) (position_of node.1))
+with_pairs node pairs = (node.0, chain_node_words pairs (next_node node.1) (position_of node.1))
 
 abbrev pub with_next : ℕ × List ℕ → ℕ → ℕ × List ℕ
-with_next node rid = (node.0, words_of (pairs_of node.1) (Some rid) (position_of node.1))
+with_next node rid = (node.0, chain_node_words (pairs_of node.1) (Some rid) (position_of node.1))
 
 abbrev pub IsFull : ℕ × List ℕ → Type 0
 IsFull node = length (pairs_of node.1) ≡ 14
@@ -22,7 +23,7 @@ Misses key row = record_at (row_pairs row) key ≡ None
 
 -- a node with one pair, behind another one
 abbrev pub node_behind : ℕ × List ℕ → ℕ → ℕ → ℕ → ℕ × List ℕ
-node_behind last fresh key rid = (fresh, words_of ((key, rid) ∷ []) None (position_of last.1 + 1))
+node_behind last fresh key rid = (fresh, chain_node_words ((key, rid) ∷ []) None (position_of last.1 + 1))
 
 -- a pair is put into a row: in place of the key's pair; else behind the pairs of the first node with room; else into a new
 -- node, the bucket itself where it was absent, else a fresh record behind the last node
@@ -31,7 +32,7 @@ pub data Puts (bucket key rid : ℕ) : Option ℕ → List (ℕ × List ℕ) →
       → Puts bucket key rid None (before ++ node ∷ after) (before ++ with_pairs node (slice_set (pairs_of node.1) index (key, rid)) ∷ after)
   added : (before after : List (ℕ × List ℕ)) (node : ℕ × List ℕ) → Misses key (before ++ node ∷ after) → All IsFull before → length (pairs_of node.1) < 14
       → Puts bucket key rid None (before ++ node ∷ after) (before ++ with_pairs node (pairs_of node.1 ++ (key, rid) ∷ []) ∷ after)
-  began : Puts bucket key rid None [] ((bucket, words_of ((key, rid) ∷ []) None 0) ∷ [])
+  began : Puts bucket key rid None [] ((bucket, chain_node_words ((key, rid) ∷ []) None 0) ∷ [])
   linked : (before : List (ℕ × List ℕ)) (last : ℕ × List ℕ) (fresh : ℕ) → Misses key (before ++ last ∷ []) → All IsFull (before ++ last ∷ [])
       → Puts bucket key rid (Some fresh) (before ++ last ∷ []) (before ++ with_next last fresh ∷ node_behind last fresh key rid ∷ [])
 

@@ -15,8 +15,8 @@ abbrev pub pairs_of : List ℕ → List (ℕ × ℕ)
 pairs_of words = take (slice_index words 0) (paired (drop 2 words))
 
 -- word 1 names the next node
-abbrev pub next_of : List ℕ → Option ℕ
-next_of words = named_by (slice_index words 1)
+abbrev pub next_node : List ℕ → Option ℕ
+next_node words = named_by (slice_index words 1)
 
 -- word 30 is the position in the chain
 abbrev pub position_of : List ℕ → ℕ
@@ -27,13 +27,13 @@ pub record IsNode (size position : ℕ) (words : List ℕ) : Type 0 where
   pub few : slice_index words 0 ≤ 14
   pub placed : position_of words ≡ position
   pub in_store : position < size
-  pub next : IfSome (next_of words) (λ rid. rid < size)
+  pub next : IfSome (next_node words) (λ rid. rid < size)
   pub records : All (λ pair. pair.1 < size) (pairs_of words)
 
 abbrev pub pair_words : List (ℕ × ℕ) → List ℕ
 pair_words pairs = flat_map (λ pair. pair.0 ∷ pair.1 ∷ []) pairs
 
 -- the words of a node, zero where nothing is said
-abbrev pub words_of : List (ℕ × ℕ) → Option ℕ → ℕ → List ℕ
-words_of pairs next position =
+abbrev pub chain_node_words : List (ℕ × ℕ) → Option ℕ → ℕ → List ℕ
+chain_node_words pairs next position =
     length pairs ∷ link_word next ∷ (pair_words pairs ++ replicate (28 - 2 * length pairs) 0 ++ position ∷ 0 ∷ [])

@@ -6,8 +6,8 @@ use Rattle.record_store.specs.Store.{IsFresh}
 use Rattle.hash_index.specs.declared.search.Link.{Link}
 use Rattle.hash_index.specs.declared.search.Place.{Place}
 use Rattle.hash_index.specs.declared.search.Place.TheVariants.{Found, Room, Full, Empty}
-use Rattle.hash_index.specs.Node.{IsNode, pairs_of, words_of}
-use Rattle.hash_index.specs.Held.{Holds}
+use Rattle.hash_index.specs.Node.{IsNode, pairs_of, chain_node_words}
+use Rattle.hash_index.specs.Held.{LinkHolds}
 use Rattle.hash_index.specs.Chain.{Leads, start_of, record_at, row_pairs}
 use Rattle.hash_index.specs.Changes.{IsFull}
 
@@ -20,31 +20,31 @@ pub record IsInStore (size : ℕ) (link : Link) : Type 0 where
   pub pairs : All (λ pair. pair.1 < size) (pairs_of link.words)
 
 -- it was read at this record and this position
-pub record IsLink (size rid position : ℕ) (link : Link) : Type 0 where
+pub record IsRowLink (size rid position : ℕ) (link : Link) : Type 0 where
   pub at : link.at ≡ rid
   pub placed : link.position ≡ position
   pub in_store : IsInStore size link
 
 -- the state has the node
-pub record Stands (size position : ℕ) (state : State) (link : Link) (words : List ℕ) : Type 0 where
+pub record LinkStands (size position : ℕ) (state : State) (link : Link) (words : List ℕ) : Type 0 where
   pub here : state link.at ≡ Some words
   pub node : IsNode size position words
-  pub held : Holds link words
+  pub held : LinkHolds link words
 
-abbrev pub ReadAs : ℕ → ℕ → ℕ → State → Option Link → Type 0
-ReadAs size rid position state None = state rid ≡ None
-ReadAs size rid position state (Some link) = (words : List ℕ) × Stands size position state link words
+abbrev pub ReadsLink : ℕ → ℕ → ℕ → State → Option Link → Type 0
+ReadsLink size rid position state None = state rid ≡ None
+ReadsLink size rid position state (Some link) = (words : List ℕ) × LinkStands size position state link words
 
 -- the record is present, and no node at this position
-abbrev pub IsUnfit : ℕ → ℕ → State → ℕ → Type 0
-IsUnfit size position state rid = (words : List ℕ) × (state rid ≡ Some words) × (IsNode size position words → ⊥)
+abbrev pub IsNoLink : ℕ → ℕ → State → ℕ → Type 0
+IsNoLink size position state rid = (words : List ℕ) × (state rid ≡ Some words) × (IsNode size position words → ⊥)
 
 -- the walk over a bucket reaches a node, and none before it has the key
-pub record Reaches (size bucket key : ℕ) (state : State) (link : Link) : Type 0 where
+pub record RowReaches (size bucket key : ℕ) (state : State) (link : Link) : Type 0 where
   pub before : List (ℕ × List ℕ)
   pub words : List ℕ
   pub reached : Leads size state 0 (start_of state bucket) before (Some link.at)
-  pub stands : Stands size (length before) state link words
+  pub stands : LinkStands size (length before) state link words
   pub not_before : record_at (row_pairs before) key ≡ None
 
 -- a node of a bucket's row, of which none has the key
@@ -53,7 +53,7 @@ pub record InRow (size bucket key : ℕ) (state : State) (link : Link) : Type 0 
   pub words : List ℕ
   pub after : List (ℕ × List ℕ)
   pub row : Leads size state 0 (start_of state bucket) (before ++ (link.at, words) ∷ after) None
-  pub stands : Stands size (length before) state link words
+  pub stands : LinkStands size (length before) state link words
   pub full_before : All IsFull before
   pub not_there : record_at (row_pairs (before ++ (link.at, words) ∷ after)) key ≡ None
 
@@ -64,7 +64,7 @@ pub record IsRoom (size : ℕ) (link : Link) : Type 0 where
 
 -- what holds of a place in a state
 abbrev pub IsPlace : ℕ → ℕ → ℕ → State → Place → Type 0
-IsPlace size bucket key state (Found link index) = Reaches size bucket key state link
+IsPlace size bucket key state (Found link index) = RowReaches size bucket key state link
 IsPlace size bucket key state (Room link) = InRow size bucket key state link
 IsPlace size bucket key state (Full link) = (row : InRow size bucket key state link) × (row.after ≡ []) × (length (pairs_of link.words) ≡ 14)
 IsPlace size bucket key state (Empty rid) = state bucket ≡ None
@@ -90,4 +90,4 @@ end_place None last = if nat_lt (length (pairs_of last.words)) 14 then Room last
 pub record AddsNode (key rid : ℕ) (last : Link) (before after : Meaning) : Type 0 where
   pub fresh : ℕ
   pub is_fresh : IsFresh before fresh
-  pub written : after ≡ after_write (after_write (after_fresh before fresh) fresh (Some (words_of ((key, rid) ∷ []) None (last.position + 1)))) last.at (Some (words_of (pairs_of last.words) (Some fresh) last.position))
+  pub written : after ≡ after_write (after_write (after_fresh before fresh) fresh (Some (chain_node_words ((key, rid) ∷ []) None (last.position + 1)))) last.at (Some (chain_node_words (pairs_of last.words) (Some fresh) last.position))

@@ -1,14 +1,14 @@
 //! The calls of the index.
 
 ghost use Rattle.std.specs.Prelude.{◌≡◌, ℕ, ◌+◌, ◌<◌, ◌≤◌, IfOk, IfSome, OnOk};
-ghost use Rattle.record_store.specs.Calls.{Reads, ReadFault, Calls, CallFault};
+ghost use Rattle.record_store.specs.Goes.{WalksByReads, WalksByCalls, WalksCounting};
 ghost use Rattle.record_store.specs.Limits.{record_limit};
 ghost use Rattle.record_store.specs.States.{EachState};
-ghost use Rattle.record_store.specs.Walks.{IfTorn, IfStore, IfNoMemory, OnlyReads, ReadsGrow};
-ghost use Rattle.record_store.specs.Writes.{WritesAtMost, WritesOnly, EachWritesKnown, GivesAtMost, GivesFewer};
-ghost use Rattle.hash_index.specs.Chain.{EachChain, EndsWell, bucket_of, record_of};
+ghost use Rattle.record_store.specs.Walks.{IfTorn};
+ghost use Rattle.record_store.specs.Writes.{WritesAtMost, WritesOnly, EachWritesKnown};
+ghost use Rattle.hash_index.specs.Chain.{EachChain, RowEndsWell, bucket_of, record_of};
 ghost use Rattle.hash_index.specs.Search.{AddsNode, IsInStore};
-ghost use Rattle.hash_index.specs.Answers.{IsTorn, MayAsk, Asks, PutsPair, RemovesPair};
+ghost use Rattle.hash_index.specs.Answers.{IsTornChain, PutMayAsk, PutAsks, PutsPair, RemovesPair};
 
 use crate::node::{all_pairs, node_cells, one_pair, pair_record};
 use crate::search::{Link, Place, search};
@@ -21,13 +21,9 @@ pub fn get<S: RecordRead>(store: &mut S, base: u32, key: u64) -> Result<Option<u
 
     // whatever the records are, also where none that agree with what was read have a lawful chain
     ensures stored { IfOk result (λ answer. IfSome answer (λ rid. rid < (S.meaning store.old).size)) }
-    ensures walked { OnOk result (EachState (S.meaning store.old) (S.meaning store.new) (EndsWell (S.meaning store.old).size (base + bucket_of key) key)) }
-    ensures torn { IfTorn result (IsTorn base key (S.meaning store.old) (S.meaning store.new)) }
-    ensures fault { IfStore result (ReadFault S.read_gives store.old store.new) }
-    ensures memory { IfNoMemory result ⊥ }
-    ensures calls { Reads S.read_gives store.old store.new }
-    ensures after { OnlyReads (S.meaning store.old) (S.meaning store.new) }
-    ensures rest { S.rest store.new ≡ S.rest store.old }
+    ensures walked { OnOk result (EachState (S.meaning store.old) (S.meaning store.new) (RowEndsWell (S.meaning store.old).size (base + bucket_of key) key)) }
+    ensures torn { IfTorn result (IsTornChain base key (S.meaning store.old) (S.meaning store.new)) }
+    ensures walk { WalksByReads S.read_gives S.meaning S.rest store.old store.new result }
 {
     let size = store.size();
     let place = search(store, size, base, key)?;
@@ -49,18 +45,14 @@ pub fn put<S: RecordStore>(
     requires buckets { base + 511 ≤ (S.meaning store.old).fixed }
     requires rid { rid < (S.meaning store.old).size }
     ensures ok { OnOk result (PutsPair base key rid (S.meaning store.old) (S.meaning store.new)) }
-    ensures walked { OnOk result (EachState (S.meaning store.old) (S.meaning store.new) (EndsWell (S.meaning store.old).size (base + bucket_of key) key)) }
-    ensures torn { IfTorn result (IsTorn base key (S.meaning store.old) (S.meaning store.new)) }
+    ensures walked { OnOk result (EachState (S.meaning store.old) (S.meaning store.new) (RowEndsWell (S.meaning store.old).size (base + bucket_of key) key)) }
+    ensures torn { IfTorn result (IsTornChain base key (S.meaning store.old) (S.meaning store.new)) }
 
-    // each ask of `fresh` is counted, and may be made; one that is refused gave nothing
-    ensures fault { IfStore result (CallFault S.read_gives S.write_gives S.fresh_gives (λ asks. MayAsk base key (S.meaning store.old) (S.meaning store.new) asks × GivesFewer asks (S.meaning store.old) (S.meaning store.new)) store.old store.new) }
-    ensures memory { IfNoMemory result ⊥ }
-    ensures calls { (asked : ℕ) × Calls S.read_gives S.write_gives S.fresh_gives store.old asked store.new × Asks base key (S.meaning store.old) (S.meaning store.new) result asked }
+    // each ask of `fresh` is counted, and may be made
+    ensures walk { WalksCounting S.read_gives S.write_gives S.fresh_gives S.meaning S.rest (PutMayAsk base key) (PutAsks base key) store.old store.new result }
 
     // whatever it answers, no record is written but the bucket, one that is present, and one that was given
     ensures writes { EachWritesKnown (S.meaning store.old) (S.meaning store.new) }
-    ensures after { ReadsGrow (S.meaning store.old) (S.meaning store.new) }
-    ensures rest { S.rest store.new ≡ S.rest store.old }
 {
     let size = store.size();
     match search(store, size, base, key)? {
@@ -97,14 +89,9 @@ fn add_node<S: RecordStore>(
     requires last { IsInStore size last.now }
     ensures ok { OnOk result (AddsNode key rid last.now (S.meaning store.old) (S.meaning store.new)) }
     ensures torn { IfTorn result (λ _. ⊥) }
-    ensures fault { IfStore result (CallFault S.read_gives S.write_gives S.fresh_gives (λ asks. (asks ≤ 1) × GivesFewer asks (S.meaning store.old) (S.meaning store.new)) store.old store.new) }
-    ensures memory { IfNoMemory result ⊥ }
-    ensures calls { Calls S.read_gives S.write_gives S.fresh_gives store.old 1 store.new }
+    ensures walk { WalksByCalls S.read_gives S.write_gives S.fresh_gives S.meaning S.rest (λ asks. asks ≤ 1) 1 store.old store.new result }
     ensures writes { WritesOnly (λ rid. rid ≡ last.now.at) (S.meaning store.old) (S.meaning store.new) }
-    ensures given { GivesAtMost 1 (S.meaning store.old) (S.meaning store.new) }
     ensures few { WritesAtMost 2 (S.meaning store.old) (S.meaning store.new) }
-    ensures after { ReadsGrow (S.meaning store.old) (S.meaning store.new) }
-    ensures rest { S.rest store.new ≡ S.rest store.old }
 {
     let fresh = store.fresh()?;
     let first = node_cells(&one_pair(key, rid), None, last.position + 1);
@@ -120,20 +107,15 @@ fn add_node<S: RecordStore>(
 pub fn remove<S: RecordStore>(store: &mut S, base: u32, key: u64) -> Result<bool, Walk<S::Fault>>
     requires { base + 511 ≤ (S.meaning store.old).fixed }
     ensures ok { IfOk result (λ was_there. RemovesPair base key was_there (S.meaning store.old) (S.meaning store.new)) }
-    ensures walked { OnOk result (EachState (S.meaning store.old) (S.meaning store.new) (EndsWell (S.meaning store.old).size (base + bucket_of key) key)) }
-    ensures torn { IfTorn result (IsTorn base key (S.meaning store.old) (S.meaning store.new)) }
-    ensures fault { IfStore result (CallFault S.read_gives S.write_gives S.fresh_gives (λ _. ⊥) store.old store.new) }
-    ensures memory { IfNoMemory result ⊥ }
+    ensures walked { OnOk result (EachState (S.meaning store.old) (S.meaning store.new) (RowEndsWell (S.meaning store.old).size (base + bucket_of key) key)) }
+    ensures torn { IfTorn result (IsTornChain base key (S.meaning store.old) (S.meaning store.new)) }
 
     // `fresh` is never asked
-    ensures calls { Calls S.read_gives S.write_gives S.fresh_gives store.old 0 store.new }
-    ensures given { GivesAtMost 0 (S.meaning store.old) (S.meaning store.new) }
+    ensures walk { WalksByCalls S.read_gives S.write_gives S.fresh_gives S.meaning S.rest (λ _. ⊥) 0 store.old store.new result }
 
     // whatever it answers, one record is written at most, and it is present
     ensures few { WritesAtMost 1 (S.meaning store.old) (S.meaning store.new) }
     ensures writes { EachWritesKnown (S.meaning store.old) (S.meaning store.new) }
-    ensures after { ReadsGrow (S.meaning store.old) (S.meaning store.new) }
-    ensures rest { S.rest store.new ≡ S.rest store.old }
 {
     let size = store.size();
     match search(store, size, base, key)? {

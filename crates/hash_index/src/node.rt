@@ -1,7 +1,7 @@
 //! The words of a node.
 
 ghost use Rattle.std.specs.Prelude.{◌≡◌, ◌==◌, ◌<◌, ◌≤◌, [], ◌∷◌, length, nat_lt, position, slice_index, slice_index_or, All, MatchBool};
-ghost use Rattle.hash_index.specs.Node.{pairs_of, words_of};
+ghost use Rattle.hash_index.specs.Node.{pairs_of, chain_node_words};
 
 use arrayvec::ArrayVec;
 use plain_data::Cells;
@@ -21,7 +21,7 @@ pub fn one_pair(key: u64, rid: u32) -> Pairs
 
 /// The cells of a node with these pairs, zero where nothing is said.
 pub fn node_cells(pairs: &Pairs, next: Option<u32>, position: u32) -> Cells
-    ensures { result ≡ words_of pairs.now.items next position }
+    ensures { result ≡ chain_node_words pairs.now.items next position }
 {
     let mut words = [0; 32];
     words[0] = pairs.len() as u64;

@@ -1,14 +1,14 @@
 //! The walk over the nodes of a bucket.
 
 ghost use Rattle.std.specs.Prelude.{◌≡◌, ℕ, ◌+◌, ◌<◌, ◌≤◌, IfNone, IfOk, IfSome, OnOk, slice_index};
-ghost use Rattle.record_store.specs.Calls.{Reads, ReadFault};
+ghost use Rattle.record_store.specs.Goes.{WalksByReads};
 ghost use Rattle.record_store.specs.Limits.{record_limit};
 ghost use Rattle.record_store.specs.States.{EachState};
-ghost use Rattle.record_store.specs.Walks.{IfTorn, IfStore, IfNoMemory, OnlyReads};
-ghost use Rattle.hash_index.specs.Chain.{EndsWell, Tears, bucket_of};
-ghost use Rattle.hash_index.specs.Held.{Holds};
+ghost use Rattle.record_store.specs.Walks.{IfTorn};
+ghost use Rattle.hash_index.specs.Chain.{RowEndsWell, RowTears, bucket_of};
+ghost use Rattle.hash_index.specs.Held.{LinkHolds};
 ghost use Rattle.hash_index.specs.Node.{IsNode};
-ghost use Rattle.hash_index.specs.Search.{IsLink, ReadAs, IsUnfit, IsPlace, IsWithin, first_room, end_place};
+ghost use Rattle.hash_index.specs.Search.{IsRowLink, ReadsLink, IsNoLink, IsPlace, IsWithin, first_room, end_place};
 
 use crate::node::{are_within, find, has_room};
 use plain_data::Cells;
@@ -51,13 +51,9 @@ pub fn search<S: RecordRead>(
     requires buckets { base + 511 ≤ size }
     ensures place { IfOk result (λ place. EachState (S.meaning store.old) (S.meaning store.new) (λ state. IsPlace size (base + bucket_of key) key state place)) }
     ensures within { IfOk result (λ place. IsWithin size (base + bucket_of key) key place) }
-    ensures walked { OnOk result (EachState (S.meaning store.old) (S.meaning store.new) (EndsWell size (base + bucket_of key) key)) }
-    ensures torn { IfTorn result (λ rid. EachState (S.meaning store.old) (S.meaning store.new) (λ state. Tears size (base + bucket_of key) key state rid)) }
-    ensures fault { IfStore result (ReadFault S.read_gives store.old store.new) }
-    ensures memory { IfNoMemory result ⊥ }
-    ensures calls { Reads S.read_gives store.old store.new }
-    ensures after { OnlyReads (S.meaning store.old) (S.meaning store.new) }
-    ensures rest { S.rest store.new ≡ S.rest store.old }
+    ensures walked { OnOk result (EachState (S.meaning store.old) (S.meaning store.new) (RowEndsWell size (base + bucket_of key) key)) }
+    ensures torn { IfTorn result (λ rid. EachState (S.meaning store.old) (S.meaning store.new) (λ state. RowTears size (base + bucket_of key) key state rid)) }
+    ensures walk { WalksByReads S.read_gives S.meaning S.rest store.old store.new result }
 {
     let bucket = base + (key % BUCKETS) as u32;
     let Some(mut here) = read_link(store, size, bucket, 0)? else {
@@ -89,14 +85,10 @@ fn read_link<S: RecordRead>(
     requires size { size ≡ (S.meaning store.old).size }
     requires at_most { size ≤ record_limit }
     requires rid { rid < size }
-    ensures link { IfOk result (λ link. IfSome link (IsLink size rid position)) }
-    ensures read { IfOk result (λ link. EachState (S.meaning store.old) (S.meaning store.new) (λ state. ReadAs size rid position state link)) }
-    ensures torn { IfTorn result (λ torn. (torn ≡ rid) × EachState (S.meaning store.old) (S.meaning store.new) (λ state. IsUnfit size position state rid)) }
-    ensures fault { IfStore result (ReadFault S.read_gives store.old store.new) }
-    ensures memory { IfNoMemory result ⊥ }
-    ensures calls { Reads S.read_gives store.old store.new }
-    ensures after { OnlyReads (S.meaning store.old) (S.meaning store.new) }
-    ensures rest { S.rest store.new ≡ S.rest store.old }
+    ensures link { IfOk result (λ link. IfSome link (IsRowLink size rid position)) }
+    ensures read { IfOk result (λ link. EachState (S.meaning store.old) (S.meaning store.new) (λ state. ReadsLink size rid position state link)) }
+    ensures torn { IfTorn result (λ torn. (torn ≡ rid) × EachState (S.meaning store.old) (S.meaning store.new) (λ state. IsNoLink size position state rid)) }
+    ensures walk { WalksByReads S.read_gives S.meaning S.rest store.old store.new result }
 {
     let Some(cells) = store.read(rid)? else {
         return Ok(None);
@@ -110,7 +102,7 @@ fn read_link<S: RecordRead>(
 /// The node of these cells, if they are one at this position of a store of this size.
 fn node_at(at: u32, cells: &Cells, position: u32, size: u32) -> Option<Link>
     requires { size ≤ record_limit }
-    ensures node { IfSome result (λ link. (link.at ≡ at) × IsNode size position cells.now × Holds link cells.now) }
+    ensures node { IfSome result (λ link. (link.at ≡ at) × IsNode size position cells.now × LinkHolds link cells.now) }
     ensures no_node { IfNone result (IsNode size position cells.now → ⊥) }
 {
     let words = cells.words();

@@ -15,10 +15,10 @@ use Rattle.ordered_index.specs.declared.node.Kind.TheVariants.{Leaf, Inner}
 use Rattle.ordered_index.specs.declared.enter.Entering.{Entering}
 use Rattle.ordered_index.specs.declared.enter.Entering.TheVariants.{There, Done, Takes}
 use Rattle.ordered_index.specs.Keys.{entry_at}
-use Rattle.ordered_index.specs.Node.{Content, words_of}
+use Rattle.ordered_index.specs.Node.{Content, tree_node_words}
 use Rattle.ordered_index.specs.Tree.{IsAt}
 use Rattle.ordered_index.specs.Enter.{EachEntered, IfTakes, with_entry}
-use Rattle.ordered_index.specs.Asks.{EachPart, IsDue, SomeFull, AllFull, AsksBelow, AsksRoot, asks_at}
+use Rattle.ordered_index.specs.Asks.{EachPart, PartIsDue, SomeFull, AllFull, AsksBelow, AsksRoot, asks_at}
 use Rattle.ordered_index.specs.Written.{WritesNodes}
 use Rattle.ordered_index.proofs.Wrote.{nodes-none, nodes-trans, nodes-weaken, wrote_none, wrote_one, wrote_reads}
 use Rattle.ordered_index.proofs.Rows.{leaf_inner}
@@ -74,8 +74,8 @@ module _ {F : Type 0} (m0 m1 m2 m3 : Meaning) (key : Key) (entries : List (Key �
   not_leaf : 0 < asked → node.kind ≡ Leaf → ⊥
   not_leaf some leaf = omega (arith, some, a.leaf leaf)
 
-  may_below : m3 ≡ m2 → 0 < asked → EachPart m0 m3 key entries (IsDue key asked)
-  may_below same some = child_due m0 m1 m2 m3 key entries rank child node asked early late c at (not_leaf some) (λ k. reads_part m0 m1 m2 key node.entries (IsDue key asked) only (a.may some))
+  may_below : m3 ≡ m2 → 0 < asked → EachPart m0 m3 key entries (PartIsDue key asked)
+  may_below same some = child_due m0 m1 m2 m3 key entries rank child node asked early late c at (not_leaf some) (λ k. reads_part m0 m1 m2 key node.entries (PartIsDue key asked) only (a.may some))
 
   writes_below : WritesNodes (2 * asked + 1) m0 m2
   writes_below = wrote_reads (2 * asked + 1) m0 m1 m2 only a.writes
@@ -119,7 +119,7 @@ module _ {F : Type 0} (m0 m1 m2 m3 : Meaning) (key : Key) (entries : List (Key �
     due_below : node.kind ≡ Inner → EachPart (reads_of m0 m1) m2 key node.entries (AllDue key asked)
     due_below deeper = all_due (reads_of m0 m1) m2 key rid node.entries child_rank entry asked (entered deeper) (full_below deeper)
 
-    pub put_due : (asks : ℕ) → asks ≤ asks_at node.entries → EachPart m0 m3 key entries (IsDue key (asked + asks))
+    pub put_due : (asks : ℕ) → asks ≤ asks_at node.entries → EachPart m0 m3 key entries (PartIsDue key (asked + asks))
     put_due asks few = takes_due m0 m1 m2 m3 key entries rank child node asked early late c at asks few (λ k. (a.leaf k, leaf k)) due_below
 
     pub writes_takes : WritesNodes (2 * asked) m0 m2
@@ -169,10 +169,10 @@ module _ {F : Type 0} (m0 m1 m2 m3 : Meaning) (key : Key) (entries : List (Key �
         }
 
 -- a fault of the child's calls
-pub due_behind : (m0 m1 m2 : Meaning) (key : Key) (entries : List (Key × ℕ)) (rank : ℕ) (child : Key × ℕ) (node : Content) (asks : ℕ) → OnlyReads m0 m1 → Extends m1.reads m2.reads → IsChild m0.size key entries rank child node → EachState m0 m1 (λ state. IsAt m0.size state (child.1, node)) → (node.kind ≡ Inner) × EachPart m1 m2 key node.entries (IsDue key asks) → EachPart m0 m2 key entries (IsDue key (0 + asks))
+pub due_behind : (m0 m1 m2 : Meaning) (key : Key) (entries : List (Key × ℕ)) (rank : ℕ) (child : Key × ℕ) (node : Content) (asks : ℕ) → OnlyReads m0 m1 → Extends m1.reads m2.reads → IsChild m0.size key entries rank child node → EachState m0 m1 (λ state. IsAt m0.size state (child.1, node)) → (node.kind ≡ Inner) × EachPart m1 m2 key node.entries (PartIsDue key asks) → EachPart m0 m2 key entries (PartIsDue key (0 + asks))
 due_behind m0 m1 m2 key entries rank child node asks only early c at later =
-    let P : ℕ → Type 0 = λ n. EachPart m0 m2 key entries (IsDue key n) in
-    subst P (omega arith) (child_due m0 m1 m2 m2 key entries rank child node asks early (extends-refl m2.reads) c at (λ leaf. leaf_inner node.kind leaf later.0) (λ k. reads_part m0 m1 m2 key node.entries (IsDue key asks) only later.1))
+    let P : ℕ → Type 0 = λ n. EachPart m0 m2 key entries (PartIsDue key n) in
+    subst P (omega arith) (child_due m0 m1 m2 m2 key entries rank child node asks early (extends-refl m2.reads) c at (λ leaf. leaf_inner node.kind leaf later.0) (λ k. reads_part m0 m1 m2 key node.entries (PartIsDue key asks) only later.1))
 
 pub one_at : (entries : List (Key × ℕ)) (asks : ℕ) → (asks ≡ 1) × (length entries ≡ 9) → asks ≤ asks_at entries
 one_at entries asks one = omega (arith, one.0, asks_nine entries one.1)
@@ -191,7 +191,7 @@ root_refused entries before after answer err same = record {
   writes = nodes-weaken 0 (2 * 0 + 1) before after (omega arith) (nodes-none before after (ap (λ (m : Meaning). m.writes) same));
 }
 
-pub root_whole : {F : Type 0} (entries : List (Key × ℕ)) (before after : Meaning) (rid : ℕ) (node : Content) → asks_at entries ≡ 0 → after ≡ after_write before rid (Some (words_of node)) → AsksRoot {F = F} entries before after (Ok tt) 0
+pub root_whole : {F : Type 0} (entries : List (Key × ℕ)) (before after : Meaning) (rid : ℕ) (node : Content) → asks_at entries ≡ 0 → after ≡ after_write before rid (Some (tree_node_words node)) → AsksRoot {F = F} entries before after (Ok tt) 0
 root_whole entries before after rid node none wrote = record {
   may = λ some. absurd (omega arith);
   exact = omega (arith, none);

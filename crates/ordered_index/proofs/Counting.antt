@@ -14,7 +14,7 @@ use Rattle.ordered_index.specs.Keys.{NotAfter, Above, entry_at, first_key}
 use Rattle.ordered_index.specs.Node.{Content}
 use Rattle.ordered_index.specs.Tree.{IsAt, EachTree, named, row_names, row_entries, record_of_key}
 use Rattle.ordered_index.specs.Enter.{Part, EachEntered}
-use Rattle.ordered_index.specs.Asks.{home, has_nine, full_nodes, records_due, EachPart, IsDue, SomeFull, AllFull, asks_at}
+use Rattle.ordered_index.specs.Asks.{home, has_nine, full_nodes, records_due, EachPart, PartIsDue, SomeFull, AllFull, asks_at}
 use Rattle.ordered_index.proofs.Entries.{above_append}
 use Rattle.ordered_index.proofs.Rows.{Home}
 use Rattle.ordered_index.proofs.Trees.{home_record}
@@ -95,7 +95,7 @@ each_level m0 m1 m2 m3 key entries rank child node P Q early late c at leaf inne
     (λ kind xs' ys' levels' leaves' part' above'. each kind state xs' ys' levels' leaves' agrees2 part' above')
 
 -- what comes of the count where the child does not ask
-pub still_due : (key : Key) (asks : ℕ) (level : List (ℕ × Content)) (levels : List (List (ℕ × Content))) (leaves : List (ℕ × Content)) → IsDue key asks levels leaves → IsDue key asks (level ∷ levels) leaves
+pub still_due : (key : Key) (asks : ℕ) (level : List (ℕ × Content)) (levels : List (List (ℕ × Content))) (leaves : List (ℕ × Content)) → PartIsDue key asks levels leaves → PartIsDue key asks (level ∷ levels) leaves
 still_due key asks level levels leaves due = (due.0, omega (arith, due.1, count_grows (full_nodes key levels leaves) (length levels) (has_nine (home level key)) (full_most key levels leaves)))
 
 pub still_some : (key : Key) (asked : ℕ) (level : List (ℕ × Content)) (levels : List (List (ℕ × Content))) (leaves : List (ℕ × Content)) → SomeFull key asked levels leaves → SomeFull key asked (level ∷ levels) leaves
@@ -129,7 +129,7 @@ leaf_up key row node is full = (sym (ap (λ b. cond b 1 0) (nine (home row key) 
 leaf_stops : (key : Key) (row : List (ℕ × Content)) (node : ℕ × Content) → home row key ≡ Some node → length node.1.entries ≢ 9 → SomeFull key 0 [] row
 leaf_stops key row node is not_full = (sym (ap (λ b. cond b 1 0) (not_nine (home row key) node is not_full)), omega arith)
 
-row_due : (key : Key) (level : List (ℕ × Content)) (levels : List (List (ℕ × Content))) (leaves : List (ℕ × Content)) (node : ℕ × Content) (asked asks : ℕ) → home level key ≡ Some node → asks ≤ asks_at node.1.entries → AllDue key asked levels leaves → IsDue key (asked + asks) (level ∷ levels) leaves
+row_due : (key : Key) (level : List (ℕ × Content)) (levels : List (List (ℕ × Content))) (leaves : List (ℕ × Content)) (node : ℕ × Content) (asked asks : ℕ) → home level key ≡ Some node → asks ≤ asks_at node.1.entries → AllDue key asked levels leaves → PartIsDue key (asked + asks) (level ∷ levels) leaves
 row_due key level levels leaves node asked asks is few all = (
   all.0,
   elim (cases_eq (length node.1.entries) 9) as (λ _. asked + asks ≤ full_nodes key (level ∷ levels) leaves) [
@@ -146,9 +146,9 @@ leaf_due key row node asks is few = elim (cases_eq (length node.1.entries) 9) as
 
 -- over each state: the child takes an entry in
 module _ (m0 m1 m2 m3 : Meaning) (key : Key) (entries : List (Key × ℕ)) (rank : ℕ) (child : Key × ℕ) (node : Content) (asked : ℕ) (early : Extends m1.reads m2.reads) (late : Extends m2.reads m3.reads) (c : IsChild m0.size key entries rank child node) (at : EachState m0 m1 (λ state. IsAt m0.size state (child.1, node))) where
-  pub takes_due : (asks : ℕ) → asks ≤ asks_at node.entries → (node.kind ≡ Leaf → (asked ≡ 0) × (entry_at node.entries key ≡ None)) → (node.kind ≡ Inner → EachPart (reads_of m0 m1) m2 key node.entries (AllDue key asked)) → EachPart m0 m3 key entries (IsDue key (asked + asks))
+  pub takes_due : (asks : ℕ) → asks ≤ asks_at node.entries → (node.kind ≡ Leaf → (asked ≡ 0) × (entry_at node.entries key ≡ None)) → (node.kind ≡ Inner → EachPart (reads_of m0 m1) m2 key node.entries (AllDue key asked)) → EachPart m0 m3 key entries (PartIsDue key (asked + asks))
   takes_due asks few leaf inner =
-      each_level m0 m1 m2 m3 key entries rank child node (AllDue key asked) (IsDue key (asked + asks)) early late c at
+      each_level m0 m1 m2 m3 key entries rank child node (AllDue key asked) (PartIsDue key (asked + asks)) early late c at
       (λ kind row is found. (found ∙ (leaf kind).1, omega (arith, (leaf kind).0, leaf_due key row (child.1, node) asks is few)))
       (λ kind level levels leaves is all. row_due key level levels leaves (child.1, node) asked asks is few all) inner
 
@@ -165,8 +165,8 @@ module _ (m0 m1 m2 m3 : Meaning) (key : Key) (entries : List (Key × ℕ)) (rank
       (λ kind level levels leaves is all. row_up key level levels leaves (child.1, node) asked is full all) inner
 
   -- and where it does not
-  pub child_due : (node.kind ≡ Leaf → ⊥) → (node.kind ≡ Inner → EachPart (reads_of m0 m1) m2 key node.entries (IsDue key asked)) → EachPart m0 m3 key entries (IsDue key asked)
-  child_due leaf inner = each_level m0 m1 m2 m3 key entries rank child node (IsDue key asked) (IsDue key asked) early late c at (λ kind. absurd (leaf kind)) (λ kind level levels leaves is due. still_due key asked level levels leaves due) inner
+  pub child_due : (node.kind ≡ Leaf → ⊥) → (node.kind ≡ Inner → EachPart (reads_of m0 m1) m2 key node.entries (PartIsDue key asked)) → EachPart m0 m3 key entries (PartIsDue key asked)
+  child_due leaf inner = each_level m0 m1 m2 m3 key entries rank child node (PartIsDue key asked) (PartIsDue key asked) early late c at (λ kind. absurd (leaf kind)) (λ kind level levels leaves is due. still_due key asked level levels leaves due) inner
 
   pub child_some : (node.kind ≡ Leaf → ⊥) → (node.kind ≡ Inner → EachPart (reads_of m0 m1) m2 key node.entries (SomeFull key asked)) → EachPart m0 m3 key entries (SomeFull key asked)
   child_some leaf inner = each_level m0 m1 m2 m3 key entries rank child node (SomeFull key asked) (SomeFull key asked) early late c at (λ kind. absurd (leaf kind)) (λ kind level levels leaves is some. still_some key asked level levels leaves some) inner
@@ -175,7 +175,7 @@ module _ (m0 m1 m2 m3 : Meaning) (key : Key) (entries : List (Key × ℕ)) (rank
 due_step : (f n : ℕ) → f ≤ n + 1 → f ≤ cond (eqb f (n + 1)) (n + 2) f
 due_step f n most = elim (eqb f (n + 1)) as (λ b. f ≤ cond b (n + 2) f) [ true ↦ omega arith | false ↦ omega arith ]
 
-pub due_most : (key : Key) (asks : ℕ) (levels : List (List (ℕ × Content))) (leaves : List (ℕ × Content)) → IsDue key asks levels leaves → (record_of_key leaves key ≡ None) × (asks ≤ records_due key levels leaves)
+pub due_most : (key : Key) (asks : ℕ) (levels : List (List (ℕ × Content))) (leaves : List (ℕ × Content)) → PartIsDue key asks levels leaves → (record_of_key leaves key ≡ None) × (asks ≤ records_due key levels leaves)
 due_most key asks levels leaves due = (due.0, omega (arith, due.1, due_step (full_nodes key levels leaves) (length levels) (full_most key levels leaves)))
 
 pub due_some : (key : Key) (asked : ℕ) (levels : List (List (ℕ × Content))) (leaves : List (ℕ × Content)) → SomeFull key asked levels leaves → asked ≡ records_due key levels leaves

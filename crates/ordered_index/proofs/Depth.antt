@@ -12,7 +12,8 @@ use Rattle.ordered_index.specs.declared.node.Kind.{Kind}
 use Rattle.ordered_index.specs.declared.node.Kind.TheVariants.{Inner}
 use Rattle.ordered_index.specs.Keys.{InStore}
 use Rattle.ordered_index.specs.Node.{Content, least}
-use Rattle.ordered_index.specs.Tree.{Stand, Descends, In, Apart, named, row_names, row_entries, records_of, tree_records}
+use Rattle.ordered_index.specs.Tree.{Stand, Descends, In, Apart, named, row_names, row_entries, tree_records}
+use Rattle.record_store.specs.Links.{records_of}
 use Rattle.ordered_index.proofs.Grown.{apart_right}
 
 -- doubled so many times

@@ -6,7 +6,8 @@ use Rattle.ordered_index.specs.declared.key.Key.{Key}
 use Rattle.ordered_index.specs.declared.node.Kind.TheVariants.{Leaf, Inner}
 use Rattle.ordered_index.specs.Keys.{is_same, NotAfter, Above, Below, Rising, entry_at}
 use Rattle.ordered_index.specs.Node.{Content}
-use Rattle.ordered_index.specs.Tree.{Descends, Follow, Apart, row_names, row_entries, records_of, tree_records}
+use Rattle.ordered_index.specs.Tree.{Descends, Follow, Apart, row_names, row_entries, tree_records}
+use Rattle.record_store.specs.Links.{records_of}
 use Rattle.ordered_index.specs.Enter.{Part, Grown, PartWith}
 use Rattle.ordered_index.proofs.Entries.{above_append, below_append, below_weaker}
 use Rattle.ordered_index.proofs.Edits.{entry_at-put, entry_at-absent}

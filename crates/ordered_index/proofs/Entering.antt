@@ -13,7 +13,8 @@ use Rattle.ordered_index.specs.declared.enter.Entering.{Entering}
 use Rattle.ordered_index.specs.declared.enter.Entering.TheVariants.{There, Done, Takes}
 use Rattle.ordered_index.specs.Keys.{NotAfter, Above, entry_at, first_key}
 use Rattle.ordered_index.specs.Node.{Content}
-use Rattle.ordered_index.specs.Tree.{IsAt, Stand, Descends, named, row_names, row_entries, records_of, tree_records, record_of_key}
+use Rattle.ordered_index.specs.Tree.{IsAt, Stand, Descends, named, row_names, row_entries, tree_records, record_of_key}
+use Rattle.record_store.specs.Links.{records_of}
 use Rattle.record_store.specs.States.{EachState}
 use Rattle.ordered_index.specs.Enter.{Part, PartWith, PutsEntry, with_entry, IsRank, IsEntered, EachEntered}
 use Rattle.ordered_index.specs.Splits.{PartTakes}

@@ -4,7 +4,8 @@ use Rattle.std.proofs.lemmas.Option.{none-some}
 use Rattle.plain_data.specs.State.{State}
 use Rattle.ordered_index.specs.declared.node.Kind.{Kind}
 use Rattle.ordered_index.specs.Node.{Content}
-use Rattle.ordered_index.specs.Tree.{Stand, In, Apart, records_of}
+use Rattle.ordered_index.specs.Tree.{Stand, In, Apart}
+use Rattle.record_store.specs.Links.{records_of}
 use Rattle.ordered_index.specs.Enter.{Grown}
 use Rattle.ordered_index.proofs.Rows.{stand_left, stand_right, stand_append}
 use Rattle.ordered_index.proofs.Grown.{in_left, in_right, in_cases, apart_left, apart_right, apart_both, apart_append, apart_middle, records_of-append, stand_frame, stand_present, stays_out}

@@ -7,7 +7,8 @@ use Rattle.ordered_index.specs.declared.key.Key.{Key}
 use Rattle.ordered_index.specs.declared.node.Kind.{Kind}
 use Rattle.ordered_index.specs.declared.node.Kind.TheVariants.{Leaf, Inner}
 use Rattle.ordered_index.specs.Node.{Content}
-use Rattle.ordered_index.specs.Tree.{IsAt, Stand, Descends, In, Apart, row_names, row_entries, records_of, tree_records}
+use Rattle.ordered_index.specs.Tree.{IsAt, Stand, Descends, In, Apart, row_names, row_entries, tree_records}
+use Rattle.record_store.specs.Links.{records_of}
 use Rattle.ordered_index.specs.Enter.{Grown}
 use Rattle.ordered_index.proofs.Rows.{stand_left, stand_right, stand_append, row_names-append}
 

@@ -14,7 +14,7 @@ use Rattle.ordered_index.specs.declared.key.Key.{Key}
 use Rattle.ordered_index.specs.declared.node.Kind.TheVariants.{Leaf, Inner}
 use Rattle.ordered_index.specs.declared.enter.Entering.TheVariants.{There, Done, Takes}
 use Rattle.ordered_index.specs.Keys.{NotAfter, entry_at, first_key}
-use Rattle.ordered_index.specs.Node.{Content, IsSound, words_of}
+use Rattle.ordered_index.specs.Node.{Content, IsSound, tree_node_words}
 use Rattle.ordered_index.specs.Tree.{IsAt, Descends, IsTree, EachTree, record_of_key}
 use Rattle.record_store.specs.States.{EachState}
 use Rattle.ordered_index.specs.Changes.{IsInserted, InsertsEntry}
@@ -102,14 +102,14 @@ leaf_sound size key rid stored = record {
   next = tt;
 }
 
-begun : (root : ℕ) (key : Key) (rid : ℕ) (before after : Meaning) (state : State) → rid < before.size → overlay before.writes state root ≡ None → after.writes ≡ with_value before.writes root (Some (words_of (leaf_of key rid))) → IsInserted root key rid before after state [] [] [] ((root, leaf_of key rid) ∷ [])
+begun : (root : ℕ) (key : Key) (rid : ℕ) (before after : Meaning) (state : State) → rid < before.size → overlay before.writes state root ≡ None → after.writes ≡ with_value before.writes root (Some (tree_node_words (leaf_of key rid))) → IsInserted root key rid before after state [] [] [] ((root, leaf_of key rid) ∷ [])
 begun root key rid before after state stored absent writes =
     let st' : State = overlay after.writes state in
-    let here : st' root ≡ Some (words_of (leaf_of key rid)) = ap (λ w. overlay w state root) writes ∙ written_here before.writes state root (Some (words_of (leaf_of key rid))) in
+    let here : st' root ≡ Some (tree_node_words (leaf_of key rid)) = ap (λ w. overlay w state root) writes ∙ written_here before.writes state root (Some (tree_node_words (leaf_of key rid))) in
     let descends : Descends before.size st' ((first_key, root) ∷ []) [] ((root, leaf_of key rid) ∷ []) = (refl, (at_written before.size st' root (leaf_of key rid) here (leaf_sound before.size key rid stored) (λ inner. cc), refl, tt)) in
     record {
       lawful = record {
-        descends = tree_of before.size root st' [] ((root, leaf_of key rid) ∷ []) (words_of (leaf_of key rid)) here descends;
+        descends = tree_of before.size root st' [] ((root, leaf_of key rid) ∷ []) (tree_node_words (leaf_of key rid)) here descends;
         rising = (tt, tt);
         follow = (refl, (first_not_after key, tt), tt, tt);
         once = (λ there. there, tt);
@@ -121,8 +121,8 @@ begun root key rid before after state stored absent writes =
       moved = record {
         kept = λ other there. absurd there;
         anew = λ other there. elim there as (λ _. ⊥ ⊎ ((overlay before.writes state other ≡ None) × ((other ≡ root) ⊎ (before.fixed ≤ other)))) [ inl same ↦ inr (ap (overlay before.writes state) (sym same) ∙ absent, inl (sym same)) | inr none ↦ absurd none ];
-        present = λ other there. elim there as (λ _. (words : List ℕ) × (st' other ≡ Some words)) [ inl same ↦ (words_of (leaf_of key rid), ap st' (sym same) ∙ here) | inr none ↦ absurd none ];
-        outside = λ other out never. ap (λ w. overlay w state other) writes ∙ written_others before.writes state root (Some (words_of (leaf_of key rid))) other (λ same. out (inl (sym same)));
+        present = λ other there. elim there as (λ _. (words : List ℕ) × (st' other ≡ Some words)) [ inl same ↦ (tree_node_words (leaf_of key rid), ap st' (sym same) ∙ here) | inr none ↦ absurd none ];
+        outside = λ other out never. ap (λ w. overlay w state other) writes ∙ written_others before.writes state root (Some (tree_node_words (leaf_of key rid))) other (λ same. out (inl (sym same)));
         known = λ other. in_or_not other (root ∷ []);
         known_before = λ other. in_or_not other [];
       };
@@ -130,7 +130,7 @@ begun root key rid before after state stored absent writes =
       left_first = λ longer. absurd (omega (arith, longer));
     }
 
-pub inserts_first : (size root : ℕ) (key : Key) (rid : ℕ) (before between after : Meaning) → size ≡ before.size → rid < before.size → OnlyReads before between → EachState before between (λ state. state root ≡ None) → after ≡ after_write between root (Some (words_of (leaf_of key rid))) → InsertsEntry root key rid true before after
+pub inserts_first : (size root : ℕ) (key : Key) (rid : ℕ) (before between after : Meaning) → size ≡ before.size → rid < before.size → OnlyReads before between → EachState before between (λ state. state root ≡ None) → after ≡ after_write between root (Some (tree_node_words (leaf_of key rid))) → InsertsEntry root key rid true before after
 inserts_first size root key rid before between after same stored only absent wrote =
     let one = written_after before between after root _ only wrote in
     record {
@@ -147,7 +147,7 @@ pub present_by : (size root : ℕ) (node : Content) (m0 m1 m2 : Meaning) → Ext
 present_by size root node m0 m1 m2 extends at = λ state agrees. (let here = at state (agrees-extends m1.reads m2.reads state extends agrees) in (here.words, here.here))
 
 -- the root's ten entries went to two new nodes below it
-root_parted : (m0 m1 m2 m3 : Meaning) (root : ℕ) (key : Key) (rid : ℕ) (node : Content) (rank : ℕ) (entry : Key × ℕ) (left right : ℕ) → m0.size ≤ 200000 → m0.fixed ≤ m0.size → root < m0.fixed → (node.kind ≡ Inner → 0 < rank) → OnlyReads m0 m1 → ReadsGrow m1 m2 → ReadsGrow m2 m3 → rid < m0.size → entry.1 < m0.size → node.low ≡ first_key → IsSound m0.size node → IsRank key node.entries rank → EachState m0 m1 (λ state. IsAt m0.size state (root, node)) → (node.kind ≡ Leaf → (entry ≡ (key, rid)) × (entry_at node.entries key ≡ None) × (m2 ≡ m1)) → (node.kind ≡ Inner → EachEntered (reads_of m0 m1) m2 key rid node.entries rank (Takes entry)) → length (with_entry node.entries rank entry) ≡ 10 → IsFresh m2 left → IsFresh (after_fresh m2 left) right → m3 ≡ after_write (after_write (after_write (after_fresh (after_fresh m2 left) right) left (Some (words_of (left_of node (with_entry node.entries rank entry) right)))) right (Some (words_of (right_of node (with_entry node.entries rank entry))))) root (Some (words_of (over_of node.low left (key_at (with_entry node.entries rank entry) 5) right))) → EachTree root m0 m3 (λ state levels leaves. (levels' : List (List (ℕ × Content))) × (leaves' : List (ℕ × Content)) × IsInserted root key rid m0 m3 state levels leaves levels' leaves')
+root_parted : (m0 m1 m2 m3 : Meaning) (root : ℕ) (key : Key) (rid : ℕ) (node : Content) (rank : ℕ) (entry : Key × ℕ) (left right : ℕ) → m0.size ≤ 200000 → m0.fixed ≤ m0.size → root < m0.fixed → (node.kind ≡ Inner → 0 < rank) → OnlyReads m0 m1 → ReadsGrow m1 m2 → ReadsGrow m2 m3 → rid < m0.size → entry.1 < m0.size → node.low ≡ first_key → IsSound m0.size node → IsRank key node.entries rank → EachState m0 m1 (λ state. IsAt m0.size state (root, node)) → (node.kind ≡ Leaf → (entry ≡ (key, rid)) × (entry_at node.entries key ≡ None) × (m2 ≡ m1)) → (node.kind ≡ Inner → EachEntered (reads_of m0 m1) m2 key rid node.entries rank (Takes entry)) → length (with_entry node.entries rank entry) ≡ 10 → IsFresh m2 left → IsFresh (after_fresh m2 left) right → m3 ≡ after_write (after_write (after_write (after_fresh (after_fresh m2 left) right) left (Some (tree_node_words (left_of node (with_entry node.entries rank entry) right)))) right (Some (tree_node_words (right_of node (with_entry node.entries rank entry))))) root (Some (tree_node_words (over_of node.low left (key_at (with_entry node.entries rank entry) 5) right))) → EachTree root m0 m3 (λ state levels leaves. (levels' : List (List (ℕ × Content))) × (leaves' : List (ℕ × Content)) × IsInserted root key rid m0 m3 state levels leaves levels' leaves')
 root_parted m0 m1 m2 m3 root key rid node rank entry left right most room under some only grow more stored within low sound is at leaf inner ten first second wrote = λ state levels leaves agrees tree.
     let agrees2 = agrees-extends m2.reads m3.reads state more.reads agrees in
     let here = at state (agrees-extends m1.reads m2.reads state grow.reads agrees2) in

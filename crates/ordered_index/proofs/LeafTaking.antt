@@ -11,7 +11,7 @@ use Rattle.ordered_index.specs.Keys.{Before, NotAfter, Above, Below, From, Risin
 use Rattle.ordered_index.specs.Node.{Content, Begins}
 use Rattle.ordered_index.specs.Tree.{IsAt, Follow, UpTo, row_names}
 use Rattle.ordered_index.specs.Enter.{Part, PartWith, PutsEntry, with_entry, key_at, left_of, right_of, next_left, IsRank}
-use Rattle.ordered_index.specs.Splits.{Becomes}
+use Rattle.ordered_index.specs.Splits.{NodeBecomes}
 use Rattle.ordered_index.proofs.Order.{not_after_before, not_after_itself, before_not_after}
 use Rattle.ordered_index.proofs.Entries.{above_at, above_weaker, below_right, below_append, below_weaker, rising_right, rising_below}
 use Rattle.ordered_index.proofs.Edits.{below_put, from_put, rising_put}
@@ -98,7 +98,7 @@ filled size key rid rank node at state after stored here kind is absent low late
 pub no_next : (kind : Kind) (next : Option ℕ) → kind ≡ Leaf → kind ≡ Inner → next ≡ None
 no_next kind next leaf inner = absurd (leaf_inner kind leaf inner)
 
-pub leaf_takes : (new : Option (Key × ℕ)) (size rid at rank : ℕ) (key : Key) (before after : Meaning) (agreed : State) (above : List (Key × ℕ)) (lefts : List (ℕ × Content)) (node : Content) (rights : List (ℕ × Content)) → before.size ≡ size → Agrees agreed after.reads → rid < size → node.kind ≡ Leaf → IsRank key node.entries rank → entry_at node.entries key ≡ None → NotAfter node.low key → Above key (row_names rights) → Part size (overlay before.writes agreed) above [] (lefts ++ (at, node) ∷ rights) → PutsEntry before after at node (with_entry node.entries rank (key, rid)) new → (mid : List (ℕ × Content)) × PartWith size before.fixed key rid (overlay before.writes agreed) (overlay after.writes agreed) (names_with lefts (at, node) new rights) [] (lefts ++ (at, node) ∷ rights) [] (lefts ++ (mid ++ rights)) × Becomes (at, node) (with_entry node.entries rank (key, rid)) new mid
+pub leaf_takes : (new : Option (Key × ℕ)) (size rid at rank : ℕ) (key : Key) (before after : Meaning) (agreed : State) (above : List (Key × ℕ)) (lefts : List (ℕ × Content)) (node : Content) (rights : List (ℕ × Content)) → before.size ≡ size → Agrees agreed after.reads → rid < size → node.kind ≡ Leaf → IsRank key node.entries rank → entry_at node.entries key ≡ None → NotAfter node.low key → Above key (row_names rights) → Part size (overlay before.writes agreed) above [] (lefts ++ (at, node) ∷ rights) → PutsEntry before after at node (with_entry node.entries rank (key, rid)) new → (mid : List (ℕ × Content)) × PartWith size before.fixed key rid (overlay before.writes agreed) (overlay after.writes agreed) (names_with lefts (at, node) new rights) [] (lefts ++ (at, node) ∷ rights) [] (lefts ++ (mid ++ rights)) × NodeBecomes (at, node) (with_entry node.entries rank (key, rid)) new mid
 leaf_takes None size rid at rank key before after agreed above lefts node rights same agrees stored kind is absent low later part puts =
     let es = with_entry node.entries rank (key, rid) in
     let node' : Content = record node { entries = es } in

@@ -17,7 +17,7 @@ use Rattle.ordered_index.specs.Keys.{is_before, Before, InStore}
 use Rattle.ordered_index.specs.Node.{Content, Holds, IsSound}
 use Rattle.ordered_index.specs.Held.{content_of}
 use Rattle.ordered_index.specs.Tree.{IsAt, row_entries}
-use Rattle.ordered_index.specs.Walk.{Reaches, node_of}
+use Rattle.ordered_index.specs.Walk.{DescentReaches, node_of}
 use Rattle.ordered_index.specs.Scan.{is_between, between, ListsNothing, Appends, IsNext, Passes, HasBehind, NeedsNoMore, Scans, ScanTears, IsLeafBehind, IsNoLeaf, keys_behind}
 use Rattle.ordered_index.specs.Scan.NeedsNoMore.{key_behind, enough}
 use Rattle.ordered_index.specs.Scan.Scans.{along}
@@ -45,7 +45,7 @@ ends_by size lo hi limit state passed here old now taken why = elim why as (λ _
   | inr full ↦ enough (full_few limit old now (between lo hi (row_entries (passed ++ here ∷ []))) taken full)
 ]
 
-pub listed_first : (size root : ℕ) (lo hi : Key) (limit most : ℕ) (state : State) (here : ℕ × Content) (old now : List (Key × ℕ)) (goes_on : Bool) → most ≡ length old + limit → Reaches size root lo state here → now ≡ old ++ take (most - length old) (between lo hi here.1.entries) → (goes_on ≡ false → HasBehind hi here.1.entries ⊎ (length now ≡ most)) → Listed size root lo hi limit state here old now goes_on
+pub listed_first : (size root : ℕ) (lo hi : Key) (limit most : ℕ) (state : State) (here : ℕ × Content) (old now : List (Key × ℕ)) (goes_on : Bool) → most ≡ length old + limit → DescentReaches size root lo state here → now ≡ old ++ take (most - length old) (between lo hi here.1.entries) → (goes_on ≡ false → HasBehind hi here.1.entries ⊎ (length now ≡ most)) → Listed size root lo hi limit state here old now goes_on
 listed_first size root lo hi limit most state here old now goes_on room reaches is ends =
     let so_many : most - length old ≡ limit = omega arith in
     let taken : now ≡ old ++ take limit (between lo hi (here.1.entries ++ [])) = is ∙ ap (λ n. old ++ take n (between lo hi here.1.entries)) so_many ∙ ap (λ es. old ++ take limit (between lo hi es)) (sym (append-nil here.1.entries)) in

@@ -12,7 +12,7 @@ use Rattle.ordered_index.specs.declared.node.Kind.{Kind}
 use Rattle.ordered_index.specs.declared.node.Kind.TheVariants.{Leaf, Inner}
 use Rattle.ordered_index.specs.Changes.{second_row}
 use Rattle.ordered_index.specs.Keys.{is_same, Before, NotAfter, From, entry_at, first_key}
-use Rattle.ordered_index.specs.Node.{Content, IsSound, Begins, words_of}
+use Rattle.ordered_index.specs.Node.{Content, IsSound, Begins, tree_node_words}
 use Rattle.ordered_index.specs.Tree.{Descends, row_names, tree_records, record_of_key}
 use Rattle.ordered_index.specs.Enter.{Part, Grown, PartWith, with_entry, key_at, left_of, right_of, next_left, over_of, IsRank}
 use Rattle.ordered_index.specs.Splits.{PartTakes, TreeTakes}
@@ -36,19 +36,19 @@ pub record Rooted (fixed root a b : ℕ) (between state' : State) (left right ov
   pub new_a : fixed ≤ a
   pub new_b : fixed ≤ b
   pub differ : b ≢ a
-  pub at_a : state' a ≡ Some (words_of left)
-  pub at_b : state' b ≡ Some (words_of right)
-  pub at_root : state' root ≡ Some (words_of over)
+  pub at_a : state' a ≡ Some (tree_node_words left)
+  pub at_b : state' b ≡ Some (tree_node_words right)
+  pub at_root : state' root ≡ Some (tree_node_words over)
   pub others : (other : ℕ) → other ≢ root → other ≢ a → other ≢ b → state' other ≡ between other
 
-pub rooted : (before after : Meaning) (state : State) (root a b : ℕ) (left right over : Content) → Agrees state after.reads → root < before.fixed → IsFresh before a → IsFresh (after_fresh before a) b → after ≡ after_write (after_write (after_write (after_fresh (after_fresh before a) b) a (Some (words_of left))) b (Some (words_of right))) root (Some (words_of over)) → Rooted before.fixed root a b (overlay before.writes state) (overlay after.writes state) left right over
+pub rooted : (before after : Meaning) (state : State) (root a b : ℕ) (left right over : Content) → Agrees state after.reads → root < before.fixed → IsFresh before a → IsFresh (after_fresh before a) b → after ≡ after_write (after_write (after_write (after_fresh (after_fresh before a) b) a (Some (tree_node_words left))) b (Some (tree_node_words right))) root (Some (tree_node_words over)) → Rooted before.fixed root a b (overlay before.writes state) (overlay after.writes state) left right over
 rooted before after state root a b left right over agrees low first second wrote =
     let reads : after.reads ≡ (after_fresh (after_fresh before a) b).reads = ap (λ (m : Meaning). m.reads) wrote in
     let agrees_b = rw reads at agrees in
     let agrees_a = agrees-extends (after_fresh before a).reads (after_fresh (after_fresh before a) b).reads state (extends-after_read (after_fresh before a) b None) agrees_b in
-    let one : List (ℕ × Option (List ℕ)) = with_value before.writes a (Some (words_of left)) in
-    let two : List (ℕ × Option (List ℕ)) = with_value one b (Some (words_of right)) in
-    let writes : after.writes ≡ with_value two root (Some (words_of over)) = ap (λ (m : Meaning). m.writes) wrote in
+    let one : List (ℕ × Option (List ℕ)) = with_value before.writes a (Some (tree_node_words left)) in
+    let two : List (ℕ × Option (List ℕ)) = with_value one b (Some (tree_node_words right)) in
+    let writes : after.writes ≡ with_value two root (Some (tree_node_words over)) = ap (λ (m : Meaning). m.writes) wrote in
     let no_a = absent_now before a state first agrees_a in
     let no_b : overlay before.writes state b ≡ None = absent_now (after_fresh before a) b state second agrees_b in
     let differ : b ≢ a = λ same. second.not_given (let P : ℕ → Type 0 = λ r. Contains (before.given ++ a ∷ []) r in subst P (sym same) (Contains-push before.given a)) in
@@ -60,10 +60,10 @@ rooted before after state root a b left right over agrees low first second wrote
       new_a = first.new;
       new_b = second.new;
       differ = differ;
-      at_a = ap (λ w. overlay w state a) writes ∙ written_others two state root (Some (words_of over)) a a_root ∙ written_others one state b (Some (words_of right)) a (λ same. differ (sym same)) ∙ written_here before.writes state a (Some (words_of left));
-      at_b = ap (λ w. overlay w state b) writes ∙ written_others two state root (Some (words_of over)) b b_root ∙ written_here one state b (Some (words_of right));
-      at_root = ap (λ w. overlay w state root) writes ∙ written_here two state root (Some (words_of over));
-      others = λ other not_root not_a not_b. ap (λ w. overlay w state other) writes ∙ written_others two state root (Some (words_of over)) other not_root ∙ written_others one state b (Some (words_of right)) other not_b ∙ written_others before.writes state a (Some (words_of left)) other not_a;
+      at_a = ap (λ w. overlay w state a) writes ∙ written_others two state root (Some (tree_node_words over)) a a_root ∙ written_others one state b (Some (tree_node_words right)) a (λ same. differ (sym same)) ∙ written_here before.writes state a (Some (tree_node_words left));
+      at_b = ap (λ w. overlay w state b) writes ∙ written_others two state root (Some (tree_node_words over)) b b_root ∙ written_here one state b (Some (tree_node_words right));
+      at_root = ap (λ w. overlay w state root) writes ∙ written_here two state root (Some (tree_node_words over));
+      others = λ other not_root not_a not_b. ap (λ w. overlay w state other) writes ∙ written_others two state root (Some (tree_node_words over)) other not_root ∙ written_others one state b (Some (tree_node_words right)) other not_b ∙ written_others before.writes state a (Some (tree_node_words left)) other not_a;
     }
 
 -- the tree with the entry and one level more

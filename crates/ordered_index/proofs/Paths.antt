@@ -10,7 +10,7 @@ use Rattle.ordered_index.specs.Keys.{last_at, first_key}
 use Rattle.ordered_index.specs.Node.{Content, Holds}
 use Rattle.ordered_index.specs.Held.{content_of}
 use Rattle.ordered_index.specs.Tree.{IsAt, named}
-use Rattle.ordered_index.specs.Walk.{Path, Tears, Reaches, IsUnfit}
+use Rattle.ordered_index.specs.Walk.{Path, DescentTears, DescentReaches, IsNoNode}
 
 pub path_to : (size : ℕ) (state : State) (key : Key) (from to to' : Key × ℕ) (nodes : List (ℕ × Content)) → to ≡ to' → Path size state key from nodes to → Path size state key from nodes to'
 path_to size state key from to to' nodes same path = let P : Key × ℕ → Type 0 = Path size state key from nodes in subst P same path
@@ -49,7 +49,7 @@ walk_steps size root depth key state here link child walked inner last at low is
 }
 
 -- the walk goes on to a record that is no node with its fence, or too deep
-pub walk_tears : (size root depth : ℕ) (key : Key) (state : State) (here : Link) (child : Key × ℕ) → Walked size root depth key state here → here.node.kind ≡ Inner → last_at here.node.entries.items key ≡ Some child → ((node : Content) → node.low ≡ child.0 → IsAt size state (child.1, node) → ⊥) ⊎ (24 ≤ depth) → Tears size root key state child.1
+pub walk_tears : (size root depth : ℕ) (key : Key) (state : State) (here : Link) (child : Key × ℕ) → Walked size root depth key state here → here.node.kind ≡ Inner → last_at here.node.entries.items key ≡ Some child → ((node : Content) → node.low ≡ child.0 → IsAt size state (child.1, node) → ⊥) ⊎ (24 ≤ depth) → DescentTears size root key state child.1
 walk_tears size root depth key state here child walked inner last unfit =
     let present = path_present size state key (first_key, root) walked.nodes (here.at, content_of here.node) walked.path walked.at in
     let nodes : List (ℕ × Content) = walked.nodes ++ (here.at, content_of here.node) ∷ [] in
@@ -62,7 +62,7 @@ walk_tears size root depth key state here child walked inner last unfit =
       unfit = elim unfit as (λ _. ((node : Content) → node.low ≡ child.0 → IsAt size state (child.1, node) → ⊥) ⊎ (24 ≤ length nodes)) [ inl none ↦ inl none | inr deep ↦ inr (omega (arith, deep, walked.long, length_push walked.nodes (here.at, content_of here.node))) ];
     }
 
-pub not_at : (size rid : ℕ) (low : Key) (state : State) → IsUnfit size low state rid → (node : Content) → node.low ≡ low → IsAt size state (rid, node) → ⊥
+pub not_at : (size rid : ℕ) (low : Key) (state : State) → IsNoNode size low state rid → (node : Content) → node.low ≡ low → IsAt size state (rid, node) → ⊥
 not_at size rid low state unfit node fence at =
     let same : at.words ≡ unfit.0 = same_Some at.words unfit.0 (sym at.here ∙ unfit.1) in
     let P : List ℕ → Type 0 = λ words. Holds words node in
@@ -71,7 +71,7 @@ not_at size rid low state unfit node fence at =
 pub not_there : (size rid : ℕ) (low : Key) (state : State) → state rid ≡ None → (node : Content) → node.low ≡ low → IsAt size state (rid, node) → ⊥
 not_there size rid low state absent node fence at = none-some at.words (sym absent ∙ at.here)
 
-pub root_tears : (size root : ℕ) (key : Key) (state : State) → IsUnfit size first_key state root → Tears size root key state root
+pub root_tears : (size root : ℕ) (key : Key) (state : State) → IsNoNode size first_key state root → DescentTears size root key state root
 root_tears size root key state unfit = record {
   words = unfit.0;
   present = unfit.1;
@@ -81,7 +81,7 @@ root_tears size root key state unfit = record {
   unfit = inl (not_at size root first_key state unfit);
 }
 
-pub walk_ends : (size root depth : ℕ) (key : Key) (state : State) (here : Link) → Walked size root depth key state here → depth ≤ 24 → here.node.kind ≡ Leaf → Reaches size root key state (here.at, content_of here.node)
+pub walk_ends : (size root depth : ℕ) (key : Key) (state : State) (here : Link) → Walked size root depth key state here → depth ≤ 24 → here.node.kind ≡ Leaf → DescentReaches size root key state (here.at, content_of here.node)
 walk_ends size root depth key state here walked few leaf = record {
   nodes = walked.nodes;
   path = walked.path;

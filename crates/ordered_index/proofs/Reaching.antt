@@ -12,7 +12,7 @@ use Rattle.ordered_index.specs.Keys.{first_key}
 use Rattle.ordered_index.specs.Node.{Content}
 use Rattle.ordered_index.specs.Tree.{IsAt}
 use Rattle.ordered_index.specs.declared.walk.Link.{Link}
-use Rattle.ordered_index.specs.Walk.{EndsWell, LeafIs, node_of}
+use Rattle.ordered_index.specs.Walk.{DescentEndsWell, LeafIs, node_of}
 use Rattle.ordered_index.specs.Enter.{ReachesBelow}
 use Rattle.ordered_index.proofs.Entering.{IsChild}
 
@@ -44,8 +44,8 @@ each_reaches size depth key entries rank child node m0 m1 m2 m3 only early late 
     reaches_more size depth key entries rank child node (overlay m0.writes state) c (at state (agrees-extends m1.reads m2.reads state early agrees2)) deep (λ inner. subst P (ap (λ w. overlay w state) (writes_same m0 m1 only)) (below inner state agrees2))
 
 -- a walk from the root
-pub top_ends : (size root : ℕ) (key : Key) (node : Content) (state : State) → node.low ≡ first_key → IsAt size state (root, node) → (node.kind ≡ Inner → ReachesBelow size 1 key node.entries state) → EndsWell size root key state
-top_ends size root key node state low at below = elim (kind_cases node.kind) as (λ _. EndsWell size root key state) [
+pub top_ends : (size root : ℕ) (key : Key) (node : Content) (state : State) → node.low ≡ first_key → IsAt size state (root, node) → (node.kind ≡ Inner → ReachesBelow size 1 key node.entries state) → DescentEndsWell size root key state
+top_ends size root key node state low at below = elim (kind_cases node.kind) as (λ _. DescentEndsWell size root key state) [
   | inl leaf ↦ inr ((root, node), record { nodes = []; path = ap (λ (k : Key). (k, root)) (sym low); few = omega arith; at = at; kind = leaf })
   | inr inner ↦ let r = below inner in inr (
     r.leaf,
@@ -59,17 +59,17 @@ top_ends size root key node state low at below = elim (kind_cases node.kind) as 
   )
 ]
 
-pub each_ends_well : (size root : ℕ) (key : Key) (node : Content) (m0 m1 m2 m3 : Meaning) → OnlyReads m0 m1 → Extends m1.reads m2.reads → Extends m2.reads m3.reads → node.low ≡ first_key → EachState m0 m1 (λ state. IsAt size state (root, node)) → (node.kind ≡ Inner → EachState m1 m2 (ReachesBelow size 1 key node.entries)) → EachState m0 m3 (EndsWell size root key)
+pub each_ends_well : (size root : ℕ) (key : Key) (node : Content) (m0 m1 m2 m3 : Meaning) → OnlyReads m0 m1 → Extends m1.reads m2.reads → Extends m2.reads m3.reads → node.low ≡ first_key → EachState m0 m1 (λ state. IsAt size state (root, node)) → (node.kind ≡ Inner → EachState m1 m2 (ReachesBelow size 1 key node.entries)) → EachState m0 m3 (DescentEndsWell size root key)
 each_ends_well size root key node m0 m1 m2 m3 only early late low at below = λ state agrees.
     let agrees2 = agrees-extends m2.reads m3.reads state late agrees in
     let P : State → Type 0 = ReachesBelow size 1 key node.entries in
     top_ends size root key node (overlay m0.writes state) low (at state (agrees-extends m1.reads m2.reads state early agrees2)) (λ inner. subst P (ap (λ w. overlay w state) (writes_same m0 m1 only)) (below inner state agrees2))
 
-pub empty_ends : (size root : ℕ) (key : Key) (m0 m1 m2 : Meaning) (rid : ℕ) (value : Option (List ℕ)) → EachState m0 m1 (λ state. state root ≡ None) → m2 ≡ after_write m1 rid value → EachState m0 m2 (EndsWell size root key)
+pub empty_ends : (size root : ℕ) (key : Key) (m0 m1 m2 : Meaning) (rid : ℕ) (value : Option (List ℕ)) → EachState m0 m1 (λ state. state root ≡ None) → m2 ≡ after_write m1 rid value → EachState m0 m2 (DescentEndsWell size root key)
 empty_ends size root key m0 m1 m2 rid value absent wrote = λ state agrees. inl (absent state (rw (ap (λ (m : Meaning). m.reads) wrote) at agrees))
 
 -- the walk that came to this leaf, or found no root
-pub leaf_ends : (size root : ℕ) (key : Key) (n : ℕ) (m0 m1 m2 : Meaning) (leaf : Option Link) → n ≡ size → Extends m1.reads m2.reads → EachState m0 m1 (λ state. LeafIs n root key state leaf) → EachState m0 m2 (EndsWell size root key)
+pub leaf_ends : (size root : ℕ) (key : Key) (n : ℕ) (m0 m1 m2 : Meaning) (leaf : Option Link) → n ≡ size → Extends m1.reads m2.reads → EachState m0 m1 (λ state. LeafIs n root key state leaf) → EachState m0 m2 (DescentEndsWell size root key)
 leaf_ends size root key n m0 m1 m2 None same extends is = λ state agrees. inl (is state (agrees-extends m1.reads m2.reads state extends agrees))
 leaf_ends size root key n m0 m1 m2 (Some link) same extends is =
     let R : ℕ → Type 0 = λ k. EachState m0 m1 (λ state. LeafIs k root key state (Some link)) in

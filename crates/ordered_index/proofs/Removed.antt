@@ -11,12 +11,13 @@ use Rattle.ordered_index.specs.declared.key.Key.{Key}
 use Rattle.ordered_index.specs.declared.node.Kind.{Kind}
 use Rattle.ordered_index.specs.declared.node.Kind.TheVariants.{Leaf}
 use Rattle.ordered_index.specs.Keys.{is_same, From, Rising, entry_at, first_key}
-use Rattle.ordered_index.specs.Node.{Content, IsSound, Begins, least, words_of}
-use Rattle.ordered_index.specs.Tree.{IsAt, Descends, In, IsTree, EachTree, UpTo, row_names, row_entries, record_of_key, records_of, tree_records}
+use Rattle.ordered_index.specs.Node.{Content, IsSound, Begins, least, tree_node_words}
+use Rattle.ordered_index.specs.Tree.{IsAt, Descends, In, IsTree, EachTree, UpTo, row_names, row_entries, record_of_key, tree_records}
+use Rattle.record_store.specs.Links.{records_of}
 use Rattle.record_store.specs.Spots.{IsMoved}
 use Rattle.ordered_index.specs.Changes.{RemovesEntry}
 use Rattle.record_store.specs.States.{EachState}
-use Rattle.ordered_index.specs.Walk.{Reaches, IsPlace}
+use Rattle.ordered_index.specs.Walk.{DescentReaches, HasKeyAt}
 use Rattle.ordered_index.proofs.Edits.{entry_at-take, below_less, from_less, rising_less, store_less}
 use Rattle.ordered_index.proofs.Rows.{leaf_inner, row_names-append}
 use Rattle.ordered_index.proofs.Trees.{leaf_home, home_is, leaves_stand, tree_descends, found_in, not_in_empty}
@@ -70,7 +71,7 @@ up_less : (after : List (ℕ × Content)) (xs : List (Key × ℕ)) (e : Key × �
 up_less [] xs e ys up = tt
 up_less (x ∷ after) xs e ys up = below_less x.1.low xs e ys up
 
-taken_at : (size fixed root : ℕ) (key : Key) (state state' : State) (levels : List (List (ℕ × Content))) (before after : List (ℕ × Content)) (rid old : ℕ) (leaf : Content) (xs ys : List (Key × ℕ)) (words : List ℕ) → IsTree size root state levels (before ++ (rid, leaf) ∷ after) → Descends size state ((first_key, root) ∷ []) levels (before ++ (rid, leaf) ∷ after) → IsAt size state (rid, leaf) → leaf.kind ≡ Leaf → state root ≡ Some words → leaf.entries ≡ xs ++ (key, old) ∷ ys → state' rid ≡ Some (words_of (record leaf { entries = xs ++ ys })) → ((other : ℕ) → other ≢ rid → state' other ≡ state other) → IsTakenFrom size fixed root key state state' levels (before ++ (rid, leaf) ∷ after) (before ++ (rid, record leaf { entries = xs ++ ys }) ∷ after)
+taken_at : (size fixed root : ℕ) (key : Key) (state state' : State) (levels : List (List (ℕ × Content))) (before after : List (ℕ × Content)) (rid old : ℕ) (leaf : Content) (xs ys : List (Key × ℕ)) (words : List ℕ) → IsTree size root state levels (before ++ (rid, leaf) ∷ after) → Descends size state ((first_key, root) ∷ []) levels (before ++ (rid, leaf) ∷ after) → IsAt size state (rid, leaf) → leaf.kind ≡ Leaf → state root ≡ Some words → leaf.entries ≡ xs ++ (key, old) ∷ ys → state' rid ≡ Some (tree_node_words (record leaf { entries = xs ++ ys })) → ((other : ℕ) → other ≢ rid → state' other ≡ state other) → IsTakenFrom size fixed root key state state' levels (before ++ (rid, leaf) ∷ after) (before ++ (rid, record leaf { entries = xs ++ ys }) ∷ after)
 taken_at size fixed root key state state' levels before after rid old leaf xs ys words tree descends at kind present is here others =
     let leaf' : Content = record leaf { entries = xs ++ ys } in
     let e : Key × ℕ = (key, old) in
@@ -108,7 +109,7 @@ taken_at size fixed root key state state' levels before after rid old leaf xs ys
     )
 
 -- the leaf of a tree loses an entry
-pub taken_out : (size fixed root : ℕ) (key : Key) (state state' : State) (levels : List (List (ℕ × Content))) (leaves : List (ℕ × Content)) (rid old : ℕ) (leaf : Content) (xs ys : List (Key × ℕ)) → IsTree size root state levels leaves → Reaches size root key state (rid, leaf) → leaf.entries ≡ xs ++ (key, old) ∷ ys → state' rid ≡ Some (words_of (record leaf { entries = xs ++ ys })) → ((other : ℕ) → other ≢ rid → state' other ≡ state other) → (leaves' : List (ℕ × Content)) × IsTakenFrom size fixed root key state state' levels leaves leaves'
+pub taken_out : (size fixed root : ℕ) (key : Key) (state state' : State) (levels : List (List (ℕ × Content))) (leaves : List (ℕ × Content)) (rid old : ℕ) (leaf : Content) (xs ys : List (Key × ℕ)) → IsTree size root state levels leaves → DescentReaches size root key state (rid, leaf) → leaf.entries ≡ xs ++ (key, old) ∷ ys → state' rid ≡ Some (tree_node_words (record leaf { entries = xs ++ ys })) → ((other : ℕ) → other ≢ rid → state' other ≡ state other) → (leaves' : List (ℕ × Content)) × IsTakenFrom size fixed root key state state' levels leaves leaves'
 taken_out size fixed root key state state' levels leaves rid old leaf xs ys tree reaches is here others =
     let present = path_present size state key (first_key, root) reaches.nodes (rid, leaf) reaches.path reaches.at in
     let descends = tree_descends size root state levels leaves present.0 tree present.1 in
@@ -125,19 +126,19 @@ taken_out size fixed root key state state' levels leaves rid old leaf xs ys tree
 taken_is : (entries : List (Key × ℕ)) (index : ℕ) (key : Key) → index < length entries → (get_or entries index (first_key, 0)).0 ≡ key → entries ≡ take index entries ++ (key, (get_or entries index (first_key, 0)).1) ∷ drop (suc index) entries
 taken_is entries index key within here = parted entries index (first_key, 0) within ∙ ap (λ k. take index entries ++ (k, (get_or entries index (first_key, 0)).1) ∷ drop (suc index) entries) here
 
-pub removes_entry : (size root rid index : ℕ) (key : Key) (before between after : Meaning) (leaf : Content) → size ≡ before.size → OnlyReads before between → EachState before between (λ state. Reaches size root key state (rid, leaf)) → Rising leaf.entries → IsPlace leaf.entries key index → after ≡ after_write between rid (Some (words_of (record leaf { entries = remove leaf.entries index }))) → RemovesEntry root key true before after
+pub removes_entry : (size root rid index : ℕ) (key : Key) (before between after : Meaning) (leaf : Content) → size ≡ before.size → OnlyReads before between → EachState before between (λ state. DescentReaches size root key state (rid, leaf)) → Rising leaf.entries → HasKeyAt leaf.entries key index → after ≡ after_write between rid (Some (tree_node_words (record leaf { entries = remove leaf.entries index }))) → RemovesEntry root key true before after
 removes_entry size root rid index key before between after leaf same only reaches rising place wrote =
     let one = written_after before between after rid _ only wrote in
     let leaf' : Content = record leaf { entries = remove leaf.entries index } in
     let is = taken_is leaf.entries index key place.within (place.here (first_key, 0)) in
-    let each : EachState before after (λ state. Reaches before.size root key state (rid, leaf)) = λ state agrees. rw same at (reaches state (rw one.reads at agrees)) in
+    let each : EachState before after (λ state. DescentReaches before.size root key state (rid, leaf)) = λ state agrees. rw same at (reaches state (rw one.reads at agrees)) in
     record {
       answer = λ state levels leaves agrees tree. sym (ap is_some (found_in before.size root key (overlay before.writes state) levels leaves (rid, leaf) tree (each state agrees) ∙ entry_at-place leaf.entries index (first_key, 0) key rising place.within (place.here (first_key, 0))));
       given = one.given;
       removed = λ yes state levels leaves agrees tree.
           let out = taken_out before.size before.fixed root key (overlay before.writes state) (overlay after.writes state) levels leaves rid (get_or leaf.entries index (first_key, 0)).1 leaf (take index leaf.entries) (drop (suc index) leaf.entries) tree (each state agrees) is
-          (ap (λ w. overlay w state rid) one.writes ∙ written_here before.writes state rid (Some (words_of leaf')))
-          (λ other differs. ap (λ w. overlay w state other) one.writes ∙ written_others before.writes state rid (Some (words_of leaf')) other differs) in
+          (ap (λ w. overlay w state rid) one.writes ∙ written_here before.writes state rid (Some (tree_node_words leaf')))
+          (λ other differs. ap (λ w. overlay w state other) one.writes ∙ written_others before.writes state rid (Some (tree_node_words leaf')) other differs) in
           (out.0, record { lawful = out.1.0; at_key = out.1.1; moved = out.1.2; leaves_stay = out.1.3 });
       unchanged = λ no. cc;
     }
@@ -151,7 +152,7 @@ removes_nothing root key before after only absent = record {
 }
 
 -- a key that the leaf for it has not, or of an absent root
-pub each_absent : (size root rid : ℕ) (key : Key) (before after : Meaning) (leaf : Content) → size ≡ before.size → EachState before after (λ state. Reaches size root key state (rid, leaf)) → entry_at leaf.entries key ≡ None → EachTree root before after (λ _ _ leaves. record_of_key leaves key ≡ None)
+pub each_absent : (size root rid : ℕ) (key : Key) (before after : Meaning) (leaf : Content) → size ≡ before.size → EachState before after (λ state. DescentReaches size root key state (rid, leaf)) → entry_at leaf.entries key ≡ None → EachTree root before after (λ _ _ leaves. record_of_key leaves key ≡ None)
 each_absent size root rid key before after leaf same reaches absent = λ state levels leaves agrees tree. found_in before.size root key (overlay before.writes state) levels leaves (rid, leaf) tree (rw same at (reaches state agrees)) ∙ absent
 
 pub each_empty : (size root : ℕ) (key : Key) (before after : Meaning) → size ≡ before.size → EachState before after (λ state. state root ≡ None) → EachTree root before after (λ _ _ leaves. record_of_key leaves key ≡ None)

@@ -10,8 +10,8 @@ use Rattle.ordered_index.specs.Keys.{Before, NotAfter, Above, Below, Rising, fir
 use Rattle.ordered_index.specs.Node.{Content}
 use Rattle.ordered_index.specs.Tree.{IsAt, Stand, IsTree, Follow, UpTo, first_record, named, row_names, row_entries}
 use Rattle.record_store.specs.States.{EachState}
-use Rattle.ordered_index.specs.Walk.{Reaches}
-use Rattle.ordered_index.specs.Scan.{between, IsNext, Leads, Passes, HasBehind, NeedsNoMore, Scans, TearsAlong, ScanTears, IsScanTorn}
+use Rattle.ordered_index.specs.Walk.{DescentReaches}
+use Rattle.ordered_index.specs.Scan.{between, IsNext, LeavesLead, Passes, HasBehind, NeedsNoMore, Scans, TearsAlong, ScanTears, IsTornScan}
 use Rattle.ordered_index.specs.Scan.NeedsNoMore.{no_leaf, key_behind, leaf_behind, enough}
 use Rattle.ordered_index.specs.Scan.Scans.{nowhere, along}
 use Rattle.ordered_index.proofs.Order.{before_trans, before_not_after}
@@ -22,11 +22,11 @@ use Rattle.ordered_index.proofs.Paths.{path_present}
 use Rattle.ordered_index.proofs.Trees.{leaves_stand, home_is, leaf_home, row_below, tree_descends, tree_empty, torn_no_tree}
 use Rattle.ordered_index.proofs.Between.{between-append, between-above, between-below, between_rising, take_rising}
 
-leads_push : (size : ℕ) (state : State) (from : ℕ × Content) (passed : List (ℕ × Content)) (here next : ℕ × Content) → Leads size state from passed here → IsNext size state here next → Leads size state from (passed ++ here ∷ []) next
+leads_push : (size : ℕ) (state : State) (from : ℕ × Content) (passed : List (ℕ × Content)) (here next : ℕ × Content) → LeavesLead size state from passed here → IsNext size state here next → LeavesLead size state from (passed ++ here ∷ []) next
 leads_push size state from [] here next leads is = (next, leads, is, refl)
 leads_push size state from (x ∷ passed) here next leads is = (leads.0, leads.1, leads.2, leads_push size state leads.0 passed here next leads.3 is)
 
-pub passes_first : (size root : ℕ) (key : Key) (state : State) (leaf : ℕ × Content) → Reaches size root key state leaf → Passes size root key state [] leaf
+pub passes_first : (size root : ℕ) (key : Key) (state : State) (leaf : ℕ × Content) → DescentReaches size root key state leaf → Passes size root key state [] leaf
 passes_first size root key state leaf reaches = record { first = leaf; reaches = reaches; leads = refl }
 
 pub passes_more : (size root : ℕ) (key : Key) (state : State) (passed : List (ℕ × Content)) (here next : ℕ × Content) → Passes size root key state passed here → IsNext size state here next → Passes size root key state (passed ++ here ∷ []) next
@@ -49,14 +49,14 @@ part_here size state from to later stand rising follow same =
     let P : ℕ × Content → Type 0 = λ n. RowPart size state (from ∷ later) [] n in
     subst P same (record { after = later; joined = refl; stand = stand; rising = rising; follow = follow })
 
-leads_row : (size : ℕ) (state : State) (from : ℕ × Content) (passed : List (ℕ × Content)) (to : ℕ × Content) (later : List (ℕ × Content)) → Stand size state Leaf (from ∷ later) → Rising (row_names (from ∷ later)) → Follow (from ∷ later) → Leads size state from passed to → RowPart size state (from ∷ later) passed to
+leads_row : (size : ℕ) (state : State) (from : ℕ × Content) (passed : List (ℕ × Content)) (to : ℕ × Content) (later : List (ℕ × Content)) → Stand size state Leaf (from ∷ later) → Rising (row_names (from ∷ later)) → Follow (from ∷ later) → LeavesLead size state from passed to → RowPart size state (from ∷ later) passed to
 leads_row size state from [] to later stand rising follow leads = part_here size state from to later stand rising follow leads
 leads_row size state from (x ∷ passed) to [] stand rising follow leads =
     absurd (none-some leads.0.0 (sym follow.0 ∙ ap (λ (n : ℕ × Content). n.1.next) leads.1 ∙ leads.2.named))
 leads_row size state from (x ∷ passed) to (y ∷ later) stand rising follow leads =
     let named_one : y.0 ≡ leads.0.0 = same_Some y.0 leads.0.0 (sym follow.0 ∙ ap (λ (n : ℕ × Content). n.1.next) leads.1 ∙ leads.2.named) in
     let same : y ≡ leads.0 = node_same size state y leads.0 named_one stand.2.0 leads.2.at in
-    let P : ℕ × Content → Type 0 = λ n. Leads size state n passed to in
+    let P : ℕ × Content → Type 0 = λ n. LeavesLead size state n passed to in
     let more = leads_row size state y passed to later stand.2 rising.1 follow.3 (subst P (sym same) leads.3) in
     record {
       after = more.after;
@@ -80,7 +80,7 @@ names_right : (xs ys : List (ℕ × Content)) → Rising (row_names (xs ++ ys)) 
 names_right [] ys rising = rising
 names_right (x ∷ xs) ys rising = names_right xs ys rising.1
 
-in_leaves : (size : ℕ) (key : Key) (state : State) (leaves : List (ℕ × Content)) (first : ℕ × Content) (passed : List (ℕ × Content)) (last : ℕ × Content) → Stand size state Leaf leaves → Rising (row_names leaves) → Follow leaves → IsAt size state first → Home leaves key (named first) → Leads size state first passed last → InLeaves size state leaves key passed last
+in_leaves : (size : ℕ) (key : Key) (state : State) (leaves : List (ℕ × Content)) (first : ℕ × Content) (passed : List (ℕ × Content)) (last : ℕ × Content) → Stand size state Leaf leaves → Rising (row_names leaves) → Follow leaves → IsAt size state first → Home leaves key (named first) → LeavesLead size state first passed last → InLeaves size state leaves key passed last
 in_leaves size key state leaves first passed last stand rising follow at home leads =
     let is = home_is size state Leaf leaves key first home stand at in
     let joined : leaves ≡ home.before ++ first ∷ home.after = home.joined ∙ ap (λ n. home.before ++ n ∷ home.after) is.0 in
@@ -199,11 +199,11 @@ along_no_tree size root rid key state levels leaves tears tree =
     let row = passes_leaves size root key state levels leaves tears.passed tears.last tree tears.passes in
     after_tears size rid state tears.last row.after row.stand row.rising row.follow tears.named tears.unfit
 
-pub is_scan_torn : (root rid : ℕ) (key : Key) (before after : Meaning) → EachState before after (ScanTears before.size root key rid) → IsScanTorn root key before after rid
+pub is_scan_torn : (root rid : ℕ) (key : Key) (before after : Meaning) → EachState before after (ScanTears before.size root key rid) → IsTornScan root key before after rid
 is_scan_torn root rid key before after tears = record {
   tears = tears;
-  no_tree = λ state levels leaves agrees tree. elim (tears state agrees) as (λ _. ⊥) [
-    | inl torn ↦ torn_no_tree before.size root rid key (overlay before.writes state) levels leaves torn tree
-    | inr torn ↦ along_no_tree before.size root rid key (overlay before.writes state) levels leaves torn tree
+  none = λ state tree agrees is. elim (tears state agrees) as (λ _. ⊥) [
+    | inl torn ↦ torn_no_tree before.size root rid key (overlay before.writes state) tree.0 tree.1 torn is
+    | inr torn ↦ along_no_tree before.size root rid key (overlay before.writes state) tree.0 tree.1 torn is
   ];
 }

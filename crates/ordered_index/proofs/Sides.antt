@@ -7,7 +7,7 @@ use Rattle.ordered_index.specs.declared.node.Kind.TheVariants.{Leaf}
 use Rattle.ordered_index.specs.Keys.{last_at, first_key}
 use Rattle.ordered_index.specs.Node.{Content}
 use Rattle.ordered_index.specs.Tree.{IsAt, named}
-use Rattle.ordered_index.specs.Walk.{Path, Tears, EndsWell}
+use Rattle.ordered_index.specs.Walk.{Path, DescentTears, DescentEndsWell}
 use Rattle.ordered_index.proofs.Rows.{node_same, leaf_inner}
 
 -- a node stands where an entry leads on, or where a leaf was reached
@@ -38,7 +38,7 @@ met size state key from to (x ∷ nodes) (y ∷ others) leaf path at kind other 
     let more = met size state key other.0 to nodes others leaf (subst P child path.5) at kind other.5 in
     (omega (arith, more.0), more.1)
 
-pub ends_not_torn : (size root rid : ℕ) (key : Key) (state : State) → EndsWell size root key state → Tears size root key state rid → ⊥
+pub ends_not_torn : (size root rid : ℕ) (key : Key) (state : State) → DescentEndsWell size root key state → DescentTears size root key state rid → ⊥
 ends_not_torn size root rid key state well tears = elim well as (λ _. ⊥) [
   | inl absent ↦ none-some tears.words (sym absent ∙ tears.present)
   | inr reached ↦ (

@@ -12,10 +12,11 @@ use Rattle.ordered_index.specs.declared.key.Key.{Key}
 use Rattle.ordered_index.specs.declared.node.Kind.{Kind}
 use Rattle.ordered_index.specs.declared.node.Kind.TheVariants.{Inner}
 use Rattle.ordered_index.specs.Keys.{Before, Above, Rising}
-use Rattle.ordered_index.specs.Node.{Content, IsSound, Begins, next_of, words_of}
-use Rattle.ordered_index.specs.Tree.{IsAt, Stand, Descends, In, Apart, named, row_names, row_entries, records_of, tree_records}
+use Rattle.ordered_index.specs.Node.{Content, IsSound, Begins, next_leaf, tree_node_words}
+use Rattle.ordered_index.specs.Tree.{IsAt, Stand, Descends, In, Apart, named, row_names, row_entries, tree_records}
+use Rattle.record_store.specs.Links.{records_of}
 use Rattle.ordered_index.specs.Enter.{Part, Grown, PartWith, PutsEntry, with_entry, left_of, right_of, next_left}
-use Rattle.ordered_index.specs.Splits.{Becomes}
+use Rattle.ordered_index.specs.Splits.{NodeBecomes}
 use Rattle.ordered_index.proofs.Entries.{above_right, rising_left, rising_right}
 use Rattle.ordered_index.proofs.Rows.{stand_right}
 use Rattle.ordered_index.proofs.Grown.{stand_present, stays_out, apart_both, records_of-append, in_right}
@@ -85,17 +86,17 @@ descends_rising size state above (level ∷ levels) leaves descends rising =
 
 -- what is written for a node that takes an entry in
 pub inner_next : (size : ℕ) (state : State) (node : ℕ × Content) → IsAt size state node → node.1.kind ≡ Inner → node.1.next ≡ None
-inner_next size state node at kind = sym at.holds.next ∙ ap (λ k. next_of k (get_or at.words 31 0)) kind
+inner_next size state node at kind = sym at.holds.next ∙ ap (λ k. next_leaf k (get_or at.words 31 0)) kind
 
-pub whole_writes : (size fixed : ℕ) (before after : Meaning) (state : State) (kind : Kind) (at : ℕ) (node : Content) → after ≡ after_write before at (Some (words_of node)) → IsSound size node → node.kind ≡ kind → (node.kind ≡ Inner → node.next ≡ None) → Writes size fixed (overlay before.writes state) (overlay after.writes state) kind at ((at, node) ∷ []) []
+pub whole_writes : (size fixed : ℕ) (before after : Meaning) (state : State) (kind : Kind) (at : ℕ) (node : Content) → after ≡ after_write before at (Some (tree_node_words node)) → IsSound size node → node.kind ≡ kind → (node.kind ≡ Inner → node.next ≡ None) → Writes size fixed (overlay before.writes state) (overlay after.writes state) kind at ((at, node) ∷ []) []
 whole_writes size fixed before after state kind at node wrote sound is inner =
-    let writes : after.writes ≡ with_value before.writes at (Some (words_of node)) = ap (λ (m : Meaning). m.writes) wrote in
+    let writes : after.writes ≡ with_value before.writes at (Some (tree_node_words node)) = ap (λ (m : Meaning). m.writes) wrote in
     record {
       records = refl;
       apart = tt;
       absent = λ new there. absurd there;
-      stand = (at_written size (overlay after.writes state) at node (ap (λ w. overlay w state at) writes ∙ written_here before.writes state at (Some (words_of node))) sound inner, is, tt);
-      others = λ other differs out. ap (λ w. overlay w state other) writes ∙ written_others before.writes state at (Some (words_of node)) other differs;
+      stand = (at_written size (overlay after.writes state) at node (ap (λ w. overlay w state at) writes ∙ written_here before.writes state at (Some (tree_node_words node))) sound inner, is, tt);
+      others = λ other differs out. ap (λ w. overlay w state other) writes ∙ written_others before.writes state at (Some (tree_node_words node)) other differs;
     }
 
 -- a new record is absent in each state that agrees once it was given
@@ -104,11 +105,11 @@ absent_now between fresh state is agrees =
     overlay-unwritten between.writes state fresh is.not_written
     ∙ agrees-value_at (after_fresh between fresh).reads state fresh None agrees (rw is.not_written (known_from_reads between.reads fresh is.absent))
 
-pub parted_writes : (size : ℕ) (before after : Meaning) (state : State) (kind : Kind) (at fresh : ℕ) (left right : Content) (words : List ℕ) → Agrees state after.reads → IsFresh before fresh → overlay before.writes state at ≡ Some words → after ≡ after_write (after_write (after_fresh before fresh) fresh (Some (words_of right))) at (Some (words_of left)) → IsSound size left → IsSound size right → left.kind ≡ kind → right.kind ≡ kind → (left.kind ≡ Inner → left.next ≡ None) → (right.kind ≡ Inner → right.next ≡ None) → Writes size before.fixed (overlay before.writes state) (overlay after.writes state) kind at ((at, left) ∷ (fresh, right) ∷ []) (fresh ∷ [])
+pub parted_writes : (size : ℕ) (before after : Meaning) (state : State) (kind : Kind) (at fresh : ℕ) (left right : Content) (words : List ℕ) → Agrees state after.reads → IsFresh before fresh → overlay before.writes state at ≡ Some words → after ≡ after_write (after_write (after_fresh before fresh) fresh (Some (tree_node_words right))) at (Some (tree_node_words left)) → IsSound size left → IsSound size right → left.kind ≡ kind → right.kind ≡ kind → (left.kind ≡ Inner → left.next ≡ None) → (right.kind ≡ Inner → right.next ≡ None) → Writes size before.fixed (overlay before.writes state) (overlay after.writes state) kind at ((at, left) ∷ (fresh, right) ∷ []) (fresh ∷ [])
 parted_writes size before after state kind at fresh left right words agrees is present wrote left_ok right_ok left_kind right_kind left_inner right_inner =
     let reads : after.reads ≡ (after_fresh before fresh).reads = ap (λ (m : Meaning). m.reads) wrote in
-    let inner : List (ℕ × Option (List ℕ)) = with_value before.writes fresh (Some (words_of right)) in
-    let writes : after.writes ≡ with_value inner at (Some (words_of left)) = ap (λ (m : Meaning). m.writes) wrote in
+    let inner : List (ℕ × Option (List ℕ)) = with_value before.writes fresh (Some (tree_node_words right)) in
+    let writes : after.writes ≡ with_value inner at (Some (tree_node_words left)) = ap (λ (m : Meaning). m.writes) wrote in
     let absent = absent_now before fresh state is (rw reads at agrees) in
     let differs : fresh ≢ at = λ same. none-some words (sym absent ∙ ap (overlay before.writes state) same ∙ present) in
     record {
@@ -119,14 +120,14 @@ parted_writes size before after state kind at fresh left right words agrees is p
         | inr none ↦ absurd none
       ];
       stand = (
-        at_written size (overlay after.writes state) at left (ap (λ w. overlay w state at) writes ∙ written_here inner state at (Some (words_of left))) left_ok left_inner,
+        at_written size (overlay after.writes state) at left (ap (λ w. overlay w state at) writes ∙ written_here inner state at (Some (tree_node_words left))) left_ok left_inner,
         left_kind,
-        (at_written size (overlay after.writes state) fresh right (ap (λ w. overlay w state fresh) writes ∙ written_others inner state at (Some (words_of left)) fresh differs ∙ written_here before.writes state fresh (Some (words_of right))) right_ok right_inner, right_kind, tt),
+        (at_written size (overlay after.writes state) fresh right (ap (λ w. overlay w state fresh) writes ∙ written_others inner state at (Some (tree_node_words left)) fresh differs ∙ written_here before.writes state fresh (Some (tree_node_words right))) right_ok right_inner, right_kind, tt),
       );
       others = λ other not_at out.
           ap (λ w. overlay w state other) writes
-          ∙ written_others inner state at (Some (words_of left)) other not_at
-          ∙ written_others before.writes state fresh (Some (words_of right)) other (λ same. out (inl (sym same)));
+          ∙ written_others inner state at (Some (tree_node_words left)) other not_at
+          ∙ written_others before.writes state fresh (Some (tree_node_words right)) other (λ same. out (inl (sym same)));
     }
 
 -- a node of a level is as it was while the part below changed
@@ -153,7 +154,7 @@ inner_fills size rank entry state between lefts at node rights levels' leaves' l
     }
 
 -- an inner node
-pub inner_takes : (new : Option (Key × ℕ)) (size rid at rank : ℕ) (key : Key) (entry : Key × ℕ) (state between : State) (before after : Meaning) (agreed : State) (above : List (Key × ℕ)) (lefts : List (ℕ × Content)) (node : Content) (rights : List (ℕ × Content)) (levels : List (List (ℕ × Content))) (leaves : List (ℕ × Content)) (levels' : List (List (ℕ × Content))) (leaves' : List (ℕ × Content)) → between ≡ overlay before.writes agreed → before.size ≡ size → Agrees agreed after.reads → 0 < rank → entry.1 < size → node.kind ≡ Inner → Part size state above ((lefts ++ (at, node) ∷ rights) ∷ levels) leaves → PartWith size before.fixed key rid state between (row_entries lefts ++ (with_entry node.entries rank entry ++ row_entries rights)) levels leaves levels' leaves' → PutsEntry before after at node (with_entry node.entries rank entry) new → (mid : List (ℕ × Content)) × PartWith size before.fixed key rid state (overlay after.writes agreed) (names_with lefts (at, node) new rights) ((lefts ++ (at, node) ∷ rights) ∷ levels) leaves ((lefts ++ (mid ++ rights)) ∷ levels') leaves' × Becomes (at, node) (with_entry node.entries rank entry) new mid
+pub inner_takes : (new : Option (Key × ℕ)) (size rid at rank : ℕ) (key : Key) (entry : Key × ℕ) (state between : State) (before after : Meaning) (agreed : State) (above : List (Key × ℕ)) (lefts : List (ℕ × Content)) (node : Content) (rights : List (ℕ × Content)) (levels : List (List (ℕ × Content))) (leaves : List (ℕ × Content)) (levels' : List (List (ℕ × Content))) (leaves' : List (ℕ × Content)) → between ≡ overlay before.writes agreed → before.size ≡ size → Agrees agreed after.reads → 0 < rank → entry.1 < size → node.kind ≡ Inner → Part size state above ((lefts ++ (at, node) ∷ rights) ∷ levels) leaves → PartWith size before.fixed key rid state between (row_entries lefts ++ (with_entry node.entries rank entry ++ row_entries rights)) levels leaves levels' leaves' → PutsEntry before after at node (with_entry node.entries rank entry) new → (mid : List (ℕ × Content)) × PartWith size before.fixed key rid state (overlay after.writes agreed) (names_with lefts (at, node) new rights) ((lefts ++ (at, node) ∷ rights) ∷ levels) leaves ((lefts ++ (mid ++ rights)) ∷ levels') leaves' × NodeBecomes (at, node) (with_entry node.entries rank entry) new mid
 inner_takes None size rid at rank key entry state between before after agreed above lefts node rights levels leaves levels' leaves' is same agrees some low kind part below puts =
     let es = with_entry node.entries rank entry in
     let node' : Content = record node { entries = es } in

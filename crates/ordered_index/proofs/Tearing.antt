@@ -14,7 +14,7 @@ use Rattle.ordered_index.specs.Node.{Content, IsSound, Begins}
 use Rattle.ordered_index.specs.Held.{content_of}
 use Rattle.ordered_index.specs.Tree.{IsAt}
 use Rattle.record_store.specs.States.{EachState}
-use Rattle.ordered_index.specs.Walk.{IsLink, ReadAs, IsUnfit, Tears}
+use Rattle.ordered_index.specs.Walk.{IsTreeLink, ReadsNode, IsNoNode, DescentTears}
 use Rattle.ordered_index.specs.Enter.{IsRank, TearsBelow, EachEntered}
 use Rattle.ordered_index.proofs.Paths.{not_at, not_there}
 use Rattle.ordered_index.proofs.Entering.{IsChild, reads_of}
@@ -32,10 +32,10 @@ below_here size depth key entries rank state is some unfit = record {
 pub tears_deep : (size depth : ℕ) (key : Key) (entries : List (Key × ℕ)) (rank : ℕ) (m0 : Meaning) → IsRank key entries rank → 0 < rank → depth ≡ 24 → EachState m0 m0 (λ state. TearsBelow size depth key entries state (get_or entries (rank - 1) (first_key, 0)).1)
 tears_deep size depth key entries rank m0 is some deep = λ state agrees. below_here size depth key entries rank (overlay m0.writes state) is some (inr (omega arith))
 
-pub tears_unfit : (size depth rid : ℕ) (key : Key) (entries : List (Key × ℕ)) (rank : ℕ) (m0 m1 : Meaning) → IsRank key entries rank → 0 < rank → rid ≡ (get_or entries (rank - 1) (first_key, 0)).1 → EachState m0 m1 (λ state. IsUnfit size (get_or entries (rank - 1) (first_key, 0)).0 state (get_or entries (rank - 1) (first_key, 0)).1) → EachState m0 m1 (λ state. TearsBelow size depth key entries state rid)
+pub tears_unfit : (size depth rid : ℕ) (key : Key) (entries : List (Key × ℕ)) (rank : ℕ) (m0 m1 : Meaning) → IsRank key entries rank → 0 < rank → rid ≡ (get_or entries (rank - 1) (first_key, 0)).1 → EachState m0 m1 (λ state. IsNoNode size (get_or entries (rank - 1) (first_key, 0)).0 state (get_or entries (rank - 1) (first_key, 0)).1) → EachState m0 m1 (λ state. TearsBelow size depth key entries state rid)
 tears_unfit size depth rid key entries rank m0 m1 is some same unfit = λ state agrees. rw same (below_here size depth key entries rank (overlay m0.writes state) is some (inl (not_at size _ _ (overlay m0.writes state) (unfit state agrees))))
 
-pub tears_absent : (size depth : ℕ) (key : Key) (entries : List (Key × ℕ)) (rank : ℕ) (m0 m1 : Meaning) (read : Option Link) → IsRank key entries rank → 0 < rank → read ≡ None → EachState m0 m1 (λ state. ReadAs size (get_or entries (rank - 1) (first_key, 0)).1 state read) → EachState m0 m1 (λ state. TearsBelow size depth key entries state (get_or entries (rank - 1) (first_key, 0)).1)
+pub tears_absent : (size depth : ℕ) (key : Key) (entries : List (Key × ℕ)) (rank : ℕ) (m0 m1 : Meaning) (read : Option Link) → IsRank key entries rank → 0 < rank → read ≡ None → EachState m0 m1 (λ state. ReadsNode size (get_or entries (rank - 1) (first_key, 0)).1 state read) → EachState m0 m1 (λ state. TearsBelow size depth key entries state (get_or entries (rank - 1) (first_key, 0)).1)
 tears_absent size depth key entries rank m0 m1 read is some none absent = λ state agrees. below_here size depth key entries rank (overlay m0.writes state) is some (inl (not_there size _ _ (overlay m0.writes state) (rw none at (absent state agrees))))
 
 tears_more : (size depth rid : ℕ) (key : Key) (entries : List (Key × ℕ)) (rank : ℕ) (child : Key × ℕ) (node : Content) (state : State) → IsChild size key entries rank child node → IsAt size state (child.1, node) → node.kind ≡ Inner → TearsBelow size (depth + 1) key node.entries state rid → TearsBelow size depth key entries state rid
@@ -63,7 +63,7 @@ rank_some size node key zero sound kind low is = let P : Kind → Type 0 = λ k.
 rank_some size node key (suc r) sound kind low is = omega arith
 
 -- the child that was read
-pub child_is : (size : ℕ) (key : Key) (entries : List (Key × ℕ)) (rank : ℕ) (link : Link) → IsRank key entries rank → 0 < rank → IsLink size (get_or entries (rank - 1) (first_key, 0)).1 (get_or entries (rank - 1) (first_key, 0)).0 link → IsChild size key entries rank (link.node.low, link.at) (content_of link.node)
+pub child_is : (size : ℕ) (key : Key) (entries : List (Key × ℕ)) (rank : ℕ) (link : Link) → IsRank key entries rank → 0 < rank → IsTreeLink size (get_or entries (rank - 1) (first_key, 0)).1 (get_or entries (rank - 1) (first_key, 0)).0 link → IsChild size key entries rank (link.node.low, link.at) (content_of link.node)
 child_is size key entries rank link is some read = record {
   is = is;
   some = some;
@@ -71,7 +71,7 @@ child_is size key entries rank link is some read = record {
   fence = refl;
 }
 
-pub child_at : (size : ℕ) (rid : ℕ) (m0 m1 : Meaning) (link : Link) (read : Option Link) → read ≡ Some link → EachState m0 m1 (λ state. ReadAs size rid state read) → EachState m0 m1 (λ state. IsAt size state (link.at, content_of link.node))
+pub child_at : (size : ℕ) (rid : ℕ) (m0 m1 : Meaning) (link : Link) (read : Option Link) → read ≡ Some link → EachState m0 m1 (λ state. ReadsNode size rid state read) → EachState m0 m1 (λ state. IsAt size state (link.at, content_of link.node))
 child_at size rid m0 m1 link read is each = λ state agrees. rw is at (each state agrees)
 
 pub from_reads : (m0 m1 m2 : Meaning) (key : Key) (rid : ℕ) (entries : List (Key × ℕ)) (rank : ℕ) (e e' : Entering) → OnlyReads m0 m1 → e ≡ e' → EachEntered m1 m2 key rid entries rank e → EachEntered (reads_of m0 m1) m2 key rid entries rank e'
@@ -81,7 +81,7 @@ from_reads m0 m1 m2 key rid entries rank e e' only same each =
     subst Q same (subst P only.rest each)
 
 -- a walk from the root tears below it
-pub top_tears : (size root rid : ℕ) (key : Key) (node : Content) (state : State) → node.low ≡ first_key → IsAt size state (root, node) → node.kind ≡ Inner → TearsBelow size 1 key node.entries state rid → Tears size root key state rid
+pub top_tears : (size root rid : ℕ) (key : Key) (node : Content) (state : State) → node.low ≡ first_key → IsAt size state (root, node) → node.kind ≡ Inner → TearsBelow size 1 key node.entries state rid → DescentTears size root key state rid
 top_tears size root rid key node state low at kind t = record {
   words = at.words;
   present = at.here;
@@ -91,7 +91,7 @@ top_tears size root rid key node state low at kind t = record {
   unfit = elim t.unfit as (λ _. ((other : Content) → other.low ≡ t.low → IsAt size state (rid, other) → ⊥) ⊎ (24 ≤ suc (length t.nodes))) [ inl none ↦ inl none | inr deep ↦ inr (omega (arith, deep)) ];
 }
 
-pub top_torn : (size root rid : ℕ) (key : Key) (node : Content) (m0 m1 m2 : Meaning) → OnlyReads m0 m1 → ReadsGrow m1 m2 → node.low ≡ first_key → EachState m0 m1 (λ state. IsAt size state (root, node)) → node.kind ≡ Inner → EachState m1 m2 (λ state. TearsBelow size 1 key node.entries state rid) → EachState m0 m2 (λ state. Tears size root key state rid)
+pub top_torn : (size root rid : ℕ) (key : Key) (node : Content) (m0 m1 m2 : Meaning) → OnlyReads m0 m1 → ReadsGrow m1 m2 → node.low ≡ first_key → EachState m0 m1 (λ state. IsAt size state (root, node)) → node.kind ≡ Inner → EachState m1 m2 (λ state. TearsBelow size 1 key node.entries state rid) → EachState m0 m2 (λ state. DescentTears size root key state rid)
 top_torn size root rid key node m0 m1 m2 only grow low at kind torn = λ state agrees.
     let P : State → Type 0 = λ s. TearsBelow size 1 key node.entries s rid in
     top_tears size root rid key node (overlay m0.writes state) low (at state (agrees-extends m1.reads m2.reads state grow.reads agrees)) kind (subst P (ap (λ w. overlay w state) (writes_same m0 m1 only)) (torn state agrees))

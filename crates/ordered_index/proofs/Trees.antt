@@ -11,7 +11,7 @@ use Rattle.ordered_index.specs.Keys.{Before, Above, Below, Rising, last_at, entr
 use Rattle.ordered_index.specs.Node.{Content}
 use Rattle.ordered_index.specs.Tree.{IsAt, Stand, Descends, IsTree, named, row_names, row_entries, record_of_key, Follow}
 use Rattle.record_store.specs.States.{EachState}
-use Rattle.ordered_index.specs.Walk.{Path, Reaches, Tears, IsTorn}
+use Rattle.ordered_index.specs.Walk.{Path, DescentReaches, DescentTears, IsTornTree}
 use Rattle.ordered_index.proofs.Order.{first_not_after, before_not_after}
 use Rattle.ordered_index.proofs.Paths.{path_present}
 use Rattle.ordered_index.proofs.Entries.{below_append, below_weaker, above_right, entry_at-below, entry_at-front, last_at-here}
@@ -100,7 +100,7 @@ node_in size state key to above (level ∷ rest) leaves descends last none =
 no_node_there : (size : ℕ) (state : State) (key : Key) (to : Key × ℕ) (passed : ℕ) (levels : List (List (ℕ × Content))) (leaves : List (ℕ × Content)) → Reached size state key to passed levels leaves → ((node : Content) → node.low ≡ to.0 → IsAt size state (to.1, node) → ⊥) → ⊥
 no_node_there size state key to passed levels leaves reached none = node_in size state key to reached.above reached.rest leaves reached.descends reached.last none
 
-pub torn_no_tree : (size root rid : ℕ) (key : Key) (state : State) (levels : List (List (ℕ × Content))) (leaves : List (ℕ × Content)) → Tears size root key state rid → IsTree size root state levels leaves → ⊥
+pub torn_no_tree : (size root rid : ℕ) (key : Key) (state : State) (levels : List (List (ℕ × Content))) (leaves : List (ℕ × Content)) → DescentTears size root key state rid → IsTree size root state levels leaves → ⊥
 torn_no_tree size root rid key state levels leaves tears tree =
     let descends = tree_descends size root state levels leaves tears.words tree tears.present in
     let reached = path_reaches size state key (first_key, root) (tears.low, rid) tears.nodes ((first_key, root) ∷ []) levels leaves descends (root_last root key) tears.path in
@@ -109,10 +109,10 @@ torn_no_tree size root rid key state levels leaves tears tree =
       | inr deep ↦ omega (arith, deep, tree.deep, reached.long)
     ]
 
-pub is_torn : (root size rid : ℕ) (key : Key) (before after : Meaning) → size ≡ before.size → EachState before after (λ state. Tears size root key state rid) → IsTorn root key before after rid
+pub is_torn : (root size rid : ℕ) (key : Key) (before after : Meaning) → size ≡ before.size → EachState before after (λ state. DescentTears size root key state rid) → IsTornTree root key before after rid
 is_torn root size rid key before after same tears = record {
   tears = rw (← same) tears;
-  no_tree = λ state levels leaves agrees tree. torn_no_tree before.size root rid key (overlay before.writes state) levels leaves (rw (← same) (tears state agrees)) tree;
+  none = λ state tree agrees is. torn_no_tree before.size root rid key (overlay before.writes state) tree.0 tree.1 (rw (← same) (tears state agrees)) is;
 }
 
 -- the leaf for a key in the row of leaves
@@ -123,7 +123,7 @@ leaf_in size state key leaf above (level ∷ rest) leaves descends last at kind 
     let is = home_is size state Inner level key leaf home descends.1 at in
     absurd (leaf_inner leaf.1.kind kind is.1)
 
-pub leaf_home : (size root : ℕ) (key : Key) (state : State) (levels : List (List (ℕ × Content))) (leaves : List (ℕ × Content)) (leaf : ℕ × Content) → IsTree size root state levels leaves → Descends size state ((first_key, root) ∷ []) levels leaves → Reaches size root key state leaf → Home leaves key (named leaf)
+pub leaf_home : (size root : ℕ) (key : Key) (state : State) (levels : List (List (ℕ × Content))) (leaves : List (ℕ × Content)) (leaf : ℕ × Content) → IsTree size root state levels leaves → Descends size state ((first_key, root) ∷ []) levels leaves → DescentReaches size root key state leaf → Home leaves key (named leaf)
 leaf_home size root key state levels leaves leaf tree descends reaches =
     let reached = path_reaches size state key (first_key, root) (named leaf) reaches.nodes ((first_key, root) ∷ []) levels leaves descends (root_last root key) reaches.path in
     leaf_in size state key leaf reached.above reached.rest leaves reached.descends reached.last reaches.at reaches.kind
@@ -149,7 +149,7 @@ home_record leaves key at home rising' follow' =
     rw (home.joined, row_entries-append home.before (home.node ∷ home.after))
     (entry_at-below key (row_entries home.before) (home.node.1.entries ++ row_entries home.after) below ∙ entry_at-front key home.node.1.entries (row_entries home.after) above)
 
-pub found_in : (size root : ℕ) (key : Key) (state : State) (levels : List (List (ℕ × Content))) (leaves : List (ℕ × Content)) (leaf : ℕ × Content) → IsTree size root state levels leaves → Reaches size root key state leaf → record_of_key leaves key ≡ entry_at leaf.1.entries key
+pub found_in : (size root : ℕ) (key : Key) (state : State) (levels : List (List (ℕ × Content))) (leaves : List (ℕ × Content)) (leaf : ℕ × Content) → IsTree size root state levels leaves → DescentReaches size root key state leaf → record_of_key leaves key ≡ entry_at leaf.1.entries key
 found_in size root key state levels leaves leaf tree reaches =
     let present = path_present size state key (first_key, root) reaches.nodes leaf reaches.path reaches.at in
     let descends = tree_descends size root state levels leaves present.0 tree present.1 in

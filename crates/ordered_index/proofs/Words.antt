@@ -9,7 +9,7 @@ use Rattle.ordered_index.specs.declared.node.Kind.{Kind}
 use Rattle.ordered_index.specs.declared.node.Kind.TheVariants.{Leaf, Inner}
 use Rattle.record_store.specs.Links.{link_word}
 use Rattle.record_store.proofs.Links.{named_by-link_word}
-use Rattle.ordered_index.specs.Node.{Content, Holds, in_threes, next_of, entry_words, words_of}
+use Rattle.ordered_index.specs.Node.{Content, Holds, in_threes, next_leaf, entry_words, tree_node_words}
 
 abbrev pub key_of : ℕ → ℕ → Key
 key_of high low = record { high = high; low = low }
@@ -83,27 +83,27 @@ in_threes-append : (entries : List (Key × ℕ)) (words : List ℕ) → in_three
 in_threes-append [] words = refl
 in_threes-append (entry ∷ entries) words = ap (λ more. entry ∷ more) (in_threes-append entries words)
 
-next-leaf : (next : Option ℕ) → next_of Leaf (link_word next) ≡ next
+next-leaf : (next : Option ℕ) → next_leaf Leaf (link_word next) ≡ next
 next-leaf None = refl
 next-leaf (Some rid) = named_by-link_word (Some rid)
 
-next-of : (kind : Kind) (next : Option ℕ) → (kind ≡ Inner → next ≡ None) → next_of kind (link_word next) ≡ next
+next-of : (kind : Kind) (next : Option ℕ) → (kind ≡ Inner → next ≡ None) → next_leaf kind (link_word next) ≡ next
 next-of Leaf next none = next-leaf next
 next-of Inner next none = sym (none refl)
 
 -- a node is read from the words that were written of it
-pub holds_words : (node : Content) → length node.entries ≤ 9 → (node.kind ≡ Inner → node.next ≡ None) → Holds (words_of node) node
+pub holds_words : (node : Content) → length node.entries ≤ 9 → (node.kind ≡ Inner → node.next ≡ None) → Holds (tree_node_words node) node
 holds_words node few inner =
     let zeros : List ℕ = replicate (27 - 3 * length node.entries) 0 in
     let back : List ℕ = link_word node.next ∷ [] in
-    let last : slice_index (words_of node) 31 ≡ link_word node.next =
+    let last : slice_index (tree_node_words node) 31 ≡ link_word node.next =
     get_or_at (entry_words node.entries ++ zeros) (link_word node.next) [] 0 27 (omega (arith, length-append (entry_words node.entries) zeros, length-entry_words node.entries, length-replicate {A = ℕ} (27 - 3 * length node.entries) 0)) in
     record {
       kind = refl;
       count = refl;
       low = refl;
       entries = ap (λ ws. take (length node.entries) (in_threes ws)) (append_assoc (entry_words node.entries) zeros back) ∙ ap (take (length node.entries)) (in_threes-append node.entries (zeros ++ back)) ∙ take_at node.entries (in_threes (zeros ++ back)) (length node.entries) refl;
-      next = ap (next_of node.kind) last ∙ next-of node.kind node.next inner;
+      next = ap (next_leaf node.kind) last ∙ next-of node.kind node.next inner;
     }
 
 -- one entry more is written

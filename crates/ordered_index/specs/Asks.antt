@@ -35,8 +35,8 @@ abbrev pub records_due : Key → List (List (ℕ × Content)) → List (ℕ × C
 records_due key levels leaves = if full_nodes key levels leaves == length levels + 1 then length levels + 2 else full_nodes key levels leaves
 
 -- so often an insertion may ask: the key is not there, and so many new records are due
-abbrev pub MayAsk : ℕ → Key → Meaning → Meaning → ℕ → Type 0
-MayAsk root key before after asks = EachTree root before after (λ _ levels leaves. (record_of_key leaves key ≡ None) × (asks ≤ records_due key levels leaves))
+abbrev pub InsertMayAsk : ℕ → Key → Meaning → Meaning → ℕ → Type 0
+InsertMayAsk root key before after asks = EachTree root before after (λ _ levels leaves. (record_of_key leaves key ≡ None) × (asks ≤ records_due key levels leaves))
 
 -- how often an insertion asked: for each record that was due where the entry is in, and never where the key was there
 abbrev pub HasAsked : ℕ → Key → Meaning → Meaning → ℕ → Bool → Type 0
@@ -44,8 +44,8 @@ HasAsked root key before after asked true = EachTree root before after (λ _ lev
 HasAsked root key before after asked false = asked ≡ 0
 
 -- what an insertion asked for and wrote, whatever it answers
-pub record Asks {F : Type 0} (root : ℕ) (key : Key) (before after : Meaning) (answer : Result Bool (Walk F)) (asked : ℕ) : Type 0 where
-  pub may : 0 < asked → MayAsk root key before after asked
+pub record InsertAsks {F : Type 0} (root : ℕ) (key : Key) (before after : Meaning) (answer : Result Bool (Walk F)) (asked : ℕ) : Type 0 where
+  pub may : 0 < asked → InsertMayAsk root key before after asked
   pub exact : IfOk answer (HasAsked root key before after asked)
   pub few : asked ≤ 25
   pub writes : WritesNodes (2 * asked + 1) before after
@@ -56,8 +56,8 @@ EachPart before after key entries P =
     (state : State) (xs ys : List (Key × ℕ)) (levels : List (List (ℕ × Content))) (leaves : List (ℕ × Content)) → Agrees state after.reads → Part before.size (overlay before.writes state) (xs ++ (entries ++ ys)) levels leaves → Above key ys → P levels leaves
 
 -- the key is not there, and so many nodes are full
-abbrev pub IsDue : Key → ℕ → List (List (ℕ × Content)) → List (ℕ × Content) → Type 0
-IsDue key asks levels leaves = (record_of_key leaves key ≡ None) × (asks ≤ full_nodes key levels leaves)
+abbrev pub PartIsDue : Key → ℕ → List (List (ℕ × Content)) → List (ℕ × Content) → Type 0
+PartIsDue key asks levels leaves = (record_of_key leaves key ≡ None) × (asks ≤ full_nodes key levels leaves)
 
 -- so many nodes are full, but not one in each row
 abbrev pub SomeFull : Key → ℕ → List (List (ℕ × Content)) → List (ℕ × Content) → Type 0
@@ -75,7 +75,7 @@ HasAskedBelow before after key entries asked (Takes entry) = EachPart before aft
 -- what was asked for and written below a node at this depth
 pub record AsksBelow {F : Type 0} (key : Key) (kind : Kind) (entries : List (Key × ℕ)) (depth : ℕ) (before after : Meaning) (answer : Result Entering (Walk F)) (asked : ℕ) : Type 0 where
   pub leaf : kind ≡ Leaf → asked ≡ 0
-  pub may : 0 < asked → EachPart before after key entries (IsDue key asked)
+  pub may : 0 < asked → EachPart before after key entries (PartIsDue key asked)
   pub exact : kind ≡ Inner → IfOk answer (HasAskedBelow before after key entries asked)
   pub deep : asked + depth ≤ 24
   pub writes : WritesNodes (2 * asked + 1) before after

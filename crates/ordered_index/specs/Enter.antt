@@ -8,7 +8,7 @@ use Rattle.ordered_index.specs.declared.node.Kind.TheVariants.{Leaf}
 use Rattle.ordered_index.specs.declared.enter.Entering.{Entering}
 use Rattle.ordered_index.specs.declared.enter.Entering.TheVariants.{There, Done, Takes}
 use Rattle.ordered_index.specs.Keys.{is_same, Above, Rising, last_at, entry_at}
-use Rattle.ordered_index.specs.Node.{Content, words_of}
+use Rattle.ordered_index.specs.Node.{Content, tree_node_words}
 use Rattle.ordered_index.specs.Tree.{IsAt, Descends, Follow, In, Apart, named, row_names, tree_records, record_of_key}
 pub use Rattle.ordered_index.specs.Splits.{with_entry, IsRank, key_at, next_left, left_of, right_of, leaf_of, over_of}
 use Rattle.ordered_index.specs.Splits.{PartTakes}
@@ -89,14 +89,14 @@ pub record ReachesBelow (size depth : ℕ) (key : Key) (entries : List (Key × �
 
 -- a node takes an entry in: it is written with it, or parted in two
 abbrev pub PutsEntry : Meaning → Meaning → ℕ → Content → List (Key × ℕ) → Option (Key × ℕ) → Type 0
-PutsEntry before after at node entries None = (length entries ≤ 9) × (after ≡ after_write before at (Some (words_of (record node { entries = entries }))))
+PutsEntry before after at node entries None = (length entries ≤ 9) × (after ≡ after_write before at (Some (tree_node_words (record node { entries = entries }))))
 PutsEntry before after at node entries (Some new) =
     (length entries ≡ 10) × IsFresh before new.1 × (new.0 ≡ key_at entries 5)
-    × (after ≡ after_write (after_write (after_fresh before new.1) new.1 (Some (words_of (right_of node entries)))) at (Some (words_of (left_of node entries new.1))))
+    × (after ≡ after_write (after_write (after_fresh before new.1) new.1 (Some (tree_node_words (right_of node entries)))) at (Some (tree_node_words (left_of node entries new.1))))
 
 -- the root takes an entry in: it is written with it, or its entries go to two new nodes below it
 pub data PutsRoot (before after : Meaning) (at : ℕ) (node : Content) (entries : List (Key × ℕ)) : Type 0 where
-  whole : length entries ≤ 9 → after ≡ after_write before at (Some (words_of (record node { entries = entries }))) → PutsRoot before after at node entries
+  whole : length entries ≤ 9 → after ≡ after_write before at (Some (tree_node_words (record node { entries = entries }))) → PutsRoot before after at node entries
   parted : (left right : ℕ) → length entries ≡ 10 → IsFresh before left → IsFresh (after_fresh before left) right
-      → after ≡ after_write (after_write (after_write (after_fresh (after_fresh before left) right) left (Some (words_of (left_of node entries right)))) right (Some (words_of (right_of node entries)))) at (Some (words_of (over_of node.low left (key_at entries 5) right)))
+      → after ≡ after_write (after_write (after_write (after_fresh (after_fresh before left) right) left (Some (tree_node_words (left_of node entries right)))) right (Some (tree_node_words (right_of node entries)))) at (Some (tree_node_words (over_of node.low left (key_at entries 5) right)))
       → PutsRoot before after at node entries

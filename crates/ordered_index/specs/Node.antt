@@ -32,9 +32,9 @@ in_threes (high ∷ low ∷ []) = []
 in_threes (high ∷ low ∷ rid ∷ words) = (record { high = high; low = low }, rid) ∷ in_threes words
 
 -- the last word of a leaf names the next one
-abbrev pub next_of : Kind → ℕ → Option ℕ
-next_of Leaf word = named_by word
-next_of Inner word = None
+abbrev pub next_leaf : Kind → ℕ → Option ℕ
+next_leaf Leaf word = named_by word
+next_leaf Inner word = None
 
 -- the words hold the node: its kind, the number of its entries, its low fence, the entries from word 4 on, and the next leaf
 pub record Holds (words : List ℕ) (node : Content) : Type 0 where
@@ -42,7 +42,7 @@ pub record Holds (words : List ℕ) (node : Content) : Type 0 where
   pub count : slice_index words 1 ≡ length node.entries
   pub low : record { high = slice_index words 2; low = slice_index words 3 } ≡ node.low
   pub entries : take (slice_index words 1) (in_threes (drop 4 words)) ≡ node.entries
-  pub next : next_of node.kind (slice_index words 31) ≡ node.next
+  pub next : next_leaf node.kind (slice_index words 31) ≡ node.next
 
 -- the first key of an inner node is its low fence
 abbrev pub Begins : Kind → Key → List (Key × ℕ) → Type 0
@@ -63,6 +63,6 @@ abbrev pub entry_words : List (Key × ℕ) → List ℕ
 entry_words entries = flat_map (λ (entry : Key × ℕ). entry.0.high ∷ entry.0.low ∷ entry.1 ∷ []) entries
 
 -- the words of a node, zero where nothing is said
-abbrev pub words_of : Content → List ℕ
-words_of node =
+abbrev pub tree_node_words : Content → List ℕ
+tree_node_words node =
     kind_word node.kind ∷ length node.entries ∷ node.low.high ∷ node.low.low ∷ (entry_words node.entries ++ replicate (27 - 3 * length node.entries) 0 ++ link_word node.next ∷ [])

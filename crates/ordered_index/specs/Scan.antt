@@ -8,9 +8,9 @@ use Rattle.ordered_index.specs.declared.walk.Link.{Link}
 use Rattle.ordered_index.specs.Keys.{is_before, Before}
 use Rattle.ordered_index.specs.Node.{Content, IsSound}
 use Rattle.ordered_index.specs.Held.{content_of}
-use Rattle.ordered_index.specs.Tree.{IsAt, EachTree, row_entries}
-use Rattle.record_store.specs.States.{EachState}
-use Rattle.ordered_index.specs.Walk.{Reaches, Tears}
+use Rattle.ordered_index.specs.Tree.{IsAt, IsTreeBefore, row_entries}
+use Rattle.record_store.specs.States.{IsTorn}
+use Rattle.ordered_index.specs.Walk.{DescentReaches, DescentTears}
 
 -- whether a key lies from one to another, both taken in
 abbrev pub is_between : Key → Key → Key → Bool
@@ -39,15 +39,15 @@ pub record IsNext (size : ℕ) (state : State) (leaf next : ℕ × Content) : Ty
   pub kind : next.1.kind ≡ Leaf
 
 -- leaves lead from one to another, each by its link
-abbrev pub Leads : ℕ → State → ℕ × Content → List (ℕ × Content) → ℕ × Content → Type 0
-Leads size state from [] to = from ≡ to
-Leads size state from (leaf ∷ leaves) to = (next : ℕ × Content) × (from ≡ leaf) × IsNext size state leaf next × Leads size state next leaves to
+abbrev pub LeavesLead : ℕ → State → ℕ × Content → List (ℕ × Content) → ℕ × Content → Type 0
+LeavesLead size state from [] to = from ≡ to
+LeavesLead size state from (leaf ∷ leaves) to = (next : ℕ × Content) × (from ≡ leaf) × IsNext size state leaf next × LeavesLead size state next leaves to
 
 -- a scan comes from the leaf for a key, past these leaves, to another leaf
 pub record Passes (size root : ℕ) (key : Key) (state : State) (passed : List (ℕ × Content)) (last : ℕ × Content) : Type 0 where
   pub first : ℕ × Content
-  pub reaches : Reaches size root key state first
-  pub leads : Leads size state first passed last
+  pub reaches : DescentReaches size root key state first
+  pub leads : LeavesLead size state first passed last
 
 -- some entry has a key behind this one
 abbrev pub HasBehind : Key → List (Key × ℕ) → Type 0
@@ -78,12 +78,11 @@ pub record TearsAlong (size root : ℕ) (key : Key) (state : State) (rid : ℕ) 
 
 -- a scan is torn on its way to the first leaf, or along the leaves
 abbrev pub ScanTears : ℕ → ℕ → Key → ℕ → State → Type 0
-ScanTears size root key rid state = Tears size root key state rid ⊎ TearsAlong size root key state rid
+ScanTears size root key rid state = DescentTears size root key state rid ⊎ TearsAlong size root key state rid
 
 -- no state that agrees with the reads has a lawful tree: in each a scan is torn at the record
-pub record IsScanTorn (root : ℕ) (key : Key) (before after : Meaning) (rid : ℕ) : Type 0 where
-  pub tears : EachState before after (ScanTears before.size root key rid)
-  pub no_tree : EachTree root before after (λ _ _ _. ⊥)
+abbrev pub IsTornScan : ℕ → Key → Meaning → Meaning → ℕ → Type 0
+IsTornScan root key before after rid = IsTorn (ScanTears before.size root key rid) (IsTreeBefore root before) before after
 
 -- a number that falls where keys rise
 abbrev pub keys_behind : Key → ℕ

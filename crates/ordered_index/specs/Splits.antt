@@ -43,9 +43,9 @@ over_of low left key right = record { kind = Inner; low = low; entries = (low, l
 
 -- what becomes of a node with one entry more: it has them all where they are nine at most; of ten the first five stay, and the last five
 -- go to a new node, which the level above has to take in by its first key
-abbrev pub Becomes : ℕ × Content → List (Key × ℕ) → Option (Key × ℕ) → List (ℕ × Content) → Type 0
-Becomes node entries None nodes = (length entries ≤ 9) × (nodes ≡ (node.0, record node.1 { entries = entries }) ∷ [])
-Becomes node entries (Some new) nodes =
+abbrev pub NodeBecomes : ℕ × Content → List (Key × ℕ) → Option (Key × ℕ) → List (ℕ × Content) → Type 0
+NodeBecomes node entries None nodes = (length entries ≤ 9) × (nodes ≡ (node.0, record node.1 { entries = entries }) ∷ [])
+NodeBecomes node entries (Some new) nodes =
     (length entries ≡ 10) × (new.0 ≡ key_at entries 5) × (nodes ≡ (node.0, left_of node.1 entries new.1) ∷ (new.1, right_of node.1 entries) ∷ [])
 
 -- the node of a row to which a key belongs takes an entry in at its place
@@ -60,7 +60,7 @@ pub record RowTakes (key : Key) (entry : Key × ℕ) (row row' : List (ℕ × Co
   pub low : NotAfter node.1.low key
   pub above : Above key (row_names after)
   pub place : IsRank key node.1.entries rank
-  pub becomes : Becomes node (with_entry node.1.entries rank entry) new nodes
+  pub becomes : NodeBecomes node (with_entry node.1.entries rank entry) new nodes
 
 -- the levels below some entries: the leaf takes the key in, and each level above takes in a new node of the level below, or stays
 pub data PartTakes (key : Key) (rid : ℕ) : List (List (ℕ × Content)) → List (ℕ × Content) → List (List (ℕ × Content)) → List (ℕ × Content) → Option (Key × ℕ) → Type 0 where

@@ -2,6 +2,7 @@
 use Rattle.std.specs.Prelude.{◌≡◌, ◌⊎◌, ℕ, ◌<◌, List, [], ◌∷◌, ◌++◌, length, map, Option, None, Some, MatchOption, ⊤}
 use Rattle.std.specs.List.{flat_map}
 use Rattle.plain_data.specs.State.{State, Agrees, overlay}
+use Rattle.record_store.specs.Links.{records_of}
 use Rattle.record_store.specs.Meaning.{Meaning}
 use Rattle.ordered_index.specs.declared.key.Key.{Key}
 use Rattle.ordered_index.specs.declared.node.Kind.{Kind}
@@ -60,9 +61,6 @@ Apart [] = ⊤
 Apart (rid ∷ rids) = (In rid rids → ⊥) × Apart rids
 
 -- the records of a tree
-abbrev pub records_of : List (ℕ × Content) → List ℕ
-records_of row = map (λ (node : ℕ × Content). node.0) row
-
 abbrev pub tree_records : List (List (ℕ × Content)) → List (ℕ × Content) → List ℕ
 tree_records [] leaves = records_of leaves
 tree_records (level ∷ levels) leaves = records_of level ++ tree_records levels leaves
@@ -78,6 +76,10 @@ pub record IsTree (size root : ℕ) (state : State) (levels : List (List (ℕ ×
   pub follow : Follow leaves
   pub once : Apart (tree_records levels leaves)
   pub deep : length levels < 24
+
+-- with the writes so far laid over it, the state has a lawful tree, of these levels and leaves
+abbrev pub IsTreeBefore : ℕ → Meaning → State → List (List (ℕ × Content)) × List (ℕ × Content) → Type 0
+IsTreeBefore root before state tree = IsTree before.size root (overlay before.writes state) tree.0 tree.1
 
 -- what holds of each state that agrees with the reads of a call and has a lawful tree where the call begins
 abbrev pub EachTree : ℕ → Meaning → Meaning → (State → List (List (ℕ × Content)) → List (ℕ × Content) → Type 0) → Type 0

@@ -6,7 +6,7 @@ ghost use Rattle.record_store.specs.Limits.{record_limit};
 ghost use Rattle.record_store.specs.Meaning.{after_write};
 ghost use Rattle.record_store.specs.Writes.{WritesOnly, EachWritesKnown, GivesAtMost, GivesFewer};
 ghost use Rattle.record_store.specs.Walks.{IfTorn, IfStore, IfNoMemory, OnlyReads, ReadsGrow};
-ghost use Rattle.ordered_index.specs.Asks.{EachPart, IsDue, AsksBelow, AsksRoot, asks_at};
+ghost use Rattle.ordered_index.specs.Asks.{EachPart, PartIsDue, AsksBelow, AsksRoot, asks_at};
 ghost use Rattle.ordered_index.specs.declared.node.Kind.TheVariants.{Leaf, Inner};
 ghost use Rattle.ordered_index.specs.Held.{content_of};
 ghost use Rattle.ordered_index.specs.Keys.{NotAfter};
@@ -55,7 +55,7 @@ pub fn enter<S: RecordStore>(
     ensures torn { IfTorn result (λ torn. (here.now.kind ≡ Inner) × EachState (S.meaning store.old) (S.meaning store.new) (λ state. TearsBelow size depth key here.now.entries.items state torn)) }
 
     // `fresh` is asked for a full node, where the key is not there
-    ensures fault { IfStore result (CallFault S.read_gives S.write_gives S.fresh_gives (λ asks. (here.now.kind ≡ Inner) × EachPart (S.meaning store.old) (S.meaning store.new) key here.now.entries.items (IsDue key asks) × GivesFewer asks (S.meaning store.old) (S.meaning store.new)) store.old store.new) }
+    ensures fault { IfStore result (CallFault S.read_gives S.write_gives S.fresh_gives (λ asks. (here.now.kind ≡ Inner) × EachPart (S.meaning store.old) (S.meaning store.new) key here.now.entries.items (PartIsDue key asks) × GivesFewer asks (S.meaning store.old) (S.meaning store.new)) store.old store.new) }
     ensures memory { IfNoMemory result ⊥ }
     ensures calls { (asked : ℕ) × Calls S.read_gives S.write_gives S.fresh_gives store.old asked store.new × AsksBelow key here.now.kind here.now.entries.items depth (S.meaning store.old) (S.meaning store.new) result asked × GivesAtMost asked (S.meaning store.old) (S.meaning store.new) }
 

@@ -4,11 +4,11 @@ ghost use Rattle.std.specs.Prelude.{◌≡◌, ℕ, ◌<◌, IfOk, IfSome, OnOk}
 ghost use Rattle.record_store.specs.Calls.{Reads, ReadFault, Calls, CallFault};
 ghost use Rattle.ordered_index.specs.Changes.{RemovesEntry, InsertsEntry};
 ghost use Rattle.record_store.specs.Writes.{EachWritesKnown, GivesAtMost, GivesFewer};
-ghost use Rattle.ordered_index.specs.Asks.{MayAsk, Asks};
+ghost use Rattle.ordered_index.specs.Asks.{InsertMayAsk, InsertAsks};
 ghost use Rattle.record_store.specs.Walks.{IfTorn, IfStore, IfNoMemory, OnlyReads, ReadsGrow};
 ghost use Rattle.ordered_index.specs.Tree.{EachTree, record_of_key};
 ghost use Rattle.record_store.specs.States.{EachState};
-ghost use Rattle.ordered_index.specs.Walk.{EndsWell, IsTorn};
+ghost use Rattle.ordered_index.specs.Walk.{DescentEndsWell, IsTornTree};
 ghost use Rattle.ordered_index.specs.Written.{WritesNodes};
 
 use crate::enter::{Entering, enter, put_root};
@@ -24,8 +24,8 @@ pub fn get<S: RecordRead>(store: &mut S, root: u32, key: Key) -> Result<Option<u
 
     // also where no state that agrees has a lawful tree
     ensures stored { IfOk result (λ answer. IfSome answer (λ rid. rid < (S.meaning store.old).size)) }
-    ensures walked { OnOk result (EachState (S.meaning store.old) (S.meaning store.new) (EndsWell (S.meaning store.old).size root key)) }
-    ensures torn { IfTorn result (IsTorn root key (S.meaning store.old) (S.meaning store.new)) }
+    ensures walked { OnOk result (EachState (S.meaning store.old) (S.meaning store.new) (DescentEndsWell (S.meaning store.old).size root key)) }
+    ensures torn { IfTorn result (IsTornTree root key (S.meaning store.old) (S.meaning store.new)) }
     ensures fault { IfStore result (ReadFault S.read_gives store.old store.new) }
     ensures memory { IfNoMemory result ⊥ }
     ensures calls { Reads S.read_gives store.old store.new }
@@ -48,8 +48,8 @@ pub fn get<S: RecordRead>(store: &mut S, root: u32, key: Key) -> Result<Option<u
 pub fn remove<S: RecordStore>(store: &mut S, root: u32, key: Key) -> Result<bool, Walk<S::Fault>>
     requires { root < (S.meaning store.old).fixed }
     ensures ok { IfOk result (λ was_there. RemovesEntry root key was_there (S.meaning store.old) (S.meaning store.new)) }
-    ensures walked { OnOk result (EachState (S.meaning store.old) (S.meaning store.new) (EndsWell (S.meaning store.old).size root key)) }
-    ensures torn { IfTorn result (IsTorn root key (S.meaning store.old) (S.meaning store.new)) }
+    ensures walked { OnOk result (EachState (S.meaning store.old) (S.meaning store.new) (DescentEndsWell (S.meaning store.old).size root key)) }
+    ensures torn { IfTorn result (IsTornTree root key (S.meaning store.old) (S.meaning store.new)) }
     ensures fault { IfStore result (CallFault S.read_gives S.write_gives S.fresh_gives (λ _. ⊥) store.old store.new) }
     ensures memory { IfNoMemory result ⊥ }
 
@@ -89,13 +89,13 @@ pub fn insert<S: RecordStore>(
     requires root { root < (S.meaning store.old).fixed }
     requires rid { rid < (S.meaning store.old).size }
     ensures ok { IfOk result (λ done. InsertsEntry root key rid done (S.meaning store.old) (S.meaning store.new)) }
-    ensures walked { OnOk result (EachState (S.meaning store.old) (S.meaning store.new) (EndsWell (S.meaning store.old).size root key)) }
-    ensures torn { IfTorn result (IsTorn root key (S.meaning store.old) (S.meaning store.new)) }
+    ensures walked { OnOk result (EachState (S.meaning store.old) (S.meaning store.new) (DescentEndsWell (S.meaning store.old).size root key)) }
+    ensures torn { IfTorn result (IsTornTree root key (S.meaning store.old) (S.meaning store.new)) }
 
     // `fresh` is asked where the key is not there, and so often at most as new records are due; an ask that is refused gave nothing
-    ensures fault { IfStore result (CallFault S.read_gives S.write_gives S.fresh_gives (λ asks. MayAsk root key (S.meaning store.old) (S.meaning store.new) asks × GivesFewer asks (S.meaning store.old) (S.meaning store.new)) store.old store.new) }
+    ensures fault { IfStore result (CallFault S.read_gives S.write_gives S.fresh_gives (λ asks. InsertMayAsk root key (S.meaning store.old) (S.meaning store.new) asks × GivesFewer asks (S.meaning store.old) (S.meaning store.new)) store.old store.new) }
     ensures memory { IfNoMemory result ⊥ }
-    ensures calls { (asked : ℕ) × Calls S.read_gives S.write_gives S.fresh_gives store.old asked store.new × Asks root key (S.meaning store.old) (S.meaning store.new) result asked × GivesAtMost asked (S.meaning store.old) (S.meaning store.new) }
+    ensures calls { (asked : ℕ) × Calls S.read_gives S.write_gives S.fresh_gives store.old asked store.new × InsertAsks root key (S.meaning store.old) (S.meaning store.new) result asked × GivesAtMost asked (S.meaning store.old) (S.meaning store.new) }
 
     // whatever it answers, no record is written but the root, one that is present, and one that was given
     ensures writes { EachWritesKnown (S.meaning store.old) (S.meaning store.new) }

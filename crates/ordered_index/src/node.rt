@@ -4,7 +4,7 @@ ghost use Rattle.std.specs.Prelude.{◌≡◌, ℕ, ◌+◌, ◌<◌, ◌≤◌,
 ghost use Rattle.record_store.specs.Limits.{record_limit};
 ghost use Rattle.ordered_index.specs.Keys.{Rising, Above, NotAfter, last_at, entry_at, InStore};
 ghost use Rattle.ordered_index.specs.declared.node.Kind.TheVariants.{Inner};
-ghost use Rattle.ordered_index.specs.Node.{Content, Holds, IsSound, kind_word as kind_word_of, least, Begins, in_threes, words_of, next_of};
+ghost use Rattle.ordered_index.specs.Node.{Content, Holds, IsSound, kind_word as kind_word_of, least, Begins, in_threes, tree_node_words, next_leaf};
 ghost use Rattle.ordered_index.specs.Enter.{next_left as next_left_of};
 
 use crate::key::Key;
@@ -48,7 +48,7 @@ impl Kind {
 
 impl Node {
     ghost use Rattle.ordered_index.specs.Held.{content_of};
-    ghost use Rattle.ordered_index.specs.Walk.{IsPlace};
+    ghost use Rattle.ordered_index.specs.Walk.{HasKeyAt};
     ghost use Rattle.ordered_index.specs.Enter.{left_of, right_of, over_of, leaf_of, IsRank};
 
     /// A leaf with one entry and none behind it.
@@ -112,7 +112,7 @@ impl Node {
     /// The cells that hold the node, zero where nothing is said.
     pub fn cells(&self) -> Cells
         requires { length self.now.entries.items ≤ 9 }
-        ensures { result ≡ words_of (content_of self.now) }
+        ensures { result ≡ tree_node_words (content_of self.now) }
     {
         let mut words = [0; 32];
         words[0] = kind_word(self.kind);
@@ -178,7 +178,7 @@ impl Node {
     /// Where the entry with a key stands.
     pub fn place(&self, key: Key) -> Option<usize>
         requires { Rising self.now.entries.items }
-        ensures place { IfSome result (IsPlace self.now.entries.items key) }
+        ensures place { IfSome result (HasKeyAt self.now.entries.items key) }
         ensures absent { IfNone result (entry_at self.now.entries.items key ≡ None) }
     {
         let rank = self.rank(key);
@@ -236,8 +236,8 @@ fn least_of(kind: Kind) -> u64
 
 /// The next leaf that the last word of a node names, if it lies in a store of this size.
 fn read_next(kind: Kind, word: u64, size: u32) -> Option<Option<u32>>
-    ensures named { IfSome result (λ next. (next_of kind word ≡ next) × IfSome next (λ rid. rid < size)) }
-    ensures outside { IfNone result (IfSome (next_of kind word) (λ rid. rid < size) → ⊥) }
+    ensures named { IfSome result (λ next. (next_leaf kind word ≡ next) × IfSome next (λ rid. rid < size)) }
+    ensures outside { IfNone result (IfSome (next_leaf kind word) (λ rid. rid < size) → ⊥) }
 {
     match kind {
         Kind::Leaf => named_record(word, size),

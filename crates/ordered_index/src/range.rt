@@ -9,7 +9,7 @@ ghost use Rattle.ordered_index.specs.Held.{content_of};
 ghost use Rattle.ordered_index.specs.Keys.{is_before as is_before_of, Rising};
 ghost use Rattle.ordered_index.specs.Tree.{EachTree, IsAt, row_entries};
 ghost use Rattle.record_store.specs.States.{EachState};
-ghost use Rattle.ordered_index.specs.Scan.{between, Appends, ListsNothing, Scans, ScanTears, IsScanTorn, HasBehind, IsLeafBehind, IsNoLeaf, keys_behind};
+ghost use Rattle.ordered_index.specs.Scan.{between, Appends, ListsNothing, Scans, ScanTears, IsTornScan, HasBehind, IsLeafBehind, IsNoLeaf, keys_behind};
 
 use crate::key::Key;
 use crate::node::Node;
@@ -37,7 +37,7 @@ pub fn scan<S: RecordRead>(
     ensures err { OnErr result (out.new.items ≡ out.old.items) }
     ensures walked { OnOk result (ListsNothing lo hi limit ⊎ EachState (S.meaning store.old) (S.meaning store.new) (Scans (S.meaning store.old).size root lo hi limit out.old.items out.new.items)) }
     ensures nothing { ListsNothing lo hi limit → store.new ≡ store.old }
-    ensures torn { IfTorn result (IsScanTorn root lo (S.meaning store.old) (S.meaning store.new)) }
+    ensures torn { IfTorn result (IsTornScan root lo (S.meaning store.old) (S.meaning store.new)) }
     ensures fault { IfStore result (ReadFault S.read_gives store.old store.new) }
     ensures memory { IfNoMemory result ((vec_capacity out.old < vec_len out.old + limit) × (store.new ≡ store.old)) }
     ensures calls { Reads S.read_gives store.old store.new }

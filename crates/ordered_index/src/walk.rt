@@ -7,7 +7,7 @@ ghost use Rattle.record_store.specs.Walks.{IfTorn, IfStore, IfNoMemory, OnlyRead
 ghost use Rattle.ordered_index.specs.Held.{content_of};
 ghost use Rattle.ordered_index.specs.Node.{IsSound};
 ghost use Rattle.record_store.specs.States.{EachState};
-ghost use Rattle.ordered_index.specs.Walk.{IsLink, ReadAs, IsUnfit, Tears, LeafIs};
+ghost use Rattle.ordered_index.specs.Walk.{IsTreeLink, ReadsNode, IsNoNode, DescentTears, LeafIs};
 
 use crate::key::Key;
 use crate::node::Node;
@@ -38,7 +38,7 @@ pub fn leaf_for<S: RecordRead>(
     requires root { root < size }
     ensures leaf { IfOk result (λ leaf. EachState (S.meaning store.old) (S.meaning store.new) (λ state. LeafIs size root key state leaf)) }
     ensures within { IfOk result (λ leaf. IfSome leaf (λ link. (link.at < size) × IsSound size (content_of link.node))) }
-    ensures torn { IfTorn result (λ rid. EachState (S.meaning store.old) (S.meaning store.new) (λ state. Tears size root key state rid)) }
+    ensures torn { IfTorn result (λ rid. EachState (S.meaning store.old) (S.meaning store.new) (λ state. DescentTears size root key state rid)) }
     ensures fault { IfStore result (ReadFault S.read_gives store.old store.new) }
     ensures memory { IfNoMemory result ⊥ }
     ensures calls { Reads S.read_gives store.old store.new }
@@ -73,9 +73,9 @@ pub fn read_node<S: RecordRead>(
     requires size { size ≡ (S.meaning store.old).size }
     requires at_most { size ≤ record_limit }
     requires rid { rid < size }
-    ensures link { IfOk result (λ link. IfSome link (IsLink size rid low)) }
-    ensures read { IfOk result (λ link. EachState (S.meaning store.old) (S.meaning store.new) (λ state. ReadAs size rid state link)) }
-    ensures torn { IfTorn result (λ torn. (torn ≡ rid) × EachState (S.meaning store.old) (S.meaning store.new) (λ state. IsUnfit size low state rid)) }
+    ensures link { IfOk result (λ link. IfSome link (IsTreeLink size rid low)) }
+    ensures read { IfOk result (λ link. EachState (S.meaning store.old) (S.meaning store.new) (λ state. ReadsNode size rid state link)) }
+    ensures torn { IfTorn result (λ torn. (torn ≡ rid) × EachState (S.meaning store.old) (S.meaning store.new) (λ state. IsNoNode size low state rid)) }
     ensures fault { IfStore result (ReadFault S.read_gives store.old store.new) }
     ensures memory { IfNoMemory result ⊥ }
     ensures calls { Reads S.read_gives store.old store.new }

@@ -1,9 +1,9 @@
 //! Nodes of an index, written to their records.
 
 ghost use Rattle.std.specs.Prelude.{◌≡◌, ◌<◌, OnOk, OnErr, Some};
-ghost use Rattle.record_store.specs.Calls.{Calls, CallFault};
+ghost use Rattle.record_store.specs.Goes.{WalksByCalls};
 ghost use Rattle.record_store.specs.Meaning.{after_write};
-ghost use Rattle.record_store.specs.Walks.{IfTorn, IfStore, IfNoMemory};
+ghost use Rattle.record_store.specs.Walks.{IfTorn};
 
 use crate::store::RecordStore;
 use crate::walk::Walk;
@@ -19,10 +19,7 @@ pub fn write_node<S: RecordStore>(
     ensures ok { OnOk result (S.meaning store.new ≡ after_write (S.meaning store.old) rid (Some cells)) }
     ensures err { OnErr result (S.meaning store.new ≡ S.meaning store.old) }
     ensures torn { IfTorn result (λ _. ⊥) }
-    ensures fault { IfStore result (CallFault S.read_gives S.write_gives S.fresh_gives (λ _. ⊥) store.old store.new) }
-    ensures memory { IfNoMemory result ⊥ }
-    ensures calls { Calls S.read_gives S.write_gives S.fresh_gives store.old 0 store.new }
-    ensures rest { S.rest store.new ≡ S.rest store.old }
+    ensures walk { WalksByCalls S.read_gives S.write_gives S.fresh_gives S.meaning S.rest (λ _. ⊥) 0 store.old store.new result }
 {
     store.write(rid, Some(cells))?;
     Ok(())

@@ -9,7 +9,7 @@ use Rattle.record_store.specs.declared.walk.Walk.{Walk}
 use Rattle.record_store.proofs.Agreement.{writes_same, size_same}
 use Rattle.record_store.proofs.Refusals.{IfTorn-map}
 use Rattle.hash_index.specs.Chain.{EachChain, record_of}
-use Rattle.hash_index.specs.Answers.{IsTorn}
+use Rattle.hash_index.specs.Answers.{IsTornChain}
 use Rattle.replay_model.specs.TableMap.{Row, value_at}
 use Rattle.stored_tables.specs.Answers.{Held, Stands}
 use Rattle.stored_tables.specs.Places.{base_of, table_limit}
@@ -40,14 +40,14 @@ module _ {S F : Type 0} {read_gives : S → ℕ → Result (Option (List ℕ)) F
   -- the chain says where the row is
   pub got : (table base key : ℕ) (first last : S) (result : Result (Option ℕ) (Walk F)) → table < table_limit → base ≡ base_of table
       → IfOk result (λ answer. EachChain base (meaning first) (meaning last) (λ _ rows. answer ≡ record_of rows key))
-      → IfTorn result (IsTorn base key (meaning first) (meaning last)) → IfStore result (ReadFault read_gives first last)
+      → IfTorn result (IsTornChain base key (meaning first) (meaning last)) → IfStore result (ReadFault read_gives first last)
       → Reads read_gives first last → OnlyReads (meaning first) (meaning last) → Looks read_gives meaning (Stands (meaning first))
       (λ answer state held. held.0.row_at table key ≡ answer) first last result
   got table base key first last result low is ok torn fault calls only = record {
     calls = calls;
     found = IfOk-map result (λ answer each state held agrees stands. sym (stands.tied.chain table key low)
         ∙ sym (each state (held.0.rows table) agrees (rw is (stands.shape.chains table low)))) ok;
-    torn = IfTorn-map result (λ rid torn state held agrees stands. torn.no_chain state (held.0.rows table) agrees
+    torn = IfTorn-map result (λ rid torn state held agrees stands. torn.none state (held.0.rows table) agrees
         (rw is (stands.shape.chains table low))) torn;
     fault = fault;
     only = only;

@@ -5,13 +5,13 @@ use Rattle.std.proofs.lemmas.Bool.{cases_lt}
 use Rattle.std.proofs.lemmas.Option.{none-some}
 use Rattle.std.proofs.lemmas.List.Elements.{All-head, All-tail, All-cons, All-nil, All-from_get_or, All-get_or}
 use Rattle.plain_data.specs.State.{State}
-use Rattle.hash_index.specs.Node.{IsNode, next_of, pairs_of}
+use Rattle.hash_index.specs.Node.{IsNode, next_node, pairs_of}
 use Rattle.hash_index.specs.Chain.{Leads, IsChain, start_of, record_at, record_of, row_pairs, bucket_of}
 use Rattle.ordered_index.specs.declared.key.Key.{Key}
 use Rattle.ordered_index.specs.declared.node.Kind.{Kind}
 use Rattle.ordered_index.specs.declared.node.Kind.TheVariants.{Leaf, Inner}
 use Rattle.ordered_index.specs.Keys.{first_key, Rising}
-use Rattle.ordered_index.specs.Node.{Content, next_of as link_of}
+use Rattle.ordered_index.specs.Node.{Content, next_leaf}
 use Rattle.ordered_index.specs.Tree.{IsTree, IsAt, Stand, Descends, Follow, named, row_names, row_entries, first_record, record_of_key}
 use Rattle.ordered_index.proofs.Entries.{entry_at-place}
 use Rattle.ordered_index.proofs.Leaves.{leaves_rising}
@@ -46,11 +46,11 @@ module _ (size records : ℕ) (state : State) (below : AllBelow records state) w
         few = is.few;
         placed = is.placed;
         in_store = omega (arith, short);
-        next = from_below (position + 1) (next_of node.1) row leads.3;
+        next = from_below (position + 1) (next_node node.1) row leads.3;
         records = all_front P (pairs_of node.1) (row_pairs row) all;
       } in
       let later = all_back P (pairs_of node.1) (row_pairs row) all in
-      (leads.0, leads.1, now, leads_fit (position + 1) (next_of node.1) row (omega (arith, short)) later leads.3)
+      (leads.0, leads.1, now, leads_fit (position + 1) (next_node node.1) row (omega (arith, short)) later leads.3)
 
   chain_fits : (base : ℕ) (rows : ℕ → List (ℕ × List ℕ)) → ((number : ℕ) → number < 511 → All (λ (pair : ℕ × ℕ). pair.1 < records) (row_pairs (rows number))) → IsChain size base state rows → IsChain records base state rows
   chain_fits base rows all chain = record {
@@ -76,7 +76,7 @@ pair_found (x ∷ pairs) (suc i) d once low =
 
 -- ---- trees
 
-no_link : (records word : ℕ) (kind : Kind) (next : Option ℕ) → kind ≡ Inner → link_of kind word ≡ next → IfSome next (λ rid. rid < records)
+no_link : (records word : ℕ) (kind : Kind) (next : Option ℕ) → kind ≡ Inner → next_leaf kind word ≡ next → IfSome next (λ rid. rid < records)
 no_link records word kind next is same =
     let none : None ≡ next = rw is at same in
     let P : Option ℕ → Type 0 = λ o. IfSome o (λ rid. rid < records) in

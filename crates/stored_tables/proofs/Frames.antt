@@ -4,14 +4,15 @@ use Rattle.std.specs.Prelude.{MatchOption}
 use Rattle.std.proofs.lemmas.Option.{same_Some, none-some}
 use Rattle.std.proofs.lemmas.List.Elements.{Contains-append_right}
 use Rattle.plain_data.specs.State.{State}
-use Rattle.hash_index.specs.Node.{next_of}
-use Rattle.hash_index.specs.Chain.{Leads, IsChain, start_of, records_of, bucket_of}
+use Rattle.hash_index.specs.Node.{next_node}
+use Rattle.hash_index.specs.Chain.{Leads, IsChain, start_of, bucket_of}
+use Rattle.record_store.specs.Links.{records_of}
 use Rattle.ordered_index.specs.declared.key.Key.{Key}
 use Rattle.ordered_index.specs.declared.node.Kind.{Kind}
 use Rattle.ordered_index.specs.declared.node.Kind.TheVariants.{Leaf, Inner}
 use Rattle.ordered_index.specs.Keys.{first_key}
 use Rattle.ordered_index.specs.Node.{Content}
-use Rattle.ordered_index.specs.Tree.{IsTree, Stand, Descends, In, row_names, row_entries, records_of as nodes_of, tree_records}
+use Rattle.ordered_index.specs.Tree.{IsTree, Stand, Descends, In, row_names, row_entries, tree_records}
 
 -- ---- chains
 
@@ -24,7 +25,7 @@ leads_framed size state state' position from to (node ∷ row) same leads = (
   leads.0,
   same node.0 (0, omega arith, refl) ∙ leads.1,
   leads.2,
-  leads_framed size state state' (position + 1) (next_of node.1) to row
+  leads_framed size state state' (position + 1) (next_node node.1) to row
       (λ rid there. same rid (Contains-append_right (node.0 ∷ []) (records_of row) rid there)) leads.3,
 )
 
@@ -71,7 +72,7 @@ in_right : (rid : ℕ) (xs ys : List ℕ) → In rid ys → In rid (xs ++ ys)
 in_right rid [] ys there = there
 in_right rid (x ∷ xs) ys there = inr (in_right rid xs ys there)
 
-stand_framed : (size : ℕ) (state state' : State) (kind : Kind) (row : List (ℕ × Content)) → ((rid : ℕ) → In rid (nodes_of row) → state' rid ≡ state rid) → Stand size state kind row → Stand size state' kind row
+stand_framed : (size : ℕ) (state state' : State) (kind : Kind) (row : List (ℕ × Content)) → ((rid : ℕ) → In rid (records_of row) → state' rid ≡ state rid) → Stand size state kind row → Stand size state' kind row
 stand_framed size state state' kind [] same stand = tt
 stand_framed size state state' kind (x ∷ row) same stand = (
   record { words = stand.0.words; here = same x.0 (inl refl) ∙ stand.0.here; holds = stand.0.holds; sound = stand.0.sound },
@@ -84,16 +85,16 @@ descends_framed size state state' above [] leaves same descends = (descends.0, s
 descends_framed size state state' above (level ∷ levels) leaves same descends = (
   descends.0,
   stand_framed size state state' Inner level
-      (λ rid there. same rid (in_left rid (nodes_of level) (tree_records levels leaves) there)) descends.1,
+      (λ rid there. same rid (in_left rid (records_of level) (tree_records levels leaves) there)) descends.1,
   descends_framed size state state' (row_entries level) levels leaves
-      (λ rid there. same rid (in_right rid (nodes_of level) (tree_records levels leaves) there)) descends.2,
+      (λ rid there. same rid (in_right rid (records_of level) (tree_records levels leaves) there)) descends.2,
 )
 
 first_of : List (Key × ℕ) → ℕ
 first_of [] = 0
 first_of (e ∷ es) = e.1
 
-first_in : (root : ℕ) (row : List (ℕ × Content)) → row_names row ≡ (first_key, root) ∷ [] → In root (nodes_of row)
+first_in : (root : ℕ) (row : List (ℕ × Content)) → row_names row ≡ (first_key, root) ∷ [] → In root (records_of row)
 unfolding first_of
 first_in root [] names = cc
 first_in root (x ∷ row) names = inl (ap first_of names)
@@ -102,7 +103,7 @@ first_in root (x ∷ row) names = inl (ap first_of names)
 root_in : (size root : ℕ) (state : State) (levels : List (List (ℕ × Content))) (leaves : List (ℕ × Content)) → Descends size state ((first_key, root) ∷ []) levels leaves → In root (tree_records levels leaves)
 root_in size root state [] leaves descends = first_in root leaves descends.0
 root_in size root state (level ∷ levels) leaves descends =
-    in_left root (nodes_of level) (tree_records levels leaves) (first_in root level descends.0)
+    in_left root (records_of level) (tree_records levels leaves) (first_in root level descends.0)
 
 -- what a root says
 abbrev RootSays : ℕ → ℕ → List (List (ℕ × Content)) → List (ℕ × Content) → State → Option (List ℕ) → Type 0

@@ -11,7 +11,7 @@ use Rattle.std.proofs.lemmas.Map.Lookups.{exact_pairs, exact_unsigned}
 use Rattle.std.proofs.lemmas.Option.{same_Some, none-some}
 use lib.ListN.{replicate}
 use Rattle.plain_data.specs.State.{State}
-use Rattle.hash_index.specs.Node.{next_of}
+use Rattle.hash_index.specs.Node.{next_node}
 use Rattle.hash_index.specs.Chain.{Leads, record_at, record_of, row_pairs, bucket_of, start_of}
 use Rattle.replay_model.specs.TableMap.{TableMap, RowMap, NumberMap, Row, pair_cmp, value_at, index_of}
 use Rattle.stored_tables.specs.Places.{Places, base_of, root_of, head_of, index_tree, table_limit}
@@ -34,10 +34,10 @@ same_row size size' position position' state from [] (y ∷ ys) leads leads' = a
 same_row size size' position position' state from (x ∷ xs) [] leads leads' = absurd (none-some x.0 (sym leads' ∙ leads.0))
 same_row size size' position position' state from (x ∷ xs) (y ∷ ys) leads leads' =
     let same = same_node state from x y leads.0 leads'.0 leads.1 leads'.1 in
-    let P : ℕ × List ℕ → Type 0 = λ n. Leads size' state (position' + 1) (next_of n.1) ys None in
+    let P : ℕ × List ℕ → Type 0 = λ n. Leads size' state (position' + 1) (next_node n.1) ys None in
     ap (λ n. n ∷ xs) same
     ∙ ap (λ ns. y ∷ ns)
-    (same_row size size' (position + 1) (position' + 1) state (next_of x.1) xs ys leads.3 (subst P (sym same) leads'.3))
+    (same_row size size' (position + 1) (position' + 1) state (next_node x.1) xs ys leads.3 (subst P (sym same) leads'.3))
 
 same_record : (size size' table key : ℕ) (state : State) (places places' : Places) → table < table_limit → IsShape size state places → IsShape size' state places' → record_of (places.rows table) key ≡ record_of (places'.rows table) key
 same_record size size' table key state places places' within shape shape' =

@@ -13,7 +13,7 @@ use Rattle.record_store.proofs.Refusals.{IfTorn-map}
 use Rattle.ordered_index.specs.declared.key.Key.{Key}
 use Rattle.ordered_index.specs.Keys.{is_before, Before, NotAfter}
 use Rattle.ordered_index.proofs.Order.{not_after_trans}
-use Rattle.ordered_index.specs.Scan.{between, is_between, Appends, ListsNothing, IsScanTorn}
+use Rattle.ordered_index.specs.Scan.{between, is_between, Appends, ListsNothing, IsTornScan}
 use Rattle.ordered_index.specs.Tree.{EachTree, row_entries}
 use Rattle.replay_model.specs.Effect.{scanned, found}
 use Rattle.replay_model.specs.TableMap.{Row}
@@ -79,7 +79,7 @@ module _ {S F : Type 0} {read_gives : S → ℕ → Result (Option (List ℕ)) F
       (result : Result (Unit {0}) (Walk F)) → number < tree_limit → root ≡ root_of number → old ≡ []
       → OnOk result
       (EachTree root (meaning first) (meaning last) (λ _ _ leaves. now ≡ old ++ take limit (between lo hi (row_entries leaves))))
-      → IfTorn result (IsScanTorn root lo (meaning first) (meaning last)) → IfStore result (ReadFault read_gives first last)
+      → IfTorn result (IsTornScan root lo (meaning first) (meaning last)) → IfStore result (ReadFault read_gives first last)
       → Reads read_gives first last → OnlyReads (meaning first) (meaning last)
       → Looks read_gives meaning (Stands (meaning first))
       (λ _ state held. now ≡ take limit (between lo hi (row_entries (held.0.leaves number)))) first last result
@@ -88,7 +88,7 @@ module _ {S F : Type 0} {read_gives : S → ℕ → Result (Option (List ℕ)) F
     found = on_ok result _ _ (λ v each state held agrees stands. each state (held.0.levels number) (held.0.leaves number) agrees
         (rw is (stands.shape.trees number low)) ∙ ap (λ es. es ++ take limit (between lo hi (row_entries (held.0.leaves number)))) empty)
         ok;
-    torn = IfTorn-map result (λ rid t state held agrees stands. t.no_tree state (held.0.levels number) (held.0.leaves number) agrees
+    torn = IfTorn-map result (λ rid t state held agrees stands. t.none state (held.0.levels number, held.0.leaves number) agrees
         (rw is (stands.shape.trees number low))) torn;
     fault = fault;
     only = only;

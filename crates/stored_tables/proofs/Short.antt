@@ -8,8 +8,9 @@ use Rattle.std.proofs.lemmas.List.Elements.{All-head, All-tail, All-cons, All-ni
 use Rattle.std.proofs.lemmas.Map.Keys.{IsDistinct-from_apart}
 use Rattle.std.proofs.lemmas.Map.Steps.{length-le_from_distinct_below}
 use Rattle.plain_data.specs.State.{State}
-use Rattle.hash_index.specs.Node.{next_of, position_of}
-use Rattle.hash_index.specs.Chain.{Leads, records_of}
+use Rattle.hash_index.specs.Node.{next_node, position_of}
+use Rattle.hash_index.specs.Chain.{Leads}
+use Rattle.record_store.specs.Links.{records_of}
 
 -- each record that is present is below the number of the records
 abbrev pub AllBelow : ℕ → State → Type 0
@@ -20,7 +21,7 @@ place_at : (size : ℕ) (state : State) (position : ℕ) (from to : Option ℕ) 
 place_at size state position from to [] i d leads low = absurd (omega arith)
 place_at size state position from to (node ∷ row) zero d leads low = (leads.1, omega (arith, leads.2.placed))
 place_at size state position from to (node ∷ row) (suc i) d leads low =
-    let more = place_at size state (position + 1) (next_of node.1) to row i d leads.3 (omega arith) in
+    let more = place_at size state (position + 1) (next_node node.1) to row i d leads.3 (omega arith) in
     (more.0, omega (arith, more.1))
 
 -- so the records of a row differ
@@ -42,7 +43,7 @@ records_below : (size records : ℕ) (state : State) (position : ℕ) (from to :
 records_below size records state position from to [] below leads = All-nil (λ rid. rid < records)
 records_below size records state position from to (node ∷ row) below leads =
     All-cons (λ rid. rid < records) node.0 (records_of row) (below node.0 node.1 leads.1)
-    (records_below size records state (position + 1) (next_of node.1) to row below leads.3)
+    (records_below size records state (position + 1) (next_node node.1) to row below leads.3)
 
 any_below : (xs : List ℕ) (n q : ℕ) → All (λ x. x < n) xs → list_any (eqb q) xs ≡ true → q < n
 any_below [] n q all there = cc

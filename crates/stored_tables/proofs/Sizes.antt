@@ -4,7 +4,7 @@ use Rattle.std.specs.Prelude.{MatchOption}
 use Rattle.std.proofs.lemmas.Option.{IfSome_then}
 use Rattle.std.proofs.lemmas.List.Elements.{All-weaker}
 use Rattle.plain_data.specs.State.{State}
-use Rattle.hash_index.specs.Node.{IsNode, next_of, pairs_of}
+use Rattle.hash_index.specs.Node.{IsNode, next_node, pairs_of}
 use Rattle.hash_index.specs.Chain.{Leads, IsChain, start_of}
 use Rattle.ordered_index.specs.declared.key.Key.{Key}
 use Rattle.ordered_index.specs.declared.node.Kind.{Kind}
@@ -25,7 +25,7 @@ module _ (size size' : ℕ) (state : State) (more : size ≤ size') where
     few = node.few;
     placed = node.placed;
     in_store = wider position node.in_store;
-    next = IfSome_then (next_of words) node.next wider;
+    next = IfSome_then (next_node words) node.next wider;
     records = All-weaker (λ (pair : ℕ × ℕ). pair.1 < size) (λ (pair : ℕ × ℕ). pair.1 < size') (λ pair low. wider pair.1 low)
         (pairs_of words) node.records;
   }
@@ -33,7 +33,7 @@ module _ (size size' : ℕ) (state : State) (more : size ≤ size') where
   leads_wider : (position : ℕ) (from to : Option ℕ) (row : List (ℕ × List ℕ)) → Leads size state position from row to → Leads size' state position from row to
   leads_wider position from to [] leads = leads
   leads_wider position from to (node ∷ row) leads =
-      (leads.0, leads.1, node_wider position node.1 leads.2, leads_wider (position + 1) (next_of node.1) to row leads.3)
+      (leads.0, leads.1, node_wider position node.1 leads.2, leads_wider (position + 1) (next_node node.1) to row leads.3)
 
   chain_wider : (base : ℕ) (rows : ℕ → List (ℕ × List ℕ)) → IsChain size base state rows → IsChain size' base state rows
   chain_wider base rows chain = record {

@@ -10,15 +10,15 @@ use Rattle.record_store.specs.Writes.{WritesAtMost, EachWritesKnown, GivesAtMost
 use Rattle.record_store.specs.declared.walk.Walk.{Walk}
 use Rattle.record_store.proofs.Refusals.{IfTorn-map, IfStore-map}
 use Rattle.record_store.proofs.Writes.{writes-weaken}
-use Rattle.hash_index.specs.Answers.{IsTorn as IsTornChain, MayAsk as MayAskChain, Asks as AsksChain, PutsPair, RemovesPair}
+use Rattle.hash_index.specs.Answers.{IsTornChain, PutMayAsk, PutAsks, PutsPair, RemovesPair}
 use Rattle.hash_index.specs.Changes.{IsPut, IsRemoved}
 use Rattle.hash_index.specs.Chain.{IsChain}
-use Rattle.ordered_index.specs.Asks.{MayAsk, Asks}
+use Rattle.ordered_index.specs.Asks.{InsertMayAsk, InsertAsks}
 use Rattle.ordered_index.specs.Changes.{IsInserted, IsTakenOut, InsertsEntry, RemovesEntry}
 use Rattle.ordered_index.specs.declared.key.Key.{Key}
 use Rattle.ordered_index.specs.Node.{Content}
 use Rattle.ordered_index.specs.Tree.{IsTree}
-use Rattle.ordered_index.specs.Walk.{IsTorn}
+use Rattle.ordered_index.specs.Walk.{IsTornTree}
 use Rattle.ordered_index.specs.Written.{WritesNodes}
 use Rattle.stored_tables.specs.Answers.{ChainHas, TreeHas}
 use Rattle.stored_tables.specs.Moved.{Shaped, Step}
@@ -79,14 +79,14 @@ asks_given base key rid asked before after puts count =
 
 -- one record is written, and one more for the one ask
 few_put : {F : Type 0} (base key : ℕ) (before after : Meaning) (result : Result (Unit {0}) (Walk F)) (asked : ℕ)
-    → AsksChain base key before after result asked → WritesAtMost 2 before after
+    → PutAsks base key before after result asked → WritesAtMost 2 before after
 few_put base key before after result asked asks = writes-weaken (1 + asked) 2 before after
     (asks_of asked (1 + asked ≤ 2) (λ none. omega (arith, none)) (λ some. omega (arith, (asks.may some).once))) asks.few
 
 -- an entry that is not there is inserted, by as many asks as records are due
 inserted_did : {F : Type 0} (number root : ℕ) (key : Key) (rid : ℕ) (before after : Meaning) (result : Result Bool (Walk F)) (asked : ℕ)
     → number < tree_limit → root ≡ root_of number → fixed_records ≤ before.fixed → ReadsGrow before after
-    → IfOk result (λ done. InsertsEntry root key rid done before after) → Asks root key before after result asked
+    → IfOk result (λ done. InsertsEntry root key rid done before after) → InsertAsks root key before after result asked
     → IfOk result (λ done. Each (TreeHas before number key None) after
     (λ state places. (done ≡ true) × Step rid (entry_inserted number key) before after asked state places))
 inserted_did number root key rid before after (Err walk) asked low is enough grow ok asks = tt
@@ -109,15 +109,15 @@ module _ {S F : Type 0} {read_gives : S → ℕ → Result (Option (List ℕ)) F
       → base ≡ base_of table → fixed_records ≤ (meaning first).fixed
       → OnOk result (PutsPair base key rid (meaning first) (meaning last))
       → IfTorn result (IsTornChain base key (meaning first) (meaning last))
-      → IfStore result (CallFault read_gives write_gives fresh_gives (λ asks. MayAskChain base key (meaning first) (meaning last) asks
+      → IfStore result (CallFault read_gives write_gives fresh_gives (λ asks. PutMayAsk base key (meaning first) (meaning last) asks
       × GivesFewer asks (meaning first) (meaning last)) first last)
-      → ((asked : ℕ) × Calls read_gives write_gives fresh_gives first asked last × AsksChain base key (meaning first)
+      → ((asked : ℕ) × Calls read_gives write_gives fresh_gives first asked last × PutAsks base key (meaning first)
       (meaning last) result asked) → EachWritesKnown (meaning first) (meaning last) → ReadsGrow (meaning first) (meaning last)
       → Runs read_gives write_gives fresh_gives meaning (ChainHas (meaning first) table key None)
       (λ asks _ places. IsDue (pair_put table key) places asks) (λ _. Step rid (pair_put table key) (meaning first) (meaning last)) 2
       first last result
   put_runs table base key rid first last result low is enough ok torn fault calls writes grow =
-      let due : (asks : ℕ) → MayAskChain base key (meaning first) (meaning last) asks → (state : State) (places : Places)
+      let due : (asks : ℕ) → PutMayAsk base key (meaning first) (meaning last) asks → (state : State) (places : Places)
       → Agrees state (meaning last).reads → ChainHas (meaning first) table key None state places
       → IsDue (pair_put table key) places asks = λ asks may state places agrees has. (
         may.once,
@@ -137,7 +137,7 @@ module _ {S F : Type 0} {read_gives : S → ℕ → Result (Option (List ℕ)) F
             (put_to base (base_of table) key rid puts.fresh (meaning first) (meaning last) state (places.rows table) put.0 is put.1)
             ))
             (on_if result _ (both_ok result _ _ ok calls.2.exact));
-        torn = IfTorn-map result (λ r t state places agrees has. t.no_chain state (places.rows table) agrees
+        torn = IfTorn-map result (λ r t state places agrees has. t.none state (places.rows table) agrees
             (chain_at table base (meaning first) state places low is has.0)) torn;
         fault = IfStore-map result
             (λ f. fault_map _ _ first last f
@@ -173,7 +173,7 @@ module _ {S F : Type 0} {read_gives : S → ℕ → Result (Option (List ℕ)) F
         )
         ))
         ok;
-    torn = IfTorn-map result (λ r t state places agrees has. t.no_chain state (places.rows table) agrees
+    torn = IfTorn-map result (λ r t state places agrees has. t.none state (places.rows table) agrees
         (chain_at table base (meaning first) state places low is has.0)) torn;
     fault = IfStore-map result (λ f. fault_map _ _ first last f (λ asks never. absurd never)) fault;
     few = few;
@@ -185,16 +185,16 @@ module _ {S F : Type 0} {read_gives : S → ℕ → Result (Option (List ℕ)) F
   pub inserted_runs : (number root : ℕ) (key : Key) (rid : ℕ) (first last : S) (result : Result Bool (Walk F)) → number < tree_limit
       → root ≡ root_of number → fixed_records ≤ (meaning first).fixed
       → IfOk result (λ done. InsertsEntry root key rid done (meaning first) (meaning last))
-      → IfTorn result (IsTorn root key (meaning first) (meaning last))
-      → IfStore result (CallFault read_gives write_gives fresh_gives (λ asks. MayAsk root key (meaning first) (meaning last) asks
+      → IfTorn result (IsTornTree root key (meaning first) (meaning last))
+      → IfStore result (CallFault read_gives write_gives fresh_gives (λ asks. InsertMayAsk root key (meaning first) (meaning last) asks
       × GivesFewer asks (meaning first) (meaning last)) first last)
-      → ((asked : ℕ) × Calls read_gives write_gives fresh_gives first asked last × Asks root key (meaning first) (meaning last) result
+      → ((asked : ℕ) × Calls read_gives write_gives fresh_gives first asked last × InsertAsks root key (meaning first) (meaning last) result
       asked × GivesAtMost asked (meaning first) (meaning last)) → EachWritesKnown (meaning first) (meaning last) → WritesNodes 51 (meaning first) (meaning last) → ReadsGrow (meaning first) (meaning last)
       → Runs read_gives write_gives fresh_gives meaning (TreeHas (meaning first) number key None)
       (λ asks _ places. IsDue (entry_inserted number key) places asks) (λ done asked state places. (done ≡ true)
       × Step rid (entry_inserted number key) (meaning first) (meaning last) asked state places) 51 first last result
   inserted_runs number root key rid first last result low is enough ok torn fault calls writes few grow =
-      let due : (asks : ℕ) → MayAsk root key (meaning first) (meaning last) asks → (state : State) (places : Places)
+      let due : (asks : ℕ) → InsertMayAsk root key (meaning first) (meaning last) asks → (state : State) (places : Places)
       → Agrees state (meaning last).reads → TreeHas (meaning first) number key None state places
       → IsDue (entry_inserted number key) places asks = λ asks may state places agrees has. may state (places.levels number)
       (places.leaves number) agrees (tree_at number root (meaning first) state places low is has.1) in
@@ -203,7 +203,7 @@ module _ {S F : Type 0} {read_gives : S → ℕ → Result (Option (List ℕ)) F
         calls = calls.1;
         may = λ some state places agrees has. due calls.0 (calls.2.may some) state places agrees has;
         did = inserted_did number root key rid (meaning first) (meaning last) result calls.0 low is enough grow ok calls.2;
-        torn = IfTorn-map result (λ r t state places agrees has. t.no_tree state (places.levels number) (places.leaves number) agrees
+        torn = IfTorn-map result (λ r t state places agrees has. t.none state (places.levels number, places.leaves number) agrees
             (tree_at number root (meaning first) state places low is has.1)) torn;
         fault = IfStore-map result
             (λ f. fault_map _ _ first last f
@@ -217,7 +217,7 @@ module _ {S F : Type 0} {read_gives : S → ℕ → Result (Option (List ℕ)) F
   pub taken_runs : (number root : ℕ) (key : Key) (rid : ℕ) (first last : S) (result : Result Bool (Walk F)) → number < tree_limit
       → root ≡ root_of number → fixed_records ≤ (meaning first).fixed
       → IfOk result (λ there. RemovesEntry root key there (meaning first) (meaning last))
-      → IfTorn result (IsTorn root key (meaning first) (meaning last))
+      → IfTorn result (IsTornTree root key (meaning first) (meaning last))
       → IfStore result (CallFault read_gives write_gives fresh_gives (λ _. ⊥) first last)
       → WritesNodes 1 (meaning first) (meaning last) → Calls read_gives write_gives fresh_gives first 0 last
       → GivesAtMost 0 (meaning first) (meaning last) → EachWritesKnown (meaning first) (meaning last)
@@ -241,7 +241,7 @@ module _ {S F : Type 0} {read_gives : S → ℕ → Result (Option (List ℕ)) F
         )
         ))
         ok;
-    torn = IfTorn-map result (λ r t state places agrees has. t.no_tree state (places.levels number) (places.leaves number) agrees
+    torn = IfTorn-map result (λ r t state places agrees has. t.none state (places.levels number, places.leaves number) agrees
         (tree_at number root (meaning first) state places low is has.1)) torn;
     fault = IfStore-map result (λ f. fault_map _ _ first last f (λ asks never. absurd never)) fault;
     few = few.few;

@@ -5,7 +5,8 @@ use Rattle.std.proofs.lemmas.Bool.Decides.{eqb_tells}
 use Rattle.plain_data.specs.State.{State, overlay}
 use Rattle.record_store.specs.Meaning.{Meaning}
 use Rattle.record_store.specs.Spots.{IsLaid, IsMoved}
-use Rattle.hash_index.specs.Chain.{record_of, records_of, bucket_of}
+use Rattle.hash_index.specs.Chain.{record_of, bucket_of}
+use Rattle.record_store.specs.Links.{records_of}
 use Rattle.hash_index.specs.Changes.{IsPut, IsRemoved}
 use Rattle.ordered_index.specs.declared.key.Key.{Key}
 use Rattle.ordered_index.specs.Asks.{records_due}

@@ -3,7 +3,8 @@ use Rattle.std.proofs.Common.{◌≡◌, ◌≢◌, ℕ, ◌+◌, ◌<◌, ◌�
 use Rattle.std.proofs.lemmas.Bool.{cases_eq}
 use Rattle.plain_data.specs.State.{State, overlay}
 use Rattle.record_store.specs.Spots.{IsMoved}
-use Rattle.hash_index.specs.Chain.{IsChain, records_of, bucket_of}
+use Rattle.hash_index.specs.Chain.{IsChain, bucket_of}
+use Rattle.record_store.specs.Links.{records_of}
 use Rattle.stored_tables.specs.Places.{Spot, Places, holds, base_of, index_tree, with_chain, table_limit, fixed_records}
 use Rattle.stored_tables.specs.Places.Spot.{bucket, tree, row, head}
 use Rattle.stored_tables.specs.Shape.{IsShape}

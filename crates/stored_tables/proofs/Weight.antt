@@ -6,7 +6,8 @@ use Rattle.std.proofs.lemmas.Option.{same_Some, none-some}
 use Rattle.std.proofs.lemmas.List.{length-append, length-map, length-drop}
 use Rattle.std.proofs.lemmas.List.Concat.{length-flat_map}
 use Rattle.plain_data.specs.State.{State}
-use Rattle.hash_index.specs.Chain.{Leads, start_of, records_of, row_pairs, record_at, bucket_of}
+use Rattle.hash_index.specs.Chain.{Leads, start_of, row_pairs, record_at, bucket_of}
+use Rattle.record_store.specs.Links.{records_of}
 use Rattle.ordered_index.specs.Tree.{In, tree_records}
 use Rattle.replay_model.specs.TableMap.{TableMap}
 use Rattle.stored_tables.specs.Places.{Places, Spot, bucket, tree, row, head, holds, base_of, root_of, fixed_records}

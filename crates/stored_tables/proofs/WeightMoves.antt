@@ -5,7 +5,7 @@ use Rattle.std.proofs.lemmas.Grind.{flat_map-append}
 use Rattle.std.proofs.lemmas.List.{append_assoc, length-append, length-take, take_at}
 use Rattle.std.proofs.lemmas.List.Sums.{sum_by-cons}
 use lib.ListN.{replicate}
-use Rattle.hash_index.specs.Node.{paired, pairs_of, next_of, position_of, pair_words, words_of}
+use Rattle.hash_index.specs.Node.{paired, pairs_of, next_node, position_of, pair_words, chain_node_words}
 use Rattle.hash_index.specs.Chain.{Rows, row_pairs, bucket_of}
 use Rattle.hash_index.specs.Changes.{Puts, Removes, replaced, added, began, linked, removed}
 use Rattle.stored_tables.specs.Places.{Places, with_chain, with_tree}
@@ -32,7 +32,7 @@ paired_back : (pairs : List (ℕ × ℕ)) (words : List ℕ) → paired (pair_wo
 paired_back [] words = refl
 paired_back (pair ∷ pairs) words = ap (λ more. (pair.0, pair.1) ∷ more) (paired_back pairs words)
 
-pairs_written : (pairs : List (ℕ × ℕ)) (next : Option ℕ) (position : ℕ) → pairs_of (words_of pairs next position) ≡ pairs
+pairs_written : (pairs : List (ℕ × ℕ)) (next : Option ℕ) (position : ℕ) → pairs_of (chain_node_words pairs next position) ≡ pairs
 pairs_written pairs next position =
     let zeros = replicate (28 - 2 * length pairs) 0 in
     let back = position ∷ 0 ∷ [] in
@@ -56,10 +56,10 @@ pairs_around before after node =
 -- a node gets other pairs
 pairs_changed : (before after : Nodes) (node : ℕ × List ℕ) (pairs : List (ℕ × ℕ)) (more : ℕ)
     → length pairs ≤ length (pairs_of node.1) + more
-    → row_weight (before ++ (node.0, words_of pairs (next_of node.1) (position_of node.1)) ∷ after) ≤ row_weight (before ++ node ∷ after) + more
+    → row_weight (before ++ (node.0, chain_node_words pairs (next_node node.1) (position_of node.1)) ∷ after) ≤ row_weight (before ++ node ∷ after) + more
 pairs_changed before after node pairs more few =
-    let node' : ℕ × List ℕ = (node.0, words_of pairs (next_of node.1) (position_of node.1)) in
-    let now = ap length (pairs_written pairs (next_of node.1) (position_of node.1)) in
+    let node' : ℕ × List ℕ = (node.0, chain_node_words pairs (next_node node.1) (position_of node.1)) in
+    let now = ap length (pairs_written pairs (next_node node.1) (position_of node.1)) in
     let nodes : length (before ++ node' ∷ after) ≡ length (before ++ node ∷ after) = length-append before (node' ∷ after) ∙ sym (length-append before (node ∷ after)) in
     omega (arith, few, now, nodes, pairs_around before after node, pairs_around before after node')
 
@@ -73,10 +73,10 @@ put_weight bucket key rid _ _ _ (added before after node absent full few) =
     let long = length-append (pairs_of node.1) ((key, rid) ∷ []) in
     let more = pairs_changed before after node (pairs_of node.1 ++ (key, rid) ∷ []) 1 (omega (arith, long)) in
     omega (arith, more)
-put_weight bucket key rid _ _ _ began = let one = ap length (pairs_written ((key, rid) ∷ []) None 0) in omega (arith, one, length-append (pairs_of (words_of ((key, rid) ∷ []) None 0)) [])
+put_weight bucket key rid _ _ _ began = let one = ap length (pairs_written ((key, rid) ∷ []) None 0) in omega (arith, one, length-append (pairs_of (chain_node_words ((key, rid) ∷ []) None 0)) [])
 put_weight bucket key rid _ _ _ (linked before last fresh absent full) =
-    let last' : ℕ × List ℕ = (last.0, words_of (pairs_of last.1) (Some fresh) (position_of last.1)) in
-    let new : ℕ × List ℕ = (fresh, words_of ((key, rid) ∷ []) None (position_of last.1 + 1)) in
+    let last' : ℕ × List ℕ = (last.0, chain_node_words (pairs_of last.1) (Some fresh) (position_of last.1)) in
+    let new : ℕ × List ℕ = (fresh, chain_node_words ((key, rid) ∷ []) None (position_of last.1 + 1)) in
     let stay = ap length (pairs_written (pairs_of last.1) (Some fresh) (position_of last.1)) in
     let one = ap length (pairs_written ((key, rid) ∷ []) None (position_of last.1 + 1)) in
     let behind = length-append (pairs_of new.1) [] in

@@ -4,7 +4,7 @@ use Rattle.std.proofs.lemmas.List.{length-append, length-take, length-drop, nil_
 use Rattle.ordered_index.specs.declared.key.Key.{Key}
 use Rattle.ordered_index.specs.Keys.{NotAfter, Above}
 use Rattle.ordered_index.specs.Node.{Content}
-use Rattle.ordered_index.specs.Splits.{with_entry, root_row, below_root, Becomes, RowTakes, PartTakes, leaf, stays, takes, TreeTakes, begun, grown, leaf_parted, inner_parted}
+use Rattle.ordered_index.specs.Splits.{with_entry, root_row, below_root, NodeBecomes, RowTakes, PartTakes, leaf, stays, takes, TreeTakes, begun, grown, leaf_parted, inner_parted}
 use Rattle.ordered_index.specs.Tree.{row_names, row_entries}
 use Rattle.ordered_index.specs.Asks.{home, has_nine, full_nodes, records_due}
 use Rattle.stored_tables.proofs.WeightTrees.{Row, Levels, TwoEach, Branches, IsBranching, count, count-level, count-leaves, one_most, some_nodes, due_none}
@@ -45,7 +45,7 @@ record AreParts (entries : Entries) (new : New) (nodes : Row) : Type 0 where
   pub all : length (row_entries nodes) ≡ length entries
   pub two : 2 ≤ length entries → TwoEach nodes
 
-parts : (node : ℕ × Content) (entries : Entries) (new : New) (nodes : Row) → Becomes node entries new nodes → AreParts entries new nodes
+parts : (node : ℕ × Content) (entries : Entries) (new : New) (nodes : Row) → NodeBecomes node entries new nodes → AreParts entries new nodes
 unfolding news
 parts node entries None nodes becomes =
     let P : Row → Type 0 = AreParts entries None in

@@ -10,7 +10,8 @@ use Rattle.ordered_index.specs.declared.node.Kind.{Kind}
 use Rattle.ordered_index.specs.declared.node.Kind.TheVariants.{Inner}
 use Rattle.ordered_index.specs.Keys.{is_before, or_else, first_key}
 use Rattle.ordered_index.specs.Node.{Content, least}
-use Rattle.ordered_index.specs.Tree.{IsTree, Stand, Descends, In, named, row_names, row_entries, records_of, tree_records}
+use Rattle.ordered_index.specs.Tree.{IsTree, Stand, Descends, In, named, row_names, row_entries, tree_records}
+use Rattle.record_store.specs.Links.{records_of}
 use Rattle.ordered_index.specs.Asks.{home, has_nine, full_nodes, records_due}
 use Rattle.stored_tables.proofs.Counting.{in_left}
 

@@ -1,6 +1,6 @@
 -- Where tables stand in the records of a store: chains, trees, rows and heads of indexes.
 use Rattle.std.specs.Prelude.{◌≡◌, ℕ, ◌+◌, ◌*◌, ◌<◌, ◌==◌, ◌&&◌, nat_lt, if◌then◌else◌, List, Contains, Option, Some, IsSome}
-use Rattle.hash_index.specs.Chain.{records_of}
+use Rattle.record_store.specs.Links.{records_of}
 use Rattle.ordered_index.specs.Node.{Content}
 use Rattle.ordered_index.specs.Tree.{tree_records, In}
 

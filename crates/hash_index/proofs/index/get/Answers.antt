@@ -4,6 +4,7 @@ use Rattle.plain_data.specs.State.{overlay}
 use Rattle.hash_index.specs.Node.{pairs_of}
 use Rattle.hash_index.proofs.Pairs.{position-found}
 use Rattle.hash_index.proofs.Chains.{is_torn, found_in, each_absent}
+use Rattle.record_store.proofs.Going.{reads_moved, reads_quiet}
 use Rattle.hash_index.proofs.index.get.Goals as goal
 
 pub returns-in_err-place-clause-torn : goal.returns-in_err-place-clause-torn
@@ -37,3 +38,13 @@ returns-in-Found-clause-stored g c =
     let within = rw c.in-Found.is at c.in_ok-place.ensures.within in
     let found = position-found (pairs_of c.in-Found.link.words) c.args.key c.in-Found.index within.1 in
     rw (c.pair_record.ensures, ← c.size-size.ensures.size) (within.0.pairs c.in-Found.index (0, 0) found.within)
+
+-- how the walk went
+pub returns-in_err-place-clause-walk : goal.returns-in_err-place-clause-walk
+returns-in_err-place-clause-walk g c = reads_moved c.args.store.now c.search.new.store c.from_residual.result c.search.result c.in_err-place.field-0.0 c.in_err-place.was c.from_residual.ensures.1 c.search.ensures.walk
+
+pub returns-in-Found-clause-walk : goal.returns-in-Found-clause-walk
+returns-in-Found-clause-walk g c = reads_quiet c.args.store.now c.search.new.store _ c.search.result (tt, tt) c.search.ensures.walk
+
+pub returns-in-Room-clause-walk : goal.returns-in-Room-clause-walk
+returns-in-Room-clause-walk g c = reads_quiet c.args.store.now c.search.new.store _ c.search.result (tt, tt) c.search.ensures.walk

@@ -1,5 +1,5 @@
 use Rattle.std.proofs.Common.{◌≡◌, ℕ, List, refl, sym, ap, ◌∙◌, subst}
-use Rattle.hash_index.specs.Node.{IsNode, next_of, position_of}
+use Rattle.hash_index.specs.Node.{IsNode, next_node, position_of}
 use Rattle.hash_index.proofs.search.node_at.Goals as goal
 
 pub returns-clause-node : goal.returns-clause-node
@@ -18,5 +18,5 @@ returns-clause-node c =
     let P : List ℕ → Type 0 = IsNode c.args.size c.args.position in (
       refl,
       subst P same node,
-      record { words = same; next = named.0 ∙ ap (λ ws. next_of ws) same; position = sym placed ∙ ap (λ ws. position_of ws) same },
+      record { words = same; next = named.0 ∙ ap (λ ws. next_node ws) same; position = sym placed ∙ ap (λ ws. position_of ws) same },
     )

@@ -3,20 +3,11 @@ use Rattle.plain_data.specs.State.{overlay}
 use Rattle.record_store.specs.Calls.Reads.{none, read}
 use Rattle.record_store.proofs.Agreement.{answered, OnlyReads-refl, OnlyReads-after_read}
 use Rattle.record_store.proofs.Refusals.{store_fault}
+use Rattle.record_store.proofs.Going.{reads_refused, reads_done}
 use Rattle.hash_index.proofs.search.read_link.Goals as goal
-
-pub returns-in_err-cells-clause-fault : goal.returns-in_err-cells-clause-fault
-returns-in_err-cells-clause-fault g c =
-    store_fault c.from_residual.result c.in_err-cells.field-0.0 _ c.from_residual.ensures.1 (record { before = c.args.store.now; rid = c.args.rid; calls = none _; answer = c.in_err-cells.ensures.gives })
-
-pub returns-in_err-cells-clause-calls : goal.returns-in_err-cells-clause-calls
-returns-in_err-cells-clause-calls g c = read _ _ _ c.args.rid _ (none _) c.read.ensures.gives
 
 pub returns-in_default-clause-read : goal.returns-in_default-clause-read
 returns-in_default-clause-read g c = λ state agrees. answered _ _ c.args.rid _ c.in_ok-cells.ensures.ok c.in_ok-cells.ensures.answer state agrees ∙ c.in_default.is
-
-pub returns-in_default-clause-calls : goal.returns-in_default-clause-calls
-returns-in_default-clause-calls g c = read _ _ _ c.args.rid _ (none _) c.read.ensures.gives
 
 pub returns-in-Some-node_at-clause-read : goal.returns-in-Some-node_at-clause-read
 returns-in-Some-node_at-clause-read g c = λ state agrees. (
@@ -28,15 +19,9 @@ returns-in-Some-node_at-clause-read g c = λ state agrees. (
   },
 )
 
-pub returns-in-Some-node_at-clause-calls : goal.returns-in-Some-node_at-clause-calls
-returns-in-Some-node_at-clause-calls g c = read _ _ _ c.args.rid _ (none _) c.read.ensures.gives
-
 pub returns-in-None-clause-torn : goal.returns-in-None-clause-torn
 returns-in-None-clause-torn g c =
     (refl, λ state agrees. (c.in-Some.cells, answered _ _ c.args.rid _ c.in_ok-cells.ensures.ok c.in_ok-cells.ensures.answer state agrees ∙ c.in-Some.is, c.in-None.ensures.no_node))
-
-pub returns-in-None-clause-calls : goal.returns-in-None-clause-calls
-returns-in-None-clause-calls g c = read _ _ _ c.args.rid _ (none _) c.read.ensures.gives
 
 pub returns-in-Some-node_at-clause-link : goal.returns-in-Some-node_at-clause-link
 returns-in-Some-node_at-clause-link g c =
@@ -54,15 +39,15 @@ returns-in-Some-node_at-clause-link g c =
       };
     }
 
--- what is left of the store
-pub returns-in_err-cells-clause-after : goal.returns-in_err-cells-clause-after
-returns-in_err-cells-clause-after g c = rw c.in_err-cells.ensures.err (OnlyReads-refl _)
+-- how the walk went
+pub returns-in_err-cells-clause-walk : goal.returns-in_err-cells-clause-walk
+returns-in_err-cells-clause-walk g c = reads_refused c.args.store.now c.read.new.self c.args.rid c.in_err-cells.field-0.0 c.read.result c.from_residual.result c.in_err-cells.was c.read.ensures.gives c.read.ensures.err c.read.ensures.rest c.from_residual.ensures.1
 
-pub returns-in_default-clause-after : goal.returns-in_default-clause-after
-returns-in_default-clause-after g c = OnlyReads-after_read _ _ c.args.rid _ c.in_ok-cells.ensures.ok
+pub returns-in_default-clause-walk : goal.returns-in_default-clause-walk
+returns-in_default-clause-walk g c = reads_done c.args.store.now c.read.new.self c.args.rid _ c.read.result _ c.in_ok-cells.was c.read.ensures.gives c.read.ensures.ok c.read.ensures.rest (tt, tt)
 
-pub returns-in-Some-node_at-clause-after : goal.returns-in-Some-node_at-clause-after
-returns-in-Some-node_at-clause-after g c = OnlyReads-after_read _ _ c.args.rid _ c.in_ok-cells.ensures.ok
+pub returns-in-Some-node_at-clause-walk : goal.returns-in-Some-node_at-clause-walk
+returns-in-Some-node_at-clause-walk g c = reads_done c.args.store.now c.read.new.self c.args.rid _ c.read.result _ c.in_ok-cells.was c.read.ensures.gives c.read.ensures.ok c.read.ensures.rest (tt, tt)
 
-pub returns-in-None-clause-after : goal.returns-in-None-clause-after
-returns-in-None-clause-after g c = OnlyReads-after_read _ _ c.args.rid _ c.in_ok-cells.ensures.ok
+pub returns-in-None-clause-walk : goal.returns-in-None-clause-walk
+returns-in-None-clause-walk g c = reads_done c.args.store.now c.read.new.self c.args.rid _ c.read.result _ c.in_ok-cells.was c.read.ensures.gives c.read.ensures.ok c.read.ensures.rest (tt, tt)

@@ -8,7 +8,7 @@ use Rattle.record_store.proofs.Paths.{Calls-trans, Calls-reads, CallFault-read, 
 use Rattle.ordered_index.specs.Keys.{first_key}
 use Rattle.ordered_index.specs.Held.{content_of}
 use Rattle.record_store.specs.States.{EachState}
-use Rattle.ordered_index.specs.Walk.{IsLink}
+use Rattle.ordered_index.specs.Walk.{IsTreeLink}
 use Rattle.ordered_index.specs.Tree.{IsAt}
 use Rattle.ordered_index.specs.Asks.{asks_at}
 use Rattle.ordered_index.proofs.Asking.{Calls-behind, asks_leaf, asks_reads, below_err, below_there, below_done, put_due, takes_err, takes_none, takes_more, due_behind, one_at}
@@ -77,7 +77,7 @@ enter-requires g t c κs within =
     let kind = c.is_inner.ensures.inner c.if-not-is_inner.false in
     let some = rank_some c.args.size (content_of c.args.here.now) c.args.key c.args.rank c.requires.sound kind c.requires.low c.requires.rank in
     let read = rw c.deref.ensures.0 at c.in_ok-child.ensures.link in
-    let link = at_some (IsLink c.args.size _ _) c.in-Some-2.child c.in-Some-2.is read in
+    let link = at_some (IsTreeLink c.args.size _ _) c.in-Some-2.child c.in-Some-2.is read in
     let low = child_low c.args.size c.args.key c.args.here.now.entries.items c.args.rank (c.in-Some-2.child.node.low, c.in-Some-2.child.at) (content_of c.in-Some-2.child.node) (child_is c.args.size c.args.key c.args.here.now.entries.items c.args.rank c.in-Some-2.child c.requires.rank some link) in
     let size = c.requires.size ∙ sym (size_same (g.S.RecordRead.meaning c.args.store.now) (g.S.RecordRead.meaning c.read_node.new.store) c.in_ok-child.ensures.after) in
     (omega (arith, c.decreases, c.requires.depth, c.if-depth-eq-MOST_DEPTH.false), (within.0, (within.1, (size, (c.requires.at_most, (c.requires.rid, (link.sound, (c.rank-child_rank.ensures.rank, (low, omega (arith, c.requires.depth, c.if-depth-eq-MOST_DEPTH.false))))))))))
@@ -87,7 +87,7 @@ returns-in_err-enter-clause-torn g t c =
     let kind = c.is_inner.ensures.inner c.if-not-is_inner.false in
     let some = rank_some c.args.size (content_of c.args.here.now) c.args.key c.args.rank c.requires.sound kind c.requires.low c.requires.rank in
     let read = rw c.deref.ensures.0 at c.in_ok-child.ensures.link in
-    let link = at_some (IsLink c.args.size _ _) c.in-Some-2.child c.in-Some-2.is read in
+    let link = at_some (IsTreeLink c.args.size _ _) c.in-Some-2.child c.in-Some-2.is read in
     let child = child_is c.args.size c.args.key c.args.here.now.entries.items c.args.rank c.in-Some-2.child c.requires.rank some link in
     torn_moved c.from_residual-in_err-enter.result c.enter.result c.in_err-enter.field-0.0 _ c.in_err-enter.was c.from_residual-in_err-enter.ensures.1
     (IfTorn-map c.enter.result
@@ -99,7 +99,7 @@ returns-in_err-enter-clause-fault g t c =
     let kind = c.is_inner.ensures.inner c.if-not-is_inner.false in
     let some = rank_some c.args.size (content_of c.args.here.now) c.args.key c.args.rank c.requires.sound kind c.requires.low c.requires.rank in
     let read = rw c.deref.ensures.0 at c.in_ok-child.ensures.link in
-    let link = at_some (IsLink c.args.size _ _) c.in-Some-2.child c.in-Some-2.is read in
+    let link = at_some (IsTreeLink c.args.size _ _) c.in-Some-2.child c.in-Some-2.is read in
     let child = child_is c.args.size c.args.key c.args.here.now.entries.items c.args.rank c.in-Some-2.child c.requires.rank some link in
     let at = child_at c.args.size _ (g.S.RecordRead.meaning c.args.store.now) (g.S.RecordRead.meaning c.read_node.new.store) c.in-Some-2.child c.in_ok-child.field-0 c.in-Some-2.is c.in_ok-child.ensures.read in
     let C : ℕ → Type 0 = λ n. IsChild n c.args.key c.args.here.now.entries.items c.args.rank (c.in-Some-2.child.node.low, c.in-Some-2.child.at) (content_of c.in-Some-2.child.node) in
@@ -112,7 +112,7 @@ returns-in_err-enter-clause-calls g t c =
     let kind = c.is_inner.ensures.inner c.if-not-is_inner.false in
     let some = rank_some c.args.size (content_of c.args.here.now) c.args.key c.args.rank c.requires.sound kind c.requires.low c.requires.rank in
     let read = rw c.deref.ensures.0 at c.in_ok-child.ensures.link in
-    let link = at_some (IsLink c.args.size _ _) c.in-Some-2.child c.in-Some-2.is read in
+    let link = at_some (IsTreeLink c.args.size _ _) c.in-Some-2.child c.in-Some-2.is read in
     let child = child_is c.args.size c.args.key c.args.here.now.entries.items c.args.rank c.in-Some-2.child c.requires.rank some link in
     let at = child_at c.args.size _ (g.S.RecordRead.meaning c.args.store.now) (g.S.RecordRead.meaning c.read_node.new.store) c.in-Some-2.child c.in_ok-child.field-0 c.in-Some-2.is c.in_ok-child.ensures.read in
     let C : ℕ → Type 0 = λ n. IsChild n c.args.key c.args.here.now.entries.items c.args.rank (c.in-Some-2.child.node.low, c.in-Some-2.child.at) (content_of c.in-Some-2.child.node) in
@@ -124,7 +124,7 @@ returns-in_err-new-in-Takes-clause-fault g t c =
     let kind = c.is_inner.ensures.inner c.if-not-is_inner.false in
     let some = rank_some c.args.size (content_of c.args.here.now) c.args.key c.args.rank c.requires.sound kind c.requires.low c.requires.rank in
     let read = rw c.deref.ensures.0 at c.in_ok-child.ensures.link in
-    let link = at_some (IsLink c.args.size _ _) c.in-Some-2.child c.in-Some-2.is read in
+    let link = at_some (IsTreeLink c.args.size _ _) c.in-Some-2.child c.in-Some-2.is read in
     let child = child_is c.args.size c.args.key c.args.here.now.entries.items c.args.rank c.in-Some-2.child c.requires.rank some link in
     let at = child_at c.args.size _ (g.S.RecordRead.meaning c.args.store.now) (g.S.RecordRead.meaning c.read_node.new.store) c.in-Some-2.child c.in_ok-child.field-0 c.in-Some-2.is c.in_ok-child.ensures.read in
     let C : ℕ → Type 0 = λ n. IsChild n c.args.key c.args.here.now.entries.items c.args.rank (c.in-Some-2.child.node.low, c.in-Some-2.child.at) (content_of c.in-Some-2.child.node) in
@@ -137,7 +137,7 @@ returns-in_err-new-in-Takes-clause-calls g t c =
     let kind = c.is_inner.ensures.inner c.if-not-is_inner.false in
     let some = rank_some c.args.size (content_of c.args.here.now) c.args.key c.args.rank c.requires.sound kind c.requires.low c.requires.rank in
     let read = rw c.deref.ensures.0 at c.in_ok-child.ensures.link in
-    let link = at_some (IsLink c.args.size _ _) c.in-Some-2.child c.in-Some-2.is read in
+    let link = at_some (IsTreeLink c.args.size _ _) c.in-Some-2.child c.in-Some-2.is read in
     let child = child_is c.args.size c.args.key c.args.here.now.entries.items c.args.rank c.in-Some-2.child c.requires.rank some link in
     let at = child_at c.args.size _ (g.S.RecordRead.meaning c.args.store.now) (g.S.RecordRead.meaning c.read_node.new.store) c.in-Some-2.child c.in_ok-child.field-0 c.in-Some-2.is c.in_ok-child.ensures.read in
     let C : ℕ → Type 0 = λ n. IsChild n c.args.key c.args.here.now.entries.items c.args.rank (c.in-Some-2.child.node.low, c.in-Some-2.child.at) (content_of c.in-Some-2.child.node) in
@@ -148,7 +148,7 @@ pub returns-in-There-clause-inner : goal.returns-in-There-clause-inner
 returns-in-There-clause-inner g t c = λ kind.
     let some = rank_some c.args.size (content_of c.args.here.now) c.args.key c.args.rank c.requires.sound kind c.requires.low c.requires.rank in
     let read = rw c.deref.ensures.0 at c.in_ok-child.ensures.link in
-    let link = at_some (IsLink c.args.size _ _) c.in-Some-2.child c.in-Some-2.is read in
+    let link = at_some (IsTreeLink c.args.size _ _) c.in-Some-2.child c.in-Some-2.is read in
     let child = child_is c.args.size c.args.key c.args.here.now.entries.items c.args.rank c.in-Some-2.child c.requires.rank some link in
     let at = child_at c.args.size _ (g.S.RecordRead.meaning c.args.store.now) (g.S.RecordRead.meaning c.read_node.new.store) c.in-Some-2.child c.in_ok-child.field-0 c.in-Some-2.is c.in_ok-child.ensures.read in
     let C : ℕ → Type 0 = λ n. IsChild n c.args.key c.args.here.now.entries.items c.args.rank (c.in-Some-2.child.node.low, c.in-Some-2.child.at) (content_of c.in-Some-2.child.node) in
@@ -163,7 +163,7 @@ returns-in-There-clause-calls g t c =
     let kind = c.is_inner.ensures.inner c.if-not-is_inner.false in
     let some = rank_some c.args.size (content_of c.args.here.now) c.args.key c.args.rank c.requires.sound kind c.requires.low c.requires.rank in
     let read = rw c.deref.ensures.0 at c.in_ok-child.ensures.link in
-    let link = at_some (IsLink c.args.size _ _) c.in-Some-2.child c.in-Some-2.is read in
+    let link = at_some (IsTreeLink c.args.size _ _) c.in-Some-2.child c.in-Some-2.is read in
     let child = child_is c.args.size c.args.key c.args.here.now.entries.items c.args.rank c.in-Some-2.child c.requires.rank some link in
     let at = child_at c.args.size _ (g.S.RecordRead.meaning c.args.store.now) (g.S.RecordRead.meaning c.read_node.new.store) c.in-Some-2.child c.in_ok-child.field-0 c.in-Some-2.is c.in_ok-child.ensures.read in
     let C : ℕ → Type 0 = λ n. IsChild n c.args.key c.args.here.now.entries.items c.args.rank (c.in-Some-2.child.node.low, c.in-Some-2.child.at) (content_of c.in-Some-2.child.node) in
@@ -174,7 +174,7 @@ pub returns-in-Done-clause-inner : goal.returns-in-Done-clause-inner
 returns-in-Done-clause-inner g t c = λ kind.
     let some = rank_some c.args.size (content_of c.args.here.now) c.args.key c.args.rank c.requires.sound kind c.requires.low c.requires.rank in
     let read = rw c.deref.ensures.0 at c.in_ok-child.ensures.link in
-    let link = at_some (IsLink c.args.size _ _) c.in-Some-2.child c.in-Some-2.is read in
+    let link = at_some (IsTreeLink c.args.size _ _) c.in-Some-2.child c.in-Some-2.is read in
     let child = child_is c.args.size c.args.key c.args.here.now.entries.items c.args.rank c.in-Some-2.child c.requires.rank some link in
     let at = child_at c.args.size _ (g.S.RecordRead.meaning c.args.store.now) (g.S.RecordRead.meaning c.read_node.new.store) c.in-Some-2.child c.in_ok-child.field-0 c.in-Some-2.is c.in_ok-child.ensures.read in
     let C : ℕ → Type 0 = λ n. IsChild n c.args.key c.args.here.now.entries.items c.args.rank (c.in-Some-2.child.node.low, c.in-Some-2.child.at) (content_of c.in-Some-2.child.node) in
@@ -189,7 +189,7 @@ returns-in-Done-clause-calls g t c =
     let kind = c.is_inner.ensures.inner c.if-not-is_inner.false in
     let some = rank_some c.args.size (content_of c.args.here.now) c.args.key c.args.rank c.requires.sound kind c.requires.low c.requires.rank in
     let read = rw c.deref.ensures.0 at c.in_ok-child.ensures.link in
-    let link = at_some (IsLink c.args.size _ _) c.in-Some-2.child c.in-Some-2.is read in
+    let link = at_some (IsTreeLink c.args.size _ _) c.in-Some-2.child c.in-Some-2.is read in
     let child = child_is c.args.size c.args.key c.args.here.now.entries.items c.args.rank c.in-Some-2.child c.requires.rank some link in
     let at = child_at c.args.size _ (g.S.RecordRead.meaning c.args.store.now) (g.S.RecordRead.meaning c.read_node.new.store) c.in-Some-2.child c.in_ok-child.field-0 c.in-Some-2.is c.in_ok-child.ensures.read in
     let C : ℕ → Type 0 = λ n. IsChild n c.args.key c.args.here.now.entries.items c.args.rank (c.in-Some-2.child.node.low, c.in-Some-2.child.at) (content_of c.in-Some-2.child.node) in
@@ -200,7 +200,7 @@ pub returns-in-Some-3-clause-inner : goal.returns-in-Some-3-clause-inner
 returns-in-Some-3-clause-inner g t c = λ kind.
     let some = rank_some c.args.size (content_of c.args.here.now) c.args.key c.args.rank c.requires.sound kind c.requires.low c.requires.rank in
     let read = rw c.deref.ensures.0 at c.in_ok-child.ensures.link in
-    let link = at_some (IsLink c.args.size _ _) c.in-Some-2.child c.in-Some-2.is read in
+    let link = at_some (IsTreeLink c.args.size _ _) c.in-Some-2.child c.in-Some-2.is read in
     let child = child_is c.args.size c.args.key c.args.here.now.entries.items c.args.rank c.in-Some-2.child c.requires.rank some link in
     let at = child_at c.args.size _ (g.S.RecordRead.meaning c.args.store.now) (g.S.RecordRead.meaning c.read_node.new.store) c.in-Some-2.child c.in_ok-child.field-0 c.in-Some-2.is c.in_ok-child.ensures.read in
     let C : ℕ → Type 0 = λ n. IsChild n c.args.key c.args.here.now.entries.items c.args.rank (c.in-Some-2.child.node.low, c.in-Some-2.child.at) (content_of c.in-Some-2.child.node) in
@@ -221,7 +221,7 @@ returns-in-Some-3-clause-calls g t c =
     let kind = c.is_inner.ensures.inner c.if-not-is_inner.false in
     let some = rank_some c.args.size (content_of c.args.here.now) c.args.key c.args.rank c.requires.sound kind c.requires.low c.requires.rank in
     let read = rw c.deref.ensures.0 at c.in_ok-child.ensures.link in
-    let link = at_some (IsLink c.args.size _ _) c.in-Some-2.child c.in-Some-2.is read in
+    let link = at_some (IsTreeLink c.args.size _ _) c.in-Some-2.child c.in-Some-2.is read in
     let child = child_is c.args.size c.args.key c.args.here.now.entries.items c.args.rank c.in-Some-2.child c.requires.rank some link in
     let at = child_at c.args.size _ (g.S.RecordRead.meaning c.args.store.now) (g.S.RecordRead.meaning c.read_node.new.store) c.in-Some-2.child c.in_ok-child.field-0 c.in-Some-2.is c.in_ok-child.ensures.read in
     let C : ℕ → Type 0 = λ n. IsChild n c.args.key c.args.here.now.entries.items c.args.rank (c.in-Some-2.child.node.low, c.in-Some-2.child.at) (content_of c.in-Some-2.child.node) in
@@ -234,7 +234,7 @@ pub returns-in-None-2-clause-inner : goal.returns-in-None-2-clause-inner
 returns-in-None-2-clause-inner g t c = λ kind.
     let some = rank_some c.args.size (content_of c.args.here.now) c.args.key c.args.rank c.requires.sound kind c.requires.low c.requires.rank in
     let read = rw c.deref.ensures.0 at c.in_ok-child.ensures.link in
-    let link = at_some (IsLink c.args.size _ _) c.in-Some-2.child c.in-Some-2.is read in
+    let link = at_some (IsTreeLink c.args.size _ _) c.in-Some-2.child c.in-Some-2.is read in
     let child = child_is c.args.size c.args.key c.args.here.now.entries.items c.args.rank c.in-Some-2.child c.requires.rank some link in
     let at = child_at c.args.size _ (g.S.RecordRead.meaning c.args.store.now) (g.S.RecordRead.meaning c.read_node.new.store) c.in-Some-2.child c.in_ok-child.field-0 c.in-Some-2.is c.in_ok-child.ensures.read in
     let C : ℕ → Type 0 = λ n. IsChild n c.args.key c.args.here.now.entries.items c.args.rank (c.in-Some-2.child.node.low, c.in-Some-2.child.at) (content_of c.in-Some-2.child.node) in
@@ -255,7 +255,7 @@ returns-in-None-2-clause-calls g t c =
     let kind = c.is_inner.ensures.inner c.if-not-is_inner.false in
     let some = rank_some c.args.size (content_of c.args.here.now) c.args.key c.args.rank c.requires.sound kind c.requires.low c.requires.rank in
     let read = rw c.deref.ensures.0 at c.in_ok-child.ensures.link in
-    let link = at_some (IsLink c.args.size _ _) c.in-Some-2.child c.in-Some-2.is read in
+    let link = at_some (IsTreeLink c.args.size _ _) c.in-Some-2.child c.in-Some-2.is read in
     let child = child_is c.args.size c.args.key c.args.here.now.entries.items c.args.rank c.in-Some-2.child c.requires.rank some link in
     let at = child_at c.args.size _ (g.S.RecordRead.meaning c.args.store.now) (g.S.RecordRead.meaning c.read_node.new.store) c.in-Some-2.child c.in_ok-child.field-0 c.in-Some-2.is c.in_ok-child.ensures.read in
     let C : ℕ → Type 0 = λ n. IsChild n c.args.key c.args.here.now.entries.items c.args.rank (c.in-Some-2.child.node.low, c.in-Some-2.child.at) (content_of c.in-Some-2.child.node) in
@@ -269,7 +269,7 @@ returns-in-There-clause-walked g t c =
     let kind = c.is_inner.ensures.inner c.if-not-is_inner.false in
     let some = rank_some c.args.size (content_of c.args.here.now) c.args.key c.args.rank c.requires.sound kind c.requires.low c.requires.rank in
     let read = rw c.deref.ensures.0 at c.in_ok-child.ensures.link in
-    let link = at_some (IsLink c.args.size _ _) c.in-Some-2.child c.in-Some-2.is read in
+    let link = at_some (IsTreeLink c.args.size _ _) c.in-Some-2.child c.in-Some-2.is read in
     let child = child_is c.args.size c.args.key c.args.here.now.entries.items c.args.rank c.in-Some-2.child c.requires.rank some link in
     let at = child_at c.args.size _ (g.S.RecordRead.meaning c.args.store.now) (g.S.RecordRead.meaning c.read_node.new.store) c.in-Some-2.child c.in_ok-child.field-0 c.in-Some-2.is c.in_ok-child.ensures.read in
     each_reaches c.args.size c.args.depth c.args.key c.args.here.now.entries.items c.args.rank (c.in-Some-2.child.node.low, c.in-Some-2.child.at) (content_of c.in-Some-2.child.node) (g.S.RecordRead.meaning c.args.store.now) (g.S.RecordRead.meaning c.read_node.new.store) (g.S.RecordRead.meaning c.enter.new.store) (g.S.RecordRead.meaning c.enter.new.store) c.in_ok-child.ensures.after c.enter.ensures.after.reads (extends-refl (g.S.RecordRead.meaning c.enter.new.store).reads) child at (omega (arith, c.requires.depth, c.if-depth-eq-MOST_DEPTH.false)) c.in_ok-enter.ensures.walked
@@ -280,7 +280,7 @@ returns-in-Done-clause-walked g t c =
     let kind = c.is_inner.ensures.inner c.if-not-is_inner.false in
     let some = rank_some c.args.size (content_of c.args.here.now) c.args.key c.args.rank c.requires.sound kind c.requires.low c.requires.rank in
     let read = rw c.deref.ensures.0 at c.in_ok-child.ensures.link in
-    let link = at_some (IsLink c.args.size _ _) c.in-Some-2.child c.in-Some-2.is read in
+    let link = at_some (IsTreeLink c.args.size _ _) c.in-Some-2.child c.in-Some-2.is read in
     let child = child_is c.args.size c.args.key c.args.here.now.entries.items c.args.rank c.in-Some-2.child c.requires.rank some link in
     let at = child_at c.args.size _ (g.S.RecordRead.meaning c.args.store.now) (g.S.RecordRead.meaning c.read_node.new.store) c.in-Some-2.child c.in_ok-child.field-0 c.in-Some-2.is c.in_ok-child.ensures.read in
     each_reaches c.args.size c.args.depth c.args.key c.args.here.now.entries.items c.args.rank (c.in-Some-2.child.node.low, c.in-Some-2.child.at) (content_of c.in-Some-2.child.node) (g.S.RecordRead.meaning c.args.store.now) (g.S.RecordRead.meaning c.read_node.new.store) (g.S.RecordRead.meaning c.enter.new.store) (g.S.RecordRead.meaning c.enter.new.store) c.in_ok-child.ensures.after c.enter.ensures.after.reads (extends-refl (g.S.RecordRead.meaning c.enter.new.store).reads) child at (omega (arith, c.requires.depth, c.if-depth-eq-MOST_DEPTH.false)) c.in_ok-enter.ensures.walked
@@ -291,7 +291,7 @@ returns-in-Some-3-clause-walked g t c =
     let kind = c.is_inner.ensures.inner c.if-not-is_inner.false in
     let some = rank_some c.args.size (content_of c.args.here.now) c.args.key c.args.rank c.requires.sound kind c.requires.low c.requires.rank in
     let read = rw c.deref.ensures.0 at c.in_ok-child.ensures.link in
-    let link = at_some (IsLink c.args.size _ _) c.in-Some-2.child c.in-Some-2.is read in
+    let link = at_some (IsTreeLink c.args.size _ _) c.in-Some-2.child c.in-Some-2.is read in
     let child = child_is c.args.size c.args.key c.args.here.now.entries.items c.args.rank c.in-Some-2.child c.requires.rank some link in
     let at = child_at c.args.size _ (g.S.RecordRead.meaning c.args.store.now) (g.S.RecordRead.meaning c.read_node.new.store) c.in-Some-2.child c.in_ok-child.field-0 c.in-Some-2.is c.in_ok-child.ensures.read in
     each_reaches c.args.size c.args.depth c.args.key c.args.here.now.entries.items c.args.rank (c.in-Some-2.child.node.low, c.in-Some-2.child.at) (content_of c.in-Some-2.child.node) (g.S.RecordRead.meaning c.args.store.now) (g.S.RecordRead.meaning c.read_node.new.store) (g.S.RecordRead.meaning c.enter.new.store) (g.S.RecordRead.meaning c.put_entry.new.store) c.in_ok-child.ensures.after c.enter.ensures.after.reads c.put_entry.ensures.after.reads child at (omega (arith, c.requires.depth, c.if-depth-eq-MOST_DEPTH.false)) c.in_ok-enter.ensures.walked
@@ -302,7 +302,7 @@ returns-in-None-2-clause-walked g t c =
     let kind = c.is_inner.ensures.inner c.if-not-is_inner.false in
     let some = rank_some c.args.size (content_of c.args.here.now) c.args.key c.args.rank c.requires.sound kind c.requires.low c.requires.rank in
     let read = rw c.deref.ensures.0 at c.in_ok-child.ensures.link in
-    let link = at_some (IsLink c.args.size _ _) c.in-Some-2.child c.in-Some-2.is read in
+    let link = at_some (IsTreeLink c.args.size _ _) c.in-Some-2.child c.in-Some-2.is read in
     let child = child_is c.args.size c.args.key c.args.here.now.entries.items c.args.rank c.in-Some-2.child c.requires.rank some link in
     let at = child_at c.args.size _ (g.S.RecordRead.meaning c.args.store.now) (g.S.RecordRead.meaning c.read_node.new.store) c.in-Some-2.child c.in_ok-child.field-0 c.in-Some-2.is c.in_ok-child.ensures.read in
     each_reaches c.args.size c.args.depth c.args.key c.args.here.now.entries.items c.args.rank (c.in-Some-2.child.node.low, c.in-Some-2.child.at) (content_of c.in-Some-2.child.node) (g.S.RecordRead.meaning c.args.store.now) (g.S.RecordRead.meaning c.read_node.new.store) (g.S.RecordRead.meaning c.enter.new.store) (g.S.RecordRead.meaning c.put_entry.new.store) c.in_ok-child.ensures.after c.enter.ensures.after.reads c.put_entry.ensures.after.reads child at (omega (arith, c.requires.depth, c.if-depth-eq-MOST_DEPTH.false)) c.in_ok-enter.ensures.walked

@@ -5,7 +5,7 @@ use Rattle.record_store.proofs.Agreement.{written_as}
 use Rattle.record_store.proofs.Refusals.{fault_moved, IfStore-map, OnOk-map}
 use Rattle.record_store.proofs.Paths.{CallFault-behind, CallFault-never}
 use Rattle.record_store.proofs.Known.{tries, gives-none, fewer-behind}
-use Rattle.ordered_index.specs.Node.{Content, words_of}
+use Rattle.ordered_index.specs.Node.{Content, tree_node_words}
 use Rattle.ordered_index.specs.Enter.PutsRoot.{whole}
 use Rattle.ordered_index.proofs.Parting.{not_full}
 use Rattle.ordered_index.proofs.Rooting.{puts_same}
@@ -24,7 +24,7 @@ pub returns-then-not-is_full-clause-ok : goal.returns-then-not-is_full-clause-ok
 returns-then-not-is_full-clause-ok g c =
     let items = c.insert.ensures.items in
     let few = not_full (length c.insert.new.self.items) c.is_full.result c.is_full.ensures.value c.if-not-is_full.true c.is_full.ensures.fits in
-    whole (omega (arith, few, ap length items)) (written_as (g.S.RecordRead.meaning c.args.store.now) c.args.top.at c.cells.ensures c.in_ok-write_node.ensures.ok ∙ ap (λ es. after_write (g.S.RecordRead.meaning c.args.store.now) c.args.top.at (Some (words_of (let n : Content = record { kind = c.args.top.node.kind; low = c.args.top.node.low; entries = es; next = c.args.top.node.next } in n)))) items)
+    whole (omega (arith, few, ap length items)) (written_as (g.S.RecordRead.meaning c.args.store.now) c.args.top.at c.cells.ensures c.in_ok-write_node.ensures.ok ∙ ap (λ es. after_write (g.S.RecordRead.meaning c.args.store.now) c.args.top.at (Some (tree_node_words (let n : Content = record { kind = c.args.top.node.kind; low = c.args.top.node.low; entries = es; next = c.args.top.node.next } in n)))) items)
 
 pub returns-then-not-is_full-clause-calls : goal.returns-then-not-is_full-clause-calls
 returns-then-not-is_full-clause-calls g c =

@@ -1,6 +1,6 @@
 use Rattle.std.proofs.Common.{◌≡◌, Some, refl, ap, ◌∙◌, arith}
 use Rattle.record_store.specs.Meaning.{Meaning, after_write, after_fresh}
-use Rattle.ordered_index.specs.Node.{Content, words_of}
+use Rattle.ordered_index.specs.Node.{Content, tree_node_words}
 use Rattle.ordered_index.specs.Held.{content_of}
 use Rattle.ordered_index.specs.Enter.{key_at, left_of, right_of, over_of}
 use Rattle.record_store.specs.Calls.Calls.{none, fresh}
@@ -65,10 +65,10 @@ returns-clause-ok g c =
     let first : Meaning = after_fresh (after_fresh (g.S.RecordRead.meaning c.args.store.now) c.in_ok-left.left) c.in_ok-right.right in
     let left : Content = left_of (content_of c.args.top.node) c.args.top.node.entries.items c.in_ok-right.right in
     let right : Content = right_of (content_of c.args.top.node) c.args.top.node.entries.items in
-    let one : g.S.RecordRead.meaning c.write_node.new.store ≡ after_write first c.in_ok-left.left (Some (words_of left)) = (written_as (g.S.RecordRead.meaning c.fresh-2.new.self) c.in_ok-left.left c.cells.ensures c.in_ok-write_node.ensures.ok) ∙ ap (λ n. after_write (g.S.RecordRead.meaning c.fresh-2.new.self) c.in_ok-left.left (Some (words_of n))) c.part-right_node.ensures.left ∙ ap (λ m. after_write m c.in_ok-left.left (Some (words_of left))) base in
-    let two : g.S.RecordRead.meaning c.write_node-2.new.store ≡ after_write (after_write first c.in_ok-left.left (Some (words_of left))) c.in_ok-right.right (Some (words_of right)) = (written_as (g.S.RecordRead.meaning c.write_node.new.store) c.in_ok-right.right c.cells-2.ensures c.in_ok-write_node-2.ensures.ok) ∙ ap (λ n. after_write (g.S.RecordRead.meaning c.write_node.new.store) c.in_ok-right.right (Some (words_of n))) c.part-right_node.ensures.right ∙ ap (λ m. after_write m c.in_ok-right.right (Some (words_of right))) one in
+    let one : g.S.RecordRead.meaning c.write_node.new.store ≡ after_write first c.in_ok-left.left (Some (tree_node_words left)) = (written_as (g.S.RecordRead.meaning c.fresh-2.new.self) c.in_ok-left.left c.cells.ensures c.in_ok-write_node.ensures.ok) ∙ ap (λ n. after_write (g.S.RecordRead.meaning c.fresh-2.new.self) c.in_ok-left.left (Some (tree_node_words n))) c.part-right_node.ensures.left ∙ ap (λ m. after_write m c.in_ok-left.left (Some (tree_node_words left))) base in
+    let two : g.S.RecordRead.meaning c.write_node-2.new.store ≡ after_write (after_write first c.in_ok-left.left (Some (tree_node_words left))) c.in_ok-right.right (Some (tree_node_words right)) = (written_as (g.S.RecordRead.meaning c.write_node.new.store) c.in_ok-right.right c.cells-2.ensures c.in_ok-write_node-2.ensures.ok) ∙ ap (λ n. after_write (g.S.RecordRead.meaning c.write_node.new.store) c.in_ok-right.right (Some (tree_node_words n))) c.part-right_node.ensures.right ∙ ap (λ m. after_write m c.in_ok-right.right (Some (tree_node_words right))) one in
     parted c.in_ok-left.left c.in_ok-right.right c.requires.ten c.in_ok-left.ensures.fresh (rw c.in_ok-left.ensures.ok at c.in_ok-right.ensures.fresh)
-    ((written_as (g.S.RecordRead.meaning c.write_node-2.new.store) c.args.top.at c.cells-3.ensures c.in_ok-write_node-3.ensures.ok) ∙ ap (λ n. after_write (g.S.RecordRead.meaning c.write_node-2.new.store) c.args.top.at (Some (words_of n))) over ∙ ap (λ m. after_write m c.args.top.at (Some (words_of (over_of c.args.top.node.low c.in_ok-left.left (key_at c.args.top.node.entries.items 5) c.in_ok-right.right)))) two)
+    ((written_as (g.S.RecordRead.meaning c.write_node-2.new.store) c.args.top.at c.cells-3.ensures c.in_ok-write_node-3.ensures.ok) ∙ ap (λ n. after_write (g.S.RecordRead.meaning c.write_node-2.new.store) c.args.top.at (Some (tree_node_words n))) over ∙ ap (λ m. after_write m c.args.top.at (Some (tree_node_words (over_of c.args.top.node.low c.in_ok-left.left (key_at c.args.top.node.entries.items 5) c.in_ok-right.right)))) two)
 
 pub returns-in_err-left-clause-after : goal.returns-in_err-left-clause-after
 returns-in_err-left-clause-after g c =

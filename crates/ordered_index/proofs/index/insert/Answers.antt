@@ -11,11 +11,11 @@ use Rattle.std.proofs.Common.{[], ◌∷◌}
 use Rattle.record_store.specs.Meaning.{after_write}
 use Rattle.record_store.proofs.Agreement.{OnlyReads-trans, extends-refl, ReadsGrow-behind, ReadsGrow-trans, written_after, written_as}
 use Rattle.ordered_index.specs.Keys.{first_key}
-use Rattle.ordered_index.specs.Node.{IsSound, words_of}
+use Rattle.ordered_index.specs.Node.{IsSound, tree_node_words}
 use Rattle.ordered_index.specs.Held.{content_of}
 use Rattle.ordered_index.specs.Tree.{IsAt}
 use Rattle.record_store.specs.States.{EachState}
-use Rattle.ordered_index.specs.Walk.{IsLink}
+use Rattle.ordered_index.specs.Walk.{IsTreeLink}
 use Rattle.ordered_index.proofs.Order.{first_not_after}
 use Rattle.ordered_index.proofs.Passed.{at_some}
 use Rattle.ordered_index.proofs.Tearing.{rank_some, child_at, from_reads, top_torn}
@@ -50,7 +50,7 @@ returns-in_err-write_node-clause-calls g c =
 pub returns-in_default-clause-ok : goal.returns-in_default-clause-ok
 returns-in_default-clause-ok g c =
     inserts_first c.size-size.result c.args.root c.args.key c.args.rid (g.S.RecordRead.meaning c.args.store.now) (g.S.RecordRead.meaning c.read_node.new.store) (g.S.RecordRead.meaning c.write_node.new.store) c.size-size.ensures.size c.requires.rid c.in_ok-top.ensures.after (λ state agrees. rw c.in_default.is at (c.in_ok-top.ensures.read state agrees))
-    ((written_as (g.S.RecordRead.meaning c.read_node.new.store) c.args.root c.cells.ensures c.in_ok-write_node.ensures.ok) ∙ ap (λ n. after_write (g.S.RecordRead.meaning c.read_node.new.store) c.args.root (Some (words_of n))) c.leaf.ensures)
+    ((written_as (g.S.RecordRead.meaning c.read_node.new.store) c.args.root c.cells.ensures c.in_ok-write_node.ensures.ok) ∙ ap (λ n. after_write (g.S.RecordRead.meaning c.read_node.new.store) c.args.root (Some (tree_node_words n))) c.leaf.ensures)
 
 pub returns-in_default-clause-calls : goal.returns-in_default-clause-calls
 returns-in_default-clause-calls g c =
@@ -58,17 +58,17 @@ returns-in_default-clause-calls g c =
 
 pub enter-requires-clause-sound : goal.enter-requires-clause-sound
 enter-requires-clause-sound g c =
-    let link = at_some (IsLink c.size-size.result c.args.root first_key) c.in-Some.top c.in-Some.is c.in_ok-top.ensures.link in
+    let link = at_some (IsTreeLink c.size-size.result c.args.root first_key) c.in-Some.top c.in-Some.is c.in_ok-top.ensures.link in
     link.sound
 
 pub enter-requires-clause-low : goal.enter-requires-clause-low
 enter-requires-clause-low g c =
-    let link = at_some (IsLink c.size-size.result c.args.root first_key) c.in-Some.top c.in-Some.is c.in_ok-top.ensures.link in
+    let link = at_some (IsTreeLink c.size-size.result c.args.root first_key) c.in-Some.top c.in-Some.is c.in_ok-top.ensures.link in
     rw link.low (first_not_after c.args.key)
 
 pub returns-in_err-enter-clause-torn : goal.returns-in_err-enter-clause-torn
 returns-in_err-enter-clause-torn g c =
-    let link = at_some (IsLink c.size-size.result c.args.root first_key) c.in-Some.top c.in-Some.is c.in_ok-top.ensures.link in
+    let link = at_some (IsTreeLink c.size-size.result c.args.root first_key) c.in-Some.top c.in-Some.is c.in_ok-top.ensures.link in
     let A : ℕ → Type 0 = λ r. EachState (g.S.RecordRead.meaning c.args.store.now) (g.S.RecordRead.meaning c.read_node.new.store) (λ state. IsAt c.size-size.result state (r, content_of c.in-Some.top.node)) in
     let at = subst A link.at (child_at c.size-size.result c.args.root (g.S.RecordRead.meaning c.args.store.now) (g.S.RecordRead.meaning c.read_node.new.store) c.in-Some.top c.in_ok-top.field-0 c.in-Some.is c.in_ok-top.ensures.read) in
     torn_moved c.from_residual-in_err-enter.result c.enter.result c.in_err-enter.field-0.0 _ c.in_err-enter.was c.from_residual-in_err-enter.ensures.1
@@ -78,7 +78,7 @@ returns-in_err-enter-clause-torn g c =
 
 pub returns-in_err-enter-clause-fault : goal.returns-in_err-enter-clause-fault
 returns-in_err-enter-clause-fault g c =
-    let link = at_some (IsLink c.size-size.result c.args.root first_key) c.in-Some.top c.in-Some.is c.in_ok-top.ensures.link in
+    let link = at_some (IsTreeLink c.size-size.result c.args.root first_key) c.in-Some.top c.in-Some.is c.in_ok-top.ensures.link in
     let A : ℕ → ℕ → Type 0 = λ n r. EachState (g.S.RecordRead.meaning c.args.store.now) (g.S.RecordRead.meaning c.read_node.new.store) (λ state. IsAt n state (r, content_of c.in-Some.top.node)) in
     let at = subst (λ r. A (g.S.RecordRead.meaning c.args.store.now).size r) link.at (subst (λ n. A n c.in-Some.top.at) c.size-size.ensures.size (child_at c.size-size.result c.args.root (g.S.RecordRead.meaning c.args.store.now) (g.S.RecordRead.meaning c.read_node.new.store) c.in-Some.top c.in_ok-top.field-0 c.in-Some.is c.in_ok-top.ensures.read)) in
     fault_moved c.from_residual-in_err-enter.result c.enter.result c.in_err-enter.field-0.0 _ c.in_err-enter.was c.from_residual-in_err-enter.ensures.1
@@ -86,14 +86,14 @@ returns-in_err-enter-clause-fault g c =
 
 pub returns-in_err-enter-clause-calls : goal.returns-in_err-enter-clause-calls
 returns-in_err-enter-clause-calls g c =
-    let link = at_some (IsLink c.size-size.result c.args.root first_key) c.in-Some.top c.in-Some.is c.in_ok-top.ensures.link in
+    let link = at_some (IsTreeLink c.size-size.result c.args.root first_key) c.in-Some.top c.in-Some.is c.in_ok-top.ensures.link in
     let A : ℕ → ℕ → Type 0 = λ n r. EachState (g.S.RecordRead.meaning c.args.store.now) (g.S.RecordRead.meaning c.read_node.new.store) (λ state. IsAt n state (r, content_of c.in-Some.top.node)) in
     let at = subst (λ r. A (g.S.RecordRead.meaning c.args.store.now).size r) link.at (subst (λ n. A n c.in-Some.top.at) c.size-size.ensures.size (child_at c.size-size.result c.args.root (g.S.RecordRead.meaning c.args.store.now) (g.S.RecordRead.meaning c.read_node.new.store) c.in-Some.top c.in_ok-top.field-0 c.in-Some.is c.in_ok-top.ensures.read)) in
     (c.enter.ensures.calls.0, (Calls-behind _ _ _ c.enter.ensures.calls.0 c.read_node.ensures.calls c.enter.ensures.calls.1), top_err c.args.root c.args.key (content_of c.in-Some.top.node) (g.S.RecordRead.meaning c.args.store.now) (g.S.RecordRead.meaning c.read_node.new.store) (g.S.RecordRead.meaning c.enter.new.store) (g.S.RecordRead.meaning c.enter.new.store) c.enter.ensures.calls.0 c.in_ok-top.ensures.after c.enter.ensures.after.reads (extends-refl (g.S.RecordRead.meaning c.enter.new.store).reads) link.low at c.enter.result c.enter.ensures.calls.2 c.from_residual-in_err-enter.result (Err c.in_err-enter.field-0.0) c.from_residual-in_err-enter.ensures.0 refl refl, gives-behind c.enter.ensures.calls.0 (g.S.RecordRead.meaning c.args.store.now) (g.S.RecordRead.meaning c.read_node.new.store) (g.S.RecordRead.meaning c.enter.new.store) c.in_ok-top.ensures.after c.enter.ensures.calls.3)
 
 pub returns-in-There-clause-ok : goal.returns-in-There-clause-ok
 returns-in-There-clause-ok g c =
-    let link = at_some (IsLink c.size-size.result c.args.root first_key) c.in-Some.top c.in-Some.is c.in_ok-top.ensures.link in
+    let link = at_some (IsTreeLink c.size-size.result c.args.root first_key) c.in-Some.top c.in-Some.is c.in_ok-top.ensures.link in
     let A : ℕ → ℕ → Type 0 = λ n r. EachState (g.S.RecordRead.meaning c.args.store.now) (g.S.RecordRead.meaning c.read_node.new.store) (λ state. IsAt n state (r, content_of c.in-Some.top.node)) in
     let at = subst (λ r. A (g.S.RecordRead.meaning c.args.store.now).size r) link.at (subst (λ n. A n c.in-Some.top.at) c.size-size.ensures.size (child_at c.size-size.result c.args.root (g.S.RecordRead.meaning c.args.store.now) (g.S.RecordRead.meaning c.read_node.new.store) c.in-Some.top c.in_ok-top.field-0 c.in-Some.is c.in_ok-top.ensures.read)) in
     let child = root_child (g.S.RecordRead.meaning c.args.store.now).size c.args.root c.args.key (content_of c.in-Some.top.node) link.low in
@@ -104,14 +104,14 @@ returns-in-There-clause-ok g c =
 
 pub returns-in-There-clause-calls : goal.returns-in-There-clause-calls
 returns-in-There-clause-calls g c =
-    let link = at_some (IsLink c.size-size.result c.args.root first_key) c.in-Some.top c.in-Some.is c.in_ok-top.ensures.link in
+    let link = at_some (IsTreeLink c.size-size.result c.args.root first_key) c.in-Some.top c.in-Some.is c.in_ok-top.ensures.link in
     let A : ℕ → ℕ → Type 0 = λ n r. EachState (g.S.RecordRead.meaning c.args.store.now) (g.S.RecordRead.meaning c.read_node.new.store) (λ state. IsAt n state (r, content_of c.in-Some.top.node)) in
     let at = subst (λ r. A (g.S.RecordRead.meaning c.args.store.now).size r) link.at (subst (λ n. A n c.in-Some.top.at) c.size-size.ensures.size (child_at c.size-size.result c.args.root (g.S.RecordRead.meaning c.args.store.now) (g.S.RecordRead.meaning c.read_node.new.store) c.in-Some.top c.in_ok-top.field-0 c.in-Some.is c.in_ok-top.ensures.read)) in
     (c.enter.ensures.calls.0, (Calls-behind _ _ _ c.enter.ensures.calls.0 c.read_node.ensures.calls c.enter.ensures.calls.1), top_there c.args.root c.args.key (content_of c.in-Some.top.node) (g.S.RecordRead.meaning c.args.store.now) (g.S.RecordRead.meaning c.read_node.new.store) (g.S.RecordRead.meaning c.enter.new.store) (g.S.RecordRead.meaning c.enter.new.store) c.enter.ensures.calls.0 c.in_ok-top.ensures.after c.enter.ensures.after.reads (extends-refl (g.S.RecordRead.meaning c.enter.new.store).reads) link.low at c.enter.result c.enter.ensures.calls.2 (c.in_ok-enter.was ∙ ap (λ e. Ok e) c.in-There.is) refl, gives-behind c.enter.ensures.calls.0 (g.S.RecordRead.meaning c.args.store.now) (g.S.RecordRead.meaning c.read_node.new.store) (g.S.RecordRead.meaning c.enter.new.store) c.in_ok-top.ensures.after c.enter.ensures.calls.3)
 
 pub returns-in-Done-clause-ok : goal.returns-in-Done-clause-ok
 returns-in-Done-clause-ok g c =
-    let link = at_some (IsLink c.size-size.result c.args.root first_key) c.in-Some.top c.in-Some.is c.in_ok-top.ensures.link in
+    let link = at_some (IsTreeLink c.size-size.result c.args.root first_key) c.in-Some.top c.in-Some.is c.in_ok-top.ensures.link in
     let A : ℕ → ℕ → Type 0 = λ n r. EachState (g.S.RecordRead.meaning c.args.store.now) (g.S.RecordRead.meaning c.read_node.new.store) (λ state. IsAt n state (r, content_of c.in-Some.top.node)) in
     let at = subst (λ r. A (g.S.RecordRead.meaning c.args.store.now).size r) link.at (subst (λ n. A n c.in-Some.top.at) c.size-size.ensures.size (child_at c.size-size.result c.args.root (g.S.RecordRead.meaning c.args.store.now) (g.S.RecordRead.meaning c.read_node.new.store) c.in-Some.top c.in_ok-top.field-0 c.in-Some.is c.in_ok-top.ensures.read)) in
     let child = root_child (g.S.RecordRead.meaning c.args.store.now).size c.args.root c.args.key (content_of c.in-Some.top.node) link.low in
@@ -122,14 +122,14 @@ returns-in-Done-clause-ok g c =
 
 pub returns-in-Done-clause-calls : goal.returns-in-Done-clause-calls
 returns-in-Done-clause-calls g c =
-    let link = at_some (IsLink c.size-size.result c.args.root first_key) c.in-Some.top c.in-Some.is c.in_ok-top.ensures.link in
+    let link = at_some (IsTreeLink c.size-size.result c.args.root first_key) c.in-Some.top c.in-Some.is c.in_ok-top.ensures.link in
     let A : ℕ → ℕ → Type 0 = λ n r. EachState (g.S.RecordRead.meaning c.args.store.now) (g.S.RecordRead.meaning c.read_node.new.store) (λ state. IsAt n state (r, content_of c.in-Some.top.node)) in
     let at = subst (λ r. A (g.S.RecordRead.meaning c.args.store.now).size r) link.at (subst (λ n. A n c.in-Some.top.at) c.size-size.ensures.size (child_at c.size-size.result c.args.root (g.S.RecordRead.meaning c.args.store.now) (g.S.RecordRead.meaning c.read_node.new.store) c.in-Some.top c.in_ok-top.field-0 c.in-Some.is c.in_ok-top.ensures.read)) in
     (c.enter.ensures.calls.0, (Calls-behind _ _ _ c.enter.ensures.calls.0 c.read_node.ensures.calls c.enter.ensures.calls.1), top_done c.args.root c.args.key (content_of c.in-Some.top.node) (g.S.RecordRead.meaning c.args.store.now) (g.S.RecordRead.meaning c.read_node.new.store) (g.S.RecordRead.meaning c.enter.new.store) (g.S.RecordRead.meaning c.enter.new.store) c.enter.ensures.calls.0 c.in_ok-top.ensures.after c.enter.ensures.after.reads (extends-refl (g.S.RecordRead.meaning c.enter.new.store).reads) link.low at c.enter.result c.enter.ensures.calls.2 (c.in_ok-enter.was ∙ ap (λ e. Ok e) c.in-Done.is) (λ leaf. (let l = c.in_ok-enter.ensures.leaf leaf in (rw c.in-Done.is at l).0)) refl, gives-behind c.enter.ensures.calls.0 (g.S.RecordRead.meaning c.args.store.now) (g.S.RecordRead.meaning c.read_node.new.store) (g.S.RecordRead.meaning c.enter.new.store) c.in_ok-top.ensures.after c.enter.ensures.calls.3)
 
 pub returns-in_err-put_root-in-Takes-clause-fault : goal.returns-in_err-put_root-in-Takes-clause-fault
 returns-in_err-put_root-in-Takes-clause-fault g c =
-    let link = at_some (IsLink c.size-size.result c.args.root first_key) c.in-Some.top c.in-Some.is c.in_ok-top.ensures.link in
+    let link = at_some (IsTreeLink c.size-size.result c.args.root first_key) c.in-Some.top c.in-Some.is c.in_ok-top.ensures.link in
     let A : ℕ → ℕ → Type 0 = λ n r. EachState (g.S.RecordRead.meaning c.args.store.now) (g.S.RecordRead.meaning c.read_node.new.store) (λ state. IsAt n state (r, content_of c.in-Some.top.node)) in
     let at = subst (λ r. A (g.S.RecordRead.meaning c.args.store.now).size r) link.at (subst (λ n. A n c.in-Some.top.at) c.size-size.ensures.size (child_at c.size-size.result c.args.root (g.S.RecordRead.meaning c.args.store.now) (g.S.RecordRead.meaning c.read_node.new.store) c.in-Some.top c.in_ok-top.field-0 c.in-Some.is c.in_ok-top.ensures.read)) in
     fault_moved c.from_residual-in_err-put_root-in-Takes.result c.put_root.result c.in_err-put_root-in-Takes.field-0.0 _ c.in_err-put_root-in-Takes.was c.from_residual-in_err-put_root-in-Takes.ensures.1
@@ -137,14 +137,14 @@ returns-in_err-put_root-in-Takes-clause-fault g c =
 
 pub returns-in_err-put_root-in-Takes-clause-calls : goal.returns-in_err-put_root-in-Takes-clause-calls
 returns-in_err-put_root-in-Takes-clause-calls g c =
-    let link = at_some (IsLink c.size-size.result c.args.root first_key) c.in-Some.top c.in-Some.is c.in_ok-top.ensures.link in
+    let link = at_some (IsTreeLink c.size-size.result c.args.root first_key) c.in-Some.top c.in-Some.is c.in_ok-top.ensures.link in
     let A : ℕ → ℕ → Type 0 = λ n r. EachState (g.S.RecordRead.meaning c.args.store.now) (g.S.RecordRead.meaning c.read_node.new.store) (λ state. IsAt n state (r, content_of c.in-Some.top.node)) in
     let at = subst (λ r. A (g.S.RecordRead.meaning c.args.store.now).size r) link.at (subst (λ n. A n c.in-Some.top.at) c.size-size.ensures.size (child_at c.size-size.result c.args.root (g.S.RecordRead.meaning c.args.store.now) (g.S.RecordRead.meaning c.read_node.new.store) c.in-Some.top c.in_ok-top.field-0 c.in-Some.is c.in_ok-top.ensures.read)) in
     (c.enter.ensures.calls.0 + c.put_root.ensures.calls.0, (Calls-trans _ _ _ c.enter.ensures.calls.0 c.put_root.ensures.calls.0 (Calls-behind _ _ _ c.enter.ensures.calls.0 c.read_node.ensures.calls c.enter.ensures.calls.1) c.put_root.ensures.calls.1), root_err c.args.root c.args.key (content_of c.in-Some.top.node) (g.S.RecordRead.meaning c.args.store.now) (g.S.RecordRead.meaning c.read_node.new.store) (g.S.RecordRead.meaning c.enter.new.store) (g.S.RecordRead.meaning c.put_root.new.store) c.enter.ensures.calls.0 c.in_ok-top.ensures.after c.enter.ensures.after.reads c.put_root.ensures.after.reads link.low at c.enter.result c.enter.ensures.calls.2 c.args.rid c.rank-rank.result c.in-Takes.entry (c.in_ok-enter.was ∙ ap (λ e. Ok e) c.in-Takes.is) (λ leaf. (let l = rw c.in-Takes.is at (c.in_ok-enter.ensures.leaf leaf) in l.0.1)) (λ inner. from_reads (g.S.RecordRead.meaning c.args.store.now) (g.S.RecordRead.meaning c.read_node.new.store) (g.S.RecordRead.meaning c.enter.new.store) c.args.key c.args.rid c.in-Some.top.node.entries.items c.rank-rank.result c.in_ok-enter.field-0 _ c.in_ok-top.ensures.after c.in-Takes.is (c.in_ok-enter.ensures.inner inner)) c.put_root.result c.from_residual-in_err-put_root-in-Takes.result c.put_root.ensures.calls.0 c.from_residual-in_err-put_root-in-Takes.ensures.0 c.put_root.ensures.calls.2, gives-trans c.enter.ensures.calls.0 c.put_root.ensures.calls.0 (g.S.RecordRead.meaning c.args.store.now) (g.S.RecordRead.meaning c.enter.new.store) (g.S.RecordRead.meaning c.put_root.new.store) (gives-behind c.enter.ensures.calls.0 (g.S.RecordRead.meaning c.args.store.now) (g.S.RecordRead.meaning c.read_node.new.store) (g.S.RecordRead.meaning c.enter.new.store) c.in_ok-top.ensures.after c.enter.ensures.calls.3) c.put_root.ensures.calls.3)
 
 pub returns-in_ok-put_root-in-Takes-clause-ok : goal.returns-in_ok-put_root-in-Takes-clause-ok
 returns-in_ok-put_root-in-Takes-clause-ok g c =
-    let link = at_some (IsLink c.size-size.result c.args.root first_key) c.in-Some.top c.in-Some.is c.in_ok-top.ensures.link in
+    let link = at_some (IsTreeLink c.size-size.result c.args.root first_key) c.in-Some.top c.in-Some.is c.in_ok-top.ensures.link in
     let A : ℕ → ℕ → Type 0 = λ n r. EachState (g.S.RecordRead.meaning c.args.store.now) (g.S.RecordRead.meaning c.read_node.new.store) (λ state. IsAt n state (r, content_of c.in-Some.top.node)) in
     let at = subst (λ r. A (g.S.RecordRead.meaning c.args.store.now).size r) link.at (subst (λ n. A n c.in-Some.top.at) c.size-size.ensures.size (child_at c.size-size.result c.args.root (g.S.RecordRead.meaning c.args.store.now) (g.S.RecordRead.meaning c.read_node.new.store) c.in-Some.top c.in_ok-top.field-0 c.in-Some.is c.in_ok-top.ensures.read)) in
     let child = root_child (g.S.RecordRead.meaning c.args.store.now).size c.args.root c.args.key (content_of c.in-Some.top.node) link.low in
@@ -159,7 +159,7 @@ returns-in_ok-put_root-in-Takes-clause-ok g c =
 
 pub returns-in_ok-put_root-in-Takes-clause-calls : goal.returns-in_ok-put_root-in-Takes-clause-calls
 returns-in_ok-put_root-in-Takes-clause-calls g c =
-    let link = at_some (IsLink c.size-size.result c.args.root first_key) c.in-Some.top c.in-Some.is c.in_ok-top.ensures.link in
+    let link = at_some (IsTreeLink c.size-size.result c.args.root first_key) c.in-Some.top c.in-Some.is c.in_ok-top.ensures.link in
     let A : ℕ → ℕ → Type 0 = λ n r. EachState (g.S.RecordRead.meaning c.args.store.now) (g.S.RecordRead.meaning c.read_node.new.store) (λ state. IsAt n state (r, content_of c.in-Some.top.node)) in
     let at = subst (λ r. A (g.S.RecordRead.meaning c.args.store.now).size r) link.at (subst (λ n. A n c.in-Some.top.at) c.size-size.ensures.size (child_at c.size-size.result c.args.root (g.S.RecordRead.meaning c.args.store.now) (g.S.RecordRead.meaning c.read_node.new.store) c.in-Some.top c.in_ok-top.field-0 c.in-Some.is c.in_ok-top.ensures.read)) in
     (c.enter.ensures.calls.0 + c.put_root.ensures.calls.0, (Calls-trans _ _ _ c.enter.ensures.calls.0 c.put_root.ensures.calls.0 (Calls-behind _ _ _ c.enter.ensures.calls.0 c.read_node.ensures.calls c.enter.ensures.calls.1) c.put_root.ensures.calls.1), root_ok c.args.root c.args.key (content_of c.in-Some.top.node) (g.S.RecordRead.meaning c.args.store.now) (g.S.RecordRead.meaning c.read_node.new.store) (g.S.RecordRead.meaning c.enter.new.store) (g.S.RecordRead.meaning c.put_root.new.store) c.enter.ensures.calls.0 c.in_ok-top.ensures.after c.enter.ensures.after.reads c.put_root.ensures.after.reads link.low at c.enter.result c.enter.ensures.calls.2 c.args.rid c.rank-rank.result c.in-Takes.entry (c.in_ok-enter.was ∙ ap (λ e. Ok e) c.in-Takes.is) (λ leaf. (let l = rw c.in-Takes.is at (c.in_ok-enter.ensures.leaf leaf) in l.0.1)) (λ inner. from_reads (g.S.RecordRead.meaning c.args.store.now) (g.S.RecordRead.meaning c.read_node.new.store) (g.S.RecordRead.meaning c.enter.new.store) c.args.key c.args.rid c.in-Some.top.node.entries.items c.rank-rank.result c.in_ok-enter.field-0 _ c.in_ok-top.ensures.after c.in-Takes.is (c.in_ok-enter.ensures.inner inner)) c.put_root.result c.put_root.ensures.calls.0 (rw c.in_ok-put_root-in-Takes.was at c.put_root.ensures.calls.2.exact) c.put_root.ensures.calls.2, gives-trans c.enter.ensures.calls.0 c.put_root.ensures.calls.0 (g.S.RecordRead.meaning c.args.store.now) (g.S.RecordRead.meaning c.enter.new.store) (g.S.RecordRead.meaning c.put_root.new.store) (gives-behind c.enter.ensures.calls.0 (g.S.RecordRead.meaning c.args.store.now) (g.S.RecordRead.meaning c.read_node.new.store) (g.S.RecordRead.meaning c.enter.new.store) c.in_ok-top.ensures.after c.enter.ensures.calls.3) c.put_root.ensures.calls.3)
@@ -202,21 +202,21 @@ returns-in_ok-put_root-in-Takes-clause-few g c =
 
 pub returns-in-There-clause-walked : goal.returns-in-There-clause-walked
 returns-in-There-clause-walked g c =
-    let link = at_some (IsLink c.size-size.result c.args.root first_key) c.in-Some.top c.in-Some.is c.in_ok-top.ensures.link in
+    let link = at_some (IsTreeLink c.size-size.result c.args.root first_key) c.in-Some.top c.in-Some.is c.in_ok-top.ensures.link in
     let A : ℕ → ℕ → Type 0 = λ n r. EachState (g.S.RecordRead.meaning c.args.store.now) (g.S.RecordRead.meaning c.read_node.new.store) (λ state. IsAt n state (r, content_of c.in-Some.top.node)) in
     let at = subst (λ r. A (g.S.RecordRead.meaning c.args.store.now).size r) link.at (subst (λ n. A n c.in-Some.top.at) c.size-size.ensures.size (child_at c.size-size.result c.args.root (g.S.RecordRead.meaning c.args.store.now) (g.S.RecordRead.meaning c.read_node.new.store) c.in-Some.top c.in_ok-top.field-0 c.in-Some.is c.in_ok-top.ensures.read)) in
     each_ends_well (g.S.RecordRead.meaning c.args.store.now).size c.args.root c.args.key (content_of c.in-Some.top.node) (g.S.RecordRead.meaning c.args.store.now) (g.S.RecordRead.meaning c.read_node.new.store) (g.S.RecordRead.meaning c.enter.new.store) (g.S.RecordRead.meaning c.enter.new.store) c.in_ok-top.ensures.after c.enter.ensures.after.reads (extends-refl (g.S.RecordRead.meaning c.enter.new.store).reads) link.low at (λ inner. rw c.size-size.ensures.size at (c.in_ok-enter.ensures.walked inner))
 
 pub returns-in-Done-clause-walked : goal.returns-in-Done-clause-walked
 returns-in-Done-clause-walked g c =
-    let link = at_some (IsLink c.size-size.result c.args.root first_key) c.in-Some.top c.in-Some.is c.in_ok-top.ensures.link in
+    let link = at_some (IsTreeLink c.size-size.result c.args.root first_key) c.in-Some.top c.in-Some.is c.in_ok-top.ensures.link in
     let A : ℕ → ℕ → Type 0 = λ n r. EachState (g.S.RecordRead.meaning c.args.store.now) (g.S.RecordRead.meaning c.read_node.new.store) (λ state. IsAt n state (r, content_of c.in-Some.top.node)) in
     let at = subst (λ r. A (g.S.RecordRead.meaning c.args.store.now).size r) link.at (subst (λ n. A n c.in-Some.top.at) c.size-size.ensures.size (child_at c.size-size.result c.args.root (g.S.RecordRead.meaning c.args.store.now) (g.S.RecordRead.meaning c.read_node.new.store) c.in-Some.top c.in_ok-top.field-0 c.in-Some.is c.in_ok-top.ensures.read)) in
     each_ends_well (g.S.RecordRead.meaning c.args.store.now).size c.args.root c.args.key (content_of c.in-Some.top.node) (g.S.RecordRead.meaning c.args.store.now) (g.S.RecordRead.meaning c.read_node.new.store) (g.S.RecordRead.meaning c.enter.new.store) (g.S.RecordRead.meaning c.enter.new.store) c.in_ok-top.ensures.after c.enter.ensures.after.reads (extends-refl (g.S.RecordRead.meaning c.enter.new.store).reads) link.low at (λ inner. rw c.size-size.ensures.size at (c.in_ok-enter.ensures.walked inner))
 
 pub returns-in_ok-put_root-in-Takes-clause-walked : goal.returns-in_ok-put_root-in-Takes-clause-walked
 returns-in_ok-put_root-in-Takes-clause-walked g c =
-    let link = at_some (IsLink c.size-size.result c.args.root first_key) c.in-Some.top c.in-Some.is c.in_ok-top.ensures.link in
+    let link = at_some (IsTreeLink c.size-size.result c.args.root first_key) c.in-Some.top c.in-Some.is c.in_ok-top.ensures.link in
     let A : ℕ → ℕ → Type 0 = λ n r. EachState (g.S.RecordRead.meaning c.args.store.now) (g.S.RecordRead.meaning c.read_node.new.store) (λ state. IsAt n state (r, content_of c.in-Some.top.node)) in
     let at = subst (λ r. A (g.S.RecordRead.meaning c.args.store.now).size r) link.at (subst (λ n. A n c.in-Some.top.at) c.size-size.ensures.size (child_at c.size-size.result c.args.root (g.S.RecordRead.meaning c.args.store.now) (g.S.RecordRead.meaning c.read_node.new.store) c.in-Some.top c.in_ok-top.field-0 c.in-Some.is c.in_ok-top.ensures.read)) in
     each_ends_well (g.S.RecordRead.meaning c.args.store.now).size c.args.root c.args.key (content_of c.in-Some.top.node) (g.S.RecordRead.meaning c.args.store.now) (g.S.RecordRead.meaning c.read_node.new.store) (g.S.RecordRead.meaning c.enter.new.store) (g.S.RecordRead.meaning c.put_root.new.store) c.in_ok-top.ensures.after c.enter.ensures.after.reads c.put_root.ensures.after.reads link.low at (λ inner. rw c.size-size.ensures.size at (c.in_ok-enter.ensures.walked inner))
@@ -250,12 +250,12 @@ returns-in-Done-clause-writes g c =
 
 pub returns-in_err-put_root-in-Takes-clause-writes : goal.returns-in_err-put_root-in-Takes-clause-writes
 returns-in_err-put_root-in-Takes-clause-writes g c =
-    let link = at_some (IsLink c.size-size.result c.args.root first_key) c.in-Some.top c.in-Some.is c.in_ok-top.ensures.link in
+    let link = at_some (IsTreeLink c.size-size.result c.args.root first_key) c.in-Some.top c.in-Some.is c.in_ok-top.ensures.link in
     known-then-fixed c.put_root.ensures.calls.0 (g.S.RecordRead.meaning c.args.store.now) (g.S.RecordRead.meaning c.enter.new.store) (g.S.RecordRead.meaning c.put_root.new.store) c.in-Some.top.at (known-behind (g.S.RecordRead.meaning c.args.store.now) (g.S.RecordRead.meaning c.read_node.new.store) (g.S.RecordRead.meaning c.enter.new.store) c.in_ok-top.ensures.after c.enter.ensures.writes) c.put_root.ensures.after.reads c.put_root.ensures.calls.3 c.put_root.ensures.writes (rw link.at c.requires.root)
 
 pub returns-in_ok-put_root-in-Takes-clause-writes : goal.returns-in_ok-put_root-in-Takes-clause-writes
 returns-in_ok-put_root-in-Takes-clause-writes g c =
-    let link = at_some (IsLink c.size-size.result c.args.root first_key) c.in-Some.top c.in-Some.is c.in_ok-top.ensures.link in
+    let link = at_some (IsTreeLink c.size-size.result c.args.root first_key) c.in-Some.top c.in-Some.is c.in_ok-top.ensures.link in
     known-then-fixed c.put_root.ensures.calls.0 (g.S.RecordRead.meaning c.args.store.now) (g.S.RecordRead.meaning c.enter.new.store) (g.S.RecordRead.meaning c.put_root.new.store) c.in-Some.top.at (known-behind (g.S.RecordRead.meaning c.args.store.now) (g.S.RecordRead.meaning c.read_node.new.store) (g.S.RecordRead.meaning c.enter.new.store) c.in_ok-top.ensures.after c.enter.ensures.writes) c.put_root.ensures.after.reads c.put_root.ensures.calls.3 c.put_root.ensures.writes (rw link.at c.requires.root)
 
 -- what is left of the store

@@ -5,7 +5,7 @@ use Rattle.record_store.proofs.Paths.{Calls-reads, Calls-trans, CallFault-read, 
 use Rattle.record_store.proofs.Agreement.{writes_same, extends-refl, ReadsGrow-refl, ReadsGrow-write, ReadsGrow-only, written_after, written_as}
 use Rattle.record_store.proofs.Known.{tries, gives-reads, gives-tried, known-reads, known-found}
 use Rattle.ordered_index.proofs.Wrote.{nodes-none, read_few, wrote_none, wrote_one}
-use Rattle.ordered_index.specs.Node.{words_of, Content}
+use Rattle.ordered_index.specs.Node.{tree_node_words, Content}
 use Rattle.ordered_index.specs.Held.{content_of}
 use Rattle.ordered_index.proofs.Trees.{is_torn}
 use Rattle.ordered_index.proofs.Removed.{removes_entry, removes_nothing, each_absent}
@@ -50,7 +50,7 @@ returns-clause-ok g c =
     let place = rw c.in-Some-place.is at c.place.ensures.place in
     removes_entry c.size-size.result c.args.root c.in-Some.leaf.at c.in-Some-place.index c.args.key (g.S.RecordRead.meaning c.args.store.now) (g.S.RecordRead.meaning c.leaf_for.new.store) (g.S.RecordRead.meaning c.write_node.new.store) (content_of c.in-Some.leaf.node)
     c.size-size.ensures.size c.in_ok-leaf.ensures.after (λ state agrees. rw c.in-Some.is at (c.in_ok-leaf.ensures.leaf state agrees)) within.1.rising place
-    ((written_as (g.S.RecordRead.meaning c.leaf_for.new.store) c.in-Some.leaf.at c.cells.ensures c.in_ok-write_node.ensures.ok) ∙ ap (λ es. after_write (g.S.RecordRead.meaning c.leaf_for.new.store) c.in-Some.leaf.at (Some (words_of (let n : Content = record { kind = c.in-Some.leaf.node.kind; low = c.in-Some.leaf.node.low; entries = es; next = c.in-Some.leaf.node.next } in n)))) c.remove.ensures.items)
+    ((written_as (g.S.RecordRead.meaning c.leaf_for.new.store) c.in-Some.leaf.at c.cells.ensures c.in_ok-write_node.ensures.ok) ∙ ap (λ es. after_write (g.S.RecordRead.meaning c.leaf_for.new.store) c.in-Some.leaf.at (Some (tree_node_words (let n : Content = record { kind = c.in-Some.leaf.node.kind; low = c.in-Some.leaf.node.low; entries = es; next = c.in-Some.leaf.node.next } in n)))) c.remove.ensures.items)
 
 pub returns-clause-calls : goal.returns-clause-calls
 returns-clause-calls g c = Calls-trans _ _ _ 0 0 (Calls-reads _ _ c.leaf_for.ensures.calls) c.write_node.ensures.calls

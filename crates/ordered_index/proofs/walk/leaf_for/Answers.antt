@@ -4,7 +4,7 @@ use Rattle.record_store.proofs.Paths.{Reads-trans, ReadFault-behind}
 use Rattle.record_store.proofs.Refusals.{fault_moved, torn_moved, IfStore-map, IfTorn-map}
 use Rattle.plain_data.specs.State.{overlay}
 use Rattle.ordered_index.specs.Keys.{first_key}
-use Rattle.ordered_index.specs.Walk.{IsLink}
+use Rattle.ordered_index.specs.Walk.{IsTreeLink}
 use Rattle.ordered_index.proofs.Entries.{last_at-low, last_at-in}
 use Rattle.ordered_index.proofs.Order.{first_not_after}
 use Rattle.ordered_index.proofs.Passed.{each_tears, each_absent, each_deep, each_steps, at_some}
@@ -20,7 +20,7 @@ returns-in_err-here-clause-torn g c =
 
 pub loop-key-init : goal.loop-key-init
 loop-key-init g c =
-    let link = at_some (IsLink c.args.size c.args.root first_key) c.in-Some.here c.in-Some.is c.in_ok-here.ensures.link in
+    let link = at_some (IsTreeLink c.args.size c.args.root first_key) c.in-Some.here c.in-Some.is c.in_ok-here.ensures.link in
     record {
       calls = c.in_ok-here.ensures.calls;
       after = c.in_ok-here.ensures.after;
@@ -63,7 +63,7 @@ returns-in_default-2-clause-calls g c = Reads-trans _ _ _ c.loop-key.invariant.c
 
 pub loop-key-preserved : goal.loop-key-preserved
 loop-key-preserved g c =
-    let link = at_some (IsLink c.args.size c.child-rid.result.1 c.child-rid.result.0) c.in-Some-2.link c.in-Some-2.is c.in_ok-link.ensures.link in
+    let link = at_some (IsTreeLink c.args.size c.child-rid.result.1 c.child-rid.result.0) c.in-Some-2.link c.in-Some-2.is c.in_ok-link.ensures.link in
     record {
       calls = Reads-trans _ _ _ c.loop-key.invariant.calls c.read_node-in-loop-key.ensures.calls;
       after = OnlyReads-trans _ _ _ c.loop-key.invariant.after c.read_node-in-loop-key.ensures.after;

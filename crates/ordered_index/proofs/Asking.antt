@@ -6,8 +6,6 @@ use Rattle.record_store.specs.declared.walk.Walk.{Walk}
 use Rattle.record_store.specs.Meaning.{Meaning, after_write}
 use Rattle.record_store.specs.States.{EachState}
 use Rattle.record_store.specs.Walks.{Extends, OnlyReads}
-use Rattle.record_store.specs.Calls.{Reads, Calls}
-use Rattle.record_store.proofs.Paths.{Calls-at, Calls-reads, Calls-trans}
 use Rattle.record_store.proofs.Agreement.{extends-refl, writes_same}
 use Rattle.ordered_index.specs.declared.key.Key.{Key}
 use Rattle.ordered_index.specs.declared.node.Kind.{Kind}
@@ -169,18 +167,12 @@ module _ {F : Type 0} (m0 m1 m2 m3 : Meaning) (key : Key) (entries : List (Key �
         }
 
 -- a fault of the child's calls
-pub due_behind : (m0 m1 m2 : Meaning) (key : Key) (entries : List (Key × ℕ)) (rank : ℕ) (child : Key × ℕ) (node : Content) (asks : ℕ) → OnlyReads m0 m1 → Extends m1.reads m2.reads → IsChild m0.size key entries rank child node → EachState m0 m1 (λ state. IsAt m0.size state (child.1, node)) → (node.kind ≡ Inner) × EachPart m1 m2 key node.entries (PartIsDue key asks) → EachPart m0 m2 key entries (PartIsDue key (0 + asks))
+pub due_behind : (m0 m1 m2 : Meaning) (key : Key) (entries : List (Key × ℕ)) (rank : ℕ) (child : Key × ℕ) (node : Content) (asks : ℕ) → OnlyReads m0 m1 → Extends m1.reads m2.reads → IsChild m0.size key entries rank child node → EachState m0 m1 (λ state. IsAt m0.size state (child.1, node)) → (node.kind ≡ Inner) × EachPart m1 m2 key node.entries (PartIsDue key asks) → EachPart m0 m2 key entries (PartIsDue key asks)
 due_behind m0 m1 m2 key entries rank child node asks only early c at later =
-    let P : ℕ → Type 0 = λ n. EachPart m0 m2 key entries (PartIsDue key n) in
-    subst P (omega arith) (child_due m0 m1 m2 m2 key entries rank child node asks early (extends-refl m2.reads) c at (λ leaf. leaf_inner node.kind leaf later.0) (λ k. reads_part m0 m1 m2 key node.entries (PartIsDue key asks) only later.1))
+    child_due m0 m1 m2 m2 key entries rank child node asks early (extends-refl m2.reads) c at (λ leaf. leaf_inner node.kind leaf later.0) (λ k. reads_part m0 m1 m2 key node.entries (PartIsDue key asks) only later.1)
 
 pub one_at : (entries : List (Key × ℕ)) (asks : ℕ) → (asks ≡ 1) × (length entries ≡ 9) → asks ≤ asks_at entries
 one_at entries asks one = omega (arith, one.0, asks_nine entries one.1)
-
--- calls behind reads
-module _ {S F : Type 0} {read_gives : S → ℕ → Result (Option (List ℕ)) F → S → Type 0} {write_gives : S → ℕ → Option (List ℕ) → Result (Unit {0}) F → S → Type 0} {fresh_gives : S → Result ℕ F → S → Type 0} where
-  pub Calls-behind : (first before after : S) (n : ℕ) → Reads read_gives first before → Calls read_gives write_gives fresh_gives before n after → Calls read_gives write_gives fresh_gives first n after
-  Calls-behind first before after n a b = Calls-at first after (0 + n) n (omega arith) (Calls-trans first before after 0 n (Calls-reads first before a) b)
 
 -- what the root asks for
 pub root_refused : {F : Type 0} (entries : List (Key × ℕ)) (before after : Meaning) (answer : Result (Unit {0}) (Walk F)) → IsErr answer → after ≡ before → AsksRoot entries before after answer 0

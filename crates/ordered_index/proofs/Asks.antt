@@ -137,10 +137,10 @@ module _ {F : Type 0} (root : ℕ) (key : Key) (node : Content) (m0 m1 m2 m3 : M
     }
 
 -- a fault below the root
-pub top_behind : (root : ℕ) (key : Key) (node : Content) (m0 m1 m2 : Meaning) (asks : ℕ) → OnlyReads m0 m1 → Extends m1.reads m2.reads → node.low ≡ first_key → EachState m0 m1 (λ state. IsAt m0.size state (root, node)) → (node.kind ≡ Inner) × EachPart m1 m2 key node.entries (PartIsDue key asks) → InsertMayAsk root key m0 m2 (0 + asks)
+pub top_behind : (root : ℕ) (key : Key) (node : Content) (m0 m1 m2 : Meaning) (asks : ℕ) → OnlyReads m0 m1 → Extends m1.reads m2.reads → node.low ≡ first_key → EachState m0 m1 (λ state. IsAt m0.size state (root, node)) → (node.kind ≡ Inner) × EachPart m1 m2 key node.entries (PartIsDue key asks) → InsertMayAsk root key m0 m2 asks
 top_behind root key node m0 m1 m2 asks only early low at later =
-    let due = tree_parts root key m0 m2 (PartIsDue key (0 + asks)) (present_by m0.size root node m0 m1 m2 early at) (due_behind m0 m1 m2 key (top_entries root) 1 (first_key, root) node asks only early (root_child m0.size root key node low) at later) in
-    λ state levels leaves agrees tree. due_most key (0 + asks) levels leaves (due state levels leaves agrees tree)
+    let due = tree_parts root key m0 m2 (PartIsDue key asks) (present_by m0.size root node m0 m1 m2 early at) (due_behind m0 m1 m2 key (top_entries root) 1 (first_key, root) node asks only early (root_child m0.size root key node low) at later) in
+    λ state levels leaves agrees tree. due_most key asks levels leaves (due state levels leaves agrees tree)
 
 -- at most so many records are written in all
 pub few_of : {F : Type 0} (root : ℕ) (key : Key) (before after : Meaning) (answer : Result Bool (Walk F)) (asked : ℕ) → InsertAsks root key before after answer asked → WritesNodes 51 before after

@@ -1,5 +1,5 @@
 -- How often an insertion asks for a new record, and how many it writes.
-use Rattle.std.specs.Prelude.{◌≡◌, ℕ, ◌+◌, ◌*◌, ◌<◌, ◌≤◌, ◌==◌, ◌&&◌, if◌then◌else◌, List, [], ◌∷◌, ◌++◌, length, Option, None, Some, Result, Bool, true, false, IfOk}
+use Rattle.std.specs.Prelude.{◌≡◌, ℕ, ◌+◌, ◌*◌, ◌<◌, ◌≤◌, ◌==◌, ◌&&◌, if◌then◌else◌, List, [], ◌∷◌, ◌++◌, length, Option, None, Some, Result, Bool, true, false, IfOk, OnOk}
 use Rattle.plain_data.specs.State.{State, Agrees, overlay}
 use Rattle.record_store.specs.Meaning.{Meaning}
 use Rattle.record_store.specs.declared.walk.Walk.{Walk}
@@ -72,7 +72,7 @@ HasAskedBelow before after key entries asked There = asked ≡ 0
 HasAskedBelow before after key entries asked Done = EachPart before after key entries (SomeFull key asked)
 HasAskedBelow before after key entries asked (Takes entry) = EachPart before after key entries (AllFull key asked)
 
--- what was asked for and written below a node at this depth
+-- what was asked for and written below these entries of a node at this depth
 pub record AsksBelow {F : Type 0} (key : Key) (kind : Kind) (entries : List (Key × ℕ)) (depth : ℕ) (before after : Meaning) (answer : Result Entering (Walk F)) (asked : ℕ) : Type 0 where
   pub leaf : kind ≡ Leaf → asked ≡ 0
   pub may : 0 < asked → EachPart before after key entries (PartIsDue key asked)
@@ -81,13 +81,35 @@ pub record AsksBelow {F : Type 0} (key : Key) (kind : Kind) (entries : List (Key
   pub writes : WritesNodes (2 * asked + 1) before after
   pub takes : IfOk answer (λ entering. IfTakes entering (λ _. WritesNodes (2 * asked) before after))
 
+-- the same of a node; and so often it may ask: it is an inner one, the key is not there, and so many nodes are full
+abbrev pub AsksUnder : {F : Type 0} → Key → Content → ℕ → Meaning → Meaning → Result Entering (Walk F) → ℕ → Type 0
+AsksUnder key node depth before after answer asked = AsksBelow key node.kind node.entries depth before after answer asked
+
+abbrev pub MayAskUnder : Key → Content → Meaning → Meaning → ℕ → Type 0
+MayAskUnder key node before after asks = (node.kind ≡ Inner) × EachPart before after key node.entries (PartIsDue key asks)
+
 -- a node with nine entries asks for one new record
 abbrev pub asks_at : List (Key × ℕ) → ℕ
 asks_at entries = if length entries == 9 then 1 else 0
 
+abbrev pub MayAskAt : List (Key × ℕ) → ℕ → Type 0
+MayAskAt entries asks = (asks ≡ 1) × (length entries ≡ 9)
+
 -- and the root for two
+abbrev pub MayAskRoot : List (Key × ℕ) → Meaning → Meaning → ℕ → Type 0
+MayAskRoot entries before after asks = (asks ≤ 2) × (length entries ≡ 9)
+
 pub record AsksRoot {F : Type 0} (entries : List (Key × ℕ)) (before after : Meaning) (answer : Result (Unit {0}) (Walk F)) (asked : ℕ) : Type 0 where
   pub may : 0 < asked → length entries ≡ 9
   pub exact : IfOk answer (λ _. asked ≡ 2 * asks_at entries)
   pub few : asked ≤ 2
   pub writes : WritesNodes (2 * asked + 1) before after
+
+-- a root that is parted asks twice, unless the first ask is refused
+abbrev pub MayAskSplit : Meaning → Meaning → ℕ → Type 0
+MayAskSplit before after asks = asks ≤ 2
+
+pub record AsksSplit {F : Type 0} (before after : Meaning) (answer : Result (Unit {0}) (Walk F)) (asked : ℕ) : Type 0 where
+  pub few : asked ≤ 2
+  pub some : 0 < asked
+  pub exact : OnOk answer (asked ≡ 2)

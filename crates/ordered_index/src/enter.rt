@@ -1,12 +1,12 @@
 //! How a tree takes an entry in, from its leaf upwards.
 
 ghost use Rattle.std.specs.Prelude.{◌≡◌, ℕ, ◌+◌, ◌*◌, ◌<◌, ◌≤◌, length, IfOk, IfSome, OnOk, OnErr, Some};
-ghost use Rattle.record_store.specs.Calls.{Calls, CallFault};
+ghost use Rattle.record_store.specs.Goes.{WalksByCalls, WalksCounting};
 ghost use Rattle.record_store.specs.Limits.{record_limit};
 ghost use Rattle.record_store.specs.Meaning.{after_write};
-ghost use Rattle.record_store.specs.Writes.{WritesOnly, EachWritesKnown, GivesAtMost, GivesFewer};
-ghost use Rattle.record_store.specs.Walks.{IfTorn, IfStore, IfNoMemory, OnlyReads, ReadsGrow};
-ghost use Rattle.ordered_index.specs.Asks.{EachPart, PartIsDue, AsksBelow, AsksRoot, asks_at};
+ghost use Rattle.record_store.specs.Writes.{WritesOnly, EachWritesKnown};
+ghost use Rattle.record_store.specs.Walks.{IfTorn, OnlyReads};
+ghost use Rattle.ordered_index.specs.Asks.{MayAskUnder, MayAskAt, MayAskRoot, MayAskSplit, AsksUnder, AsksRoot, AsksSplit, asks_at};
 ghost use Rattle.ordered_index.specs.declared.node.Kind.TheVariants.{Leaf, Inner};
 ghost use Rattle.ordered_index.specs.Held.{content_of};
 ghost use Rattle.ordered_index.specs.Keys.{NotAfter};
@@ -55,15 +55,11 @@ pub fn enter<S: RecordStore>(
     ensures torn { IfTorn result (λ torn. (here.now.kind ≡ Inner) × EachState (S.meaning store.old) (S.meaning store.new) (λ state. TearsBelow size depth key here.now.entries.items state torn)) }
 
     // `fresh` is asked for a full node, where the key is not there
-    ensures fault { IfStore result (CallFault S.read_gives S.write_gives S.fresh_gives (λ asks. (here.now.kind ≡ Inner) × EachPart (S.meaning store.old) (S.meaning store.new) key here.now.entries.items (PartIsDue key asks) × GivesFewer asks (S.meaning store.old) (S.meaning store.new)) store.old store.new) }
-    ensures memory { IfNoMemory result ⊥ }
-    ensures calls { (asked : ℕ) × Calls S.read_gives S.write_gives S.fresh_gives store.old asked store.new × AsksBelow key here.now.kind here.now.entries.items depth (S.meaning store.old) (S.meaning store.new) result asked × GivesAtMost asked (S.meaning store.old) (S.meaning store.new) }
+    ensures walk { WalksCounting S.read_gives S.write_gives S.fresh_gives S.meaning S.rest (MayAskUnder key (content_of here.now)) (AsksUnder key (content_of here.now) depth) store.old store.new result }
 
     // no record is written but one that is present, and one that was given
     ensures writes { EachWritesKnown (S.meaning store.old) (S.meaning store.new) }
     ensures walked { here.now.kind ≡ Inner → OnOk result (EachState (S.meaning store.old) (S.meaning store.new) (ReachesBelow size depth key here.now.entries.items)) }
-    ensures rest { S.rest store.new ≡ S.rest store.old }
-    ensures after { ReadsGrow (S.meaning store.old) (S.meaning store.new) }
 {
     if !here.kind.is_inner() {
         return match here.place(key) {
@@ -101,15 +97,10 @@ fn put_entry<S: RecordStore>(
     requires rank { rank ≤ length link.node.entries.items }
     ensures ok { IfOk result (PutsEntry (S.meaning store.old) (S.meaning store.new) link.at (content_of link.node) (with_entry link.node.entries.items rank entry)) }
     ensures torn { IfTorn result (λ _. ⊥) }
-    ensures fault { IfStore result (CallFault S.read_gives S.write_gives S.fresh_gives (λ asks. (asks ≡ 1) × (length link.node.entries.items ≡ 9) × GivesFewer asks (S.meaning store.old) (S.meaning store.new)) store.old store.new) }
-    ensures memory { IfNoMemory result ⊥ }
-    ensures calls { Calls S.read_gives S.write_gives S.fresh_gives store.old (asks_at link.node.entries.items) store.new }
-    ensures given { GivesAtMost (asks_at link.node.entries.items) (S.meaning store.old) (S.meaning store.new) }
+    ensures walk { WalksByCalls S.read_gives S.write_gives S.fresh_gives S.meaning S.rest (MayAskAt link.node.entries.items) (asks_at link.node.entries.items) store.old store.new result }
     ensures writes { WritesOnly (λ rid. rid ≡ link.at) (S.meaning store.old) (S.meaning store.new) }
     ensures few { WritesNodes (2 * asks_at link.node.entries.items + 1) (S.meaning store.old) (S.meaning store.new) }
     ensures parted { IfOk result (λ new. IfSome new (λ _. WritesNodes (2 * asks_at link.node.entries.items) (S.meaning store.old) (S.meaning store.new))) }
-    ensures rest { S.rest store.new ≡ S.rest store.old }
-    ensures after { ReadsGrow (S.meaning store.old) (S.meaning store.new) }
 {
     link.node.entries.insert(rank, entry);
     if !link.node.entries.is_full() {
@@ -136,12 +127,8 @@ pub fn put_root<S: RecordStore>(
     requires rank { rank ≤ length top.node.entries.items }
     ensures ok { OnOk result (PutsRoot (S.meaning store.old) (S.meaning store.new) top.at (content_of top.node) (with_entry top.node.entries.items rank entry)) }
     ensures torn { IfTorn result (λ _. ⊥) }
-    ensures fault { IfStore result (CallFault S.read_gives S.write_gives S.fresh_gives (λ asks. (asks ≤ 2) × (length top.node.entries.items ≡ 9) × GivesFewer asks (S.meaning store.old) (S.meaning store.new)) store.old store.new) }
-    ensures memory { IfNoMemory result ⊥ }
-    ensures calls { (asked : ℕ) × Calls S.read_gives S.write_gives S.fresh_gives store.old asked store.new × AsksRoot top.node.entries.items (S.meaning store.old) (S.meaning store.new) result asked × GivesAtMost asked (S.meaning store.old) (S.meaning store.new) }
+    ensures walk { WalksCounting S.read_gives S.write_gives S.fresh_gives S.meaning S.rest (MayAskRoot top.node.entries.items) (AsksRoot top.node.entries.items) store.old store.new result }
     ensures writes { WritesOnly (λ rid. rid ≡ top.at) (S.meaning store.old) (S.meaning store.new) }
-    ensures rest { S.rest store.new ≡ S.rest store.old }
-    ensures after { ReadsGrow (S.meaning store.old) (S.meaning store.new) }
 {
     top.node.entries.insert(rank, entry);
     if !top.node.entries.is_full() {
@@ -157,13 +144,9 @@ fn split_root<S: RecordStore>(store: &mut S, mut top: Link) -> Result<(), Walk<S
     requires ten { length top.node.entries.items ≡ 10 }
     ensures ok { OnOk result (PutsRoot (S.meaning store.old) (S.meaning store.new) top.at (content_of top.node) top.node.entries.items) }
     ensures torn { IfTorn result (λ _. ⊥) }
-    ensures fault { IfStore result (CallFault S.read_gives S.write_gives S.fresh_gives (λ asks. (asks ≤ 2) × GivesFewer asks (S.meaning store.old) (S.meaning store.new)) store.old store.new) }
-    ensures memory { IfNoMemory result ⊥ }
-    ensures calls { (asked : ℕ) × Calls S.read_gives S.write_gives S.fresh_gives store.old asked store.new × (asked ≤ 2) × OnOk result (asked ≡ 2) × (0 < asked) × GivesAtMost asked (S.meaning store.old) (S.meaning store.new) }
+    ensures walk { WalksCounting S.read_gives S.write_gives S.fresh_gives S.meaning S.rest MayAskSplit AsksSplit store.old store.new result }
     ensures writes { WritesOnly (λ rid. rid ≡ top.at) (S.meaning store.old) (S.meaning store.new) }
     ensures few { WritesNodes 3 (S.meaning store.old) (S.meaning store.new) }
-    ensures rest { S.rest store.new ≡ S.rest store.old }
-    ensures after { ReadsGrow (S.meaning store.old) (S.meaning store.new) }
 {
     let left = store.fresh()?;
     let right = store.fresh()?;

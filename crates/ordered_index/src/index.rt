@@ -1,11 +1,11 @@
 //! The calls of the index.
 
 ghost use Rattle.std.specs.Prelude.{◌≡◌, ℕ, ◌<◌, IfOk, IfSome, OnOk};
-ghost use Rattle.record_store.specs.Calls.{Reads, ReadFault, Calls, CallFault};
+ghost use Rattle.record_store.specs.Goes.{WalksByReads, WalksByCalls, WalksCounting};
 ghost use Rattle.ordered_index.specs.Changes.{RemovesEntry, InsertsEntry};
-ghost use Rattle.record_store.specs.Writes.{EachWritesKnown, GivesAtMost, GivesFewer};
+ghost use Rattle.record_store.specs.Writes.{EachWritesKnown};
 ghost use Rattle.ordered_index.specs.Asks.{InsertMayAsk, InsertAsks};
-ghost use Rattle.record_store.specs.Walks.{IfTorn, IfStore, IfNoMemory, OnlyReads, ReadsGrow};
+ghost use Rattle.record_store.specs.Walks.{IfTorn};
 ghost use Rattle.ordered_index.specs.Tree.{EachTree, record_of_key};
 ghost use Rattle.record_store.specs.States.{EachState};
 ghost use Rattle.ordered_index.specs.Walk.{DescentEndsWell, IsTornTree};
@@ -26,11 +26,7 @@ pub fn get<S: RecordRead>(store: &mut S, root: u32, key: Key) -> Result<Option<u
     ensures stored { IfOk result (λ answer. IfSome answer (λ rid. rid < (S.meaning store.old).size)) }
     ensures walked { OnOk result (EachState (S.meaning store.old) (S.meaning store.new) (DescentEndsWell (S.meaning store.old).size root key)) }
     ensures torn { IfTorn result (IsTornTree root key (S.meaning store.old) (S.meaning store.new)) }
-    ensures fault { IfStore result (ReadFault S.read_gives store.old store.new) }
-    ensures memory { IfNoMemory result ⊥ }
-    ensures calls { Reads S.read_gives store.old store.new }
-    ensures rest { S.rest store.new ≡ S.rest store.old }
-    ensures after { OnlyReads (S.meaning store.old) (S.meaning store.new) }
+    ensures walk { WalksByReads S.read_gives S.meaning S.rest store.old store.new result }
 {
     let size = store.size();
     let Some(leaf) = leaf_for(store, size, root, key)? else {
@@ -50,19 +46,13 @@ pub fn remove<S: RecordStore>(store: &mut S, root: u32, key: Key) -> Result<bool
     ensures ok { IfOk result (λ was_there. RemovesEntry root key was_there (S.meaning store.old) (S.meaning store.new)) }
     ensures walked { OnOk result (EachState (S.meaning store.old) (S.meaning store.new) (DescentEndsWell (S.meaning store.old).size root key)) }
     ensures torn { IfTorn result (IsTornTree root key (S.meaning store.old) (S.meaning store.new)) }
-    ensures fault { IfStore result (CallFault S.read_gives S.write_gives S.fresh_gives (λ _. ⊥) store.old store.new) }
-    ensures memory { IfNoMemory result ⊥ }
-
-    ensures few { WritesNodes 1 (S.meaning store.old) (S.meaning store.new) }
 
     // `fresh` is never asked
-    ensures calls { Calls S.read_gives S.write_gives S.fresh_gives store.old 0 store.new }
-    ensures given { GivesAtMost 0 (S.meaning store.old) (S.meaning store.new) }
+    ensures walk { WalksByCalls S.read_gives S.write_gives S.fresh_gives S.meaning S.rest (λ _. ⊥) 0 store.old store.new result }
 
-    // whatever it answers, no record is written but one that is present
+    // whatever it answers, one record is written at most, and it is present
+    ensures few { WritesNodes 1 (S.meaning store.old) (S.meaning store.new) }
     ensures writes { EachWritesKnown (S.meaning store.old) (S.meaning store.new) }
-    ensures rest { S.rest store.new ≡ S.rest store.old }
-    ensures after { ReadsGrow (S.meaning store.old) (S.meaning store.new) }
 {
     let size = store.size();
     let Some(mut leaf) = leaf_for(store, size, root, key)? else {
@@ -92,16 +82,12 @@ pub fn insert<S: RecordStore>(
     ensures walked { OnOk result (EachState (S.meaning store.old) (S.meaning store.new) (DescentEndsWell (S.meaning store.old).size root key)) }
     ensures torn { IfTorn result (IsTornTree root key (S.meaning store.old) (S.meaning store.new)) }
 
-    // `fresh` is asked where the key is not there, and so often at most as new records are due; an ask that is refused gave nothing
-    ensures fault { IfStore result (CallFault S.read_gives S.write_gives S.fresh_gives (λ asks. InsertMayAsk root key (S.meaning store.old) (S.meaning store.new) asks × GivesFewer asks (S.meaning store.old) (S.meaning store.new)) store.old store.new) }
-    ensures memory { IfNoMemory result ⊥ }
-    ensures calls { (asked : ℕ) × Calls S.read_gives S.write_gives S.fresh_gives store.old asked store.new × InsertAsks root key (S.meaning store.old) (S.meaning store.new) result asked × GivesAtMost asked (S.meaning store.old) (S.meaning store.new) }
+    // `fresh` is asked where the key is not there, and so often at most as new records are due
+    ensures walk { WalksCounting S.read_gives S.write_gives S.fresh_gives S.meaning S.rest (InsertMayAsk root key) (InsertAsks root key) store.old store.new result }
 
     // whatever it answers, no record is written but the root, one that is present, and one that was given
     ensures writes { EachWritesKnown (S.meaning store.old) (S.meaning store.new) }
     ensures few { WritesNodes 51 (S.meaning store.old) (S.meaning store.new) }
-    ensures rest { S.rest store.new ≡ S.rest store.old }
-    ensures after { ReadsGrow (S.meaning store.old) (S.meaning store.new) }
 {
     let size = store.size();
     let Some(top) = read_node(store, size, root, FIRST)? else {

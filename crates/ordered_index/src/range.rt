@@ -3,8 +3,8 @@
 ghost use Rattle.std.specs.Prelude.{◌≡◌, ◌⊎◌, ℕ, ◌+◌, ◌-◌, ◌<◌, ◌≤◌, ◌++◌, length, take, IfOk, OnOk, OnErr, true, false, vec_len};
 ghost use Rattle.record_store.specs.Limits.{record_limit};
 ghost use Rattle.std.specs.Vec.{vec_capacity};
-ghost use Rattle.record_store.specs.Calls.{Reads, ReadFault};
-ghost use Rattle.record_store.specs.Walks.{IfTorn, IfStore, IfNoMemory, OnlyReads};
+ghost use Rattle.record_store.specs.Goes.{GoesByReads, WalksByReads};
+ghost use Rattle.record_store.specs.Walks.{IfTorn, IfNoMemory};
 ghost use Rattle.ordered_index.specs.Held.{content_of};
 ghost use Rattle.ordered_index.specs.Keys.{is_before as is_before_of, Rising};
 ghost use Rattle.ordered_index.specs.Tree.{EachTree, IsAt, row_entries};
@@ -38,11 +38,9 @@ pub fn scan<S: RecordRead>(
     ensures walked { OnOk result (ListsNothing lo hi limit ⊎ EachState (S.meaning store.old) (S.meaning store.new) (Scans (S.meaning store.old).size root lo hi limit out.old.items out.new.items)) }
     ensures nothing { ListsNothing lo hi limit → store.new ≡ store.old }
     ensures torn { IfTorn result (IsTornScan root lo (S.meaning store.old) (S.meaning store.new)) }
-    ensures fault { IfStore result (ReadFault S.read_gives store.old store.new) }
+    ensures walk { GoesByReads S.read_gives S.meaning store.old store.new result }
     ensures memory { IfNoMemory result ((vec_capacity out.old < vec_len out.old + limit) × (store.new ≡ store.old)) }
-    ensures calls { Reads S.read_gives store.old store.new }
     ensures rest { S.rest store.new ≡ S.rest store.old }
-    ensures after { OnlyReads (S.meaning store.old) (S.meaning store.new) }
 {
     if out.reserve(limit as usize).is_err() {
         return Err(Walk::NoMemory);
@@ -73,11 +71,7 @@ fn scan_leaves<S: RecordRead>(
     ensures ok { OnOk result (EachState (S.meaning store.old) (S.meaning store.new) (Scans (S.meaning store.old).size root lo hi limit out.old.items out.new.items)) }
     ensures appends { Appends (S.meaning store.old).size limit lo hi out.old.items out.new.items }
     ensures torn { IfTorn result (λ rid. EachState (S.meaning store.old) (S.meaning store.new) (ScanTears (S.meaning store.old).size root lo rid)) }
-    ensures fault { IfStore result (ReadFault S.read_gives store.old store.new) }
-    ensures memory { IfNoMemory result ⊥ }
-    ensures calls { Reads S.read_gives store.old store.new }
-    ensures rest { S.rest store.new ≡ S.rest store.old }
-    ensures after { OnlyReads (S.meaning store.old) (S.meaning store.new) }
+    ensures walk { WalksByReads S.read_gives S.meaning S.rest store.old store.new result }
 {
     let size = store.size();
     let most = out.len() + limit;
@@ -140,11 +134,7 @@ fn read_next_leaf<S: RecordRead>(
     ensures leaf { IfOk result (IsLeafBehind size rid before) }
     ensures read { IfOk result (λ link. EachState (S.meaning store.old) (S.meaning store.new) (λ state. IsAt size state (link.at, content_of link.node))) }
     ensures torn { IfTorn result (λ torn. (torn ≡ rid) × EachState (S.meaning store.old) (S.meaning store.new) (λ state. IsNoLeaf size before state rid)) }
-    ensures fault { IfStore result (ReadFault S.read_gives store.old store.new) }
-    ensures memory { IfNoMemory result ⊥ }
-    ensures calls { Reads S.read_gives store.old store.new }
-    ensures rest { S.rest store.new ≡ S.rest store.old }
-    ensures after { OnlyReads (S.meaning store.old) (S.meaning store.new) }
+    ensures walk { WalksByReads S.read_gives S.meaning S.rest store.old store.new result }
 {
     let Some(cells) = store.read(rid)? else {
         return Err(Walk::Torn(rid));

@@ -2,8 +2,8 @@
 
 ghost use Rattle.std.specs.Prelude.{◌≡◌, ℕ, ◌+◌, ◌<◌, ◌≤◌, IfOk, IfSome, IfNone};
 ghost use Rattle.record_store.specs.Limits.{record_limit};
-ghost use Rattle.record_store.specs.Calls.{Reads, ReadFault};
-ghost use Rattle.record_store.specs.Walks.{IfTorn, IfStore, IfNoMemory, OnlyReads};
+ghost use Rattle.record_store.specs.Goes.{WalksByReads};
+ghost use Rattle.record_store.specs.Walks.{IfTorn};
 ghost use Rattle.ordered_index.specs.Held.{content_of};
 ghost use Rattle.ordered_index.specs.Node.{IsSound};
 ghost use Rattle.record_store.specs.States.{EachState};
@@ -39,11 +39,7 @@ pub fn leaf_for<S: RecordRead>(
     ensures leaf { IfOk result (λ leaf. EachState (S.meaning store.old) (S.meaning store.new) (λ state. LeafIs size root key state leaf)) }
     ensures within { IfOk result (λ leaf. IfSome leaf (λ link. (link.at < size) × IsSound size (content_of link.node))) }
     ensures torn { IfTorn result (λ rid. EachState (S.meaning store.old) (S.meaning store.new) (λ state. DescentTears size root key state rid)) }
-    ensures fault { IfStore result (ReadFault S.read_gives store.old store.new) }
-    ensures memory { IfNoMemory result ⊥ }
-    ensures calls { Reads S.read_gives store.old store.new }
-    ensures rest { S.rest store.new ≡ S.rest store.old }
-    ensures after { OnlyReads (S.meaning store.old) (S.meaning store.new) }
+    ensures walk { WalksByReads S.read_gives S.meaning S.rest store.old store.new result }
 {
     let Some(mut here) = read_node(store, size, root, FIRST)? else {
         return Ok(None);
@@ -76,11 +72,7 @@ pub fn read_node<S: RecordRead>(
     ensures link { IfOk result (λ link. IfSome link (IsTreeLink size rid low)) }
     ensures read { IfOk result (λ link. EachState (S.meaning store.old) (S.meaning store.new) (λ state. ReadsNode size rid state link)) }
     ensures torn { IfTorn result (λ torn. (torn ≡ rid) × EachState (S.meaning store.old) (S.meaning store.new) (λ state. IsNoNode size low state rid)) }
-    ensures fault { IfStore result (ReadFault S.read_gives store.old store.new) }
-    ensures memory { IfNoMemory result ⊥ }
-    ensures calls { Reads S.read_gives store.old store.new }
-    ensures rest { S.rest store.new ≡ S.rest store.old }
-    ensures after { OnlyReads (S.meaning store.old) (S.meaning store.new) }
+    ensures walk { WalksByReads S.read_gives S.meaning S.rest store.old store.new result }
 {
     let Some(cells) = store.read(rid)? else {
         return Ok(None);

@@ -307,6 +307,16 @@ module _ {S F R : Type 0} {read_gives : S → ℕ → Result (Option (List ℕ))
     kept = b.kept ∙ a.kept;
   }
 
+  -- by another name of the number
+  pub calls_at : {T : Type 0} {MayAsk : ℕ → Type 0} (n m : ℕ) (first last : S) (result : Result T (Walk F)) → n ≡ m
+      → WalksByCalls read_gives write_gives fresh_gives meaning rest MayAsk n first last result
+      → WalksByCalls read_gives write_gives fresh_gives meaning rest MayAsk m first last result
+  calls_at n m first last result same went = record {
+    by = by_calls_at n m first last result same went.by;
+    memory = went.memory;
+    kept = went.kept;
+  }
+
   -- one behind reads
   pub calls_behind : {T V : Type 0} {Later : ℕ → Type 0} (MayAsk : ℕ → Type 0) (n : ℕ) (first middle last : S) (early : Result V (Walk F)) (result : Result T (Walk F))
       → WalksByReads read_gives meaning rest first middle early

@@ -1,37 +1,23 @@
-use Rattle.std.proofs.Common.{◌≡◌, ◌+◌, ◌*◌, refl, sym, ap, arith}
+use Rattle.std.proofs.Common.{◌≡◌, ◌+◌, ◌*◌, Ok, refl, sym, ap, arith}
 use Rattle.record_store.specs.Calls.Calls.{none, fresh}
 use Rattle.record_store.specs.Calls.CallFault.{by_fresh}
 use Rattle.record_store.specs.Meaning.{Meaning}
 use Rattle.record_store.proofs.Refusals.{store_fault, fault_moved, IfStore-map}
 use Rattle.record_store.proofs.Paths.{Calls-at, Calls-trans, CallFault-never}
 use Rattle.record_store.proofs.Known.{tries, gives-weaken, fewer-refused, goes-same, goes-added, goes-tried, goes-trans}
-use Rattle.ordered_index.specs.Asks.{asks_at}
+use Rattle.ordered_index.specs.Asks.{MayAskAt, asks_at}
 use Rattle.ordered_index.proofs.Counting.{asks_nine}
 use Rattle.ordered_index.proofs.Asking.{asks_few, had_nine}
 use Rattle.ordered_index.proofs.Wrote.{nodes-none, nodes-weaken, wrote_fresh, wrote_none, wrote_one}
 use Rattle.record_store.proofs.Agreement.{ReadsGrow-refl, ReadsGrow-same, ReadsGrow-fresh, ReadsGrow-write, written_as}
 use Rattle.ordered_index.proofs.Parting.{left_few, right_few}
 use Rattle.ordered_index.specs.Held.{content_of}
+use Rattle.record_store.proofs.Going.{fresh_refused, fresh_done, calls_at, calls_map, calls_moved, calls_never, calls_quiet}
 use Rattle.ordered_index.proofs.enter.put_entry.Goals as goal
-
-pub returns-in_err-write_node-clause-fault : goal.returns-in_err-write_node-clause-fault
-returns-in_err-write_node-clause-fault g c =
-    fault_moved c.from_residual.result c.write_node.result c.in_err-write_node.field-0.0 _ c.in_err-write_node.was c.from_residual.ensures.1
-    (IfStore-map c.write_node.result (λ fault. CallFault-never _ _ _ _ 0 fault (none _)) c.write_node.ensures.fault)
-
-pub returns-in_err-write_node-clause-calls : goal.returns-in_err-write_node-clause-calls
-returns-in_err-write_node-clause-calls g c =
-    let few = asks_few c.args.link.node.entries.items c.args.rank c.args.entry c.insert.new.self.items c.is_full.result c.insert.ensures.items c.is_full.ensures.value c.if-not-is_full.true c.is_full.ensures.fits in
-    Calls-at _ _ 0 (asks_at c.args.link.node.entries.items) (sym few) c.write_node.ensures.calls
 
 pub returns-in_err-write_node-clause-few : goal.returns-in_err-write_node-clause-few
 returns-in_err-write_node-clause-few g c =
     nodes-weaken 0 (2 * asks_at c.args.link.node.entries.items + 1) (g.S.RecordRead.meaning c.args.store.now) (g.S.RecordRead.meaning c.write_node.new.store) (omega arith) (nodes-none (g.S.RecordRead.meaning c.args.store.now) (g.S.RecordRead.meaning c.write_node.new.store) (ap (λ (m : Meaning). m.writes) c.in_err-write_node.ensures.err))
-
-pub returns-then-not-is_full-clause-calls : goal.returns-then-not-is_full-clause-calls
-returns-then-not-is_full-clause-calls g c =
-    let few = asks_few c.args.link.node.entries.items c.args.rank c.args.entry c.insert.new.self.items c.is_full.result c.insert.ensures.items c.is_full.ensures.value c.if-not-is_full.true c.is_full.ensures.fits in
-    Calls-at _ _ 0 (asks_at c.args.link.node.entries.items) (sym few) c.write_node.ensures.calls
 
 pub returns-then-not-is_full-clause-few : goal.returns-then-not-is_full-clause-few
 returns-then-not-is_full-clause-few g c =
@@ -39,29 +25,9 @@ returns-then-not-is_full-clause-few g c =
     let m1 = g.S.RecordRead.meaning c.write_node.new.store in
     nodes-weaken (0 + 1) (2 * asks_at c.args.link.node.entries.items + 1) m0 m1 (omega arith) (wrote_one 0 m0 m0 m1 _ _ (nodes-none m0 m0 refl) (written_as m0 c.args.link.at c.cells.ensures c.in_ok-write_node.ensures.ok))
 
-pub returns-in_err-fresh-clause-fault : goal.returns-in_err-fresh-clause-fault
-returns-in_err-fresh-clause-fault g c =
-    let nine = had_nine c.args.link.node.entries.items c.args.rank c.args.entry c.insert.new.self.items c.is_full.result c.insert.ensures.items c.is_full.ensures.value c.if-not-is_full.false in
-    store_fault c.from_residual-in_err-fresh.result c.in_err-fresh.field-0.0 _ c.from_residual-in_err-fresh.ensures.1 (by_fresh c.args.store.now 0 (none c.args.store.now) c.in_err-fresh.ensures.gives (omega arith, nine, fewer-refused 0 1 (g.S.RecordRead.meaning c.args.store.now) (g.S.RecordRead.meaning c.fresh.new.self) (omega arith) (goes-same (λ rid. rid ≡ c.args.link.at) (g.S.RecordRead.meaning c.args.store.now) (g.S.RecordRead.meaning c.fresh.new.self) c.in_err-fresh.ensures.err).given))
-
-pub returns-in_err-fresh-clause-calls : goal.returns-in_err-fresh-clause-calls
-returns-in_err-fresh-clause-calls g c =
-    let nine = had_nine c.args.link.node.entries.items c.args.rank c.args.entry c.insert.new.self.items c.is_full.result c.insert.ensures.items c.is_full.ensures.value c.if-not-is_full.false in
-    Calls-at _ _ 1 (asks_at c.args.link.node.entries.items) (sym (asks_nine c.args.link.node.entries.items nine)) (fresh _ _ _ 0 _ (none _) c.fresh.ensures.gives)
-
 pub returns-in_err-fresh-clause-few : goal.returns-in_err-fresh-clause-few
 returns-in_err-fresh-clause-few g c =
     nodes-weaken 0 (2 * asks_at c.args.link.node.entries.items + 1) (g.S.RecordRead.meaning c.args.store.now) (g.S.RecordRead.meaning c.fresh.new.self) (omega arith) (nodes-none (g.S.RecordRead.meaning c.args.store.now) (g.S.RecordRead.meaning c.fresh.new.self) (ap (λ (m : Meaning). m.writes) c.in_err-fresh.ensures.err))
-
-pub returns-in_err-write_node-2-clause-fault : goal.returns-in_err-write_node-2-clause-fault
-returns-in_err-write_node-2-clause-fault g c =
-    fault_moved c.from_residual-in_err-write_node-2.result c.write_node-2.result c.in_err-write_node-2.field-0.0 _ c.in_err-write_node-2.was c.from_residual-in_err-write_node-2.ensures.1
-    (IfStore-map c.write_node-2.result (λ fault. CallFault-never _ _ _ _ 1 fault (fresh _ _ _ 0 _ (none _) c.fresh.ensures.gives)) c.write_node-2.ensures.fault)
-
-pub returns-in_err-write_node-2-clause-calls : goal.returns-in_err-write_node-2-clause-calls
-returns-in_err-write_node-2-clause-calls g c =
-    let nine = had_nine c.args.link.node.entries.items c.args.rank c.args.entry c.insert.new.self.items c.is_full.result c.insert.ensures.items c.is_full.ensures.value c.if-not-is_full.false in
-    Calls-at _ _ 1 (asks_at c.args.link.node.entries.items) (sym (asks_nine c.args.link.node.entries.items nine)) (Calls-trans _ _ _ 1 0 (fresh _ _ _ 0 _ (none _) c.fresh.ensures.gives) c.write_node-2.ensures.calls)
 
 pub returns-in_err-write_node-2-clause-few : goal.returns-in_err-write_node-2-clause-few
 returns-in_err-write_node-2-clause-few g c =
@@ -70,16 +36,6 @@ returns-in_err-write_node-2-clause-few g c =
     let m2 = g.S.RecordRead.meaning c.write_node-2.new.store in
     nodes-weaken 0 (2 * asks_at c.args.link.node.entries.items + 1) m0 m2 (omega arith) (wrote_none 0 m0 m1 m2 (wrote_fresh m0 m1 _ c.in_ok-fresh.ensures.ok) c.in_err-write_node-2.ensures.err)
 
-pub returns-in_err-write_node-3-clause-fault : goal.returns-in_err-write_node-3-clause-fault
-returns-in_err-write_node-3-clause-fault g c =
-    fault_moved c.from_residual-in_err-write_node-3.result c.write_node-3.result c.in_err-write_node-3.field-0.0 _ c.in_err-write_node-3.was c.from_residual-in_err-write_node-3.ensures.1
-    (IfStore-map c.write_node-3.result (λ fault. CallFault-never _ _ _ _ 1 fault (Calls-trans _ _ _ 1 0 (fresh _ _ _ 0 _ (none _) c.fresh.ensures.gives) c.write_node-2.ensures.calls)) c.write_node-3.ensures.fault)
-
-pub returns-in_err-write_node-3-clause-calls : goal.returns-in_err-write_node-3-clause-calls
-returns-in_err-write_node-3-clause-calls g c =
-    let nine = had_nine c.args.link.node.entries.items c.args.rank c.args.entry c.insert.new.self.items c.is_full.result c.insert.ensures.items c.is_full.ensures.value c.if-not-is_full.false in
-    Calls-at _ _ 1 (asks_at c.args.link.node.entries.items) (sym (asks_nine c.args.link.node.entries.items nine)) (Calls-trans _ _ _ 1 0 (Calls-trans _ _ _ 1 0 (fresh _ _ _ 0 _ (none _) c.fresh.ensures.gives) c.write_node-2.ensures.calls) c.write_node-3.ensures.calls)
-
 pub returns-in_err-write_node-3-clause-few : goal.returns-in_err-write_node-3-clause-few
 returns-in_err-write_node-3-clause-few g c =
     let m0 = g.S.RecordRead.meaning c.args.store.now in
@@ -87,11 +43,6 @@ returns-in_err-write_node-3-clause-few g c =
     let m2 = g.S.RecordRead.meaning c.write_node-2.new.store in
     let m3 = g.S.RecordRead.meaning c.write_node-3.new.store in
     nodes-weaken (0 + 1) (2 * asks_at c.args.link.node.entries.items + 1) m0 m3 (omega arith) (wrote_none (0 + 1) m0 m2 m3 (wrote_one 0 m0 m1 m2 _ _ (wrote_fresh m0 m1 _ c.in_ok-fresh.ensures.ok) (written_as m1 c.in_ok-fresh.fresh c.cells-2.ensures c.in_ok-write_node-2.ensures.ok)) c.in_err-write_node-3.ensures.err)
-
-pub returns-clause-calls : goal.returns-clause-calls
-returns-clause-calls g c =
-    let nine = had_nine c.args.link.node.entries.items c.args.rank c.args.entry c.insert.new.self.items c.is_full.result c.insert.ensures.items c.is_full.ensures.value c.if-not-is_full.false in
-    Calls-at _ _ 1 (asks_at c.args.link.node.entries.items) (sym (asks_nine c.args.link.node.entries.items nine)) (Calls-trans _ _ _ 1 0 (Calls-trans _ _ _ 1 0 (fresh _ _ _ 0 _ (none _) c.fresh.ensures.gives) c.write_node-2.ensures.calls) c.write_node-3.ensures.calls)
 
 pub returns-clause-few : goal.returns-clause-few
 returns-clause-few g c =
@@ -115,88 +66,20 @@ returns-clause-parted g c =
 pub returns-in_err-write_node-clause-writes : goal.returns-in_err-write_node-clause-writes
 returns-in_err-write_node-clause-writes g c = (tries c.write_node.result (g.S.RecordRead.meaning c.args.store.now) (g.S.RecordRead.meaning c.write_node.new.store) c.args.link.at _ c.write_node.ensures.ok c.write_node.ensures.err).only
 
-pub returns-in_err-write_node-clause-given : goal.returns-in_err-write_node-clause-given
-returns-in_err-write_node-clause-given g c = gives-weaken 0 (asks_at c.args.link.node.entries.items) (g.S.RecordRead.meaning c.args.store.now) (g.S.RecordRead.meaning c.write_node.new.store) (omega arith) (tries c.write_node.result (g.S.RecordRead.meaning c.args.store.now) (g.S.RecordRead.meaning c.write_node.new.store) c.args.link.at _ c.write_node.ensures.ok c.write_node.ensures.err).given
-
 pub returns-then-not-is_full-clause-writes : goal.returns-then-not-is_full-clause-writes
 returns-then-not-is_full-clause-writes g c = (tries c.write_node.result (g.S.RecordRead.meaning c.args.store.now) (g.S.RecordRead.meaning c.write_node.new.store) c.args.link.at _ c.write_node.ensures.ok c.write_node.ensures.err).only
-
-pub returns-then-not-is_full-clause-given : goal.returns-then-not-is_full-clause-given
-returns-then-not-is_full-clause-given g c = gives-weaken 0 (asks_at c.args.link.node.entries.items) (g.S.RecordRead.meaning c.args.store.now) (g.S.RecordRead.meaning c.write_node.new.store) (omega arith) (tries c.write_node.result (g.S.RecordRead.meaning c.args.store.now) (g.S.RecordRead.meaning c.write_node.new.store) c.args.link.at _ c.write_node.ensures.ok c.write_node.ensures.err).given
 
 pub returns-in_err-fresh-clause-writes : goal.returns-in_err-fresh-clause-writes
 returns-in_err-fresh-clause-writes g c = (goes-same (λ rid. rid ≡ c.args.link.at) (g.S.RecordRead.meaning c.args.store.now) (g.S.RecordRead.meaning c.fresh.new.self) c.in_err-fresh.ensures.err).only
 
-pub returns-in_err-fresh-clause-given : goal.returns-in_err-fresh-clause-given
-returns-in_err-fresh-clause-given g c = gives-weaken 0 (asks_at c.args.link.node.entries.items) (g.S.RecordRead.meaning c.args.store.now) (g.S.RecordRead.meaning c.fresh.new.self) (omega arith) (goes-same (λ rid. rid ≡ c.args.link.at) (g.S.RecordRead.meaning c.args.store.now) (g.S.RecordRead.meaning c.fresh.new.self) c.in_err-fresh.ensures.err).given
-
 pub returns-in_err-write_node-2-clause-writes : goal.returns-in_err-write_node-2-clause-writes
 returns-in_err-write_node-2-clause-writes g c = (goes-added (λ rid. rid ≡ c.args.link.at) (g.S.RecordRead.meaning c.args.store.now) (g.S.RecordRead.meaning c.fresh.new.self) (g.S.RecordRead.meaning c.write_node-2.new.store) c.in_ok-fresh.fresh c.in_ok-fresh.ensures.ok (tries c.write_node-2.result (g.S.RecordRead.meaning c.fresh.new.self) (g.S.RecordRead.meaning c.write_node-2.new.store) c.in_ok-fresh.fresh _ c.write_node-2.ensures.ok c.write_node-2.ensures.err)).only
-
-pub returns-in_err-write_node-2-clause-given : goal.returns-in_err-write_node-2-clause-given
-returns-in_err-write_node-2-clause-given g c =
-    let nine = had_nine c.args.link.node.entries.items c.args.rank c.args.entry c.insert.new.self.items c.is_full.result c.insert.ensures.items c.is_full.ensures.value c.if-not-is_full.false in
-    gives-weaken 1 (asks_at c.args.link.node.entries.items) (g.S.RecordRead.meaning c.args.store.now) (g.S.RecordRead.meaning c.write_node-2.new.store) (omega (arith, asks_nine c.args.link.node.entries.items nine)) (goes-added (λ rid. rid ≡ c.args.link.at) (g.S.RecordRead.meaning c.args.store.now) (g.S.RecordRead.meaning c.fresh.new.self) (g.S.RecordRead.meaning c.write_node-2.new.store) c.in_ok-fresh.fresh c.in_ok-fresh.ensures.ok (tries c.write_node-2.result (g.S.RecordRead.meaning c.fresh.new.self) (g.S.RecordRead.meaning c.write_node-2.new.store) c.in_ok-fresh.fresh _ c.write_node-2.ensures.ok c.write_node-2.ensures.err)).given
 
 pub returns-in_err-write_node-3-clause-writes : goal.returns-in_err-write_node-3-clause-writes
 returns-in_err-write_node-3-clause-writes g c = (goes-trans 1 0 (λ rid. rid ≡ c.args.link.at) (g.S.RecordRead.meaning c.args.store.now) (g.S.RecordRead.meaning c.write_node-2.new.store) (g.S.RecordRead.meaning c.write_node-3.new.store) (goes-added (λ rid. rid ≡ c.args.link.at) (g.S.RecordRead.meaning c.args.store.now) (g.S.RecordRead.meaning c.fresh.new.self) (g.S.RecordRead.meaning c.write_node-2.new.store) c.in_ok-fresh.fresh c.in_ok-fresh.ensures.ok (tries c.write_node-2.result (g.S.RecordRead.meaning c.fresh.new.self) (g.S.RecordRead.meaning c.write_node-2.new.store) c.in_ok-fresh.fresh _ c.write_node-2.ensures.ok c.write_node-2.ensures.err)) (goes-tried (λ rid. rid ≡ c.args.link.at) (g.S.RecordRead.meaning c.write_node-2.new.store) (g.S.RecordRead.meaning c.write_node-3.new.store) c.args.link.at (tries c.write_node-3.result (g.S.RecordRead.meaning c.write_node-2.new.store) (g.S.RecordRead.meaning c.write_node-3.new.store) c.args.link.at _ c.write_node-3.ensures.ok c.write_node-3.ensures.err) refl)).only
 
-pub returns-in_err-write_node-3-clause-given : goal.returns-in_err-write_node-3-clause-given
-returns-in_err-write_node-3-clause-given g c =
-    let nine = had_nine c.args.link.node.entries.items c.args.rank c.args.entry c.insert.new.self.items c.is_full.result c.insert.ensures.items c.is_full.ensures.value c.if-not-is_full.false in
-    gives-weaken 1 (asks_at c.args.link.node.entries.items) (g.S.RecordRead.meaning c.args.store.now) (g.S.RecordRead.meaning c.write_node-3.new.store) (omega (arith, asks_nine c.args.link.node.entries.items nine)) (goes-trans 1 0 (λ rid. rid ≡ c.args.link.at) (g.S.RecordRead.meaning c.args.store.now) (g.S.RecordRead.meaning c.write_node-2.new.store) (g.S.RecordRead.meaning c.write_node-3.new.store) (goes-added (λ rid. rid ≡ c.args.link.at) (g.S.RecordRead.meaning c.args.store.now) (g.S.RecordRead.meaning c.fresh.new.self) (g.S.RecordRead.meaning c.write_node-2.new.store) c.in_ok-fresh.fresh c.in_ok-fresh.ensures.ok (tries c.write_node-2.result (g.S.RecordRead.meaning c.fresh.new.self) (g.S.RecordRead.meaning c.write_node-2.new.store) c.in_ok-fresh.fresh _ c.write_node-2.ensures.ok c.write_node-2.ensures.err)) (goes-tried (λ rid. rid ≡ c.args.link.at) (g.S.RecordRead.meaning c.write_node-2.new.store) (g.S.RecordRead.meaning c.write_node-3.new.store) c.args.link.at (tries c.write_node-3.result (g.S.RecordRead.meaning c.write_node-2.new.store) (g.S.RecordRead.meaning c.write_node-3.new.store) c.args.link.at _ c.write_node-3.ensures.ok c.write_node-3.ensures.err) refl)).given
-
 pub returns-clause-writes : goal.returns-clause-writes
 returns-clause-writes g c = (goes-trans 1 0 (λ rid. rid ≡ c.args.link.at) (g.S.RecordRead.meaning c.args.store.now) (g.S.RecordRead.meaning c.write_node-2.new.store) (g.S.RecordRead.meaning c.write_node-3.new.store) (goes-added (λ rid. rid ≡ c.args.link.at) (g.S.RecordRead.meaning c.args.store.now) (g.S.RecordRead.meaning c.fresh.new.self) (g.S.RecordRead.meaning c.write_node-2.new.store) c.in_ok-fresh.fresh c.in_ok-fresh.ensures.ok (tries c.write_node-2.result (g.S.RecordRead.meaning c.fresh.new.self) (g.S.RecordRead.meaning c.write_node-2.new.store) c.in_ok-fresh.fresh _ c.write_node-2.ensures.ok c.write_node-2.ensures.err)) (goes-tried (λ rid. rid ≡ c.args.link.at) (g.S.RecordRead.meaning c.write_node-2.new.store) (g.S.RecordRead.meaning c.write_node-3.new.store) c.args.link.at (tries c.write_node-3.result (g.S.RecordRead.meaning c.write_node-2.new.store) (g.S.RecordRead.meaning c.write_node-3.new.store) c.args.link.at _ c.write_node-3.ensures.ok c.write_node-3.ensures.err) refl)).only
-
-pub returns-clause-given : goal.returns-clause-given
-returns-clause-given g c =
-    let nine = had_nine c.args.link.node.entries.items c.args.rank c.args.entry c.insert.new.self.items c.is_full.result c.insert.ensures.items c.is_full.ensures.value c.if-not-is_full.false in
-    gives-weaken 1 (asks_at c.args.link.node.entries.items) (g.S.RecordRead.meaning c.args.store.now) (g.S.RecordRead.meaning c.write_node-3.new.store) (omega (arith, asks_nine c.args.link.node.entries.items nine)) (goes-trans 1 0 (λ rid. rid ≡ c.args.link.at) (g.S.RecordRead.meaning c.args.store.now) (g.S.RecordRead.meaning c.write_node-2.new.store) (g.S.RecordRead.meaning c.write_node-3.new.store) (goes-added (λ rid. rid ≡ c.args.link.at) (g.S.RecordRead.meaning c.args.store.now) (g.S.RecordRead.meaning c.fresh.new.self) (g.S.RecordRead.meaning c.write_node-2.new.store) c.in_ok-fresh.fresh c.in_ok-fresh.ensures.ok (tries c.write_node-2.result (g.S.RecordRead.meaning c.fresh.new.self) (g.S.RecordRead.meaning c.write_node-2.new.store) c.in_ok-fresh.fresh _ c.write_node-2.ensures.ok c.write_node-2.ensures.err)) (goes-tried (λ rid. rid ≡ c.args.link.at) (g.S.RecordRead.meaning c.write_node-2.new.store) (g.S.RecordRead.meaning c.write_node-3.new.store) c.args.link.at (tries c.write_node-3.result (g.S.RecordRead.meaning c.write_node-2.new.store) (g.S.RecordRead.meaning c.write_node-3.new.store) c.args.link.at _ c.write_node-3.ensures.ok c.write_node-3.ensures.err) refl)).given
-
--- what is left of the store
-pub returns-in_err-write_node-clause-after : goal.returns-in_err-write_node-clause-after
-returns-in_err-write_node-clause-after g c =
-    let m0 = g.S.RecordRead.meaning c.args.store.now in
-    ReadsGrow-same m0 m0 _ (ReadsGrow-refl m0) c.in_err-write_node.ensures.err
-
-pub returns-then-not-is_full-clause-after : goal.returns-then-not-is_full-clause-after
-returns-then-not-is_full-clause-after g c =
-    let m0 = g.S.RecordRead.meaning c.args.store.now in
-    ReadsGrow-write m0 m0 _ _ _ (ReadsGrow-refl m0) c.in_ok-write_node.ensures.ok
-
-pub returns-in_err-fresh-clause-after : goal.returns-in_err-fresh-clause-after
-returns-in_err-fresh-clause-after g c =
-    let m0 = g.S.RecordRead.meaning c.args.store.now in
-    ReadsGrow-same m0 m0 _ (ReadsGrow-refl m0) c.in_err-fresh.ensures.err
-
-pub returns-in_err-write_node-2-clause-after : goal.returns-in_err-write_node-2-clause-after
-returns-in_err-write_node-2-clause-after g c =
-    let m0 = g.S.RecordRead.meaning c.args.store.now in
-    let m1 = g.S.RecordRead.meaning c.fresh.new.self in
-    let m2 = g.S.RecordRead.meaning c.write_node-2.new.store in
-    let given = ReadsGrow-fresh m0 m0 m1 c.in_ok-fresh.fresh (ReadsGrow-refl m0) c.in_ok-fresh.ensures.ok in
-    ReadsGrow-same m0 m1 m2 given c.in_err-write_node-2.ensures.err
-
-pub returns-in_err-write_node-3-clause-after : goal.returns-in_err-write_node-3-clause-after
-returns-in_err-write_node-3-clause-after g c =
-    let m0 = g.S.RecordRead.meaning c.args.store.now in
-    let m1 = g.S.RecordRead.meaning c.fresh.new.self in
-    let m2 = g.S.RecordRead.meaning c.write_node-2.new.store in
-    let m3 = g.S.RecordRead.meaning c.write_node-3.new.store in
-    let given = ReadsGrow-fresh m0 m0 m1 c.in_ok-fresh.fresh (ReadsGrow-refl m0) c.in_ok-fresh.ensures.ok in
-    let right = ReadsGrow-write m0 m1 m2 _ _ given c.in_ok-write_node-2.ensures.ok in
-    ReadsGrow-same m0 m2 m3 right c.in_err-write_node-3.ensures.err
-
-pub returns-clause-after : goal.returns-clause-after
-returns-clause-after g c =
-    let m0 = g.S.RecordRead.meaning c.args.store.now in
-    let m1 = g.S.RecordRead.meaning c.fresh.new.self in
-    let m2 = g.S.RecordRead.meaning c.write_node-2.new.store in
-    let m3 = g.S.RecordRead.meaning c.write_node-3.new.store in
-    let given = ReadsGrow-fresh m0 m0 m1 c.in_ok-fresh.fresh (ReadsGrow-refl m0) c.in_ok-fresh.ensures.ok in
-    let right = ReadsGrow-write m0 m1 m2 _ _ given c.in_ok-write_node-2.ensures.ok in
-    ReadsGrow-write m0 m2 m3 _ _ right c.in_ok-write_node-3.ensures.ok
 
 -- nine entries at most are written
 pub cells-requires-2 : goal.cells-requires-2
@@ -204,3 +87,34 @@ cells-requires-2 g c = right_few (content_of c.args.link.node) (content_of c.par
 
 pub cells-requires-3 : goal.cells-requires-3
 cells-requires-3 g c = left_few (content_of c.args.link.node) (content_of c.part-right.new.self) c.insert.new.self.items c.in_ok-fresh.fresh c.part-right.ensures.left
+
+-- how the walk went
+pub returns-in_err-write_node-clause-walk : goal.returns-in_err-write_node-clause-walk
+returns-in_err-write_node-clause-walk g c =
+    let few = asks_few c.args.link.node.entries.items c.args.rank c.args.entry c.insert.new.self.items c.is_full.result c.insert.ensures.items c.is_full.ensures.value c.if-not-is_full.true c.is_full.ensures.fits in
+    calls_at 0 (asks_at c.args.link.node.entries.items) c.args.store.now c.write_node.new.store c.from_residual.result (sym few) (calls_moved c.args.store.now c.write_node.new.store c.from_residual.result c.write_node.result c.in_err-write_node.field-0.0 c.in_err-write_node.was c.from_residual.ensures.1 (calls_map _ 0 c.args.store.now c.write_node.new.store c.write_node.result c.write_node.ensures.walk (λ asks never. absurd never)))
+
+pub returns-then-not-is_full-clause-walk : goal.returns-then-not-is_full-clause-walk
+returns-then-not-is_full-clause-walk g c =
+    let few = asks_few c.args.link.node.entries.items c.args.rank c.args.entry c.insert.new.self.items c.is_full.result c.insert.ensures.items c.is_full.ensures.value c.if-not-is_full.true c.is_full.ensures.fits in
+    calls_at 0 (asks_at c.args.link.node.entries.items) c.args.store.now c.write_node.new.store _ (sym few) (calls_quiet _ c.args.store.now c.write_node.new.store _ c.write_node.result (tt, tt) c.write_node.ensures.walk)
+
+pub returns-in_err-fresh-clause-walk : goal.returns-in_err-fresh-clause-walk
+returns-in_err-fresh-clause-walk g c =
+    let nine = had_nine c.args.link.node.entries.items c.args.rank c.args.entry c.insert.new.self.items c.is_full.result c.insert.ensures.items c.is_full.ensures.value c.if-not-is_full.false in
+    calls_at 1 (asks_at c.args.link.node.entries.items) c.args.store.now c.fresh.new.self c.from_residual-in_err-fresh.result (sym (asks_nine c.args.link.node.entries.items nine)) (fresh_refused _ c.args.store.now c.fresh.new.self c.in_err-fresh.field-0.0 c.fresh.result c.from_residual-in_err-fresh.result (omega arith, nine) c.in_err-fresh.was c.fresh.ensures.gives c.fresh.ensures.err c.fresh.ensures.rest c.from_residual-in_err-fresh.ensures.1)
+
+pub returns-in_err-write_node-2-clause-walk : goal.returns-in_err-write_node-2-clause-walk
+returns-in_err-write_node-2-clause-walk g c =
+    let nine = had_nine c.args.link.node.entries.items c.args.rank c.args.entry c.insert.new.self.items c.is_full.result c.insert.ensures.items c.is_full.ensures.value c.if-not-is_full.false in
+    calls_at 1 (asks_at c.args.link.node.entries.items) c.args.store.now c.write_node-2.new.store c.from_residual-in_err-write_node-2.result (sym (asks_nine c.args.link.node.entries.items nine)) (calls_moved c.args.store.now c.write_node-2.new.store c.from_residual-in_err-write_node-2.result c.write_node-2.result c.in_err-write_node-2.field-0.0 c.in_err-write_node-2.was c.from_residual-in_err-write_node-2.ensures.1 (calls_never (MayAskAt c.args.link.node.entries.items) 1 c.args.store.now c.fresh.new.self c.write_node-2.new.store (Ok (tt {0})) c.write_node-2.result (fresh_done (λ _. ⊥) c.args.store.now c.fresh.new.self c.in_ok-fresh.fresh c.fresh.result (Ok (tt {0})) c.fresh.ensures.gives c.in_ok-fresh.ensures.ok c.fresh.ensures.rest (tt, tt)) c.write_node-2.ensures.walk))
+
+pub returns-in_err-write_node-3-clause-walk : goal.returns-in_err-write_node-3-clause-walk
+returns-in_err-write_node-3-clause-walk g c =
+    let nine = had_nine c.args.link.node.entries.items c.args.rank c.args.entry c.insert.new.self.items c.is_full.result c.insert.ensures.items c.is_full.ensures.value c.if-not-is_full.false in
+    calls_at 1 (asks_at c.args.link.node.entries.items) c.args.store.now c.write_node-3.new.store c.from_residual-in_err-write_node-3.result (sym (asks_nine c.args.link.node.entries.items nine)) (calls_moved c.args.store.now c.write_node-3.new.store c.from_residual-in_err-write_node-3.result c.write_node-3.result c.in_err-write_node-3.field-0.0 c.in_err-write_node-3.was c.from_residual-in_err-write_node-3.ensures.1 (calls_never (MayAskAt c.args.link.node.entries.items) 1 c.args.store.now c.write_node-2.new.store c.write_node-3.new.store c.write_node-2.result c.write_node-3.result (calls_never (MayAskAt c.args.link.node.entries.items) 1 c.args.store.now c.fresh.new.self c.write_node-2.new.store (Ok (tt {0})) c.write_node-2.result (fresh_done (λ _. ⊥) c.args.store.now c.fresh.new.self c.in_ok-fresh.fresh c.fresh.result (Ok (tt {0})) c.fresh.ensures.gives c.in_ok-fresh.ensures.ok c.fresh.ensures.rest (tt, tt)) c.write_node-2.ensures.walk) c.write_node-3.ensures.walk))
+
+pub returns-clause-walk : goal.returns-clause-walk
+returns-clause-walk g c =
+    let nine = had_nine c.args.link.node.entries.items c.args.rank c.args.entry c.insert.new.self.items c.is_full.result c.insert.ensures.items c.is_full.ensures.value c.if-not-is_full.false in
+    calls_at 1 (asks_at c.args.link.node.entries.items) c.args.store.now c.write_node-3.new.store _ (sym (asks_nine c.args.link.node.entries.items nine)) (calls_quiet _ c.args.store.now c.write_node-3.new.store _ c.write_node-3.result (tt, tt) (calls_never (MayAskAt c.args.link.node.entries.items) 1 c.args.store.now c.write_node-2.new.store c.write_node-3.new.store c.write_node-2.result c.write_node-3.result (calls_never (MayAskAt c.args.link.node.entries.items) 1 c.args.store.now c.fresh.new.self c.write_node-2.new.store (Ok (tt {0})) c.write_node-2.result (fresh_done (λ _. ⊥) c.args.store.now c.fresh.new.self c.in_ok-fresh.fresh c.fresh.result (Ok (tt {0})) c.fresh.ensures.gives c.in_ok-fresh.ensures.ok c.fresh.ensures.rest (tt, tt)) c.write_node-2.ensures.walk) c.write_node-3.ensures.walk))

@@ -7,6 +7,7 @@ use Rattle.ordered_index.proofs.Words.{key_of}
 use Rattle.ordered_index.proofs.Trees.{is_torn, found_in}
 use Rattle.record_store.proofs.Agreement.{extends-refl}
 use Rattle.ordered_index.proofs.Reaching.{leaf_ends}
+use Rattle.record_store.proofs.Going.{reads_moved, reads_quiet}
 use Rattle.ordered_index.proofs.index.get.Goals as goal
 
 pub returns-in_err-leaf-clause-torn : goal.returns-in_err-leaf-clause-torn
@@ -40,3 +41,16 @@ returns-in-Some-place-clause-walked g c =
 pub returns-in-None-clause-walked : goal.returns-in-None-clause-walked
 returns-in-None-clause-walked g c =
     leaf_ends (g.S.RecordRead.meaning c.args.store.now).size c.args.root c.args.key c.size-size.result (g.S.RecordRead.meaning c.args.store.now) (g.S.RecordRead.meaning c.leaf_for.new.store) (g.S.RecordRead.meaning c.leaf_for.new.store) c.in_ok-leaf.field-0 c.size-size.ensures.size (extends-refl (g.S.RecordRead.meaning c.leaf_for.new.store).reads) c.in_ok-leaf.ensures.leaf
+
+-- how the walk went
+pub returns-in_err-leaf-clause-walk : goal.returns-in_err-leaf-clause-walk
+returns-in_err-leaf-clause-walk g c = reads_moved c.args.store.now c.leaf_for.new.store c.from_residual.result c.leaf_for.result c.in_err-leaf.field-0.0 c.in_err-leaf.was c.from_residual.ensures.1 c.leaf_for.ensures.walk
+
+pub returns-in_default-clause-walk : goal.returns-in_default-clause-walk
+returns-in_default-clause-walk g c = reads_quiet c.args.store.now c.leaf_for.new.store _ c.leaf_for.result (tt, tt) c.leaf_for.ensures.walk
+
+pub returns-in-Some-place-clause-walk : goal.returns-in-Some-place-clause-walk
+returns-in-Some-place-clause-walk g c = reads_quiet c.args.store.now c.leaf_for.new.store _ c.leaf_for.result (tt, tt) c.leaf_for.ensures.walk
+
+pub returns-in-None-clause-walk : goal.returns-in-None-clause-walk
+returns-in-None-clause-walk g c = reads_quiet c.args.store.now c.leaf_for.new.store _ c.leaf_for.result (tt, tt) c.leaf_for.ensures.walk

@@ -7,28 +7,16 @@ use Rattle.ordered_index.specs.Held.{content_of}
 use Rattle.ordered_index.proofs.Listing.{no_leaf_absent, no_leaf_unfit, no_leaf_other}
 use Rattle.ordered_index.proofs.Rows.{leaf_inner}
 use Rattle.ordered_index.proofs.range.read_next_leaf.Goals as goal
+use Rattle.record_store.proofs.Going.{reads_refused, reads_done}
 use Rattle.ordered_index.proofs.range.read_next_leaf.Goals.{then-is_inner-via-then-is_inner, then-is_inner-via-else-is_inner+then-not-rises}
-
-pub returns-in_err-cells-clause-fault : goal.returns-in_err-cells-clause-fault
-returns-in_err-cells-clause-fault g c =
-    store_fault c.from_residual.result c.in_err-cells.field-0.0 _ c.from_residual.ensures.1 (record { before = c.args.store.now; rid = c.args.rid; calls = none _; answer = c.in_err-cells.ensures.gives })
-
-pub returns-in_err-cells-clause-calls : goal.returns-in_err-cells-clause-calls
-returns-in_err-cells-clause-calls g c = read _ _ _ c.args.rid _ (none _) c.read.ensures.gives
 
 pub returns-in_default-clause-torn : goal.returns-in_default-clause-torn
 returns-in_default-clause-torn g c =
     (refl, λ state agrees. no_leaf_absent c.args.size c.args.rid c.args.before (overlay (g.S.RecordRead.meaning c.args.store.now).writes state) (answered _ _ c.args.rid _ c.in_ok-cells.ensures.ok c.in_ok-cells.ensures.answer state agrees ∙ c.in_default.is))
 
-pub returns-in_default-clause-calls : goal.returns-in_default-clause-calls
-returns-in_default-clause-calls g c = read _ _ _ c.args.rid _ (none _) c.read.ensures.gives
-
 pub returns-in_default-read-clause-torn : goal.returns-in_default-read-clause-torn
 returns-in_default-read-clause-torn g c =
     (refl, λ state agrees. no_leaf_unfit c.args.size c.args.rid c.args.before (overlay (g.S.RecordRead.meaning c.args.store.now).writes state) c.in-Some.cells (answered _ _ c.args.rid _ c.in_ok-cells.ensures.ok c.in_ok-cells.ensures.answer state agrees ∙ c.in-Some.is) c.in_default-read.ensures.no_node)
-
-pub returns-in_default-read-clause-calls : goal.returns-in_default-read-clause-calls
-returns-in_default-read-clause-calls g c = read _ _ _ c.args.rid _ (none _) c.read.ensures.gives
 
 pub returns-then-is_inner-clause-torn : goal.returns-then-is_inner-clause-torn
 returns-then-is_inner-clause-torn g c = (
@@ -41,9 +29,6 @@ returns-then-is_inner-clause-torn g c = (
       ]),
 )
 
-pub returns-then-is_inner-clause-calls : goal.returns-then-is_inner-clause-calls
-returns-then-is_inner-clause-calls g c = read _ _ _ c.args.rid _ (none _) c.read.ensures.gives
-
 pub returns-clause-read : goal.returns-clause-read
 returns-clause-read g c = λ state agrees. record {
   words = c.in-Some.cells;
@@ -52,21 +37,18 @@ returns-clause-read g c = λ state agrees. record {
   sound = c.in-Some-read.ensures.sound;
 }
 
-pub returns-clause-calls : goal.returns-clause-calls
-returns-clause-calls g c = read _ _ _ c.args.rid _ (none _) c.read.ensures.gives
+-- how the walk went
+pub returns-in_err-cells-clause-walk : goal.returns-in_err-cells-clause-walk
+returns-in_err-cells-clause-walk g c = reads_refused c.args.store.now c.read.new.self c.args.rid c.in_err-cells.field-0.0 c.read.result c.from_residual.result c.in_err-cells.was c.read.ensures.gives c.read.ensures.err c.read.ensures.rest c.from_residual.ensures.1
 
--- what is left of the store
-pub returns-in_err-cells-clause-after : goal.returns-in_err-cells-clause-after
-returns-in_err-cells-clause-after g c = rw c.in_err-cells.ensures.err (OnlyReads-refl _)
+pub returns-in_default-clause-walk : goal.returns-in_default-clause-walk
+returns-in_default-clause-walk g c = reads_done c.args.store.now c.read.new.self c.args.rid _ c.read.result _ c.in_ok-cells.was c.read.ensures.gives c.read.ensures.ok c.read.ensures.rest (tt, tt)
 
-pub returns-in_default-clause-after : goal.returns-in_default-clause-after
-returns-in_default-clause-after g c = OnlyReads-after_read _ _ c.args.rid _ c.in_ok-cells.ensures.ok
+pub returns-in_default-read-clause-walk : goal.returns-in_default-read-clause-walk
+returns-in_default-read-clause-walk g c = reads_done c.args.store.now c.read.new.self c.args.rid _ c.read.result _ c.in_ok-cells.was c.read.ensures.gives c.read.ensures.ok c.read.ensures.rest (tt, tt)
 
-pub returns-in_default-read-clause-after : goal.returns-in_default-read-clause-after
-returns-in_default-read-clause-after g c = OnlyReads-after_read _ _ c.args.rid _ c.in_ok-cells.ensures.ok
+pub returns-then-is_inner-clause-walk : goal.returns-then-is_inner-clause-walk
+returns-then-is_inner-clause-walk g c = reads_done c.args.store.now c.read.new.self c.args.rid _ c.read.result _ c.in_ok-cells.was c.read.ensures.gives c.read.ensures.ok c.read.ensures.rest (tt, tt)
 
-pub returns-then-is_inner-clause-after : goal.returns-then-is_inner-clause-after
-returns-then-is_inner-clause-after g c = OnlyReads-after_read _ _ c.args.rid _ c.in_ok-cells.ensures.ok
-
-pub returns-clause-after : goal.returns-clause-after
-returns-clause-after g c = OnlyReads-after_read _ _ c.args.rid _ c.in_ok-cells.ensures.ok
+pub returns-clause-walk : goal.returns-clause-walk
+returns-clause-walk g c = reads_done c.args.store.now c.read.new.self c.args.rid _ c.read.result _ c.in_ok-cells.was c.read.ensures.gives c.read.ensures.ok c.read.ensures.rest (tt, tt)

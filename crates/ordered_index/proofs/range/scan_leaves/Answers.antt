@@ -1,4 +1,4 @@
-use Rattle.std.proofs.Common.{◌≡◌, ◌⊎◌, ◌+◌, ◌<◌, length, true, sym, ◌∙◌, arith, inl, inr}
+use Rattle.std.proofs.Common.{◌≡◌, ◌⊎◌, ◌+◌, ◌<◌, length, true, Ok, sym, ◌∙◌, arith, inl, inr}
 use Rattle.record_store.proofs.Agreement.{OnlyReads-trans}
 use Rattle.record_store.proofs.Paths.{Reads-trans, ReadFault-behind}
 use Rattle.record_store.proofs.Refusals.{fault_moved, torn_moved, IfStore-map, IfTorn-map}
@@ -8,6 +8,7 @@ use Rattle.ordered_index.specs.Walk.{node_of}
 use Rattle.ordered_index.specs.Scan.{HasBehind}
 use Rattle.ordered_index.specs.Scan.NeedsNoMore.{no_leaf, leaf_behind}
 use Rattle.ordered_index.proofs.Listing.{Listed, scans_by, listed_first, listed_more, appends_none, appends_more, each_next, each_torn, each_ends}
+use Rattle.record_store.proofs.Going.{reads_moved, reads_quiet, reads_then}
 use Rattle.ordered_index.proofs.range.scan_leaves.Goals as goal
 
 pub loop-goes_on-init : goal.loop-goes_on-init
@@ -18,9 +19,7 @@ loop-goes_on-init g c =
     let room : most ≡ length old + c.args.limit = omega (arith, c.len.ensures, c.args.out.now.ok.0) in
     let within = rw c.in-Some.is at c.in_ok-here.ensures.within in
     record {
-      calls = c.leaf_for.ensures.calls;
-      after = c.leaf_for.ensures.after;
-      rest = c.leaf_for.ensures.rest;
+      walk = reads_quiet c.args.store.now c.leaf_for.new.store (Ok (tt {0})) c.leaf_for.result (tt, tt) c.leaf_for.ensures.walk;
       sound = within.1;
       room = c.take_between-goes_on.ensures.room;
       some = c.take_between-goes_on.ensures.goes_on;
@@ -38,26 +37,15 @@ pub returns-in_err-link-clause-torn : goal.returns-in_err-link-clause-torn
 returns-in_err-link-clause-torn g c =
     torn_moved c.from_residual-in_err-link.result c.read_next_leaf.result c.in_err-link.field-0.0 _ c.in_err-link.was c.from_residual-in_err-link.ensures.1
     (IfTorn-map c.read_next_leaf.result
-    (λ rid torn. rw (← c.size-size.ensures.size) (each_torn (g.S.RecordRead.meaning c.args.store.now) (g.S.RecordRead.meaning c.loop-goes_on.store) (g.S.RecordRead.meaning c.read_next_leaf.new.store) c.size-size.result c.args.root rid c.in-Some-next.next c.args.lo c.args.hi c.args.limit c.loop-goes_on.here c.args.out.now.items c.loop-goes_on.out.items c.loop-goes_on.goes_on c.loop-goes_on.invariant.after c.read_next_leaf.ensures.after c.loop-goes_on.invariant.listed c.in-Some-next.is torn.0 torn.1))
+    (λ rid torn. rw (← c.size-size.ensures.size) (each_torn (g.S.RecordRead.meaning c.args.store.now) (g.S.RecordRead.meaning c.loop-goes_on.store) (g.S.RecordRead.meaning c.read_next_leaf.new.store) c.size-size.result c.args.root rid c.in-Some-next.next c.args.lo c.args.hi c.args.limit c.loop-goes_on.here c.args.out.now.items c.loop-goes_on.out.items c.loop-goes_on.goes_on c.loop-goes_on.invariant.walk.by.only c.read_next_leaf.ensures.walk.by.only c.loop-goes_on.invariant.listed c.in-Some-next.is torn.0 torn.1))
     c.read_next_leaf.ensures.torn)
-
-pub returns-in_err-link-clause-fault : goal.returns-in_err-link-clause-fault
-returns-in_err-link-clause-fault g c =
-    fault_moved c.from_residual-in_err-link.result c.read_next_leaf.result c.in_err-link.field-0.0 _ c.in_err-link.was c.from_residual-in_err-link.ensures.1
-    (IfStore-map c.read_next_leaf.result (λ fault. ReadFault-behind _ _ _ fault c.loop-goes_on.invariant.calls) c.read_next_leaf.ensures.fault)
-
-pub returns-in_err-link-clause-calls : goal.returns-in_err-link-clause-calls
-returns-in_err-link-clause-calls g c = Reads-trans _ _ _ c.loop-goes_on.invariant.calls c.read_next_leaf.ensures.calls
 
 pub returns-then-is_before-clause-ok : goal.returns-then-is_before-clause-ok
 returns-then-is_before-clause-ok g c =
-    let next = each_next (g.S.RecordRead.meaning c.args.store.now) (g.S.RecordRead.meaning c.loop-goes_on.store) (g.S.RecordRead.meaning c.read_next_leaf.new.store) c.size-size.result c.in-Some-next.next c.loop-goes_on.here c.in_ok-link.link c.loop-goes_on.invariant.after c.in-Some-next.is c.in_ok-link.ensures.leaf c.in_ok-link.ensures.read in
+    let next = each_next (g.S.RecordRead.meaning c.args.store.now) (g.S.RecordRead.meaning c.loop-goes_on.store) (g.S.RecordRead.meaning c.read_next_leaf.new.store) c.size-size.result c.in-Some-next.next c.loop-goes_on.here c.in_ok-link.link c.loop-goes_on.invariant.walk.by.only c.in-Some-next.is c.in_ok-link.ensures.leaf c.in_ok-link.ensures.read in
     rw (← c.size-size.ensures.size)
-    (each_ends (g.S.RecordRead.meaning c.args.store.now) (g.S.RecordRead.meaning c.loop-goes_on.store) (g.S.RecordRead.meaning c.read_next_leaf.new.store) c.size-size.result c.args.root c.args.lo c.args.hi c.args.limit c.loop-goes_on.here c.args.out.now.items c.loop-goes_on.out.items c.loop-goes_on.goes_on c.read_next_leaf.ensures.after c.loop-goes_on.invariant.listed
+    (each_ends (g.S.RecordRead.meaning c.args.store.now) (g.S.RecordRead.meaning c.loop-goes_on.store) (g.S.RecordRead.meaning c.read_next_leaf.new.store) c.size-size.result c.args.root c.args.lo c.args.hi c.args.limit c.loop-goes_on.here c.args.out.now.items c.loop-goes_on.out.items c.loop-goes_on.goes_on c.read_next_leaf.ensures.walk.by.only c.loop-goes_on.invariant.listed
     (λ state passed agrees. leaf_behind (node_of c.in_ok-link.link) (next state agrees) (sym c.is_before.ensures ∙ c.if-is_before.true)))
-
-pub returns-then-is_before-clause-calls : goal.returns-then-is_before-clause-calls
-returns-then-is_before-clause-calls g c = Reads-trans _ _ _ c.loop-goes_on.invariant.calls c.read_next_leaf.ensures.calls
 
 pub loop-goes_on-smaller : goal.loop-goes_on-smaller
 loop-goes_on-smaller g c = c.in_ok-link.ensures.leaf.nearer
@@ -71,12 +59,10 @@ loop-goes_on-preserved g c =
     let room : most ≡ length old + c.args.limit = omega (arith, c.len.ensures, c.args.out.now.ok.0) in
     let few : length mid < most = omega (arith, c.loop-goes_on.invariant.some c.loop-goes_on-test.true, c.loop-goes_on.out.ok.0) in
     let leaf = c.in_ok-link.ensures.leaf in
-    let next = each_next (g.S.RecordRead.meaning c.args.store.now) (g.S.RecordRead.meaning c.loop-goes_on.store) (g.S.RecordRead.meaning c.read_next_leaf.new.store) c.size-size.result c.in-Some-next.next c.loop-goes_on.here c.in_ok-link.link c.loop-goes_on.invariant.after c.in-Some-next.is leaf c.in_ok-link.ensures.read in
-    let so_far = each_grown (g.S.RecordRead.meaning c.args.store.now) (g.S.RecordRead.meaning c.loop-goes_on.store) (g.S.RecordRead.meaning c.read_next_leaf.new.store) (λ s. Listed c.size-size.result c.args.root c.args.lo c.args.hi c.args.limit s (node_of c.loop-goes_on.here) old mid true) c.read_next_leaf.ensures.after (rw c.loop-goes_on-test.true at c.loop-goes_on.invariant.listed) in
+    let next = each_next (g.S.RecordRead.meaning c.args.store.now) (g.S.RecordRead.meaning c.loop-goes_on.store) (g.S.RecordRead.meaning c.read_next_leaf.new.store) c.size-size.result c.in-Some-next.next c.loop-goes_on.here c.in_ok-link.link c.loop-goes_on.invariant.walk.by.only c.in-Some-next.is leaf c.in_ok-link.ensures.read in
+    let so_far = each_grown (g.S.RecordRead.meaning c.args.store.now) (g.S.RecordRead.meaning c.loop-goes_on.store) (g.S.RecordRead.meaning c.read_next_leaf.new.store) (λ s. Listed c.size-size.result c.args.root c.args.lo c.args.hi c.args.limit s (node_of c.loop-goes_on.here) old mid true) c.read_next_leaf.ensures.walk.by.only (rw c.loop-goes_on-test.true at c.loop-goes_on.invariant.listed) in
     record {
-      calls = Reads-trans _ _ _ c.loop-goes_on.invariant.calls c.read_next_leaf.ensures.calls;
-      after = OnlyReads-trans _ _ _ c.loop-goes_on.invariant.after c.read_next_leaf.ensures.after;
-      rest = c.read_next_leaf.ensures.rest ∙ c.loop-goes_on.invariant.rest;
+      walk = reads_quiet c.args.store.now c.read_next_leaf.new.store (Ok (tt {0})) c.read_next_leaf.result (tt, tt) (reads_then c.args.store.now c.loop-goes_on.store c.read_next_leaf.new.store (Ok (tt {0})) c.read_next_leaf.result c.loop-goes_on.invariant.walk c.read_next_leaf.ensures.walk);
       sound = leaf.sound;
       room = c.take_between-goes_on-in-loop-goes_on.ensures.room;
       some = c.take_between-goes_on-in-loop-goes_on.ensures.goes_on;
@@ -90,12 +76,6 @@ pub returns-clause-ok : goal.returns-clause-ok
 returns-clause-ok g c =
     rw (← c.size-size.ensures.size) (λ state agrees. let listed = c.loop-goes_on.invariant.listed state agrees in scans_by c.size-size.result c.args.root c.args.lo c.args.hi c.args.limit (overlay (g.S.RecordRead.meaning c.args.store.now).writes state) (node_of c.loop-goes_on.here) c.args.out.now.items c.loop-goes_on.out.items c.loop-goes_on.goes_on listed (listed.ends c.loop-goes_on-test.false))
 
-pub returns-in_err-link-clause-after : goal.returns-in_err-link-clause-after
-returns-in_err-link-clause-after g c = OnlyReads-trans _ _ _ c.loop-goes_on.invariant.after c.read_next_leaf.ensures.after
-
-pub returns-then-is_before-clause-after : goal.returns-then-is_before-clause-after
-returns-then-is_before-clause-after g c = OnlyReads-trans _ _ _ c.loop-goes_on.invariant.after c.read_next_leaf.ensures.after
-
 pub returns-in_default-next-clause-appends : goal.returns-in_default-next-clause-appends
 returns-in_default-next-clause-appends g c = rw (← c.size-size.ensures.size) c.loop-goes_on.invariant.appends
 
@@ -104,3 +84,22 @@ returns-then-is_before-clause-appends g c = rw (← c.size-size.ensures.size) c.
 
 pub returns-clause-appends : goal.returns-clause-appends
 returns-clause-appends g c = rw (← c.size-size.ensures.size) c.loop-goes_on.invariant.appends
+
+-- how the walk went
+pub returns-in_err-here-clause-walk : goal.returns-in_err-here-clause-walk
+returns-in_err-here-clause-walk g c = reads_moved c.args.store.now c.leaf_for.new.store c.from_residual.result c.leaf_for.result c.in_err-here.field-0.0 c.in_err-here.was c.from_residual.ensures.1 c.leaf_for.ensures.walk
+
+pub returns-in_default-clause-walk : goal.returns-in_default-clause-walk
+returns-in_default-clause-walk g c = reads_quiet c.args.store.now c.leaf_for.new.store _ c.leaf_for.result (tt, tt) c.leaf_for.ensures.walk
+
+pub returns-in_default-next-clause-walk : goal.returns-in_default-next-clause-walk
+returns-in_default-next-clause-walk g c = reads_quiet c.args.store.now c.loop-goes_on.store _ (Ok (tt {0})) (tt, tt) c.loop-goes_on.invariant.walk
+
+pub returns-in_err-link-clause-walk : goal.returns-in_err-link-clause-walk
+returns-in_err-link-clause-walk g c = reads_moved c.args.store.now c.read_next_leaf.new.store c.from_residual-in_err-link.result c.read_next_leaf.result c.in_err-link.field-0.0 c.in_err-link.was c.from_residual-in_err-link.ensures.1 (reads_then c.args.store.now c.loop-goes_on.store c.read_next_leaf.new.store (Ok (tt {0})) c.read_next_leaf.result c.loop-goes_on.invariant.walk c.read_next_leaf.ensures.walk)
+
+pub returns-then-is_before-clause-walk : goal.returns-then-is_before-clause-walk
+returns-then-is_before-clause-walk g c = reads_quiet c.args.store.now c.read_next_leaf.new.store _ c.read_next_leaf.result (tt, tt) (reads_then c.args.store.now c.loop-goes_on.store c.read_next_leaf.new.store (Ok (tt {0})) c.read_next_leaf.result c.loop-goes_on.invariant.walk c.read_next_leaf.ensures.walk)
+
+pub returns-clause-walk : goal.returns-clause-walk
+returns-clause-walk g c = reads_quiet c.args.store.now c.loop-goes_on.store _ (Ok (tt {0})) (tt, tt) c.loop-goes_on.invariant.walk

@@ -1,9 +1,8 @@
-use Rattle.std.proofs.Common.{◌≡◌, ◌<◌, ◌≤◌, true}
+use Rattle.std.proofs.Common.{◌≡◌, ◌<◌, ◌≤◌, Ok, true}
 use Rattle.std.specs.Prelude.{vec_len}
 use Rattle.std.specs.Vec.{vec_capacity}
-use Rattle.record_store.specs.Calls.{Reads}
+use Rattle.record_store.specs.Goes.{WalksByReads}
 use Rattle.record_store.specs.States.{EachState}
-use Rattle.record_store.specs.Walks.{OnlyReads}
 use Rattle.ordered_index.specs.Node.{IsSound}
 use Rattle.ordered_index.specs.Held.{content_of}
 use Rattle.ordered_index.specs.Walk.{node_of}
@@ -14,9 +13,7 @@ use Rattle.ordered_index.proofs.range.scan_leaves.Given as goal
 -- each state that agrees has the leaves passed so far, and their pairs are in the list
 abbrev pub invariant-loop-goes_on : goal.invariant-loop-goes_on
 invariant-loop-goes_on g l = record {
-  calls : Reads g.S.RecordRead.read_gives l.fn.store l.store;
-  after : OnlyReads (g.S.RecordRead.meaning l.fn.store) (g.S.RecordRead.meaning l.store);
-  rest : g.S.RecordRead.rest l.store ≡ g.S.RecordRead.rest l.fn.store;
+  walk : WalksByReads g.S.RecordRead.read_gives g.S.RecordRead.meaning g.S.RecordRead.rest l.fn.store l.store (Ok (tt {0}));
   sound : IsSound l.size (content_of l.here.node);
   room : l.most ≤ vec_capacity l.out;
   some : l.goes_on ≡ true → vec_len l.out < l.most;

@@ -1,4 +1,4 @@
-use Rattle.std.proofs.Common.{◌∙◌, arith}
+use Rattle.std.proofs.Common.{◌∙◌, Ok, arith}
 use Rattle.record_store.proofs.Agreement.{OnlyReads-trans}
 use Rattle.record_store.proofs.Paths.{Reads-trans, ReadFault-behind}
 use Rattle.record_store.proofs.Refusals.{fault_moved, torn_moved, IfStore-map, IfTorn-map}
@@ -9,6 +9,7 @@ use Rattle.ordered_index.proofs.Entries.{last_at-low, last_at-in}
 use Rattle.ordered_index.proofs.Order.{first_not_after}
 use Rattle.ordered_index.proofs.Passed.{each_tears, each_absent, each_deep, each_steps, at_some}
 use Rattle.ordered_index.proofs.Paths.{walk_begins, walk_ends, root_tears}
+use Rattle.record_store.proofs.Going.{reads_moved, reads_quiet, reads_then}
 use Rattle.ordered_index.proofs.walk.leaf_for.Goals as goal
 
 pub returns-in_err-here-clause-torn : goal.returns-in_err-here-clause-torn
@@ -22,9 +23,7 @@ pub loop-key-init : goal.loop-key-init
 loop-key-init g c =
     let link = at_some (IsTreeLink c.args.size c.args.root first_key) c.in-Some.here c.in-Some.is c.in_ok-here.ensures.link in
     record {
-      calls = c.in_ok-here.ensures.calls;
-      after = c.in_ok-here.ensures.after;
-      rest = c.read_node.ensures.rest;
+      walk = reads_quiet c.args.store.now c.read_node.new.store (Ok (tt {0})) c.read_node.result (tt, tt) c.read_node.ensures.walk;
       at = rw link.at c.requires.root;
       sound = link.sound;
       low = rw link.low (first_not_after c.args.key);
@@ -43,43 +42,43 @@ pub returns-in_err-link-clause-torn : goal.returns-in_err-link-clause-torn
 returns-in_err-link-clause-torn g c =
     torn_moved c.from_residual-in_err-link.result c.read_node-in-loop-key.result c.in_err-link.field-0.0 _ c.in_err-link.was c.from_residual-in_err-link.ensures.1
     (IfTorn-map c.read_node-in-loop-key.result
-    (λ rid torn. each_tears _ _ _ c.args.size c.args.root c.loop-key.depth rid c.args.key c.loop-key.here c.child-rid.result c.loop-key.invariant.after c.read_node-in-loop-key.ensures.after c.loop-key.invariant.walked (c.is_inner.ensures.inner c.loop-key-test.true) c.child-rid.ensures torn.0 torn.1)
+    (λ rid torn. each_tears _ _ _ c.args.size c.args.root c.loop-key.depth rid c.args.key c.loop-key.here c.child-rid.result c.loop-key.invariant.walk.by.only c.read_node-in-loop-key.ensures.walk.by.only c.loop-key.invariant.walked (c.is_inner.ensures.inner c.loop-key-test.true) c.child-rid.ensures torn.0 torn.1)
     c.read_node-in-loop-key.ensures.torn)
-
-pub returns-in_err-link-clause-fault : goal.returns-in_err-link-clause-fault
-returns-in_err-link-clause-fault g c =
-    fault_moved c.from_residual-in_err-link.result c.read_node-in-loop-key.result c.in_err-link.field-0.0 _ c.in_err-link.was c.from_residual-in_err-link.ensures.1
-    (IfStore-map c.read_node-in-loop-key.result (λ fault. ReadFault-behind _ _ _ fault c.loop-key.invariant.calls) c.read_node-in-loop-key.ensures.fault)
-
-pub returns-in_err-link-clause-calls : goal.returns-in_err-link-clause-calls
-returns-in_err-link-clause-calls g c = Reads-trans _ _ _ c.loop-key.invariant.calls c.read_node-in-loop-key.ensures.calls
 
 pub returns-in_default-2-clause-torn : goal.returns-in_default-2-clause-torn
 returns-in_default-2-clause-torn g c =
-    each_absent _ _ _ c.args.size c.args.root c.loop-key.depth c.args.key c.loop-key.here c.child-rid.result c.in_ok-link.field-0 c.loop-key.invariant.after c.in_ok-link.ensures.after c.loop-key.invariant.walked (c.is_inner.ensures.inner c.loop-key-test.true) c.child-rid.ensures c.in_default-2.is c.in_ok-link.ensures.read
-
-pub returns-in_default-2-clause-calls : goal.returns-in_default-2-clause-calls
-returns-in_default-2-clause-calls g c = Reads-trans _ _ _ c.loop-key.invariant.calls c.read_node-in-loop-key.ensures.calls
+    each_absent _ _ _ c.args.size c.args.root c.loop-key.depth c.args.key c.loop-key.here c.child-rid.result c.in_ok-link.field-0 c.loop-key.invariant.walk.by.only c.in_ok-link.ensures.walk.by.only c.loop-key.invariant.walked (c.is_inner.ensures.inner c.loop-key-test.true) c.child-rid.ensures c.in_default-2.is c.in_ok-link.ensures.read
 
 pub loop-key-preserved : goal.loop-key-preserved
 loop-key-preserved g c =
     let link = at_some (IsTreeLink c.args.size c.child-rid.result.1 c.child-rid.result.0) c.in-Some-2.link c.in-Some-2.is c.in_ok-link.ensures.link in
     record {
-      calls = Reads-trans _ _ _ c.loop-key.invariant.calls c.read_node-in-loop-key.ensures.calls;
-      after = OnlyReads-trans _ _ _ c.loop-key.invariant.after c.read_node-in-loop-key.ensures.after;
-      rest = c.read_node-in-loop-key.ensures.rest ∙ c.loop-key.invariant.rest;
+      walk = reads_quiet c.args.store.now c.read_node-in-loop-key.new.store (Ok (tt {0})) c.read_node-in-loop-key.result (tt, tt) (reads_then c.args.store.now c.loop-key.store c.read_node-in-loop-key.new.store (Ok (tt {0})) c.read_node-in-loop-key.result c.loop-key.invariant.walk c.read_node-in-loop-key.ensures.walk);
       at = rw link.at (last_at-in c.args.size c.loop-key.here.node.entries.items c.args.key c.child-rid.result c.loop-key.invariant.sound.records c.child-rid.ensures);
       sound = link.sound;
       low = rw link.low (last_at-low c.loop-key.here.node.entries.items c.args.key c.child-rid.result c.child-rid.ensures);
       deep = omega (arith, c.loop-key.invariant.deep, c.if-depth-eq-MOST_DEPTH.false);
-      walked = each_steps _ _ _ c.args.size c.args.root c.loop-key.depth c.args.key c.loop-key.here c.in-Some-2.link c.child-rid.result c.in_ok-link.field-0 c.loop-key.invariant.after c.in_ok-link.ensures.after c.loop-key.invariant.walked (c.is_inner.ensures.inner c.loop-key-test.true) c.child-rid.ensures link.at link.low c.in-Some-2.is c.in_ok-link.ensures.read;
+      walked = each_steps _ _ _ c.args.size c.args.root c.loop-key.depth c.args.key c.loop-key.here c.in-Some-2.link c.child-rid.result c.in_ok-link.field-0 c.loop-key.invariant.walk.by.only c.in_ok-link.ensures.walk.by.only c.loop-key.invariant.walked (c.is_inner.ensures.inner c.loop-key-test.true) c.child-rid.ensures link.at link.low c.in-Some-2.is c.in_ok-link.ensures.read;
     }
 
 pub returns-clause-leaf : goal.returns-clause-leaf
 returns-clause-leaf g c = λ state agrees. walk_ends c.args.size c.args.root c.loop-key.depth c.args.key _ c.loop-key.here (c.loop-key.invariant.walked state agrees) c.loop-key.invariant.deep (c.is_inner.ensures.leaf c.loop-key-test.false)
 
-pub returns-in_err-link-clause-after : goal.returns-in_err-link-clause-after
-returns-in_err-link-clause-after g c = OnlyReads-trans _ _ _ c.loop-key.invariant.after c.read_node-in-loop-key.ensures.after
+-- how the walk went
+pub returns-in_err-here-clause-walk : goal.returns-in_err-here-clause-walk
+returns-in_err-here-clause-walk g c = reads_moved c.args.store.now c.read_node.new.store c.from_residual.result c.read_node.result c.in_err-here.field-0.0 c.in_err-here.was c.from_residual.ensures.1 c.read_node.ensures.walk
 
-pub returns-in_default-2-clause-after : goal.returns-in_default-2-clause-after
-returns-in_default-2-clause-after g c = OnlyReads-trans _ _ _ c.loop-key.invariant.after c.in_ok-link.ensures.after
+pub returns-in_default-clause-walk : goal.returns-in_default-clause-walk
+returns-in_default-clause-walk g c = reads_quiet c.args.store.now c.read_node.new.store _ c.read_node.result (tt, tt) c.read_node.ensures.walk
+
+pub returns-then-depth-eq-MOST_DEPTH-clause-walk : goal.returns-then-depth-eq-MOST_DEPTH-clause-walk
+returns-then-depth-eq-MOST_DEPTH-clause-walk g c = reads_quiet c.args.store.now c.loop-key.store _ (Ok (tt {0})) (tt, tt) c.loop-key.invariant.walk
+
+pub returns-in_err-link-clause-walk : goal.returns-in_err-link-clause-walk
+returns-in_err-link-clause-walk g c = reads_moved c.args.store.now c.read_node-in-loop-key.new.store c.from_residual-in_err-link.result c.read_node-in-loop-key.result c.in_err-link.field-0.0 c.in_err-link.was c.from_residual-in_err-link.ensures.1 (reads_then c.args.store.now c.loop-key.store c.read_node-in-loop-key.new.store (Ok (tt {0})) c.read_node-in-loop-key.result c.loop-key.invariant.walk c.read_node-in-loop-key.ensures.walk)
+
+pub returns-in_default-2-clause-walk : goal.returns-in_default-2-clause-walk
+returns-in_default-2-clause-walk g c = reads_quiet c.args.store.now c.read_node-in-loop-key.new.store _ c.read_node-in-loop-key.result (tt, tt) (reads_then c.args.store.now c.loop-key.store c.read_node-in-loop-key.new.store (Ok (tt {0})) c.read_node-in-loop-key.result c.loop-key.invariant.walk c.read_node-in-loop-key.ensures.walk)
+
+pub returns-clause-walk : goal.returns-clause-walk
+returns-clause-walk g c = reads_quiet c.args.store.now c.loop-key.store _ (Ok (tt {0})) (tt, tt) c.loop-key.invariant.walk

@@ -1,6 +1,5 @@
-use Rattle.std.proofs.Common.{◌≡◌, ◌-◌, ◌<◌, ◌≤◌}
-use Rattle.record_store.specs.Calls.{Reads}
-use Rattle.record_store.specs.Walks.{OnlyReads}
+use Rattle.std.proofs.Common.{◌-◌, ◌<◌, ◌≤◌, Ok}
+use Rattle.record_store.specs.Goes.{WalksByReads}
 use Rattle.ordered_index.specs.Keys.{NotAfter}
 use Rattle.ordered_index.specs.Node.{IsSound}
 use Rattle.ordered_index.specs.Held.{content_of}
@@ -11,9 +10,7 @@ use Rattle.ordered_index.proofs.walk.leaf_for.Given as goal
 -- each state that agrees has the nodes passed so far
 abbrev pub invariant-loop-key : goal.invariant-loop-key
 invariant-loop-key g l = record {
-  calls : Reads g.S.RecordRead.read_gives l.fn.store l.store;
-  after : OnlyReads (g.S.RecordRead.meaning l.fn.store) (g.S.RecordRead.meaning l.store);
-  rest : g.S.RecordRead.rest l.store ≡ g.S.RecordRead.rest l.fn.store;
+  walk : WalksByReads g.S.RecordRead.read_gives g.S.RecordRead.meaning g.S.RecordRead.rest l.fn.store l.store (Ok (tt {0}));
   at : l.here.at < l.size;
   sound : IsSound l.size (content_of l.here.node);
   low : NotAfter l.here.node.low l.key;

@@ -44,6 +44,27 @@ module _ {S F : Type 0} {read_gives : S → ℕ → Result (Option (List ℕ)) F
     only = OnlyReads-refl (meaning first);
   }
 
+  -- one read, refused or answered
+  pub by_read_refused : {T : Type 0} (first last : S) (rid : ℕ) (fault : F) (answer : Result (Option (List ℕ)) F) (result : Result T (Walk F))
+      → answer ≡ Err fault → read_gives first rid answer last → OnErr answer (meaning last ≡ meaning first)
+      → IsErrAnd result (λ walk. walk ≡ Store fault) → GoesByReads read_gives meaning first last result
+  by_read_refused first last rid fault answer result was gives same is =
+      let A : Result (Option (List ℕ)) F → Type 0 = λ a. read_gives first rid a last in
+      record {
+        calls = then_read first first last rid answer (no_reads first) gives;
+        fault = store_fault result fault _ is (record { before = first; rid = rid; calls = no_reads first; answer = subst A was gives });
+        only = rw (error_of answer _ fault was same) (OnlyReads-refl (meaning first));
+      }
+
+  pub by_read_done : {T : Type 0} (first last : S) (rid : ℕ) (value : Option (List ℕ)) (answer : Result (Option (List ℕ)) F) (result : Result T (Walk F))
+      → answer ≡ Ok value → read_gives first rid answer last → IfOk answer (λ v. meaning last ≡ after_read (meaning first) rid v)
+      → IfStore result (λ _. ⊥) → GoesByReads read_gives meaning first last result
+  by_read_done first last rid value answer result was gives after quiet = record {
+    calls = then_read first first last rid answer (no_reads first) gives;
+    fault = quiet_fault result _ quiet;
+    only = OnlyReads-after_read (meaning first) (meaning last) rid value (value_of answer _ value was after);
+  }
+
   pub by_reads_moved : {T V : Type 0} (first last : S) (result : Result T (Walk F)) (other : Result V (Walk F)) (walk : Walk F) → other ≡ Err walk
       → IsErrAnd result (λ w. w ≡ walk) → GoesByReads read_gives meaning first last other → GoesByReads read_gives meaning first last result
   by_reads_moved first last result other walk was is by = record {
@@ -74,28 +95,18 @@ module _ {S F R : Type 0} {read_gives : S → ℕ → Result (Option (List ℕ))
   pub reads_refused : {T : Type 0} (first last : S) (rid : ℕ) (fault : F) (answer : Result (Option (List ℕ)) F) (result : Result T (Walk F))
       → answer ≡ Err fault → read_gives first rid answer last → OnErr answer (meaning last ≡ meaning first) → rest last ≡ rest first
       → IsErrAnd result (λ walk. walk ≡ Store fault) → WalksByReads read_gives meaning rest first last result
-  reads_refused first last rid fault answer result was gives same kept is =
-      let A : Result (Option (List ℕ)) F → Type 0 = λ a. read_gives first rid a last in
-      record {
-        by = record {
-          calls = then_read first first last rid answer (no_reads first) gives;
-          fault = store_fault result fault _ is (record { before = first; rid = rid; calls = no_reads first; answer = subst A was gives });
-          only = (rw (error_of answer _ fault was same) (OnlyReads-refl (meaning first)));
-        };
-        memory = store_memory result fault is;
-        kept = kept;
-      }
+  reads_refused first last rid fault answer result was gives same kept is = record {
+    by = by_read_refused first last rid fault answer result was gives same is;
+    memory = store_memory result fault is;
+    kept = kept;
+  }
 
   -- a read that was answered
   pub reads_done : {T : Type 0} (first last : S) (rid : ℕ) (value : Option (List ℕ)) (answer : Result (Option (List ℕ)) F) (result : Result T (Walk F))
       → answer ≡ Ok value → read_gives first rid answer last → IfOk answer (λ v. meaning last ≡ after_read (meaning first) rid v)
       → rest last ≡ rest first → Quiet result → WalksByReads read_gives meaning rest first last result
   reads_done first last rid value answer result was gives after kept quiet = record {
-    by = record {
-      calls = then_read first first last rid answer (no_reads first) gives;
-      fault = quiet_fault result _ quiet.0;
-      only = OnlyReads-after_read (meaning first) (meaning last) rid value (value_of answer _ value was after);
-    };
+    by = by_read_done first last rid value answer result was gives after quiet.0;
     memory = quiet.1;
     kept = kept;
   }
@@ -142,6 +153,56 @@ module _ {S F : Type 0} {read_gives : S → ℕ → Result (Option (List ℕ)) F
     grow = ReadsGrow-only (meaning first) (meaning last) by.only;
   }
 
+  -- one write, refused or done
+  pub by_write_refused : {T : Type 0} (MayAsk : ℕ → Type 0) (first last : S) (rid : ℕ) (value : Option (List ℕ)) (fault : F) (answer : Result (Unit {0}) F)
+      (result : Result T (Walk F)) → answer ≡ Err fault → write_gives first rid value answer last → OnErr answer (meaning last ≡ meaning first)
+      → IsErrAnd result (λ walk. walk ≡ Store fault) → GoesByCalls read_gives write_gives fresh_gives meaning MayAsk 0 first last result
+  by_write_refused MayAsk first last rid value fault answer result was gives unchanged is =
+      let A : Result (Unit {0}) F → Type 0 = λ a. write_gives first rid value a last in
+      let same : meaning last ≡ meaning first = error_of answer _ fault was unchanged in
+      record {
+        calls = then_write first first last 0 rid value answer (no_calls first) gives;
+        fault = store_fault result fault _ is (by_write first 0 rid value (no_calls first) (subst A was gives));
+        given = (goes-same (λ _. ⊥) (meaning first) (meaning last) same).given;
+        grow = ReadsGrow-same (meaning first) (meaning first) (meaning last) (ReadsGrow-refl (meaning first)) same;
+      }
+
+  pub by_write_done : {T : Type 0} (MayAsk : ℕ → Type 0) (first last : S) (rid : ℕ) (value : Option (List ℕ)) (answer : Result (Unit {0}) F)
+      (result : Result T (Walk F)) → write_gives first rid value answer last → meaning last ≡ after_write (meaning first) rid value
+      → IfStore result (λ _. ⊥) → GoesByCalls read_gives write_gives fresh_gives meaning MayAsk 0 first last result
+  by_write_done MayAsk first last rid value answer result gives is quiet = record {
+    calls = then_write first first last 0 rid value answer (no_calls first) gives;
+    fault = quiet_fault result _ quiet;
+    given = gives-none (meaning first) (meaning last) (rw is refl);
+    grow = ReadsGrow-write (meaning first) (meaning first) (meaning last) rid value (ReadsGrow-refl (meaning first)) is;
+  }
+
+  -- one ask for a new record, refused or answered
+  pub by_fresh_refused : {T : Type 0} (MayAsk : ℕ → Type 0) (first last : S) (fault : F) (answer : Result ℕ F) (result : Result T (Walk F))
+      → MayAsk 1 → answer ≡ Err fault → fresh_gives first answer last → OnErr answer (meaning last ≡ meaning first)
+      → IsErrAnd result (λ walk. walk ≡ Store fault) → GoesByCalls read_gives write_gives fresh_gives meaning MayAsk 1 first last result
+  by_fresh_refused MayAsk first last fault answer result may was gives unchanged is =
+      let A : Result ℕ F → Type 0 = λ a. fresh_gives first a last in
+      let same : meaning last ≡ meaning first = error_of answer _ fault was unchanged in
+      let none = (goes-same (λ _. ⊥) (meaning first) (meaning last) same).given in
+      record {
+        calls = then_fresh first first last 0 answer (no_calls first) gives;
+        fault = store_fault result fault _ is (by_fresh first 0 (no_calls first) (subst A was gives)
+            (may, fewer-refused 0 1 (meaning first) (meaning last) (omega arith) none));
+        given = gives-weaken 0 1 (meaning first) (meaning last) (omega arith) none;
+        grow = ReadsGrow-same (meaning first) (meaning first) (meaning last) (ReadsGrow-refl (meaning first)) same;
+      }
+
+  pub by_fresh_done : {T : Type 0} (MayAsk : ℕ → Type 0) (first last : S) (rid : ℕ) (answer : Result ℕ F) (result : Result T (Walk F))
+      → fresh_gives first answer last → meaning last ≡ after_fresh (meaning first) rid → IfStore result (λ _. ⊥)
+      → GoesByCalls read_gives write_gives fresh_gives meaning MayAsk 1 first last result
+  by_fresh_done MayAsk first last rid answer result gives is quiet = record {
+    calls = then_fresh first first last 0 answer (no_calls first) gives;
+    fault = quiet_fault result _ quiet;
+    given = (goes-fresh (λ _. ⊥) (meaning first) (meaning last) rid is).given;
+    grow = ReadsGrow-fresh (meaning first) (meaning first) (meaning last) rid (ReadsGrow-refl (meaning first)) is;
+  }
+
   pub by_calls_moved : {T V : Type 0} {MayAsk : ℕ → Type 0} {asked : ℕ} (first last : S) (result : Result T (Walk F)) (other : Result V (Walk F)) (walk : Walk F)
       → other ≡ Err walk → IsErrAnd result (λ w. w ≡ walk) → GoesByCalls read_gives write_gives fresh_gives meaning MayAsk asked first last other
       → GoesByCalls read_gives write_gives fresh_gives meaning MayAsk asked first last result
@@ -182,6 +243,24 @@ module _ {S F : Type 0} {read_gives : S → ℕ → Result (Option (List ℕ)) F
   by_calls_at {T} {MayAsk} n m first last result same by =
       let P : ℕ → Type 0 = λ k. GoesByCalls read_gives write_gives fresh_gives meaning MayAsk k first last result in subst P same by
 
+  -- one that asks for nothing, behind another
+  pub by_calls_never : {T V : Type 0} {Early : ℕ → Type 0} (MayAsk : ℕ → Type 0) (n : ℕ) (first middle last : S) (early : Result V (Walk F)) (result : Result T (Walk F))
+      → GoesByCalls read_gives write_gives fresh_gives meaning Early n first middle early
+      → GoesByCalls read_gives write_gives fresh_gives meaning (λ _. ⊥) 0 middle last result
+      → GoesByCalls read_gives write_gives fresh_gives meaning MayAsk n first last result
+  by_calls_never MayAsk n first middle last early result a b =
+      by_calls_at (n + 0) n first last result (omega arith) (by_calls_then MayAsk n 0 first middle last early result a b (λ asks never. absurd never))
+
+  -- what may be asked, told in other words
+  pub by_calls_map : {T : Type 0} {Other : ℕ → Type 0} (MayAsk : ℕ → Type 0) (n : ℕ) (first last : S) (result : Result T (Walk F))
+      → GoesByCalls read_gives write_gives fresh_gives meaning Other n first last result → ((asks : ℕ) → Other asks → MayAsk asks)
+      → GoesByCalls read_gives write_gives fresh_gives meaning MayAsk n first last result
+  by_calls_map MayAsk n first last result by more =
+      by_calls_at (0 + n) n first last result (omega arith)
+      (by_calls_then MayAsk 0 n first first last (Ok (tt {0})) result
+      (by_calls_reads (λ _. ⊥) first first (Ok (tt {0})) (by_reads_none first (Ok (tt {0})) tt)) by
+      (λ asks other. (let same : asks ≡ 0 + asks = omega arith in subst MayAsk same (more asks other))))
+
 module _ {S F R : Type 0} {read_gives : S → ℕ → Result (Option (List ℕ)) F → S → Type 0} {write_gives : S → ℕ → Option (List ℕ)
     → Result (Unit {0}) F → S → Type 0} {fresh_gives : S → Result ℕ F → S → Type 0} {meaning : S → Meaning} {rest : S → R} where
   -- reads ask for no new record
@@ -198,31 +277,18 @@ module _ {S F R : Type 0} {read_gives : S → ℕ → Result (Option (List ℕ))
       (result : Result T (Walk F)) → answer ≡ Err fault → write_gives first rid value answer last → OnErr answer (meaning last ≡ meaning first)
       → rest last ≡ rest first → IsErrAnd result (λ walk. walk ≡ Store fault)
       → WalksByCalls read_gives write_gives fresh_gives meaning rest MayAsk 0 first last result
-  write_refused MayAsk first last rid value fault answer result was gives unchanged kept is =
-      let A : Result (Unit {0}) F → Type 0 = λ a. write_gives first rid value a last in
-      let same : meaning last ≡ meaning first = error_of answer _ fault was unchanged in
-      record {
-        by = record {
-          calls = then_write first first last 0 rid value answer (no_calls first) gives;
-          fault = store_fault result fault _ is (by_write first 0 rid value (no_calls first) (subst A was gives));
-          given = (goes-same (λ _. ⊥) (meaning first) (meaning last) same).given;
-          grow = ReadsGrow-same (meaning first) (meaning first) (meaning last) (ReadsGrow-refl (meaning first)) same;
-        };
-        memory = store_memory result fault is;
-        kept = kept;
-      }
+  write_refused MayAsk first last rid value fault answer result was gives unchanged kept is = record {
+    by = by_write_refused MayAsk first last rid value fault answer result was gives unchanged is;
+    memory = store_memory result fault is;
+    kept = kept;
+  }
 
   -- a write that was done
   pub write_done : {T : Type 0} (MayAsk : ℕ → Type 0) (first last : S) (rid : ℕ) (value : Option (List ℕ)) (answer : Result (Unit {0}) F)
       (result : Result T (Walk F)) → write_gives first rid value answer last → meaning last ≡ after_write (meaning first) rid value
       → rest last ≡ rest first → Quiet result → WalksByCalls read_gives write_gives fresh_gives meaning rest MayAsk 0 first last result
   write_done MayAsk first last rid value answer result gives is kept quiet = record {
-    by = record {
-      calls = then_write first first last 0 rid value answer (no_calls first) gives;
-      fault = quiet_fault result _ quiet.0;
-      given = gives-none (meaning first) (meaning last) (rw is refl);
-      grow = ReadsGrow-write (meaning first) (meaning first) (meaning last) rid value (ReadsGrow-refl (meaning first)) is;
-    };
+    by = by_write_done MayAsk first last rid value answer result gives is quiet.0;
     memory = quiet.1;
     kept = kept;
   }
@@ -232,33 +298,18 @@ module _ {S F R : Type 0} {read_gives : S → ℕ → Result (Option (List ℕ))
       → MayAsk 1 → answer ≡ Err fault → fresh_gives first answer last → OnErr answer (meaning last ≡ meaning first) → rest last ≡ rest first
       → IsErrAnd result (λ walk. walk ≡ Store fault)
       → WalksByCalls read_gives write_gives fresh_gives meaning rest MayAsk 1 first last result
-  fresh_refused MayAsk first last fault answer result may was gives unchanged kept is =
-      let A : Result ℕ F → Type 0 = λ a. fresh_gives first a last in
-      let same : meaning last ≡ meaning first = error_of answer _ fault was unchanged in
-      let none = (goes-same (λ _. ⊥) (meaning first) (meaning last) same).given in
-      record {
-        by = record {
-          calls = then_fresh first first last 0 answer (no_calls first) gives;
-          fault = store_fault result fault _ is (by_fresh first 0 (no_calls first) (subst A was gives)
-              (may, fewer-refused 0 1 (meaning first) (meaning last) (omega arith) none));
-          given = gives-weaken 0 1 (meaning first) (meaning last) (omega arith) none;
-          grow = ReadsGrow-same (meaning first) (meaning first) (meaning last) (ReadsGrow-refl (meaning first)) same;
-        };
-        memory = store_memory result fault is;
-        kept = kept;
-      }
+  fresh_refused MayAsk first last fault answer result may was gives unchanged kept is = record {
+    by = by_fresh_refused MayAsk first last fault answer result may was gives unchanged is;
+    memory = store_memory result fault is;
+    kept = kept;
+  }
 
   -- one that was answered
   pub fresh_done : {T : Type 0} (MayAsk : ℕ → Type 0) (first last : S) (rid : ℕ) (answer : Result ℕ F) (result : Result T (Walk F))
       → fresh_gives first answer last → meaning last ≡ after_fresh (meaning first) rid → rest last ≡ rest first → Quiet result
       → WalksByCalls read_gives write_gives fresh_gives meaning rest MayAsk 1 first last result
   fresh_done MayAsk first last rid answer result gives is kept quiet = record {
-    by = record {
-      calls = then_fresh first first last 0 answer (no_calls first) gives;
-      fault = quiet_fault result _ quiet.0;
-      given = (goes-fresh (λ _. ⊥) (meaning first) (meaning last) rid is).given;
-      grow = ReadsGrow-fresh (meaning first) (meaning first) (meaning last) rid (ReadsGrow-refl (meaning first)) is;
-    };
+    by = by_fresh_done MayAsk first last rid answer result gives is quiet.0;
     memory = quiet.1;
     kept = kept;
   }
@@ -302,7 +353,7 @@ module _ {S F R : Type 0} {read_gives : S → ℕ → Result (Option (List ℕ))
       → WalksByCalls read_gives write_gives fresh_gives meaning rest (λ _. ⊥) 0 middle last result
       → WalksByCalls read_gives write_gives fresh_gives meaning rest MayAsk n first last result
   calls_never MayAsk n first middle last early result a b = record {
-    by = by_calls_at (n + 0) n first last result (omega arith) (by_calls_then MayAsk n 0 first middle last early result a.by b.by (λ asks never. absurd never));
+    by = by_calls_never MayAsk n first middle last early result a.by b.by;
     memory = b.memory;
     kept = b.kept ∙ a.kept;
   }
@@ -334,5 +385,8 @@ module _ {S F R : Type 0} {read_gives : S → ℕ → Result (Option (List ℕ))
   pub calls_map : {T : Type 0} {Other : ℕ → Type 0} (MayAsk : ℕ → Type 0) (n : ℕ) (first last : S) (result : Result T (Walk F))
       → WalksByCalls read_gives write_gives fresh_gives meaning rest Other n first last result → ((asks : ℕ) → Other asks → MayAsk asks)
       → WalksByCalls read_gives write_gives fresh_gives meaning rest MayAsk n first last result
-  calls_map MayAsk n first last result went more =
-      calls_behind {V = Unit {0}} MayAsk n first first last (Ok tt) result (reads_none first (Ok tt) (tt, tt)) went more
+  calls_map MayAsk n first last result went more = record {
+    by = by_calls_map MayAsk n first last result went.by more;
+    memory = went.memory;
+    kept = went.kept;
+  }

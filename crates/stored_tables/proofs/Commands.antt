@@ -145,7 +145,7 @@ module _ {S F : Type 0} {read_gives : S → ℕ → Result (Option (List ℕ)) F
       looks_then (Known table key index) first middle last early index result a was b
       (λ state held agrees stands indexed. (
         held,
-        stands_on (meaning first) (meaning middle) state held a.only
+        stands_on (meaning first) (meaning middle) state held a.by.only
             stands,
         λ found is. (indexed, is),
       ))
@@ -164,7 +164,7 @@ module _ {S F : Type 0} {read_gives : S → ℕ → Result (Option (List ℕ)) F
       (λ state held agrees stands is. (
       let on : index_of table held.1 ≡ Some column = is ∙ ap Some same in (
         held,
-        (stands_on (meaning first) (meaning middle) state held a.only stands, on),
+        (stands_on (meaning first) (meaning middle) state held a.by.only stands, on),
         λ pairs found. find_on held.1 table column lo hi
             limit pairs on found,
       )
@@ -178,7 +178,7 @@ module _ {S F : Type 0} {read_gives : S → ℕ → Result (Option (List ℕ)) F
       looks_then (λ index. Known table key index found) first middle last early found result a was b
       (λ state held agrees stands is. (
         held,
-        stands_on (meaning first) (meaning middle) state held a.only
+        stands_on (meaning first) (meaning middle) state held a.by.only
             stands,
         λ index indexed. (indexed, is),
       ))
@@ -216,7 +216,7 @@ module _ {S F : Type 0} {read_gives : S → ℕ → Result (Option (List ℕ)) F
       (runs_then (λ _. Does command (meaning last) (Ok Nothing)) 0 n first middle last early value result
       (looks_runs (DueBy (plan command)) Saw 0 first middle early look (λ v state held agrees stands found. (refl, found))) was runs
       (λ before state held agrees stands saw. (
-      let fact = facts state held (stands_on (meaning first) (meaning middle) state held look.only stands) saw.1 in (
+      let fact = facts state held (stands_on (meaning first) (meaning middle) state held look.by.only stands) saw.1 in (
         held,
         fact.0,
         λ asks may. ask_as command held moves asks (before + asks) fact.1 (omega (arith, saw.0)) may,

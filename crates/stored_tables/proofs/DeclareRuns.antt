@@ -47,7 +47,7 @@ module _ {S F : Type 0} {read_gives : S → ℕ → Result (Option (List ℕ)) F
       looks_then (Unindexed table) first middle last early None result a was b
       (λ state held agrees stands indexed. (
         held,
-        stands_on (meaning first) (meaning middle) state held a.only
+        stands_on (meaning first) (meaning middle) state held a.by.only
             stands,
         λ rows tells. (indexed, tells),
       ))

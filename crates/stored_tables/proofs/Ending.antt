@@ -19,9 +19,12 @@ use Rattle.stored_tables.specs.Answers.{Held, Stands, Becomes, DueBy}
 use Rattle.stored_tables.specs.Blocks.{Called, Left, IfDone, IfRefused, LeavesTables, RanTo, SawTo}
 use Rattle.stored_tables.specs.Places.{Places}
 use Rattle.stored_tables.specs.Plan.{MayAsk, run_plan}
-use Rattle.stored_tables.specs.Runs.{Each, Runs}
+use Rattle.stored_tables.specs.Runs.{Runs}
+use Rattle.record_store.specs.States.{Each}
 use Rattle.stored_tables.specs.Tables.{EachTables}
-use Rattle.stored_tables.proofs.Runs.{IfOk-map, ok_of, fault_map}
+use Rattle.stored_tables.proofs.Runs.{IfOk-map, ok_of}
+use Rattle.record_store.specs.Goes.{GoesByCalls}
+use Rattle.record_store.proofs.Going.{by_calls_map}
 
 -- ---- outcomes
 
@@ -110,15 +113,14 @@ done_outcome commands first last answers asked each = λ state places tables agr
 
 pub fault_tables : {S F : Type 0} (read_gives : S → ℕ → Result (Option (List ℕ)) F → S → Type 0) (write_gives : S → ℕ → Option (List ℕ)
     → Result (Unit {0}) F → S → Type 0) (fresh_gives : S → Result ℕ F → S → Type 0) (meaning : S → Meaning) (commands : List Command)
-    (first last : S) (result other : Result Outcome (Walk F)) (walk : Walk F) → other ≡ Err walk → IsErrAnd result (λ w. w ≡ walk)
-    → IfStore other (CallFault read_gives write_gives fresh_gives (λ asks. Each (Stands (meaning first)) (meaning last)
-    (DueBy (run_plan commands) asks) × GivesFewer asks (meaning first) (meaning last)) first last)
+    (asked : ℕ) (first last : S) (result other : Result Outcome (Walk F)) (walk : Walk F) → other ≡ Err walk → IsErrAnd result (λ w. w ≡ walk)
+    → GoesByCalls read_gives write_gives fresh_gives meaning (λ asks. Each (Stands (meaning first)) (meaning last)
+    (DueBy (run_plan commands) asks)) asked first last other
     → IfStore result (CallFault read_gives write_gives fresh_gives (λ asks. EachTables (meaning first) (meaning last)
     (λ _ places tables. MayAsk (run_plan commands tables) places asks) × GivesFewer asks (meaning first) (meaning last)) first last)
-fault_tables read_gives write_gives fresh_gives meaning commands first last result other walk was is fault =
+fault_tables read_gives write_gives fresh_gives meaning commands asked first last result other walk was is by =
     fault_moved result other walk _ was is
-    (IfStore-map other (λ f. fault_map _ _ first last f
-    (λ asks both. (may_tables commands (meaning first) (meaning last) asks both.0, both.1))) fault)
+    (by_calls_map _ asked first last other by (λ asks each. may_tables commands (meaning first) (meaning last) asks each)).fault
 
 module _ {S F : Type 0} {read_gives : S → ℕ → Result (Option (List ℕ)) F → S → Type 0} {write_gives : S → ℕ → Option (List ℕ)
     → Result (Unit {0}) F → S → Type 0} {fresh_gives : S → Result ℕ F → S → Type 0} {meaning : S → Meaning} (commands : List Command)
@@ -129,10 +131,10 @@ module _ {S F : Type 0} {read_gives : S → ℕ → Result (Option (List ℕ)) F
   called_err result other walk r is = record {
     before = last;
     asked = r.asked;
-    calls = r.calls;
+    calls = r.by.calls;
     may = λ some. may_tables commands (meaning first) (meaning last) r.asked (r.may some);
     few = r.few;
-    given = r.given;
+    given = r.by.given;
     writes = λ state places tables agrees stands. r.writes state (places, tables) agrees stands;
     done = err_done result walk _ is;
     refused = err_refused result walk _ is;
@@ -150,10 +152,10 @@ module _ {S F : Type 0} {read_gives : S → ℕ → Result (Option (List ℕ)) F
       record {
         before = last;
         asked = r.asked;
-        calls = r.calls;
+        calls = r.by.calls;
         may = λ some. may_tables commands (meaning first) (meaning last) r.asked (r.may some);
         few = r.few;
-        given = r.given;
+        given = r.by.given;
         writes = λ state places tables agrees stands. r.writes state (places, tables) agrees stands;
         done = (
           refl,
@@ -171,11 +173,11 @@ module _ {S F : Type 0} {read_gives : S → ℕ → Result (Option (List ℕ)) F
   called_refused now command cause other was undone r = record {
     before = last;
     asked = r.asked;
-    calls = r.calls;
+    calls = r.by.calls;
     may = λ some. may_after commands (meaning first) (meaning last) (meaning now) r.asked
         (undone_reads (meaning last) (meaning now) undone) (may_tables commands (meaning first) (meaning last) r.asked (r.may some));
     few = r.few;
-    given = r.given;
+    given = r.by.given;
     writes = λ state places tables agrees stands. r.writes state (places, tables)
         (let A : List (ℕ × Option (List ℕ)) → Type 0 = Agrees state in subst A (undone_reads (meaning last) (meaning now) undone) agrees)
         stands;

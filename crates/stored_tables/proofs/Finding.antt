@@ -2,7 +2,7 @@
 use Rattle.std.proofs.Common.{◌≡◌, ℕ, ◌<◌, List, Option, None, Some, Result, Ok, sym, ap, subst, ◌∙◌}
 use Rattle.std.specs.Prelude.{IfOk}
 use Rattle.plain_data.specs.State.{State, overlay}
-use Rattle.record_store.specs.Calls.{Reads, ReadFault}
+use Rattle.record_store.specs.Goes.{GoesByReads}
 use Rattle.record_store.specs.Meaning.{Meaning}
 use Rattle.record_store.specs.Walks.{IfTorn, IfStore, OnlyReads}
 use Rattle.record_store.specs.declared.walk.Walk.{Walk}
@@ -40,17 +40,14 @@ module _ {S F : Type 0} {read_gives : S → ℕ → Result (Option (List ℕ)) F
   -- the chain says where the row is
   pub got : (table base key : ℕ) (first last : S) (result : Result (Option ℕ) (Walk F)) → table < table_limit → base ≡ base_of table
       → IfOk result (λ answer. EachChain base (meaning first) (meaning last) (λ _ rows. answer ≡ record_of rows key))
-      → IfTorn result (IsTornChain base key (meaning first) (meaning last)) → IfStore result (ReadFault read_gives first last)
-      → Reads read_gives first last → OnlyReads (meaning first) (meaning last) → Looks read_gives meaning (Stands (meaning first))
-      (λ answer state held. held.0.row_at table key ≡ answer) first last result
-  got table base key first last result low is ok torn fault calls only = record {
-    calls = calls;
+      → IfTorn result (IsTornChain base key (meaning first) (meaning last)) → GoesByReads read_gives meaning first last result
+      → Looks read_gives meaning (Stands (meaning first)) (λ answer state held. held.0.row_at table key ≡ answer) first last result
+  got table base key first last result low is ok torn by = record {
+    by = by;
     found = IfOk-map result (λ answer each state held agrees stands. sym (stands.tied.chain table key low)
         ∙ sym (each state (held.0.rows table) agrees (rw is (stands.shape.chains table low)))) ok;
     torn = IfTorn-map result (λ rid torn state held agrees stands. torn.none state (held.0.rows table) agrees
         (rw is (stands.shape.chains table low))) torn;
-    fault = fault;
-    only = only;
   }
 
   -- and the row is there
@@ -65,7 +62,7 @@ module _ {S F : Type 0} {read_gives : S → ℕ → Result (Option (List ℕ)) F
       (λ state held agrees stands at. (let row = row_there (overlay (meaning first).writes state) (value_at held.1 table key)
       (held.0.row_at table key) rid at (stands.tied.rows table key low) in (
         row.0,
-        ap (λ ws. overlay ws state rid) (writes_same (meaning first) (meaning middle) a.only)
+        ap (λ ws. overlay ws state rid) (writes_same (meaning first) (meaning middle) a.by.only)
             ∙ row.2,
         λ w is. (at, row.1 ∙ ap Some (sym is)),
       )))

@@ -49,7 +49,6 @@ pub mod Listed
 pub mod ScanRows
 pub mod ReadingCommands
 pub mod OneRow
-pub mod Asking
 pub mod Running
 pub mod Ending
 pub mod Declaring

@@ -60,7 +60,7 @@ module _ {S F : Type 0} {read_gives : S → ℕ → Result (Option (List ℕ)) F
       (λ state rows agrees lists so_far. (
       let at = row_listed (overlay (meaning first).writes state) key_of entries rows i d lists within in
       let there : overlay (meaning middle).writes state rid ≡ Some (row_words at.row.1) =
-      ap (λ ws. overlay ws state rid) (writes_same (meaning first) (meaning middle) acc.only)
+      ap (λ ws. overlay ws state rid) (writes_same (meaning first) (meaning middle) acc.by.only)
       ∙ ap (overlay (meaning first).writes state) is_rid ∙ at.listed.words in (
         at.row.1,
         there,

@@ -1,5 +1,5 @@
 -- One read of a record, and what is torn by it.
-use Rattle.std.proofs.Common.{◌≡◌, ℕ, List, Option, Some, Result, Ok, Err, sym, subst}
+use Rattle.std.proofs.Common.{◌≡◌, ℕ, List, Option, Some, Result, Ok, Err, refl, sym, subst}
 use Rattle.std.specs.Prelude.{IsErrAnd}
 use Rattle.std.proofs.lemmas.List.{append_cancel_right}
 use lib.ListN.{replicate}
@@ -12,6 +12,7 @@ use Rattle.record_store.specs.declared.walk.Walk.TheVariants.{Store, Torn}
 use Rattle.record_store.proofs.Agreement.{answered, OnlyReads-after_read, OnlyReads-refl}
 use Rattle.record_store.proofs.Refusals.{store_fault}
 use Rattle.replay_model.specs.TableMap.{Row}
+use Rattle.record_store.proofs.Going.{by_read_refused, by_read_done, by_reads_quiet}
 use Rattle.stored_tables.specs.Runs.{Looks}
 use Rattle.stored_tables.specs.Tables.{row_words}
 use Rattle.stored_tables.proofs.Runs.{no_ok, ok_of}
@@ -30,11 +31,9 @@ module _ {S F : Type 0} {read_gives : S → ℕ → Result (Option (List ℕ)) F
       (result : Result T (Walk F)) → read_gives first rid (Err fault) last → meaning last ≡ meaning first
       → IsErrAnd result (λ w. w ≡ Store fault) → Looks read_gives meaning Stands Other first last result
   read_refused Stands Other first last rid fault result gives same is = record {
-    calls = read first first last rid (Err fault) (none first) gives;
+    by = by_read_refused first last rid fault (Err fault) result refl gives same is;
     found = no_ok result (Store fault) _ is;
     torn = no_torn result fault _ is;
-    fault = store_fault result fault _ is (record { before = first; rid = rid; calls = none first; answer = gives });
-    only = let P : Meaning → Type 0 = λ m. OnlyReads (meaning first) m in subst P (sym same) (OnlyReads-refl (meaning first));
   }
 
   pub read_answered : {X : Type 0} (Stands : State → X → Type 0) (first last : S) (rid : ℕ) (value : Option (List ℕ))
@@ -42,11 +41,9 @@ module _ {S F : Type 0} {read_gives : S → ℕ → Result (Option (List ℕ)) F
       → known (meaning last) rid ≡ Some value → Looks {F = F} read_gives meaning Stands
       (λ found state x. overlay (meaning first).writes state rid ≡ found) first last (Ok value)
   read_answered Stands first last rid value gives is answer = record {
-    calls = read first first last rid (Ok value) (none first) gives;
+    by = by_read_done first last rid value (Ok value) (Ok value) refl gives is tt;
     found = λ state x agrees stands. answered (meaning first) (meaning last) rid value is answer state agrees;
     torn = tt;
-    fault = tt;
-    only = OnlyReads-after_read (meaning first) (meaning last) rid value is;
   }
 
   -- what was found is found in no state that stands so
@@ -55,9 +52,7 @@ module _ {S F : Type 0} {read_gives : S → ℕ → Result (Option (List ℕ)) F
       → other ≡ Ok value → ((state : State) (x : X) → Agrees state (meaning last).reads → Stands state x → Found value state x → ⊥)
       → Looks {F = F} read_gives meaning Stands Other first last (Err (Torn rid))
   looks_torn Other first last other value rid l was never = record {
-    calls = l.calls;
+    by = by_reads_quiet first last (Err (Torn rid)) other tt l.by;
     found = tt;
     torn = λ state x agrees stands. never state x agrees stands (ok_of other _ value was l.found state x agrees stands);
-    fault = tt;
-    only = l.only;
   }

@@ -16,6 +16,7 @@ use Rattle.stored_tables.specs.Plan.{Move, Moves, Follows, MayAsk, IsDue}
 use Rattle.stored_tables.specs.Plan.Follows.{stays, moves}
 use Rattle.stored_tables.specs.Plan.Move.{row_added, row_dropped, pair_put, pair_removed, entry_inserted, entry_removed}
 use Rattle.stored_tables.specs.Plan.Moves.{row_added_at, row_dropped_at}
+use Rattle.record_store.proofs.Going.{by_calls_reads, by_reads_none}
 use Rattle.stored_tables.specs.Runs.{Runs}
 use Rattle.stored_tables.proofs.Runs.{runs_then}
 use Rattle.stored_tables.proofs.Ties.{set_here, set_away}
@@ -196,15 +197,12 @@ module _ {S F : Type 0} {read_gives : S → ℕ → Result (Option (List ℕ)) F
       → Runs {F = F} read_gives write_gives fresh_gives meaning Stands Due Did 0 first first (Ok tt)
   runs_begin Stands Due Did first did = record {
     asked = 0;
-    calls = no_calls first;
+    by = by_calls_reads _ first first (Ok (tt {0})) (by_reads_none first (Ok (tt {0})) tt);
     may = λ some. absurd (omega arith);
     did = λ state x agrees stands. did state x stands;
     torn = tt;
-    fault = tt;
     few = writes-none (meaning first) (meaning first) refl;
-    given = gives-none (meaning first) (meaning first) refl;
     writes = λ state x agrees stands. known-reads (meaning first) (meaning first) (OnlyReads-refl (meaning first)) state agrees;
-    grow = record { reads = extends-refl (meaning first).reads; size = refl; fixed = refl };
   }
 
   -- one move more of a chain or a tree

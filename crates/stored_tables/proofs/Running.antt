@@ -220,7 +220,7 @@ module _ {S F : Type 0} {read_gives : S → ℕ → Result (Option (List ℕ)) F
       looks_then (SeenTo commands i answers) first middle last (Ok (tt {0})) tt result acc refl step
       (λ state held agrees stands saw. (
         held,
-        stands_on (meaning first) (meaning middle) state held acc.only stands,
+        stands_on (meaning first) (meaning middle) state held acc.by.only stands,
         λ value did. seen_to
             commands command i answers value state held within here saw did,
       ))

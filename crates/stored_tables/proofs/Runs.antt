@@ -9,11 +9,13 @@ use Rattle.record_store.specs.Meaning.{Meaning}
 use Rattle.record_store.specs.declared.walk.Walk.{Walk}
 use Rattle.record_store.specs.declared.walk.Walk.TheVariants.{Torn, NoMemory}
 use Rattle.record_store.proofs.Agreement.{agrees-extends, OnlyReads-refl, OnlyReads-trans, ReadsGrow-only, ReadsGrow-trans}
+use Rattle.record_store.proofs.Going.{by_reads_none, by_reads_moved, by_reads_quiet, by_reads_then, by_calls_reads, by_calls_map, by_calls_moved, by_calls_quiet, by_calls_then}
 use Rattle.record_store.proofs.Known.{few-reads, gives-reads, gives-trans, fewer-behind, known-reads}
 use Rattle.record_store.proofs.Paths.{Reads-trans, ReadFault-behind, Calls-reads, Calls-trans, CallFault-read, CallFault-behind}
 use Rattle.record_store.proofs.Refusals.{fault_moved, torn_moved, IfStore-map, IfTorn-map}
 use Rattle.record_store.proofs.Writes.{writes-trans, writes-weaken}
-use Rattle.stored_tables.specs.Runs.{Each, Looks, Runs}
+use Rattle.stored_tables.specs.Runs.{Looks, Runs}
+use Rattle.record_store.specs.States.{Each}
 use Rattle.stored_tables.proofs.Knowing.{known_trans}
 
 pub unlike : (b : Bool) → b ≡ true → b ≡ false → ⊥
@@ -36,9 +38,6 @@ at_value : {T E : Type 0} (result : Result T E) (value : T) (P : T → Type 0) �
 at_value (Ok v) value P is holds = let same : v ≡ value = cc in subst P same holds
 at_value (Err e) value P is holds = tt
 
-at_zero : (P : ℕ → Type 0) (n : ℕ) → P n → P (0 + n)
-at_zero P n holds = let same : n ≡ 0 + n = omega arith in subst P same holds
-
 -- by the number of a later part's asks
 pub asks_of : (n : ℕ) (P : Type 0) → (n ≡ 0 → P) → (0 < n → P) → P
 asks_of zero P none some = none refl
@@ -52,12 +51,10 @@ module _ {S F : Type 0} {read_gives : S → ℕ → Result (Option (List ℕ)) F
       → Stands state x → (y : Y) × Inner state y × ((value : T) → Found value state y → Other value state x))
       → Looks read_gives meaning Stands Other first last result
   looks_map Stands Other first last result l glue = record {
-    calls = l.calls;
+    by = l.by;
     found = IfOk-map result
         (λ value each state x agrees stands. (let g = glue state x agrees stands in g.2 value (each state g.0 agrees g.1))) l.found;
     torn = IfTorn-map result (λ rid none state x agrees stands. (let g = glue state x agrees stands in none state g.0 agrees g.1)) l.torn;
-    fault = l.fault;
-    only = l.only;
   }
 
   -- nothing was looked at
@@ -65,18 +62,16 @@ module _ {S F : Type 0} {read_gives : S → ℕ → Result (Option (List ℕ)) F
       → ((state : State) (x : X) → Stands state x → Found value state x) → Looks {F = F} read_gives meaning Stands Found first first
       (Ok value)
   looks_begin Stands Found first value found = record {
-    calls = no_reads first;
+    by = by_reads_none first (Ok value) tt;
     found = λ state x agrees stands. found state x stands;
     torn = tt;
-    fault = tt;
-    only = OnlyReads-refl (meaning first);
   }
 
   -- want of memory says nothing
   pub looks_memory : {T V X : Type 0} {Stands : State → X → Type 0} {Found : V → State → X → Type 0} (Other : T → State → X → Type 0)
       (first last : S) (other : Result V (Walk F)) → Looks read_gives meaning Stands Found first last other
       → Looks {F = F} read_gives meaning Stands Other first last (Err NoMemory)
-  looks_memory Other first last other l = record { calls = l.calls; found = tt; torn = tt; fault = tt; only = l.only }
+  looks_memory Other first last other l = record { by = by_reads_quiet first last (Err NoMemory) other tt l.by; found = tt; torn = tt }
 
   -- a refusal handed on
   pub looks_moved : {T V X : Type 0} {Stands : State → X → Type 0} {Found : V → State → X → Type 0} (Other : T → State → X → Type 0)
@@ -84,11 +79,9 @@ module _ {S F : Type 0} {read_gives : S → ℕ → Result (Option (List ℕ)) F
       → Looks read_gives meaning Stands Found first last other → other ≡ Err walk → IsErrAnd result (λ w. w ≡ walk)
       → Looks read_gives meaning Stands Other first last result
   looks_moved Other first last result other walk l was is = record {
-    calls = l.calls;
+    by = by_reads_moved first last result other walk was is l.by;
     found = no_ok result walk _ is;
     torn = torn_moved result other walk _ was is l.torn;
-    fault = fault_moved result other walk _ was is l.fault;
-    only = l.only;
   }
 
   -- another value
@@ -97,11 +90,9 @@ module _ {S F : Type 0} {read_gives : S → ℕ → Result (Option (List ℕ)) F
       → other ≡ Ok value → ((state : State) (x : X) → Agrees state (meaning last).reads → Stands state x → Found value state x
       → Other new state x) → Looks {F = F} read_gives meaning Stands Other first last (Ok new)
   looks_value Other first last other value new l was more = record {
-    calls = l.calls;
+    by = by_reads_quiet first last (Ok new) other tt l.by;
     found = λ state x agrees stands. more state x agrees stands (ok_of other _ value was l.found state x agrees stands);
     torn = tt;
-    fault = tt;
-    only = l.only;
   }
 
   -- what a later part found, told of where the earlier one began
@@ -114,25 +105,16 @@ module _ {S F : Type 0} {read_gives : S → ℕ → Result (Option (List ℕ)) F
   looks_then Other first middle last early value result a was b glue =
       let back : (state : State) → Agrees state (meaning last).reads
       → Agrees state (meaning middle).reads = λ state agrees. agrees-extends (meaning middle).reads (meaning last).reads state
-      b.only.reads agrees in
+      b.by.only.reads agrees in
       record {
-        calls = Reads-trans first middle last a.calls b.calls;
+        by = by_reads_then first middle last early result a.by b.by;
         found = IfOk-map result
             (λ w each state x agrees stands. (let g = glue state x (back state agrees) stands
             (ok_of early _ value was a.found state x (back state agrees) stands) in g.2 w (each state g.0 agrees g.1))) b.found;
         torn = IfTorn-map result
             (λ rid none state x agrees stands. (let g = glue state x (back state agrees) stands
             (ok_of early _ value was a.found state x (back state agrees) stands) in none state g.0 agrees g.1)) b.torn;
-        fault = IfStore-map result (λ fault. ReadFault-behind first middle last fault a.calls) b.fault;
-        only = OnlyReads-trans (meaning first) (meaning middle) (meaning last) a.only b.only;
       }
-
-pub fault_map : {S F : Type 0} {read_gives : S → ℕ → Result (Option (List ℕ)) F → S → Type 0} {write_gives : S → ℕ → Option (List ℕ)
-    → Result (Unit {0}) F → S → Type 0} {fresh_gives : S → Result ℕ F → S → Type 0} (P Q : ℕ → Type 0) (first last : S) (fault : F)
-    → ((asks : ℕ) → P asks → Q asks) → CallFault read_gives write_gives fresh_gives P first last fault
-    → CallFault read_gives write_gives fresh_gives Q first last fault
-fault_map P Q first last fault more = CallFault-behind Q P first first last 0 fault (no_calls first)
-    (λ asks holds. at_zero Q asks (more asks holds))
 
 module _ {S F : Type 0} {read_gives : S → ℕ → Result (Option (List ℕ)) F → S → Type 0} {write_gives : S → ℕ → Option (List ℕ)
     → Result (Unit {0}) F → S → Type 0} {fresh_gives : S → Result ℕ F → S → Type 0} {meaning : S → Meaning} where
@@ -144,15 +126,12 @@ module _ {S F : Type 0} {read_gives : S → ℕ → Result (Option (List ℕ)) F
       → Runs {F = F} read_gives write_gives fresh_gives meaning Stands Due Other most first last (Err (Torn rid))
   runs_torn Other few most less first last other value rid r was never = record {
     asked = r.asked;
-    calls = r.calls;
-    given = r.given;
+    by = by_calls_quiet _ first last (Err (Torn rid)) other tt r.by;
     may = r.may;
     did = tt;
     torn = λ state x agrees stands. never r.asked state x agrees stands (ok_of other _ value was r.did state x agrees stands);
-    fault = tt;
     few = writes-weaken few most (meaning first) (meaning last) less r.few;
     writes = r.writes;
-    grow = r.grow;
   }
 
   -- want of memory says nothing
@@ -162,15 +141,12 @@ module _ {S F : Type 0} {read_gives : S → ℕ → Result (Option (List ℕ)) F
       → Runs {F = F} read_gives write_gives fresh_gives meaning Stands Due Other most first last (Err NoMemory)
   runs_memory Other few most less first last other r = record {
     asked = r.asked;
-    calls = r.calls;
-    given = r.given;
+    by = by_calls_quiet _ first last (Err NoMemory) other tt r.by;
     may = r.may;
     did = tt;
     torn = tt;
-    fault = tt;
     few = writes-weaken few most (meaning first) (meaning last) less r.few;
     writes = r.writes;
-    grow = r.grow;
   }
 
   -- a part that reads alone asks for nothing
@@ -181,15 +157,12 @@ module _ {S F : Type 0} {read_gives : S → ℕ → Result (Option (List ℕ)) F
       → Did value 0 state x) → Runs read_gives write_gives fresh_gives meaning Stands Due Did most first last result
   looks_runs Due Did most first last result l more = record {
     asked = 0;
-    calls = Calls-reads first last l.calls;
-    given = gives-reads (meaning first) (meaning last) l.only;
-    writes = λ state x agrees stands. known-reads (meaning first) (meaning last) l.only state agrees;
+    by = by_calls_reads _ first last result l.by;
+    writes = λ state x agrees stands. known-reads (meaning first) (meaning last) l.by.only state agrees;
     may = λ some. absurd (omega arith);
     did = IfOk-map result (λ value each state x agrees stands. more value state x agrees stands (each state x agrees stands)) l.found;
     torn = l.torn;
-    fault = IfStore-map result (λ fault. CallFault-read _ first last fault) l.fault;
-    few = few-reads most (meaning first) (meaning last) l.only;
-    grow = ReadsGrow-only (meaning first) (meaning last) l.only;
+    few = few-reads most (meaning first) (meaning last) l.by.only;
   }
 
   pub runs_map : {T X Y : Type 0} {Inner : State → Y → Type 0} {Later : ℕ → State → Y → Type 0} {Did : T → ℕ → State → Y → Type 0}
@@ -200,20 +173,14 @@ module _ {S F : Type 0} {read_gives : S → ℕ → Result (Option (List ℕ)) F
       → Other value asked state x)) → Runs read_gives write_gives fresh_gives meaning Stands Due Other most first last result
   runs_map Stands Due Other few most first last result less r glue = record {
     asked = r.asked;
-    calls = r.calls;
-    given = r.given;
+    by = by_calls_map _ r.asked first last result r.by
+        (λ asks each state x agrees stands. (let g = glue state x agrees stands in g.2 asks (each state g.0 agrees g.1)));
     may = λ some state x agrees stands. (let g = glue state x agrees stands in g.2 r.asked (r.may some state g.0 agrees g.1));
     did = IfOk-map result
         (λ value each state x agrees stands. (let g = glue state x agrees stands in g.3 value r.asked (each state g.0 agrees g.1))) r.did;
     torn = IfTorn-map result (λ rid none state x agrees stands. (let g = glue state x agrees stands in none state g.0 agrees g.1)) r.torn;
-    fault = IfStore-map result (λ fault f. fault_map _ _ first last fault
-        (λ asks both. (
-          λ state x agrees stands. (let g = glue state x agrees stands in g.2 asks (both.0 state g.0 agrees g.1)),
-          both.1,
-        )) f) r.fault;
     few = writes-weaken few most (meaning first) (meaning last) less r.few;
     writes = λ state x agrees stands. (let g = glue state x agrees stands in r.writes state g.0 agrees g.1);
-    grow = r.grow;
   }
 
   -- what was done, told of the value
@@ -223,15 +190,12 @@ module _ {S F : Type 0} {read_gives : S → ℕ → Result (Option (List ℕ)) F
       → Runs read_gives write_gives fresh_gives meaning Stands Due (λ _. Did value) most first last result
   runs_at {T} {X} {Stands} {Due} Did most first last result value was r = record {
     asked = r.asked;
-    calls = r.calls;
-    given = r.given;
+    by = r.by;
     may = r.may;
     did = at_value result value (λ v. Each Stands (meaning last) (Did v r.asked)) was r.did;
     torn = r.torn;
-    fault = r.fault;
     few = r.few;
     writes = r.writes;
-    grow = r.grow;
   }
 
   -- what was done, told in other words
@@ -250,15 +214,12 @@ module _ {S F : Type 0} {read_gives : S → ℕ → Result (Option (List ℕ)) F
       → IsErrAnd result (λ w. w ≡ walk) → Runs read_gives write_gives fresh_gives meaning Stands Due Other most first last result
   runs_moved Other few most less first last result other walk r was is = record {
     asked = r.asked;
-    calls = r.calls;
-    given = r.given;
+    by = by_calls_moved first last result other walk was is r.by;
     may = r.may;
     did = no_ok result walk _ is;
     torn = torn_moved result other walk _ was is r.torn;
-    fault = fault_moved result other walk _ was is r.fault;
     few = writes-weaken few most (meaning first) (meaning last) less r.few;
     writes = r.writes;
-    grow = r.grow;
   }
 
   pub runs_value : {T V X : Type 0} {Stands : State → X → Type 0} {Due : ℕ → State → X → Type 0} {Did : V → ℕ → State → X → Type 0}
@@ -268,15 +229,12 @@ module _ {S F : Type 0} {read_gives : S → ℕ → Result (Option (List ℕ)) F
       → Other new asked state x) → Runs {F = F} read_gives write_gives fresh_gives meaning Stands Due Other most first last (Ok new)
   runs_value Other few most first last other value new less r was more = record {
     asked = r.asked;
-    calls = r.calls;
-    given = r.given;
+    by = by_calls_quiet _ first last (Ok new) other tt r.by;
     may = r.may;
     did = λ state x agrees stands. more r.asked state x agrees stands (ok_of other _ value was r.did state x agrees stands);
     torn = tt;
-    fault = tt;
     few = writes-weaken few most (meaning first) (meaning last) less r.few;
     writes = r.writes;
-    grow = r.grow;
   }
 
   pub runs_then : {T V X Y : Type 0} {Stands : State → X → Type 0} {Due : ℕ → State → X → Type 0} {Did : T → ℕ → State → X
@@ -291,7 +249,7 @@ module _ {S F : Type 0} {read_gives : S → ℕ → Result (Option (List ℕ)) F
   runs_then {T} {V} {X} {Y} {Stands} {Due} {Did} {Inner} {Later} {Does} Other n m first middle last early value result a was b glue =
       let back : (state : State) → Agrees state (meaning last).reads
       → Agrees state (meaning middle).reads = λ state agrees. agrees-extends (meaning middle).reads (meaning last).reads state
-      b.grow.reads agrees in
+      b.by.grow.reads agrees in
       let done : (state : State) (x : X) → Agrees state (meaning last).reads → Stands state x
       → Did value a.asked state x = λ state x agrees stands. ok_of early _ value was a.did state x (back state agrees) stands in
       let at : (state : State) (x : X) → Agrees state (meaning last).reads → Stands state x → (y : Y) × Inner state y
@@ -300,7 +258,8 @@ module _ {S F : Type 0} {read_gives : S → ℕ → Result (Option (List ℕ)) F
       (done state x agrees stands) in
       record {
         asked = a.asked + b.asked;
-        calls = Calls-trans first middle last a.asked b.asked a.calls b.calls;
+        by = by_calls_then _ a.asked b.asked first middle last early result a.by b.by
+            (λ asks each state x agrees stands. (let g = at state x agrees stands in g.2 asks (each state g.0 agrees g.1)));
         may = λ some state x agrees stands. asks_of b.asked (Due (a.asked + b.asked) state x)
             (λ none. (let same : a.asked ≡ a.asked + b.asked = omega (arith, none) in let P : ℕ
             → Type 0 = λ k. Due k state x in subst P same (a.may (omega (arith, some, none)) state x (back state agrees) stands)))
@@ -309,14 +268,7 @@ module _ {S F : Type 0} {read_gives : S → ℕ → Result (Option (List ℕ)) F
             (λ w each state x agrees stands. (let g = at state x agrees stands in g.3 w b.asked (each state g.0 agrees g.1))) b.did;
         torn = IfTorn-map result (λ rid none state x agrees stands. (let g = at state x agrees stands in none state g.0 agrees g.1))
             b.torn;
-        fault = IfStore-map result (λ fault f. CallFault-behind _ _ first middle last a.asked fault a.calls
-            (λ asks both. (
-              λ state x agrees stands. (let g = at state x agrees stands in g.2 asks (both.0 state g.0 agrees g.1)),
-              fewer-behind a.asked asks (meaning first) (meaning middle) (meaning last) a.given both.1,
-            )) f) b.fault;
         few = writes-trans n m (meaning first) (meaning middle) (meaning last) a.few b.few;
-        given = gives-trans a.asked b.asked (meaning first) (meaning middle) (meaning last) a.given b.given;
         writes = λ state x agrees stands. (let g = at state x agrees stands in known_trans b.asked (meaning first) (meaning middle)
-            (meaning last) state a.grow.fixed (a.writes state x (back state agrees) stands) b.given (b.writes state g.0 agrees g.1));
-        grow = ReadsGrow-trans (meaning first) (meaning middle) (meaning last) a.grow b.grow;
+            (meaning last) state a.by.grow.fixed (a.writes state x (back state agrees) stands) b.by.given (b.writes state g.0 agrees g.1));
       }

@@ -4,7 +4,7 @@ use Rattle.std.specs.Prelude.{OnOk, IfOk}
 use Rattle.std.proofs.lemmas.Bool.Decides.{nat_tests}
 use Rattle.std.proofs.lemmas.List.Elements.{All-head}
 use Rattle.plain_data.specs.State.{State, overlay}
-use Rattle.record_store.specs.Calls.{Reads, ReadFault}
+use Rattle.record_store.specs.Goes.{GoesByReads}
 use Rattle.record_store.specs.Meaning.{Meaning}
 use Rattle.record_store.specs.Walks.{IfTorn, IfStore, OnlyReads}
 use Rattle.record_store.specs.declared.walk.Walk.{Walk}
@@ -79,19 +79,16 @@ module _ {S F : Type 0} {read_gives : S → ℕ → Result (Option (List ℕ)) F
       (result : Result (Unit {0}) (Walk F)) → number < tree_limit → root ≡ root_of number → old ≡ []
       → OnOk result
       (EachTree root (meaning first) (meaning last) (λ _ _ leaves. now ≡ old ++ take limit (between lo hi (row_entries leaves))))
-      → IfTorn result (IsTornScan root lo (meaning first) (meaning last)) → IfStore result (ReadFault read_gives first last)
-      → Reads read_gives first last → OnlyReads (meaning first) (meaning last)
+      → IfTorn result (IsTornScan root lo (meaning first) (meaning last)) → GoesByReads read_gives meaning first last result
       → Looks read_gives meaning (Stands (meaning first))
       (λ _ state held. now ≡ take limit (between lo hi (row_entries (held.0.leaves number)))) first last result
-  entries_found number root limit lo hi old now first last result low is empty ok torn fault calls only = record {
-    calls = calls;
+  entries_found number root limit lo hi old now first last result low is empty ok torn by = record {
+    by = by;
     found = on_ok result _ _ (λ v each state held agrees stands. each state (held.0.levels number) (held.0.leaves number) agrees
         (rw is (stands.shape.trees number low)) ∙ ap (λ es. es ++ take limit (between lo hi (row_entries (held.0.leaves number)))) empty)
         ok;
     torn = IfTorn-map result (λ rid t state held agrees stands. t.none state (held.0.levels number, held.0.leaves number) agrees
         (rw is (stands.shape.trees number low))) torn;
-    fault = fault;
-    only = only;
   }
 
   -- the rows of a scan by keys
@@ -110,7 +107,7 @@ module _ {S F : Type 0} {read_gives : S → ℕ → Result (Option (List ℕ)) F
       let lists = scan_lists (meaning first).size (overlay (meaning first).writes state) held.0 held.1 table low stands lo hi top limit in
       let E : List (Key × ℕ) → Type 0 = λ es. Lists (overlay (meaning first).writes state) (λ key. key.high) es rows in
       let W : List (ℕ × Option (List ℕ)) → Type 0 = λ ws. Lists (overlay ws state) (λ key. key.high) entries rows in
-      (rows, subst W (sym (writes_same (meaning first) (meaning middle) acc.only)) (subst E (sym is) lists), λ pairs same. same)
+      (rows, subst W (sym (writes_same (meaning first) (meaning middle) acc.by.only)) (subst E (sym is) lists), λ pairs same. same)
       ))
 
   -- the same where more stands
@@ -150,5 +147,5 @@ module _ {S F : Type 0} {read_gives : S → ℕ → Result (Option (List ℕ)) F
       hi 18446744073709551615 indexed few limit in
       let E : List (Key × ℕ) → Type 0 = λ es. Lists (overlay (meaning first).writes state) (λ key. key.low) es rows in
       let W : List (ℕ × Option (List ℕ)) → Type 0 = λ ws. Lists (overlay ws state) (λ key. key.low) entries rows in
-      (rows, subst W (sym (writes_same (meaning first) (meaning middle) acc.only)) (subst E (sym is) lists), λ pairs same. same)
+      (rows, subst W (sym (writes_same (meaning first) (meaning middle) acc.by.only)) (subst E (sym is) lists), λ pairs same. same)
       ))

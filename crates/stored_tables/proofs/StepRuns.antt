@@ -3,7 +3,7 @@ use Rattle.std.proofs.Common.{◌≡◌, ℕ, ◌+◌, ◌<◌, ◌≤◌, Bool,
 use Rattle.std.specs.Prelude.{IfOk, OnOk, option_to_list, is_some}
 use Rattle.std.proofs.lemmas.List.{length-append}
 use Rattle.plain_data.specs.State.{State, Agrees, overlay}
-use Rattle.record_store.specs.Calls.{Calls, CallFault}
+use Rattle.record_store.specs.Goes.{GoesByCalls, WalksCounting}
 use Rattle.record_store.specs.Meaning.{Meaning}
 use Rattle.record_store.specs.Walks.{IfTorn, IfStore, ReadsGrow}
 use Rattle.record_store.specs.Writes.{WritesAtMost, EachWritesKnown, GivesAtMost, GivesFewer}
@@ -25,8 +25,10 @@ use Rattle.stored_tables.specs.Moved.{Shaped, Step}
 use Rattle.stored_tables.specs.Places.{Places, base_of, root_of, table_limit, tree_limit, fixed_records}
 use Rattle.stored_tables.specs.Plan.{IsDue}
 use Rattle.stored_tables.specs.Plan.Move.{pair_put, pair_removed, entry_inserted, entry_removed}
-use Rattle.stored_tables.specs.Runs.{Each, Runs}
-use Rattle.stored_tables.proofs.Runs.{IfOk-map, asks_of, fault_map}
+use Rattle.record_store.proofs.Going.{by_calls_map}
+use Rattle.stored_tables.specs.Runs.{Runs}
+use Rattle.record_store.specs.States.{Each}
+use Rattle.stored_tables.proofs.Runs.{IfOk-map, asks_of}
 use Rattle.stored_tables.proofs.Laid.{not_some}
 use Rattle.stored_tables.proofs.Stepped.{step_put, step_removed, step_inserted, step_taken_out}
 
@@ -105,18 +107,16 @@ inserted_did number root key rid before after (Ok true) asked low is enough grow
 
 module _ {S F : Type 0} {read_gives : S → ℕ → Result (Option (List ℕ)) F → S → Type 0} {write_gives : S → ℕ → Option (List ℕ)
     → Result (Unit {0}) F → S → Type 0} {fresh_gives : S → Result ℕ F → S → Type 0} {meaning : S → Meaning} where
-  pub put_runs : (table base key rid : ℕ) (first last : S) (result : Result (Unit {0}) (Walk F)) → table < table_limit
+  pub put_runs : {R : Type 0} {rest : S → R} (table base key rid : ℕ) (first last : S) (result : Result (Unit {0}) (Walk F)) → table < table_limit
       → base ≡ base_of table → fixed_records ≤ (meaning first).fixed
       → OnOk result (PutsPair base key rid (meaning first) (meaning last))
       → IfTorn result (IsTornChain base key (meaning first) (meaning last))
-      → IfStore result (CallFault read_gives write_gives fresh_gives (λ asks. PutMayAsk base key (meaning first) (meaning last) asks
-      × GivesFewer asks (meaning first) (meaning last)) first last)
-      → ((asked : ℕ) × Calls read_gives write_gives fresh_gives first asked last × PutAsks base key (meaning first)
-      (meaning last) result asked) → EachWritesKnown (meaning first) (meaning last) → ReadsGrow (meaning first) (meaning last)
+      → WalksCounting read_gives write_gives fresh_gives meaning rest (PutMayAsk base key) (PutAsks base key) first last result
+      → EachWritesKnown (meaning first) (meaning last)
       → Runs read_gives write_gives fresh_gives meaning (ChainHas (meaning first) table key None)
       (λ asks _ places. IsDue (pair_put table key) places asks) (λ _. Step rid (pair_put table key) (meaning first) (meaning last)) 2
       first last result
-  put_runs table base key rid first last result low is enough ok torn fault calls writes grow =
+  put_runs table base key rid first last result low is enough ok torn went writes =
       let due : (asks : ℕ) → PutMayAsk base key (meaning first) (meaning last) asks → (state : State) (places : Places)
       → Agrees state (meaning last).reads → ChainHas (meaning first) table key None state places
       → IsDue (pair_put table key) places asks = λ asks may state places agrees has. (
@@ -125,42 +125,35 @@ module _ {S F : Type 0} {read_gives : S → ℕ → Result (Option (List ℕ)) F
             (places.rows table) agrees (chain_at table base (meaning first) state places low is has.0),
       ) in
       record {
-        asked = calls.0;
-        calls = calls.1;
-        may = λ some state places agrees has. due calls.0 (calls.2.may some) state places agrees has;
+        asked = went.asked;
+        by = by_calls_map _ went.asked first last result went.walk.by (λ asks may state places agrees has. due asks may state places agrees has);
+        may = λ some state places agrees has. due went.asked (went.asks.may some) state places agrees has;
         did = IfOk-map result
             (λ v both state places agrees has. (
             let puts : PutsPair base key rid (meaning first) (meaning last) = both.0 in
             let put = puts.put state (places.rows table) agrees (chain_at table base (meaning first) state places low is has.0) in
-            step_put table key rid (meaning first) (meaning last) state places put.0 low enough grow.size has.0 puts.fresh calls.0 has.1
-            (asks_given base key rid calls.0 (meaning first) (meaning last) puts both.1)
+            step_put table key rid (meaning first) (meaning last) state places put.0 low enough went.walk.by.grow.size has.0 puts.fresh went.asked has.1
+            (asks_given base key rid went.asked (meaning first) (meaning last) puts both.1)
             (put_to base (base_of table) key rid puts.fresh (meaning first) (meaning last) state (places.rows table) put.0 is put.1)
             ))
-            (on_if result _ (both_ok result _ _ ok calls.2.exact));
+            (on_if result _ (both_ok result _ _ ok went.asks.exact));
         torn = IfTorn-map result (λ r t state places agrees has. t.none state (places.rows table) agrees
             (chain_at table base (meaning first) state places low is has.0)) torn;
-        fault = IfStore-map result
-            (λ f. fault_map _ _ first last f
-            (λ asks may. (λ state places agrees has. due asks may.0 state places agrees has, may.1))) fault;
-        few = few_put base key (meaning first) (meaning last) result calls.0 calls.2;
-        given = calls.2.given;
+        few = few_put base key (meaning first) (meaning last) result went.asked went.asks;
         writes = λ state places agrees has. writes state agrees;
-        grow = grow;
       }
 
   pub removed_runs : (table base key rid : ℕ) (first last : S) (result : Result Bool (Walk F)) → table < table_limit
       → base ≡ base_of table → fixed_records ≤ (meaning first).fixed
       → IfOk result (λ there. RemovesPair base key there (meaning first) (meaning last))
       → IfTorn result (IsTornChain base key (meaning first) (meaning last))
-      → IfStore result (CallFault read_gives write_gives fresh_gives (λ _. ⊥) first last)
-      → WritesAtMost 1 (meaning first) (meaning last) → Calls read_gives write_gives fresh_gives first 0 last
-      → GivesAtMost 0 (meaning first) (meaning last) → EachWritesKnown (meaning first) (meaning last)
-      → ReadsGrow (meaning first) (meaning last) → Runs read_gives write_gives fresh_gives meaning (ChainHas (meaning first) table key (Some rid)) (λ _ _ _. ⊥)
+      → GoesByCalls read_gives write_gives fresh_gives meaning (λ _. ⊥) 0 first last result
+      → WritesAtMost 1 (meaning first) (meaning last) → EachWritesKnown (meaning first) (meaning last) → Runs read_gives write_gives fresh_gives meaning (ChainHas (meaning first) table key (Some rid)) (λ _ _ _. ⊥)
       (λ there asked state places. (there ≡ true) × Step rid (pair_removed table key) (meaning first) (meaning last) asked state
       places) 1 first last result
-  removed_runs table base key rid first last result low is enough ok torn fault few calls given writes grow = record {
+  removed_runs table base key rid first last result low is enough ok torn by few writes = record {
     asked = 0;
-    calls = calls;
+    by = by_calls_map _ 0 first last result by (λ asks never. absurd never);
     may = λ some. absurd (omega arith);
     did = IfOk-map result
         (λ there removes state places agrees has. (
@@ -168,66 +161,54 @@ module _ {S F : Type 0} {read_gives : S → ℕ → Result (Option (List ℕ)) F
         let yes : there ≡ true = removes.answer state (places.rows table) agrees chain ∙ ap is_some has.1 in
         let removed = removes.removed yes state (places.rows table) agrees chain in (
           yes,
-          step_removed table key rid (meaning first) (meaning last) state places removed.0 low enough grow.size has.0
+          step_removed table key rid (meaning first) (meaning last) state places removed.0 low enough by.grow.size has.0
               (removed_to base (base_of table) key (meaning first) (meaning last) state (places.rows table) removed.0 is removed.1),
         )
         ))
         ok;
     torn = IfTorn-map result (λ r t state places agrees has. t.none state (places.rows table) agrees
         (chain_at table base (meaning first) state places low is has.0)) torn;
-    fault = IfStore-map result (λ f. fault_map _ _ first last f (λ asks never. absurd never)) fault;
     few = few;
-    given = given;
     writes = λ state places agrees has. writes state agrees;
-    grow = grow;
   }
 
-  pub inserted_runs : (number root : ℕ) (key : Key) (rid : ℕ) (first last : S) (result : Result Bool (Walk F)) → number < tree_limit
+  pub inserted_runs : {R : Type 0} {rest : S → R} (number root : ℕ) (key : Key) (rid : ℕ) (first last : S) (result : Result Bool (Walk F)) → number < tree_limit
       → root ≡ root_of number → fixed_records ≤ (meaning first).fixed
       → IfOk result (λ done. InsertsEntry root key rid done (meaning first) (meaning last))
       → IfTorn result (IsTornTree root key (meaning first) (meaning last))
-      → IfStore result (CallFault read_gives write_gives fresh_gives (λ asks. InsertMayAsk root key (meaning first) (meaning last) asks
-      × GivesFewer asks (meaning first) (meaning last)) first last)
-      → ((asked : ℕ) × Calls read_gives write_gives fresh_gives first asked last × InsertAsks root key (meaning first) (meaning last) result
-      asked × GivesAtMost asked (meaning first) (meaning last)) → EachWritesKnown (meaning first) (meaning last) → WritesNodes 51 (meaning first) (meaning last) → ReadsGrow (meaning first) (meaning last)
+      → WalksCounting read_gives write_gives fresh_gives meaning rest (InsertMayAsk root key) (InsertAsks root key) first last result
+      → EachWritesKnown (meaning first) (meaning last) → WritesNodes 51 (meaning first) (meaning last)
       → Runs read_gives write_gives fresh_gives meaning (TreeHas (meaning first) number key None)
       (λ asks _ places. IsDue (entry_inserted number key) places asks) (λ done asked state places. (done ≡ true)
       × Step rid (entry_inserted number key) (meaning first) (meaning last) asked state places) 51 first last result
-  inserted_runs number root key rid first last result low is enough ok torn fault calls writes few grow =
+  inserted_runs number root key rid first last result low is enough ok torn went writes few =
       let due : (asks : ℕ) → InsertMayAsk root key (meaning first) (meaning last) asks → (state : State) (places : Places)
       → Agrees state (meaning last).reads → TreeHas (meaning first) number key None state places
       → IsDue (entry_inserted number key) places asks = λ asks may state places agrees has. may state (places.levels number)
       (places.leaves number) agrees (tree_at number root (meaning first) state places low is has.1) in
       record {
-        asked = calls.0;
-        calls = calls.1;
-        may = λ some state places agrees has. due calls.0 (calls.2.may some) state places agrees has;
-        did = inserted_did number root key rid (meaning first) (meaning last) result calls.0 low is enough grow ok calls.2;
+        asked = went.asked;
+        by = by_calls_map _ went.asked first last result went.walk.by (λ asks may state places agrees has. due asks may state places agrees has);
+        may = λ some state places agrees has. due went.asked (went.asks.may some) state places agrees has;
+        did = inserted_did number root key rid (meaning first) (meaning last) result went.asked low is enough went.walk.by.grow ok went.asks;
         torn = IfTorn-map result (λ r t state places agrees has. t.none state (places.levels number, places.leaves number) agrees
             (tree_at number root (meaning first) state places low is has.1)) torn;
-        fault = IfStore-map result
-            (λ f. fault_map _ _ first last f
-            (λ asks may. (λ state places agrees has. due asks may.0 state places agrees has, may.1))) fault;
         few = few.few;
-        given = calls.3;
         writes = λ state places agrees has. writes state agrees;
-        grow = grow;
       }
 
   pub taken_runs : (number root : ℕ) (key : Key) (rid : ℕ) (first last : S) (result : Result Bool (Walk F)) → number < tree_limit
       → root ≡ root_of number → fixed_records ≤ (meaning first).fixed
       → IfOk result (λ there. RemovesEntry root key there (meaning first) (meaning last))
       → IfTorn result (IsTornTree root key (meaning first) (meaning last))
-      → IfStore result (CallFault read_gives write_gives fresh_gives (λ _. ⊥) first last)
-      → WritesNodes 1 (meaning first) (meaning last) → Calls read_gives write_gives fresh_gives first 0 last
-      → GivesAtMost 0 (meaning first) (meaning last) → EachWritesKnown (meaning first) (meaning last)
-      → ReadsGrow (meaning first) (meaning last)
+      → GoesByCalls read_gives write_gives fresh_gives meaning (λ _. ⊥) 0 first last result
+      → WritesNodes 1 (meaning first) (meaning last) → EachWritesKnown (meaning first) (meaning last)
       → Runs read_gives write_gives fresh_gives meaning (TreeHas (meaning first) number key (Some rid)) (λ _ _ _. ⊥)
       (λ there asked state places. (there ≡ true) × Step rid (entry_removed number key) (meaning first) (meaning last) asked state
       places) 1 first last result
-  taken_runs number root key rid first last result low is enough ok torn fault few calls given writes grow = record {
+  taken_runs number root key rid first last result low is enough ok torn by few writes = record {
     asked = 0;
-    calls = calls;
+    by = by_calls_map _ 0 first last result by (λ asks never. absurd never);
     may = λ some. absurd (omega arith);
     did = IfOk-map result
         (λ there removes state places agrees has. (
@@ -235,7 +216,7 @@ module _ {S F : Type 0} {read_gives : S → ℕ → Result (Option (List ℕ)) F
         let yes : there ≡ true = removes.answer state (places.levels number) (places.leaves number) agrees tree ∙ ap is_some has.2 in
         let removed = removes.removed yes state (places.levels number) (places.leaves number) agrees tree in (
           yes,
-          step_taken_out number key rid (meaning first) (meaning last) state places removed.0 low enough grow.size has.0 has.1
+          step_taken_out number key rid (meaning first) (meaning last) state places removed.0 low enough by.grow.size has.0 has.1
               (taken_to root (root_of number) key (meaning first) (meaning last) state (places.levels number) (places.leaves number)
               removed.0 is removed.1),
         )
@@ -243,9 +224,6 @@ module _ {S F : Type 0} {read_gives : S → ℕ → Result (Option (List ℕ)) F
         ok;
     torn = IfTorn-map result (λ r t state places agrees has. t.none state (places.levels number, places.leaves number) agrees
         (tree_at number root (meaning first) state places low is has.1)) torn;
-    fault = IfStore-map result (λ f. fault_map _ _ first last f (λ asks never. absurd never)) fault;
     few = few.few;
-    given = given;
     writes = λ state places agrees has. writes state agrees;
-    grow = grow;
   }

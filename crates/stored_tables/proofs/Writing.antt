@@ -11,7 +11,7 @@ use Rattle.record_store.specs.declared.walk.Walk.TheVariants.{Store}
 use Rattle.record_store.proofs.Agreement.{known-overlay, ReadsGrow-refl, ReadsGrow-same, ReadsGrow-fresh, ReadsGrow-write}
 use Rattle.record_store.specs.Writes.{IsKnown}
 use Rattle.record_store.proofs.Known.{few-same, gives-none, gives-weaken, fewer-refused, goes-same, goes-fresh}
-use Rattle.record_store.proofs.Refusals.{store_fault}
+use Rattle.record_store.proofs.Going.{by_write_refused, by_write_done, by_fresh_refused, by_fresh_done}
 use Rattle.record_store.proofs.Steps.{known_unwritten}
 use Rattle.record_store.proofs.Writes.{writes-none, writes-one}
 use Rattle.stored_tables.specs.Runs.{Runs}
@@ -34,15 +34,12 @@ module _ {S F : Type 0} {read_gives : S → ℕ → Result (Option (List ℕ)) F
       → Runs read_gives write_gives fresh_gives meaning Stands Due Did most first last result
   write_refused Stands Due Did most first last rid value fault result gives same is = record {
     asked = 0;
-    calls = write first first last 0 rid value (Err fault) (none first) gives;
+    by = by_write_refused _ first last rid value fault (Err fault) result refl gives same is;
     may = λ some. absurd (omega arith);
     did = no_ok result (Store fault) _ is;
     torn = no_torn result fault _ is;
-    fault = store_fault result fault _ is (by_write first 0 rid value (none first) gives);
     few = few-same most (meaning first) (meaning last) same;
-    given = (goes-same (λ _. ⊥) (meaning first) (meaning last) same).given;
     writes = λ state x agrees stands. (goes-same (IsKnown (meaning first).fixed state) (meaning first) (meaning last) same).only;
-    grow = ReadsGrow-same (meaning first) (meaning first) (meaning last) (ReadsGrow-refl (meaning first)) same;
   }
 
   pub write_done : {T X : Type 0} (Stands : State → X → Type 0) (Due : ℕ → State → X → Type 0) (Did : T → ℕ → State → X → Type 0)
@@ -54,16 +51,13 @@ module _ {S F : Type 0} {read_gives : S → ℕ → Result (Option (List ℕ)) F
       let reads : (meaning last).reads ≡ (meaning first).reads = ap (λ (m : Meaning). m.reads) is in
       record {
         asked = 0;
-        calls = write first first last 0 rid value (Ok tt) (none first) gives;
+        by = by_write_done _ first last rid value (Ok tt) (Ok new) gives is tt;
         may = λ some. absurd (omega arith);
         did = λ state x agrees stands. did state x (let R : List (ℕ × Option (List ℕ)) → Type 0 = Agrees state in subst R reads agrees)
             stands;
         torn = tt;
-        fault = tt;
         few = writes-one (meaning first) (meaning last) rid value (ap (λ (m : Meaning). m.writes) is);
-        given = gives-none (meaning first) (meaning last) (ap (λ (m : Meaning). m.given) is);
         writes = λ state x agrees stands. known_write (meaning first) (meaning last) rid value state is (may_write state x stands);
-        grow = ReadsGrow-write (meaning first) (meaning first) (meaning last) rid value (ReadsGrow-refl (meaning first)) is;
       }
 
   pub fresh_refused : {T X : Type 0} (Stands : State → X → Type 0) (Due : ℕ → State → X → Type 0) (Did : T → ℕ → State → X → Type 0)
@@ -73,20 +67,12 @@ module _ {S F : Type 0} {read_gives : S → ℕ → Result (Option (List ℕ)) F
       first last result
   fresh_refused Stands Due Did most first last fault result gives same is due = record {
     asked = 1;
-    calls = fresh first first last 0 (Err fault) (none first) gives;
+    by = by_fresh_refused _ first last fault (Err fault) result (λ state x agrees stands. due state x stands) refl gives same is;
     may = λ some state x agrees stands. due state x stands;
     did = no_ok result (Store fault) _ is;
     torn = no_torn result fault _ is;
-    fault = store_fault result fault _ is (by_fresh first 0 (none first) gives (
-      λ state x agrees stands. due state x stands,
-      fewer-refused 0 1 (meaning first) (meaning last) (omega arith)
-          (goes-same (λ _. ⊥) (meaning first) (meaning last) same).given,
-    ));
     few = few-same most (meaning first) (meaning last) same;
-    given = gives-weaken 0 1 (meaning first) (meaning last) (omega arith)
-        (goes-same (λ _. ⊥) (meaning first) (meaning last) same).given;
     writes = λ state x agrees stands. (goes-same (IsKnown (meaning first).fixed state) (meaning first) (meaning last) same).only;
-    grow = ReadsGrow-same (meaning first) (meaning first) (meaning last) (ReadsGrow-refl (meaning first)) same;
   }
 
   pub fresh_done : {X : Type 0} (Stands : State → X → Type 0) (Due : ℕ → State → X → Type 0) (first last : S) (rid : ℕ)
@@ -95,13 +81,10 @@ module _ {S F : Type 0} {read_gives : S → ℕ → Result (Option (List ℕ)) F
       (λ new asked state x. (asked ≡ 1) × (overlay (meaning first).writes state new ≡ None)) 0 first last (Ok rid)
   fresh_done Stands Due first last rid gives new is due = record {
     asked = 1;
-    calls = fresh first first last 0 (Ok rid) (none first) gives;
+    by = by_fresh_done _ first last rid (Ok rid) (Ok rid) gives is tt;
     may = λ some state x agrees stands. due state x stands;
     did = λ state x agrees stands. (refl, fresh_absent (meaning first) (meaning last) rid state new is agrees);
     torn = tt;
-    fault = tt;
     few = writes-none (meaning first) (meaning last) (ap (λ (m : Meaning). m.writes) is);
-    given = (goes-fresh (λ _. ⊥) (meaning first) (meaning last) rid is).given;
     writes = λ state x agrees stands. (goes-fresh (IsKnown (meaning first).fixed state) (meaning first) (meaning last) rid is).only;
-    grow = ReadsGrow-fresh (meaning first) (meaning first) (meaning last) rid (ReadsGrow-refl (meaning first)) is;
   }

@@ -1,13 +1,14 @@
 //! How a row leaves a table.
 
 ghost use Rattle.std.specs.Prelude.{◌≡◌, ◌≤◌, ◌<◌, false, IfOk, IfSome};
+ghost use Rattle.record_store.specs.Goes.{GoesByCalls};
 ghost use Rattle.record_store.specs.Walks.{OnlyReads};
 ghost use Rattle.replay_model.specs.Input.{IsColumn};
 ghost use Rattle.replay_model.specs.declared.command.Command.TheVariants.{Del};
 ghost use Rattle.stored_tables.specs.Answers.{DueBy, Has, IndexLeft, Leaves, Stands, leave_moves};
 ghost use Rattle.stored_tables.specs.OneRow.{TakesRow};
 ghost use Rattle.stored_tables.specs.Plan.{plan};
-ghost use Rattle.stored_tables.specs.Runs.{AsksNothing, Runs};
+ghost use Rattle.stored_tables.specs.Runs.{Runs};
 
 use crate::head::index_of;
 use crate::reading::{Found, find_row};
@@ -21,7 +22,7 @@ pub fn take_row<S: RecordStore>(store: &mut S, table: u32, key: u64) -> Result<b
     requires size { 4112 ≤ (S.meaning store.old).size }
     requires fixed { 4112 ≤ (S.meaning store.old).fixed }
     ensures runs { Runs S.read_gives S.write_gives S.fresh_gives S.meaning (Stands (S.meaning store.old)) (DueBy (plan (Del table key))) (λ taken. TakesRow table key (S.meaning store.new) taken) 4 store.old store.new result }
-    ensures asks_nothing { AsksNothing S.read_gives S.write_gives S.fresh_gives store.old store.new result }
+    ensures asks_nothing { GoesByCalls S.read_gives S.write_gives S.fresh_gives S.meaning (λ _. ⊥) 0 store.old store.new result }
 
     // nothing is written where there is no row
     ensures kept { IfOk result (λ taken. taken ≡ false → OnlyReads (S.meaning store.old) (S.meaning store.new)) }
@@ -48,7 +49,7 @@ pub fn leave_row<S: RecordStore>(
     requires rid { found.now.rid < (S.meaning store.old).size }
     requires column { IfSome index IsColumn }
     ensures runs { Runs S.read_gives S.write_gives S.fresh_gives S.meaning (Has (S.meaning store.old) table key index found.now) (DueBy (λ _. leave_moves table key index found.now.row)) (λ _. Leaves table key index found.now.row (S.meaning store.new)) 4 store.old store.new result }
-    ensures asks_nothing { AsksNothing S.read_gives S.write_gives S.fresh_gives store.old store.new result }
+    ensures asks_nothing { GoesByCalls S.read_gives S.write_gives S.fresh_gives S.meaning (λ _. ⊥) 0 store.old store.new result }
     ensures rest { S.rest store.new ≡ S.rest store.old }
 {
     leave_index(store, table, key, index, found)?;
@@ -69,7 +70,7 @@ fn leave_index<S: RecordStore>(
     requires fixed { 4112 ≤ (S.meaning store.old).fixed }
     requires column { IfSome index IsColumn }
     ensures runs { Runs S.read_gives S.write_gives S.fresh_gives S.meaning (Has (S.meaning store.old) table key index found.now) (DueBy (λ _. leave_moves table key index found.now.row)) (λ _. IndexLeft table key index found.now (S.meaning store.old) (S.meaning store.new)) 1 store.old store.new result }
-    ensures asks_nothing { AsksNothing S.read_gives S.write_gives S.fresh_gives store.old store.new result }
+    ensures asks_nothing { GoesByCalls S.read_gives S.write_gives S.fresh_gives S.meaning (λ _. ⊥) 0 store.old store.new result }
     ensures rest { S.rest store.new ≡ S.rest store.old }
 {
     let Some(column) = index else {

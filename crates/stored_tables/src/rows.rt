@@ -2,12 +2,13 @@
 //! where a call has no answer.
 
 ghost use Rattle.std.specs.Prelude.{◌≡◌, ◌⊎◌, ◌<◌, ◌≤◌, false, IfOk};
+ghost use Rattle.record_store.specs.Goes.{GoesByCalls};
 ghost use Rattle.record_store.specs.Walks.{IfNoMemory, OnlyReads};
 ghost use Rattle.replay_model.specs.declared.command.Command.TheVariants.{Put, Del};
 ghost use Rattle.stored_tables.specs.Answers.{DueBy, IsScanned, Stands};
 ghost use Rattle.stored_tables.specs.OneRow.{IsRowAt, SetsRow, TakesRow};
 ghost use Rattle.stored_tables.specs.Plan.{plan};
-ghost use Rattle.stored_tables.specs.Runs.{AsksNothing, Looks, Runs};
+ghost use Rattle.stored_tables.specs.Runs.{Looks, Runs};
 
 use crate::command;
 use crate::leaving::take_row;
@@ -80,7 +81,7 @@ pub fn remove_row<S: RecordStore>(
     requires table { table < 8 }
     requires fixed { 4112 ≤ (S.meaning store.old).fixed }
     ensures runs { Runs S.read_gives S.write_gives S.fresh_gives S.meaning (Stands (S.meaning store.old)) (DueBy (plan (Del table key))) (λ taken. TakesRow table key (S.meaning store.new) taken) 4 store.old store.new result }
-    ensures asks_nothing { AsksNothing S.read_gives S.write_gives S.fresh_gives store.old store.new result }
+    ensures asks_nothing { GoesByCalls S.read_gives S.write_gives S.fresh_gives S.meaning (λ _. ⊥) 0 store.old store.new result }
 
     // nothing is written where there is no row
     ensures kept { IfOk result (λ taken. taken ≡ false → OnlyReads (S.meaning store.old) (S.meaning store.new)) }

@@ -1,12 +1,13 @@
 //! Changes of one spot: a row's record, a pair of a table's chain, an entry of a tree.
 
 ghost use Rattle.std.specs.Prelude.{◌≡◌, ℕ, ◌<◌, ◌≤◌, IfOk, OnOk, None, Some, length};
+ghost use Rattle.record_store.specs.Goes.{GoesByCalls};
 ghost use Rattle.stored_tables.specs.Answers.{LacksRow, AddsRow, HasRow, Rewrites, DropsRow, ChainHas, TreeHas};
 ghost use Rattle.stored_tables.specs.Moved.{Step};
 ghost use Rattle.stored_tables.specs.Places.{Places};
 ghost use Rattle.stored_tables.specs.Plan.{IsDue};
 ghost use Rattle.stored_tables.specs.Plan.Move.{pair_put, pair_removed, entry_inserted, entry_removed};
-ghost use Rattle.stored_tables.specs.Runs.{AsksNothing, Runs};
+ghost use Rattle.stored_tables.specs.Runs.{Runs};
 ghost use Rattle.stored_tables.specs.Tables.{row_words};
 
 use crate::places::{base_of, root_of};
@@ -47,7 +48,7 @@ pub fn write_row<S: RecordStore>(
 pub fn drop_row<S: RecordStore>(store: &mut S, rid: u32) -> Result<(), Walk<S::Fault>>
     requires { rid < (S.meaning store.old).size }
     ensures runs { (table key : ℕ) → Runs S.read_gives S.write_gives S.fresh_gives S.meaning (HasRow (S.meaning store.old) table key rid) (λ _ _ _. ⊥) (λ _ asked state places. (asked ≡ 0) × DropsRow table key (S.meaning store.old) (S.meaning store.new) state places) 1 store.old store.new result }
-    ensures asks_nothing { AsksNothing S.read_gives S.write_gives S.fresh_gives store.old store.new result }
+    ensures asks_nothing { GoesByCalls S.read_gives S.write_gives S.fresh_gives S.meaning (λ _. ⊥) 0 store.old store.new result }
     ensures rest { S.rest store.new ≡ S.rest store.old }
 {
     store.write(rid, None)?;
@@ -80,7 +81,7 @@ pub fn remove_pair<S: RecordStore>(
     requires table { table < 8 }
     requires fixed { 4112 ≤ (S.meaning store.old).fixed }
     ensures runs { Runs S.read_gives S.write_gives S.fresh_gives S.meaning (ChainHas (S.meaning store.old) table key (Some rid)) (λ _ _ _. ⊥) (λ _. Step rid (pair_removed table key) (S.meaning store.old) (S.meaning store.new)) 1 store.old store.new result }
-    ensures asks_nothing { AsksNothing S.read_gives S.write_gives S.fresh_gives store.old store.new result }
+    ensures asks_nothing { GoesByCalls S.read_gives S.write_gives S.fresh_gives S.meaning (λ _. ⊥) 0 store.old store.new result }
     ensures rest { S.rest store.new ≡ S.rest store.old }
 {
     if hash_index::remove(store, base_of(table), key)? {
@@ -120,7 +121,7 @@ pub fn remove_entry<S: RecordStore>(
     requires tree { tree < 16 }
     requires fixed { 4112 ≤ (S.meaning store.old).fixed }
     ensures runs { Runs S.read_gives S.write_gives S.fresh_gives S.meaning (TreeHas (S.meaning store.old) tree key (Some rid)) (λ _ _ _. ⊥) (λ _. Step rid (entry_removed tree key) (S.meaning store.old) (S.meaning store.new)) 1 store.old store.new result }
-    ensures asks_nothing { AsksNothing S.read_gives S.write_gives S.fresh_gives store.old store.new result }
+    ensures asks_nothing { GoesByCalls S.read_gives S.write_gives S.fresh_gives S.meaning (λ _. ⊥) 0 store.old store.new result }
     ensures rest { S.rest store.new ≡ S.rest store.old }
 {
     if ordered_index::remove(store, root_of(tree), key)? {

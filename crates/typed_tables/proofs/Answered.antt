@@ -9,7 +9,7 @@ use Rattle.record_store.proofs.Refusals.{IfTorn-map, IfStore-map, torn_moved}
 use Rattle.replay_model.specs.TableMap.{Row}
 use Rattle.stored_tables.specs.Answers.{Held, IsScanned, Stands}
 use Rattle.stored_tables.specs.OneRow.{SetsRow, TakesRow}
-use Rattle.stored_tables.specs.Runs.{Each}
+use Rattle.record_store.specs.States.{Each}
 use Rattle.stored_tables.specs.Tables.{EachTables}
 use Rattle.typed_tables.specs.declared.fault.TypedFault.{TypedFault}
 use Rattle.typed_tables.specs.declared.fault.TypedFault.TheVariants.{Walk, Foreign}

@@ -44,13 +44,11 @@ module _ {S F : Type 0} {read_gives : S → ℕ → Result (Option (List ℕ)) F
       → Reads read_gives first last → OnlyReads (meaning first) (meaning last)
       → Looks {F = F} read_gives meaning (Stands (meaning first)) (IsScanned table lo hi limit) first last (Ok page)
   page_read table lo hi limit first last old new page rows none grown is typed calls only = record {
-    calls = calls;
+    by = record { calls = calls; fault = tt; only = only };
     found = λ state held agrees stands.
         is ∙ grown ∙ ap (λ xs. xs ++ rows) none
         ∙ sym (same_plain (scanned table lo hi limit held.1) rows (sym (scanned_typed plain table lo hi limit held.1) ∙ (typed state held.0 held.1 agrees stands).typed));
     torn = tt;
-    fault = tt;
-    only = only;
   }
 
   -- it was not, for a fault of the walk
@@ -60,12 +58,10 @@ module _ {S F : Type 0} {read_gives : S → ℕ → Result (Option (List ℕ)) F
       → Looks {F = F} read_gives meaning (Stands (meaning first)) (IsScanned table lo hi limit) first last (Err walk)
   page_refused table lo hi limit first last scan walk was torn fault calls only =
       record {
-        calls = calls;
+        by = record { calls = calls; fault = fault_moved {T = List (ℕ × Row)} (Err walk) (walked scan) walk _ (ap walked was) refl fault; only = only };
         found = tt;
         torn = torn_moved {T = List (ℕ × Row)} (Err walk) (walked scan) walk _ (ap walked was) refl
             (IfTorn-map (walked scan) (λ rid none state held agrees stands. none state held.0 held.1 agrees stands) torn);
-        fault = fault_moved {T = List (ℕ × Row)} (Err walk) (walked scan) walk _ (ap walked was) refl fault;
-        only = only;
       }
 
 -- columns are never foreign

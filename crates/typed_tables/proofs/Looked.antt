@@ -50,10 +50,10 @@ module _ {S F : Type 0} {read_gives : S → ℕ → Result (Option (List ℕ)) F
   pub page_looks : (table lo : ℕ) (pairs : List (ℕ × Row)) (first middle last : S) (result : Result (List (ℕ × Row)) (Walk F)) → Looks {F = F} read_gives meaning (Stands (meaning first)) (λ (_ : Unit {0}). ComeBefore table lo pairs) first middle (Ok (tt {0})) → Looks read_gives meaning (Stands (meaning middle)) (IsScanned table lo (2 ^ 64 - 1) 256) middle last result → Looks read_gives meaning (Stands (meaning first)) (IsPage table lo pairs) first last result
   page_looks table lo pairs first middle last result acc page =
       looks_then (IsPage table lo pairs) first middle last (Ok (tt {0})) tt result acc refl page
-      (λ state held agrees stands before. (held, stands_on (meaning first) (meaning middle) state held acc.only stands, λ found is. (before, is)))
+      (λ state held agrees stands before. (held, stands_on (meaning first) (meaning middle) state held acc.by.only stands, λ found is. (before, is)))
 
   -- a table more
   pub table_looks : (table : ℕ) (rows : List (List (ℕ × Row))) (first middle last : S) (result : Result (List (ℕ × Row)) (Walk F)) → Looks {F = F} read_gives meaning (Stands (meaning first)) (λ (_ : Unit {0}). AreListed table rows) first middle (Ok (tt {0})) → Looks read_gives meaning (Stands (meaning middle)) (IsListed table) middle last result → Looks read_gives meaning (Stands (meaning first)) (λ pairs. AreListed (table + 1) (rows ++ pairs ∷ [])) first last result
   table_looks table rows first middle last result acc listed =
       looks_then (λ pairs. AreListed (table + 1) (rows ++ pairs ∷ [])) first middle last (Ok (tt {0})) tt result acc refl listed
-      (λ state held agrees stands before. (held, stands_on (meaning first) (meaning middle) state held acc.only stands, λ pairs is. one_more table rows pairs held.1 before is))
+      (λ state held agrees stands before. (held, stands_on (meaning first) (meaning middle) state held acc.by.only stands, λ pairs is. one_more table rows pairs held.1 before is))

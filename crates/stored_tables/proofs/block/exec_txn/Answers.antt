@@ -16,8 +16,8 @@ returns-in_err-answers-clause-torn g c =
 
 pub returns-in_err-answers-clause-fault : goal.returns-in_err-answers-clause-fault
 returns-in_err-answers-clause-fault g c = fault_tables g.S.RecordRead.read_gives g.S.RecordStore.write_gives g.S.RecordStore.fresh_gives
-    g.S.RecordRead.meaning c.args.commands.now c.args.store.now c.run_commands.new.store c.from_residual.result c.run_commands.result _
-    c.in_err-answers.was c.from_residual.ensures.1 c.run_commands.ensures.runs.fault
+    g.S.RecordRead.meaning c.args.commands.now c.run_commands.ensures.runs.asked c.args.store.now c.run_commands.new.store
+    c.from_residual.result c.run_commands.result _ c.in_err-answers.was c.from_residual.ensures.1 c.run_commands.ensures.runs.by
 
 pub returns-in-Done-clause-outcome : goal.returns-in-Done-clause-outcome
 returns-in-Done-clause-outcome g c =

@@ -27,10 +27,10 @@ loop-i-init g c = record {
 }
 
 pub run_command-requires-clause-size : goal.run_command-requires-clause-size
-run_command-requires-clause-size g c = rw c.loop-i.invariant.runs.grow.size c.requires.size
+run_command-requires-clause-size g c = rw c.loop-i.invariant.runs.by.grow.size c.requires.size
 
 pub run_command-requires-clause-fixed : goal.run_command-requires-clause-fixed
-run_command-requires-clause-fixed g c = rw c.loop-i.invariant.runs.grow.fixed c.requires.fixed
+run_command-requires-clause-fixed g c = rw c.loop-i.invariant.runs.by.grow.fixed c.requires.fixed
 
 pub returns-in_err-answer-clause-runs : goal.returns-in_err-answer-clause-runs
 returns-in_err-answer-clause-runs g c =

@@ -5,15 +5,15 @@ use Rattle.stored_tables.proofs.Runs.{runs_moved}
 use Rattle.stored_tables.proofs.changing.change_row.Goals as goal
 
 pub remove_entry-requires-clause-fixed : goal.remove_entry-requires-clause-fixed
-remove_entry-requires-clause-fixed g c = rw (c.write_row.ensures.runs c.args.table c.args.key).grow.fixed c.requires.fixed
+remove_entry-requires-clause-fixed g c = rw (c.write_row.ensures.runs c.args.table c.args.key).by.grow.fixed c.requires.fixed
 
 pub insert_entry-requires-clause-fixed : goal.insert_entry-requires-clause-fixed
-insert_entry-requires-clause-fixed g c = rw (c.remove_entry.ensures.runs.grow.fixed
-    ∙ (c.write_row.ensures.runs c.args.table c.args.key).grow.fixed) c.requires.fixed
+insert_entry-requires-clause-fixed g c = rw (c.remove_entry.ensures.runs.by.grow.fixed
+    ∙ (c.write_row.ensures.runs c.args.table c.args.key).by.grow.fixed) c.requires.fixed
 
 pub insert_entry-requires-clause-rid : goal.insert_entry-requires-clause-rid
-insert_entry-requires-clause-rid g c = rw (c.remove_entry.ensures.runs.grow.size
-    ∙ (c.write_row.ensures.runs c.args.table c.args.key).grow.size) c.requires.rid
+insert_entry-requires-clause-rid g c = rw (c.remove_entry.ensures.runs.by.grow.size
+    ∙ (c.write_row.ensures.runs c.args.table c.args.key).by.grow.size) c.requires.rid
 
 pub returns-in_err-write_row-clause-runs : goal.returns-in_err-write_row-clause-runs
 returns-in_err-write_row-clause-runs g c =

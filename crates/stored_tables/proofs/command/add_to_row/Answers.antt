@@ -11,7 +11,7 @@ use Rattle.stored_tables.proofs.command.add_to_row.Goals as goal
 
 pub index_of-requires-clause-size : goal.index_of-requires-clause-size
 index_of-requires-clause-size g c = rw (size_same (g.S.RecordRead.meaning c.args.store.now) (g.S.RecordRead.meaning c.find_row.new.store)
-    c.find_row.ensures.looks.only) c.requires.size
+    c.find_row.ensures.looks.by.only) c.requires.size
 
 pub returns-in_err-found-clause-runs : goal.returns-in_err-found-clause-runs
 returns-in_err-found-clause-runs g c =

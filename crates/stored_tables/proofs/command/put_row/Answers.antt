@@ -8,7 +8,7 @@ use Rattle.stored_tables.proofs.command.put_row.Goals as goal
 
 pub find_row-requires-clause-size : goal.find_row-requires-clause-size
 find_row-requires-clause-size g c = rw (size_same (g.S.RecordRead.meaning c.args.store.now) (g.S.RecordRead.meaning c.index_of.new.store)
-    c.index_of.ensures.looks.only) c.requires.size
+    c.index_of.ensures.looks.by.only) c.requires.size
 
 pub returns-in_err-index-clause-runs : goal.returns-in_err-index-clause-runs
 returns-in_err-index-clause-runs g c =

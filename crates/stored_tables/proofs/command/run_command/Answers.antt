@@ -10,7 +10,7 @@ returns-in-Get-clause-runs g c =
     (λ value state held agrees stands answers. read_does c.args.command.now value (g.S.RecordRead.meaning c.read_command.new.store) state
     held (reads_by c.args.command.now c.in-Get.is)
     (stands_on (g.S.RecordRead.meaning c.args.store.now) (g.S.RecordRead.meaning c.read_command.new.store) state held
-    c.read_command.ensures.looks.only stands) answers)
+    c.read_command.ensures.looks.by.only stands) answers)
 
 pub returns-in_default-clause-runs : goal.returns-in_default-clause-runs
 returns-in_default-clause-runs g c =

@@ -18,18 +18,18 @@ returns-in_err-_index-clause-torn g c = torn_moved c.from_residual.result c.inde
 pub returns-in_err-_index-clause-fault : goal.returns-in_err-_index-clause-fault
 returns-in_err-_index-clause-fault g c = fault_moved c.from_residual.result c.index_of.result _ _
     c.in_err-_index.was c.from_residual.ensures.1
-    (IfStore-map c.index_of.result (λ f. CallFault-read _ c.args.store.now c.index_of.new.store f) c.index_of.ensures.looks.fault)
+    (IfStore-map c.index_of.result (λ f. CallFault-read _ c.args.store.now c.index_of.new.store f) c.index_of.ensures.looks.by.fault)
 
 pub returns-in_err-_index-clause-calls : goal.returns-in_err-_index-clause-calls
-returns-in_err-_index-clause-calls g c = Calls-reads c.args.store.now c.index_of.new.store c.index_of.ensures.looks.calls
+returns-in_err-_index-clause-calls g c = Calls-reads c.args.store.now c.index_of.new.store c.index_of.ensures.looks.by.calls
 
 pub returns-in_err-_index-clause-few : goal.returns-in_err-_index-clause-few
 returns-in_err-_index-clause-few g c = reads_few (g.S.RecordRead.meaning c.args.store.now) (g.S.RecordRead.meaning c.index_of.new.store)
-    c.index_of.ensures.looks.only
+    c.index_of.ensures.looks.by.only
 
 pub returns-in_err-_index-clause-after : goal.returns-in_err-_index-clause-after
 returns-in_err-_index-clause-after g c = ReadsGrow-only (g.S.RecordRead.meaning c.args.store.now)
-    (g.S.RecordRead.meaning c.index_of.new.store) c.index_of.ensures.looks.only
+    (g.S.RecordRead.meaning c.index_of.new.store) c.index_of.ensures.looks.by.only
 
 pub returns-in_err-has_row-in-None-clause-torn : goal.returns-in_err-has_row-in-None-clause-torn
 returns-in_err-has_row-in-None-clause-torn g c = torn_moved c.from_residual-in_err-has_row-in-None.result c.has_row.result _ _
@@ -45,25 +45,25 @@ returns-in_err-has_row-in-None-clause-fault g c = fault_moved c.from_residual-in
     (IfStore-map c.has_row.result (λ f. CallFault-read _ c.args.store.now c.has_row.new.store f)
     (index_then_rows {meaning = g.S.RecordRead.meaning} c.args.table c.args.store.now c.index_of.new.store c.has_row.new.store
     c.index_of.result c.has_row.result c.index_of.ensures.looks (c.in_ok-_index.was ∙ ap (λ o. Ok o) c.in-None.is)
-    c.has_row.ensures.looks).fault)
+    c.has_row.ensures.looks).by.fault)
 
 pub returns-in_err-has_row-in-None-clause-calls : goal.returns-in_err-has_row-in-None-clause-calls
 returns-in_err-has_row-in-None-clause-calls g c = Calls-reads c.args.store.now c.has_row.new.store
     (index_then_rows {meaning = g.S.RecordRead.meaning} c.args.table c.args.store.now c.index_of.new.store c.has_row.new.store
     c.index_of.result c.has_row.result c.index_of.ensures.looks (c.in_ok-_index.was ∙ ap (λ o. Ok o) c.in-None.is)
-    c.has_row.ensures.looks).calls
+    c.has_row.ensures.looks).by.calls
 
 pub returns-in_err-has_row-in-None-clause-few : goal.returns-in_err-has_row-in-None-clause-few
 returns-in_err-has_row-in-None-clause-few g c = reads_few (g.S.RecordRead.meaning c.args.store.now)
     (g.S.RecordRead.meaning c.has_row.new.store) (index_then_rows {meaning = g.S.RecordRead.meaning} c.args.table c.args.store.now
     c.index_of.new.store c.has_row.new.store c.index_of.result c.has_row.result c.index_of.ensures.looks (c.in_ok-_index.was
-    ∙ ap (λ o. Ok o) c.in-None.is) c.has_row.ensures.looks).only
+    ∙ ap (λ o. Ok o) c.in-None.is) c.has_row.ensures.looks).by.only
 
 pub returns-in_err-has_row-in-None-clause-after : goal.returns-in_err-has_row-in-None-clause-after
 returns-in_err-has_row-in-None-clause-after g c = ReadsGrow-only (g.S.RecordRead.meaning c.args.store.now)
     (g.S.RecordRead.meaning c.has_row.new.store) (index_then_rows {meaning = g.S.RecordRead.meaning} c.args.table c.args.store.now
     c.index_of.new.store c.has_row.new.store c.index_of.result c.has_row.result c.index_of.ensures.looks (c.in_ok-_index.was
-    ∙ ap (λ o. Ok o) c.in-None.is) c.has_row.ensures.looks).only
+    ∙ ap (λ o. Ok o) c.in-None.is) c.has_row.ensures.looks).by.only
 
 pub returns-in-Some-clause-declared : goal.returns-in-Some-clause-declared
 returns-in-Some-clause-declared g c = λ state places tables agrees stands. inr (
@@ -73,15 +73,15 @@ returns-in-Some-clause-declared g c = λ state places tables agrees stands. inr 
 )
 
 pub returns-in-Some-clause-calls : goal.returns-in-Some-clause-calls
-returns-in-Some-clause-calls g c = Calls-reads c.args.store.now c.index_of.new.store c.index_of.ensures.looks.calls
+returns-in-Some-clause-calls g c = Calls-reads c.args.store.now c.index_of.new.store c.index_of.ensures.looks.by.calls
 
 pub returns-in-Some-clause-few : goal.returns-in-Some-clause-few
 returns-in-Some-clause-few g c = reads_few (g.S.RecordRead.meaning c.args.store.now) (g.S.RecordRead.meaning c.index_of.new.store)
-    c.index_of.ensures.looks.only
+    c.index_of.ensures.looks.by.only
 
 pub returns-in-Some-clause-after : goal.returns-in-Some-clause-after
 returns-in-Some-clause-after g c = ReadsGrow-only (g.S.RecordRead.meaning c.args.store.now) (g.S.RecordRead.meaning c.index_of.new.store)
-    c.index_of.ensures.looks.only
+    c.index_of.ensures.looks.by.only
 
 pub returns-then-branch-clause-declared : goal.returns-then-branch-clause-declared
 returns-then-branch-clause-declared g c = λ state places tables agrees stands. (let told = ok_of c.has_row.result _ _
@@ -93,25 +93,25 @@ returns-then-branch-clause-declared g c = λ state places tables agrees stands. 
 pub returns-then-branch-clause-unchanged : goal.returns-then-branch-clause-unchanged
 returns-then-branch-clause-unchanged g c = λ no. (index_then_rows {meaning = g.S.RecordRead.meaning} c.args.table c.args.store.now
     c.index_of.new.store c.has_row.new.store c.index_of.result c.has_row.result c.index_of.ensures.looks (c.in_ok-_index.was
-    ∙ ap (λ o. Ok o) c.in-None.is) c.has_row.ensures.looks).only
+    ∙ ap (λ o. Ok o) c.in-None.is) c.has_row.ensures.looks).by.only
 
 pub returns-then-branch-clause-calls : goal.returns-then-branch-clause-calls
 returns-then-branch-clause-calls g c = Calls-reads c.args.store.now c.has_row.new.store
     (index_then_rows {meaning = g.S.RecordRead.meaning} c.args.table c.args.store.now c.index_of.new.store c.has_row.new.store
     c.index_of.result c.has_row.result c.index_of.ensures.looks (c.in_ok-_index.was ∙ ap (λ o. Ok o) c.in-None.is)
-    c.has_row.ensures.looks).calls
+    c.has_row.ensures.looks).by.calls
 
 pub returns-then-branch-clause-few : goal.returns-then-branch-clause-few
 returns-then-branch-clause-few g c = reads_few (g.S.RecordRead.meaning c.args.store.now) (g.S.RecordRead.meaning c.has_row.new.store)
     (index_then_rows {meaning = g.S.RecordRead.meaning} c.args.table c.args.store.now c.index_of.new.store c.has_row.new.store
     c.index_of.result c.has_row.result c.index_of.ensures.looks (c.in_ok-_index.was ∙ ap (λ o. Ok o) c.in-None.is)
-    c.has_row.ensures.looks).only
+    c.has_row.ensures.looks).by.only
 
 pub returns-then-branch-clause-after : goal.returns-then-branch-clause-after
 returns-then-branch-clause-after g c = ReadsGrow-only (g.S.RecordRead.meaning c.args.store.now)
     (g.S.RecordRead.meaning c.has_row.new.store) (index_then_rows {meaning = g.S.RecordRead.meaning} c.args.table c.args.store.now
     c.index_of.new.store c.has_row.new.store c.index_of.result c.has_row.result c.index_of.ensures.looks (c.in_ok-_index.was
-    ∙ ap (λ o. Ok o) c.in-None.is) c.has_row.ensures.looks).only
+    ∙ ap (λ o. Ok o) c.in-None.is) c.has_row.ensures.looks).by.only
 
 pub returns-in_err-write-in-None-clause-fault : goal.returns-in_err-write-in-None-clause-fault
 returns-in_err-write-in-None-clause-fault g c =
@@ -120,7 +120,7 @@ returns-in_err-write-in-None-clause-fault g c =
     (Calls-reads c.args.store.now c.has_row.new.store
     (index_then_rows {meaning = g.S.RecordRead.meaning} c.args.table c.args.store.now c.index_of.new.store c.has_row.new.store
     c.index_of.result c.has_row.result c.index_of.ensures.looks (c.in_ok-_index.was ∙ ap (λ o. Ok o) c.in-None.is)
-    c.has_row.ensures.looks).calls) c.in_err-write-in-None.ensures.gives)
+    c.has_row.ensures.looks).by.calls) c.in_err-write-in-None.ensures.gives)
 
 pub returns-in_err-write-in-None-clause-torn : goal.returns-in_err-write-in-None-clause-torn
 returns-in_err-write-in-None-clause-torn g c = no_torn c.from_residual-in_err-write-in-None.result c.in_err-write-in-None.field-0.0 _
@@ -130,7 +130,7 @@ pub returns-in_err-write-in-None-clause-calls : goal.returns-in_err-write-in-Non
 returns-in_err-write-in-None-clause-calls g c = write c.args.store.now c.has_row.new.store c.write.new.self 0 c.head_of.result _ _
     (Calls-reads c.args.store.now c.has_row.new.store (index_then_rows {meaning = g.S.RecordRead.meaning} c.args.table c.args.store.now
     c.index_of.new.store c.has_row.new.store c.index_of.result c.has_row.result c.index_of.ensures.looks (c.in_ok-_index.was
-    ∙ ap (λ o. Ok o) c.in-None.is) c.has_row.ensures.looks).calls) c.in_err-write-in-None.ensures.gives
+    ∙ ap (λ o. Ok o) c.in-None.is) c.has_row.ensures.looks).by.calls) c.in_err-write-in-None.ensures.gives
 
 pub returns-in_err-write-in-None-clause-few : goal.returns-in_err-write-in-None-clause-few
 returns-in_err-write-in-None-clause-few g c = reads_few (g.S.RecordRead.meaning c.args.store.now)
@@ -138,7 +138,7 @@ returns-in_err-write-in-None-clause-few g c = reads_few (g.S.RecordRead.meaning 
     (g.S.RecordRead.meaning c.has_row.new.store) (g.S.RecordRead.meaning c.write.new.self)
     (index_then_rows {meaning = g.S.RecordRead.meaning} c.args.table c.args.store.now c.index_of.new.store c.has_row.new.store
     c.index_of.result c.has_row.result c.index_of.ensures.looks (c.in_ok-_index.was ∙ ap (λ o. Ok o) c.in-None.is)
-    c.has_row.ensures.looks).only c.in_err-write-in-None.ensures.err)
+    c.has_row.ensures.looks).by.only c.in_err-write-in-None.ensures.err)
 
 pub returns-in_err-write-in-None-clause-after : goal.returns-in_err-write-in-None-clause-after
 returns-in_err-write-in-None-clause-after g c = ReadsGrow-only (g.S.RecordRead.meaning c.args.store.now)
@@ -146,7 +146,7 @@ returns-in_err-write-in-None-clause-after g c = ReadsGrow-only (g.S.RecordRead.m
     (g.S.RecordRead.meaning c.has_row.new.store) (g.S.RecordRead.meaning c.write.new.self)
     (index_then_rows {meaning = g.S.RecordRead.meaning} c.args.table c.args.store.now c.index_of.new.store c.has_row.new.store
     c.index_of.result c.has_row.result c.index_of.ensures.looks (c.in_ok-_index.was ∙ ap (λ o. Ok o) c.in-None.is)
-    c.has_row.ensures.looks).only c.in_err-write-in-None.ensures.err)
+    c.has_row.ensures.looks).by.only c.in_err-write-in-None.ensures.err)
 
 pub returns-in_ok-write-in-None-clause-declared : goal.returns-in_ok-write-in-None-clause-declared
 returns-in_ok-write-in-None-clause-declared g c =
@@ -154,7 +154,7 @@ returns-in_ok-write-in-None-clause-declared g c =
     (g.S.RecordRead.meaning c.has_row.new.store) (g.S.RecordRead.meaning c.write.new.self) c.requires.table c.requires.column
     c.head_of.ensures.head c.head_cells.ensures (index_then_rows {meaning = g.S.RecordRead.meaning} c.args.table c.args.store.now
     c.index_of.new.store c.has_row.new.store c.index_of.result c.has_row.result c.index_of.ensures.looks (c.in_ok-_index.was
-    ∙ ap (λ o. Ok o) c.in-None.is) c.has_row.ensures.looks).only c.in_ok-write-in-None.ensures.ok
+    ∙ ap (λ o. Ok o) c.in-None.is) c.has_row.ensures.looks).by.only c.in_ok-write-in-None.ensures.ok
     (ok_of c.has_row.result _ _ (c.in_ok-has_row-in-None.was ∙ ap (λ b. Ok b) c.if-branch.false)
     (index_then_rows {meaning = g.S.RecordRead.meaning} c.args.table c.args.store.now c.index_of.new.store c.has_row.new.store
     c.index_of.result c.has_row.result c.index_of.ensures.looks (c.in_ok-_index.was ∙ ap (λ o. Ok o) c.in-None.is)
@@ -164,31 +164,31 @@ pub returns-in_ok-write-in-None-clause-calls : goal.returns-in_ok-write-in-None-
 returns-in_ok-write-in-None-clause-calls g c = write c.args.store.now c.has_row.new.store c.write.new.self 0 c.head_of.result _ _
     (Calls-reads c.args.store.now c.has_row.new.store (index_then_rows {meaning = g.S.RecordRead.meaning} c.args.table c.args.store.now
     c.index_of.new.store c.has_row.new.store c.index_of.result c.has_row.result c.index_of.ensures.looks (c.in_ok-_index.was
-    ∙ ap (λ o. Ok o) c.in-None.is) c.has_row.ensures.looks).calls) c.in_ok-write-in-None.ensures.gives
+    ∙ ap (λ o. Ok o) c.in-None.is) c.has_row.ensures.looks).by.calls) c.in_ok-write-in-None.ensures.gives
 
 pub returns-in_ok-write-in-None-clause-few : goal.returns-in_ok-write-in-None-clause-few
 returns-in_ok-write-in-None-clause-few g c = write_few (g.S.RecordRead.meaning c.args.store.now)
     (g.S.RecordRead.meaning c.has_row.new.store) (g.S.RecordRead.meaning c.write.new.self) c.head_of.result _
     (index_then_rows {meaning = g.S.RecordRead.meaning} c.args.table c.args.store.now c.index_of.new.store c.has_row.new.store
     c.index_of.result c.has_row.result c.index_of.ensures.looks (c.in_ok-_index.was ∙ ap (λ o. Ok o) c.in-None.is)
-    c.has_row.ensures.looks).only c.in_ok-write-in-None.ensures.ok
+    c.has_row.ensures.looks).by.only c.in_ok-write-in-None.ensures.ok
 
 pub returns-in_ok-write-in-None-clause-after : goal.returns-in_ok-write-in-None-clause-after
 returns-in_ok-write-in-None-clause-after g c = write_grows (g.S.RecordRead.meaning c.args.store.now)
     (g.S.RecordRead.meaning c.has_row.new.store) (g.S.RecordRead.meaning c.write.new.self) c.head_of.result _
     (index_then_rows {meaning = g.S.RecordRead.meaning} c.args.table c.args.store.now c.index_of.new.store c.has_row.new.store
     c.index_of.result c.has_row.result c.index_of.ensures.looks (c.in_ok-_index.was ∙ ap (λ o. Ok o) c.in-None.is)
-    c.has_row.ensures.looks).only c.in_ok-write-in-None.ensures.ok
+    c.has_row.ensures.looks).by.only c.in_ok-write-in-None.ensures.ok
 
 pub returns-in_err-has_row-in-None-clause-refused : goal.returns-in_err-has_row-in-None-clause-refused
 returns-in_err-has_row-in-None-clause-refused g c = on_err c.from_residual-in_err-has_row-in-None.result _
     (index_then_rows {meaning = g.S.RecordRead.meaning} c.args.table c.args.store.now c.index_of.new.store c.has_row.new.store
     c.index_of.result c.has_row.result c.index_of.ensures.looks (c.in_ok-_index.was ∙ ap (λ o. Ok o) c.in-None.is)
-    c.has_row.ensures.looks).only
+    c.has_row.ensures.looks).by.only
 
 pub returns-in_err-write-in-None-clause-refused : goal.returns-in_err-write-in-None-clause-refused
 returns-in_err-write-in-None-clause-refused g c = on_err c.from_residual-in_err-write-in-None.result _
     (same_only (g.S.RecordRead.meaning c.args.store.now) (g.S.RecordRead.meaning c.has_row.new.store) (g.S.RecordRead.meaning c.write.new.self)
     (index_then_rows {meaning = g.S.RecordRead.meaning} c.args.table c.args.store.now c.index_of.new.store c.has_row.new.store
     c.index_of.result c.has_row.result c.index_of.ensures.looks (c.in_ok-_index.was ∙ ap (λ o. Ok o) c.in-None.is)
-    c.has_row.ensures.looks).only c.in_err-write-in-None.ensures.err)
+    c.has_row.ensures.looks).by.only c.in_err-write-in-None.ensures.err)

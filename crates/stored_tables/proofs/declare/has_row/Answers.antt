@@ -9,7 +9,7 @@ returns-in_err-scan-clause-looks g c =
     looks_moved _ c.args.store.now c.scan.new.store c.from_residual.result c.scan.result c.in_err-scan.field-0.0
     (entries_found {meaning = g.S.RecordRead.meaning} c.args.table c.root_of.result 1 _ _ _ c.scan.new.out.items c.args.store.now
     c.scan.new.store c.scan.result (omega (arith, c.requires.table)) c.root_of.ensures.root c.new-entries.ensures.items
-    c.scan.ensures.ok c.scan.ensures.torn c.scan.ensures.fault c.scan.ensures.calls c.scan.ensures.after)
+    c.scan.ensures.ok c.scan.ensures.torn c.scan.ensures.walk)
     c.in_err-scan.was c.from_residual.ensures.1
 
 pub returns-then-is_empty-clause-looks : goal.returns-then-is_empty-clause-looks
@@ -17,7 +17,7 @@ returns-then-is_empty-clause-looks g c =
     looks_value _ c.args.store.now c.scan.new.store c.scan.result _ _
     (entries_found {meaning = g.S.RecordRead.meaning} c.args.table c.root_of.result 1 _ _ _ c.scan.new.out.items c.args.store.now
     c.scan.new.store c.scan.result (omega (arith, c.requires.table)) c.root_of.ensures.root c.new-entries.ensures.items
-    c.scan.ensures.ok c.scan.ensures.torn c.scan.ensures.fault c.scan.ensures.calls c.scan.ensures.after) c.in_ok-scan.was
+    c.scan.ensures.ok c.scan.ensures.torn c.scan.ensures.walk) c.in_ok-scan.was
     (λ state held agrees stands is. tells_none c.args.table c.scan.new.out.items (g.S.RecordRead.meaning c.args.store.now) state held
     c.requires.table (sym (ap (λ xs. length xs == 0) c.as_slice.ensures.value) ∙ sym c.is_empty.ensures ∙ c.if-is_empty.true) stands
     is)
@@ -27,7 +27,7 @@ returns-clause-looks g c =
     looks_value _ c.args.store.now c.scan.new.store c.scan.result _ _
     (entries_found {meaning = g.S.RecordRead.meaning} c.args.table c.root_of.result 1 _ _ _ c.scan.new.out.items c.args.store.now
     c.scan.new.store c.scan.result (omega (arith, c.requires.table)) c.root_of.ensures.root c.new-entries.ensures.items
-    c.scan.ensures.ok c.scan.ensures.torn c.scan.ensures.fault c.scan.ensures.calls c.scan.ensures.after) c.in_ok-scan.was
+    c.scan.ensures.ok c.scan.ensures.torn c.scan.ensures.walk) c.in_ok-scan.was
     (λ state held agrees stands is. tells_some c.args.table c.scan.new.out.items (g.S.RecordRead.meaning c.args.store.now) state held
     c.requires.table (sym (ap (λ xs. length xs == 0) c.as_slice.ensures.value) ∙ sym c.is_empty.ensures ∙ c.if-is_empty.false) stands
     is)

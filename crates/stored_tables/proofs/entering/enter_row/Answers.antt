@@ -4,18 +4,18 @@ use Rattle.stored_tables.proofs.Runs.{runs_moved}
 use Rattle.stored_tables.proofs.entering.enter_row.Goals as goal
 
 pub put_pair-requires-clause-fixed : goal.put_pair-requires-clause-fixed
-put_pair-requires-clause-fixed g c = rw (c.add_row.ensures.runs c.args.table c.args.key).grow.fixed c.requires.fixed
+put_pair-requires-clause-fixed g c = rw (c.add_row.ensures.runs c.args.table c.args.key).by.grow.fixed c.requires.fixed
 
 pub put_pair-requires-clause-rid : goal.put_pair-requires-clause-rid
-put_pair-requires-clause-rid g c = rw (c.add_row.ensures.runs c.args.table c.args.key).grow.size c.in_ok-rid.ensures.stored
+put_pair-requires-clause-rid g c = rw (c.add_row.ensures.runs c.args.table c.args.key).by.grow.size c.in_ok-rid.ensures.stored
 
 pub insert_entry-requires-clause-fixed : goal.insert_entry-requires-clause-fixed
-insert_entry-requires-clause-fixed g c = rw (c.put_pair.ensures.runs.grow.fixed
-    ∙ (c.add_row.ensures.runs c.args.table c.args.key).grow.fixed) c.requires.fixed
+insert_entry-requires-clause-fixed g c = rw (c.put_pair.ensures.runs.by.grow.fixed
+    ∙ (c.add_row.ensures.runs c.args.table c.args.key).by.grow.fixed) c.requires.fixed
 
 pub insert_entry-requires-clause-rid : goal.insert_entry-requires-clause-rid
-insert_entry-requires-clause-rid g c = rw (c.put_pair.ensures.runs.grow.size
-    ∙ (c.add_row.ensures.runs c.args.table c.args.key).grow.size) c.in_ok-rid.ensures.stored
+insert_entry-requires-clause-rid g c = rw (c.put_pair.ensures.runs.by.grow.size
+    ∙ (c.add_row.ensures.runs c.args.table c.args.key).by.grow.size) c.in_ok-rid.ensures.stored
 
 pub returns-in_err-rid-clause-runs : goal.returns-in_err-rid-clause-runs
 returns-in_err-rid-clause-runs g c =
@@ -74,9 +74,9 @@ returns-clause-runs g c =
     c.in_ok-insert_entry.was c.insert_entry-2.ensures.runs
 
 pub insert_entry-requires-2-clause-fixed : goal.insert_entry-requires-2-clause-fixed
-insert_entry-requires-2-clause-fixed g c = rw (c.insert_entry.ensures.runs.grow.fixed ∙ c.put_pair.ensures.runs.grow.fixed
-    ∙ (c.add_row.ensures.runs c.args.table c.args.key).grow.fixed) c.requires.fixed
+insert_entry-requires-2-clause-fixed g c = rw (c.insert_entry.ensures.runs.by.grow.fixed ∙ c.put_pair.ensures.runs.by.grow.fixed
+    ∙ (c.add_row.ensures.runs c.args.table c.args.key).by.grow.fixed) c.requires.fixed
 
 pub insert_entry-requires-2-clause-rid : goal.insert_entry-requires-2-clause-rid
-insert_entry-requires-2-clause-rid g c = rw (c.insert_entry.ensures.runs.grow.size ∙ c.put_pair.ensures.runs.grow.size
-    ∙ (c.add_row.ensures.runs c.args.table c.args.key).grow.size) c.in_ok-rid.ensures.stored
+insert_entry-requires-2-clause-rid g c = rw (c.insert_entry.ensures.runs.by.grow.size ∙ c.put_pair.ensures.runs.by.grow.size
+    ∙ (c.add_row.ensures.runs c.args.table c.args.key).by.grow.size) c.in_ok-rid.ensures.stored

@@ -1,5 +1,5 @@
 use Rattle.stored_tables.proofs.RowLeaves.{left_none, left_index}
-use Rattle.stored_tables.proofs.Asking.{asks_none}
+use Rattle.record_store.proofs.Going.{by_reads_none, by_calls_reads, by_calls_moved, by_calls_quiet, by_calls_never, by_write_refused, by_write_done}
 use Rattle.stored_tables.proofs.leaving.leave_index.Goals as goal
 
 pub returns-in_default-clause-runs : goal.returns-in_default-clause-runs
@@ -13,4 +13,4 @@ returns-clause-runs g c =
     c.column-high.ensures c.remove_entry.ensures.runs
 
 pub returns-in_default-clause-asks_nothing : goal.returns-in_default-clause-asks_nothing
-returns-in_default-clause-asks_nothing g c = asks_none c.args.store.now _
+returns-in_default-clause-asks_nothing g c = by_calls_reads (λ _. ⊥) c.args.store.now c.args.store.now _ (by_reads_none c.args.store.now _ tt)

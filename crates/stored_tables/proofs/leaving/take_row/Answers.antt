@@ -8,12 +8,12 @@ use Rattle.stored_tables.proofs.OneRow.{row_taken_by}
 use Rattle.stored_tables.specs.Answers.{IsFound, Stands}
 use Rattle.stored_tables.specs.Plan.{moves_to}
 use Rattle.stored_tables.proofs.Runs.{looks_runs, runs_moved, runs_value}
-use Rattle.stored_tables.proofs.Asking.{asks_reads, asks_moved, asks_value, asks_then}
+use Rattle.record_store.proofs.Going.{by_reads_none, by_calls_reads, by_calls_moved, by_calls_quiet, by_calls_never, by_write_refused, by_write_done}
 use Rattle.stored_tables.proofs.leaving.take_row.Goals as goal
 
 pub index_of-requires-clause-size : goal.index_of-requires-clause-size
 index_of-requires-clause-size g c = rw (size_same (g.S.RecordRead.meaning c.args.store.now) (g.S.RecordRead.meaning c.find_row.new.store)
-    c.find_row.ensures.looks.only) c.requires.size
+    c.find_row.ensures.looks.by.only) c.requires.size
 
 pub returns-in_err-found-clause-runs : goal.returns-in_err-found-clause-runs
 returns-in_err-found-clause-runs g c =
@@ -80,44 +80,42 @@ returns-in_default-clause-runs g c =
       found,
       refl,
       stands_on (g.S.RecordRead.meaning c.args.store.now) (g.S.RecordRead.meaning c.find_row.new.store) state held
-          c.find_row.ensures.looks.only stands,
+          c.find_row.ensures.looks.by.only stands,
     ))) c.in_ok-found.was
     (λ asked state held agrees stands did. (let f = rw c.in_default.is at did.0 in (f.1, did.1, did.2)))
 
 pub returns-in_err-found-clause-asks_nothing : goal.returns-in_err-found-clause-asks_nothing
 returns-in_err-found-clause-asks_nothing g c =
-    asks_moved c.args.store.now c.find_row.new.store c.from_residual.result c.find_row.result c.in_err-found.field-0.0 c.in_err-found.was
-    c.from_residual.ensures.1 (asks_reads c.args.store.now c.find_row.new.store c.find_row.result c.find_row.ensures.looks.calls
-    c.find_row.ensures.looks.fault)
+    by_calls_moved c.args.store.now c.find_row.new.store c.from_residual.result c.find_row.result c.in_err-found.field-0.0 c.in_err-found.was
+    c.from_residual.ensures.1 (by_calls_reads (λ _. ⊥) c.args.store.now c.find_row.new.store c.find_row.result c.find_row.ensures.looks.by)
 
 pub returns-in_default-clause-asks_nothing : goal.returns-in_default-clause-asks_nothing
 returns-in_default-clause-asks_nothing g c =
-    asks_value c.args.store.now c.find_row.new.store c.find_row.result _ (asks_reads c.args.store.now c.find_row.new.store
-    c.find_row.result c.find_row.ensures.looks.calls c.find_row.ensures.looks.fault)
+    by_calls_quiet _ c.args.store.now c.find_row.new.store _ c.find_row.result tt (by_calls_reads (λ _. ⊥) c.args.store.now c.find_row.new.store c.find_row.result c.find_row.ensures.looks.by)
 
 pub returns-in_err-index-clause-asks_nothing : goal.returns-in_err-index-clause-asks_nothing
 returns-in_err-index-clause-asks_nothing g c =
-    asks_moved c.args.store.now c.index_of.new.store c.from_residual-in_err-index.result c.index_of.result c.in_err-index.field-0.0
+    by_calls_moved c.args.store.now c.index_of.new.store c.from_residual-in_err-index.result c.index_of.result c.in_err-index.field-0.0
     c.in_err-index.was c.from_residual-in_err-index.ensures.1
-    (asks_then c.args.store.now c.find_row.new.store c.index_of.new.store c.find_row.result c.index_of.result
-    (asks_reads c.args.store.now c.find_row.new.store c.find_row.result c.find_row.ensures.looks.calls c.find_row.ensures.looks.fault)
-    (asks_reads c.find_row.new.store c.index_of.new.store c.index_of.result c.index_of.ensures.looks.calls c.index_of.ensures.looks.fault))
+    (by_calls_never (λ _. ⊥) 0 c.args.store.now c.find_row.new.store c.index_of.new.store c.find_row.result c.index_of.result
+    (by_calls_reads (λ _. ⊥) c.args.store.now c.find_row.new.store c.find_row.result c.find_row.ensures.looks.by)
+    (by_calls_reads (λ _. ⊥) c.find_row.new.store c.index_of.new.store c.index_of.result c.index_of.ensures.looks.by))
 
 pub returns-in_err-leave_row-clause-asks_nothing : goal.returns-in_err-leave_row-clause-asks_nothing
 returns-in_err-leave_row-clause-asks_nothing g c =
-    asks_moved c.args.store.now c.leave_row.new.store c.from_residual-in_err-leave_row.result c.leave_row.result c.in_err-leave_row.field-0.0
+    by_calls_moved c.args.store.now c.leave_row.new.store c.from_residual-in_err-leave_row.result c.leave_row.result c.in_err-leave_row.field-0.0
     c.in_err-leave_row.was c.from_residual-in_err-leave_row.ensures.1
-    (asks_then c.args.store.now c.index_of.new.store c.leave_row.new.store c.index_of.result c.leave_row.result
-    (asks_then c.args.store.now c.find_row.new.store c.index_of.new.store c.find_row.result c.index_of.result
-    (asks_reads c.args.store.now c.find_row.new.store c.find_row.result c.find_row.ensures.looks.calls c.find_row.ensures.looks.fault)
-    (asks_reads c.find_row.new.store c.index_of.new.store c.index_of.result c.index_of.ensures.looks.calls c.index_of.ensures.looks.fault))
+    (by_calls_never (λ _. ⊥) 0 c.args.store.now c.index_of.new.store c.leave_row.new.store c.index_of.result c.leave_row.result
+    (by_calls_never (λ _. ⊥) 0 c.args.store.now c.find_row.new.store c.index_of.new.store c.find_row.result c.index_of.result
+    (by_calls_reads (λ _. ⊥) c.args.store.now c.find_row.new.store c.find_row.result c.find_row.ensures.looks.by)
+    (by_calls_reads (λ _. ⊥) c.find_row.new.store c.index_of.new.store c.index_of.result c.index_of.ensures.looks.by))
     c.leave_row.ensures.asks_nothing)
 
 pub returns-clause-asks_nothing : goal.returns-clause-asks_nothing
 returns-clause-asks_nothing g c =
-    asks_value c.args.store.now c.leave_row.new.store c.leave_row.result _
-    (asks_then c.args.store.now c.index_of.new.store c.leave_row.new.store c.index_of.result c.leave_row.result
-    (asks_then c.args.store.now c.find_row.new.store c.index_of.new.store c.find_row.result c.index_of.result
-    (asks_reads c.args.store.now c.find_row.new.store c.find_row.result c.find_row.ensures.looks.calls c.find_row.ensures.looks.fault)
-    (asks_reads c.find_row.new.store c.index_of.new.store c.index_of.result c.index_of.ensures.looks.calls c.index_of.ensures.looks.fault))
+    by_calls_quiet _ c.args.store.now c.leave_row.new.store _ c.leave_row.result tt
+    (by_calls_never (λ _. ⊥) 0 c.args.store.now c.index_of.new.store c.leave_row.new.store c.index_of.result c.leave_row.result
+    (by_calls_never (λ _. ⊥) 0 c.args.store.now c.find_row.new.store c.index_of.new.store c.find_row.result c.index_of.result
+    (by_calls_reads (λ _. ⊥) c.args.store.now c.find_row.new.store c.find_row.result c.find_row.ensures.looks.by)
+    (by_calls_reads (λ _. ⊥) c.find_row.new.store c.index_of.new.store c.index_of.result c.index_of.ensures.looks.by))
     c.leave_row.ensures.asks_nothing)

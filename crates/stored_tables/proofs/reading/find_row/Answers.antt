@@ -7,14 +7,14 @@ pub returns-in_err-rid-clause-looks : goal.returns-in_err-rid-clause-looks
 returns-in_err-rid-clause-looks g c =
     looks_moved _ c.args.store.now c.get.new.store c.from_residual.result c.get.result c.in_err-rid.field-0.0
     (got c.args.table c.base_of.result c.args.key c.args.store.now c.get.new.store c.get.result c.requires.table c.base_of.ensures.base
-    c.get.ensures.ok c.get.ensures.torn c.get.ensures.fault c.get.ensures.calls c.get.ensures.after)
+    c.get.ensures.ok c.get.ensures.torn c.get.ensures.walk.by)
     c.in_err-rid.was c.from_residual.ensures.1
 
 pub returns-in_default-clause-looks : goal.returns-in_default-clause-looks
 returns-in_default-clause-looks g c =
     looks_value _ c.args.store.now c.get.new.store c.get.result _ _
     (got c.args.table c.base_of.result c.args.key c.args.store.now c.get.new.store c.get.result c.requires.table c.base_of.ensures.base
-    c.get.ensures.ok c.get.ensures.torn c.get.ensures.fault c.get.ensures.calls c.get.ensures.after) c.in_ok-rid.was
+    c.get.ensures.ok c.get.ensures.torn c.get.ensures.walk.by) c.in_ok-rid.was
     (λ state held agrees stands is. (let none = is
     ∙ c.in_default.is in (none, no_row_there _ _ _ none (stands.tied.rows c.args.table c.args.key c.requires.table))))
 
@@ -24,7 +24,7 @@ returns-in_err-row-clause-looks g c =
     (found_row c.args.table c.args.key c.in-Some.rid c.args.store.now c.get.new.store c.row_at.new.store c.get.result c.row_at.result
     c.requires.table
     (got c.args.table c.base_of.result c.args.key c.args.store.now c.get.new.store c.get.result c.requires.table c.base_of.ensures.base
-    c.get.ensures.ok c.get.ensures.torn c.get.ensures.fault c.get.ensures.calls c.get.ensures.after) (c.in_ok-rid.was
+    c.get.ensures.ok c.get.ensures.torn c.get.ensures.walk.by) (c.in_ok-rid.was
     ∙ ap Ok c.in-Some.is) c.row_at.ensures.looks) c.in_err-row.was c.from_residual-in_err-row.ensures.1
 
 pub returns-clause-looks : goal.returns-clause-looks
@@ -33,6 +33,6 @@ returns-clause-looks g c =
     (found_row c.args.table c.args.key c.in-Some.rid c.args.store.now c.get.new.store c.row_at.new.store c.get.result c.row_at.result
     c.requires.table
     (got c.args.table c.base_of.result c.args.key c.args.store.now c.get.new.store c.get.result c.requires.table c.base_of.ensures.base
-    c.get.ensures.ok c.get.ensures.torn c.get.ensures.fault c.get.ensures.calls c.get.ensures.after) (c.in_ok-rid.was
+    c.get.ensures.ok c.get.ensures.torn c.get.ensures.walk.by) (c.in_ok-rid.was
     ∙ ap Ok c.in-Some.is) c.row_at.ensures.looks) c.in_ok-row.was
     (λ state held agrees stands is. is)

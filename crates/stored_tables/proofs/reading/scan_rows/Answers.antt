@@ -8,7 +8,7 @@ returns-in_err-scan-clause-looks g c =
     looks_moved _ c.args.store.now c.scan.new.store c.from_residual.result c.scan.result c.in_err-scan.field-0.0
     (entries_found {meaning = g.S.RecordRead.meaning} c.args.table c.root_of.result c.args.limit _ _ _ c.scan.new.out.items
     c.args.store.now c.scan.new.store c.scan.result (omega (arith, c.requires.table)) c.root_of.ensures.root
-    c.new-entries.ensures.items c.scan.ensures.ok c.scan.ensures.torn c.scan.ensures.fault c.scan.ensures.calls c.scan.ensures.after)
+    c.new-entries.ensures.items c.scan.ensures.ok c.scan.ensures.torn c.scan.ensures.walk)
     c.in_err-scan.was c.from_residual.ensures.1
 
 pub returns-clause-looks : goal.returns-clause-looks
@@ -17,7 +17,7 @@ returns-clause-looks g c =
     c.scan.new.out.items c.args.store.now c.scan.new.store c.read_rows.new.store c.scan.result c.read_rows.result c.requires.table
     (entries_found {meaning = g.S.RecordRead.meaning} c.args.table c.root_of.result c.args.limit _ _ _ c.scan.new.out.items
     c.args.store.now c.scan.new.store c.scan.result (omega (arith, c.requires.table)) c.root_of.ensures.root
-    c.new-entries.ensures.items c.scan.ensures.ok c.scan.ensures.torn c.scan.ensures.fault c.scan.ensures.calls c.scan.ensures.after)
+    c.new-entries.ensures.items c.scan.ensures.ok c.scan.ensures.torn c.scan.ensures.walk)
     c.in_ok-scan.was
     (rw c.deref.ensures.value at c.read_rows.ensures.looks)
 

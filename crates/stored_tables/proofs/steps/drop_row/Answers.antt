@@ -3,8 +3,7 @@ use Rattle.record_store.specs.Meaning.{Meaning}
 use Rattle.stored_tables.proofs.Knowing.{row_may}
 use Rattle.stored_tables.proofs.Writing.{write_refused, write_done}
 use Rattle.stored_tables.proofs.RowSteps.{drops_row}
-use Rattle.stored_tables.proofs.Asking.{asks_write}
-use Rattle.record_store.proofs.Refusals.{store_fault}
+use Rattle.record_store.proofs.Going.{by_reads_none, by_calls_reads, by_calls_moved, by_calls_quiet, by_calls_never, by_write_refused, by_write_done}
 use Rattle.stored_tables.proofs.steps.drop_row.Goals as goal
 
 pub returns-in_err-write-clause-runs : goal.returns-in_err-write-clause-runs
@@ -29,8 +28,9 @@ returns-clause-runs g c = λ table key.
 
 pub returns-in_err-write-clause-asks_nothing : goal.returns-in_err-write-clause-asks_nothing
 returns-in_err-write-clause-asks_nothing g c =
-    asks_write c.args.store.now c.write.new.self c.args.rid _ _ c.from_residual.result c.in_err-write.ensures.gives
-    (store_fault c.from_residual.result c.in_err-write.field-0.0 _ c.from_residual.ensures.1 refl)
+    by_write_refused _ c.args.store.now c.write.new.self c.args.rid _ c.in_err-write.field-0.0 c.write.result c.from_residual.result
+    c.in_err-write.was c.write.ensures.gives c.write.ensures.err c.from_residual.ensures.1
 
 pub returns-clause-asks_nothing : goal.returns-clause-asks_nothing
-returns-clause-asks_nothing g c = asks_write c.args.store.now c.write.new.self c.args.rid _ _ _ c.in_ok-write.ensures.gives tt
+returns-clause-asks_nothing g c = by_write_done _ c.args.store.now c.write.new.self c.args.rid _ c.write.result _ c.write.ensures.gives
+    c.in_ok-write.ensures.ok tt

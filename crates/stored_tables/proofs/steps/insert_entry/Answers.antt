@@ -8,7 +8,7 @@ returns-in_err-insert-clause-runs g c =
     runs_moved _ 51 51 (omega arith) c.args.store.now c.insert.new.store c.from_residual.result c.insert.result c.in_err-insert.field-0.0
     (inserted_runs {meaning = g.S.RecordRead.meaning} c.args.tree c.root_of.result c.args.key c.args.rid c.args.store.now
     c.insert.new.store c.insert.result c.requires.tree c.root_of.ensures.root c.requires.fixed c.insert.ensures.ok
-    c.insert.ensures.torn c.insert.ensures.fault c.insert.ensures.calls c.insert.ensures.writes c.insert.ensures.few c.insert.ensures.after)
+    c.insert.ensures.torn c.insert.ensures.walk c.insert.ensures.writes c.insert.ensures.few)
     c.in_err-insert.was c.from_residual.ensures.1
 
 pub returns-then-branch-clause-runs : goal.returns-then-branch-clause-runs
@@ -16,7 +16,7 @@ returns-then-branch-clause-runs g c =
     runs_value _ 51 51 c.args.store.now c.insert.new.store c.insert.result _ _ (omega arith)
     (inserted_runs {meaning = g.S.RecordRead.meaning} c.args.tree c.root_of.result c.args.key c.args.rid c.args.store.now
     c.insert.new.store c.insert.result c.requires.tree c.root_of.ensures.root c.requires.fixed c.insert.ensures.ok
-    c.insert.ensures.torn c.insert.ensures.fault c.insert.ensures.calls c.insert.ensures.writes c.insert.ensures.few c.insert.ensures.after)
+    c.insert.ensures.torn c.insert.ensures.walk c.insert.ensures.writes c.insert.ensures.few)
     c.in_ok-insert.was (λ asked state places agrees has did. did.1)
 
 pub returns-else-branch-clause-runs : goal.returns-else-branch-clause-runs
@@ -24,5 +24,5 @@ returns-else-branch-clause-runs g c =
     runs_torn _ 51 51 (omega arith) c.args.store.now c.insert.new.store c.insert.result _ c.args.rid
     (inserted_runs {meaning = g.S.RecordRead.meaning} c.args.tree c.root_of.result c.args.key c.args.rid c.args.store.now
     c.insert.new.store c.insert.result c.requires.tree c.root_of.ensures.root c.requires.fixed c.insert.ensures.ok
-    c.insert.ensures.torn c.insert.ensures.fault c.insert.ensures.calls c.insert.ensures.writes c.insert.ensures.few c.insert.ensures.after)
+    c.insert.ensures.torn c.insert.ensures.walk c.insert.ensures.writes c.insert.ensures.few)
     c.in_ok-insert.was (λ asked state places agrees has did. unlike _ did.0 c.if-branch.false)

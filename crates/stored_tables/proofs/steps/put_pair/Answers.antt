@@ -4,5 +4,4 @@ use Rattle.stored_tables.proofs.steps.put_pair.Goals as goal
 pub returns-clause-runs : goal.returns-clause-runs
 returns-clause-runs g c =
     put_runs {meaning = g.S.RecordRead.meaning} c.args.table c.base_of.result c.args.key c.args.rid c.args.store.now c.put.new.store
-    c.put.result c.requires.table c.base_of.ensures.base c.requires.fixed c.put.ensures.ok c.put.ensures.torn c.put.ensures.fault
-    c.put.ensures.calls c.put.ensures.writes c.put.ensures.after
+    c.put.result c.requires.table c.base_of.ensures.base c.requires.fixed c.put.ensures.ok c.put.ensures.torn c.put.ensures.walk c.put.ensures.writes

@@ -128,7 +128,7 @@ returns-in-Empty-clause-walk g c = record {
 }
 
 pub returns-in-Full-clause-walk : goal.returns-in-Full-clause-walk
-returns-in-Full-clause-walk g c = 
+returns-in-Full-clause-walk g c =
     let needs = needs_node c.size-size.result c.args.base c.args.key (g.S.RecordRead.meaning c.args.store.now) (g.S.RecordRead.meaning c.search.new.store) (g.S.RecordRead.meaning c.add_node.new.store) c.in-Full.link c.size-size.ensures.size c.add_node.ensures.walk.by.grow.reads (λ state agrees. rw c.in-Full.is at (c.in_ok-link.ensures.place state agrees)) in
     record {
       asked = 1;

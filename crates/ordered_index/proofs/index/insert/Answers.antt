@@ -2,7 +2,6 @@ use Rattle.std.proofs.Common.{◌+◌, ◌<◌, ◌≤◌, ℕ, Some, Ok, Err, r
 use Rattle.record_store.proofs.Refusals.{fault_moved, torn_moved, IfStore-map, IfTorn-map}
 use Rattle.record_store.proofs.Known.{tries, gives-reads, gives-tried, gives-behind, gives-trans, fewer-behind, known-reads, known-behind, known-fixed, known-then-fixed}
 use Rattle.record_store.proofs.Paths.{Calls-trans, Calls-reads, CallFault-read, CallFault-behind, CallFault-never}
-
 use Rattle.ordered_index.proofs.Asks.{asks_first_err, asks_first, top_err, top_there, top_done, top_may, root_err, root_ok, top_behind, few_of}
 use Rattle.ordered_index.proofs.Reaching.{each_ends_well, empty_ends}
 use Rattle.plain_data.specs.State.{overlay}

@@ -24,9 +24,9 @@ use Rattle.txn_engine.proofs.Passes.{pass_read}
 use Rattle.txn_engine.proofs.Accounting.{on_removed}
 
 -- a record was read, and noted where it is absent
-pub pass_asked : (p : PostView) (rid : ℕ) (absent : Bool) (q : Waiting) (n : NumbersView) (refusals : ℕ) (dead : Option Conflict) (counted : Bool) → IsPass p q n refusals dead counted → p.phase ≡ Open → IsPass (cond absent (noted p rid None) p) q n refusals dead counted
-pass_asked p rid true q n refusals dead counted is phase = pass_read p rid None q n refusals dead counted is phase
-pass_asked p rid false q n refusals dead counted is phase = is
+pub pass_asked : (p : PostView) (rid : ℕ) (absent : Bool) (q : Waiting) (n : NumbersView) (most : ℕ) (dead : Option Conflict) (counted : Bool) → IsPass p q n most dead counted → p.phase ≡ Open → IsPass (cond absent (noted p rid None) p) q n most dead counted
+pass_asked p rid true q n most dead counted is phase = pass_read p rid None q n most dead counted is phase
+pass_asked p rid false q n most dead counted is phase = is
 
 -- the number at this place is written, and so is each before the one behind it
 written_behind : (p : PassView) (i rid : ℕ) → slice_get p.spare i ≡ Some rid → IsSome (value_at p.writes rid) → AreWritten p i → AreWritten p (i + 1)

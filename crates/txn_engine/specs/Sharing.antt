@@ -39,6 +39,7 @@ share_at p seat = record {
   spare = every p.shared.size.seats seat p.spare;
   given = [];
   refusals = 0;
+  commits = 0;
   dead = None;
   counted = false;
 }

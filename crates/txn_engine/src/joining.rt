@@ -47,7 +47,7 @@ impl<J: Keeps> Pass<J> {
 impl<J: Keeps> Engine<J> {
     /// The seat that is alone again, after all other seats have retired. Its log is that of the pass with the logs of the others
     /// behind it, as they are handed in; its clock and the greatest `min_wts` that it has met are the greatest of all; it has
-    /// no boost and nothing queued, all spare numbers, each once, and the sum of the refusals.
+    /// no boost and nothing queued, all spare numbers, each once, and the sum of the refusals. Its commits are those of the pass.
     pub fn alone(&self, pass: Pass<J>, others: Vec<Retired<J>>) -> Alone<J>
         requires engine { engine_of pass ≡ self.now }
         requires idle { IsIdle pass }

@@ -34,16 +34,16 @@ returns-else-branch-clause-ok g c =
     let i = c.self-2.inside in
     let o = c.is_absent.new.self.observed in
     let kept : c.is_absent.new.self ≡ observing c.args.self.now o = rw c.if-branch.false at c.in_ok-is_absent.ensures.ok in
-    let is : pass_view i.post i.boost i.queue c.strike.new.self i.refusals i.dead i.counted ≡ observing (record c.args.self.now { spare = remove c.args.self.now.spare c.args.i }) o =
-    ap (λ (n : NumbersView). pass_view i.post i.boost i.queue n i.refusals i.dead i.counted) c.strike.ensures ∙ ap (λ (x : PassView). record x { spare = remove x.spare c.args.i }) (c.self-2.view_is ∙ kept) in
-    inr (observing_own (pass_view i.post i.boost i.queue c.strike.new.self i.refusals i.dead i.counted) (record c.args.self.now { spare = remove c.args.self.now.spare c.args.i }) o is, refl, subst (λ (x : Observed). IsMetPresent c.args.self.now c.args.rid c.args.self.now.observed x) (sym (ap (λ (x : PassView). x.observed) c.self-2.view_is)) (c.in_ok-is_absent.ensures.met_present c.if-branch.false))
+    let is : pass_view i.post i.boost i.queue c.strike.new.self i.refusals i.commits i.dead i.counted ≡ observing (record c.args.self.now { spare = remove c.args.self.now.spare c.args.i }) o =
+    ap (λ (n : NumbersView). pass_view i.post i.boost i.queue n i.refusals i.commits i.dead i.counted) c.strike.ensures ∙ ap (λ (x : PassView). record x { spare = remove x.spare c.args.i }) (c.self-2.view_is ∙ kept) in
+    inr (observing_own (pass_view i.post i.boost i.queue c.strike.new.self i.refusals i.commits i.dead i.counted) (record c.args.self.now { spare = remove c.args.self.now.spare c.args.i }) o is, refl, subst (λ (x : Observed). IsMetPresent c.args.self.now c.args.rid c.args.self.now.observed x) (sym (ap (λ (x : PassView). x.observed) c.self-2.view_is)) (c.in_ok-is_absent.ensures.met_present c.if-branch.false))
 
 pub returns-then-branch-clause-accounts : goal.returns-then-branch-clause-accounts
 returns-then-branch-clause-accounts g c =
     let i = c.self-2.inside in
-    let p = pass_view i.post i.boost i.queue i.numbers i.refusals i.dead i.counted in
-    let is : pass_view i.post i.boost i.queue c.give.new.self i.refusals i.dead i.counted ≡ record p { spare = remove p.spare c.args.i; given = p.given ++ c.give.result ∷ [] } =
-    ap (λ (n : NumbersView). pass_view i.post i.boost i.queue n i.refusals i.dead i.counted) c.give.ensures.after in
+    let p = pass_view i.post i.boost i.queue i.numbers i.refusals i.commits i.dead i.counted in
+    let is : pass_view i.post i.boost i.queue c.give.new.self i.refusals i.commits i.dead i.counted ≡ record p { spare = remove p.spare c.args.i; given = p.given ++ c.give.result ∷ [] } =
+    ap (λ (n : NumbersView). pass_view i.post i.boost i.queue n i.refusals i.commits i.dead i.counted) c.give.ensures.after in
     ap accounted is ∙ accounted_given p c.args.i c.give.result c.give.ensures.value ∙ ap accounted c.self-2.view_is ∙ c.is_absent.ensures.accounts
 
 pub returns-else-branch-clause-accounts : goal.returns-else-branch-clause-accounts
@@ -51,8 +51,8 @@ returns-else-branch-clause-accounts g c =
     let i = c.self-2.inside in
     let o = c.is_absent.new.self.observed in
     let kept : c.is_absent.new.self ≡ observing c.args.self.now o = rw c.if-branch.false at c.in_ok-is_absent.ensures.ok in
-    let is : pass_view i.post i.boost i.queue c.strike.new.self i.refusals i.dead i.counted ≡ observing (record c.args.self.now { spare = remove c.args.self.now.spare c.args.i }) o =
-    ap (λ (n : NumbersView). pass_view i.post i.boost i.queue n i.refusals i.dead i.counted) c.strike.ensures ∙ ap (λ (x : PassView). record x { spare = remove x.spare c.args.i }) (c.self-2.view_is ∙ kept) in
+    let is : pass_view i.post i.boost i.queue c.strike.new.self i.refusals i.commits i.dead i.counted ≡ observing (record c.args.self.now { spare = remove c.args.self.now.spare c.args.i }) o =
+    ap (λ (n : NumbersView). pass_view i.post i.boost i.queue n i.refusals i.commits i.dead i.counted) c.strike.ensures ∙ ap (λ (x : PassView). record x { spare = remove x.spare c.args.i }) (c.self-2.view_is ∙ kept) in
     ap accounted is ∙ accounted_struck c.args.self.now c.args.i c.args.rid c.requires.at (λ alone. c.in_ok-is_absent.ensures.present alone c.if-branch.false)
 
 pub returns-then-is_written-clause-grows : goal.returns-then-is_written-clause-grows

@@ -18,7 +18,7 @@ returns g c =
     let i = c.self.inside in
     let p = i.post in
     let e = c.collect.ensures in
-    let view = λ (x : PostView). pass_view x i.boost c.collect.new.queue i.numbers i.refusals i.dead i.counted in
+    let view = λ (x : PostView). pass_view x i.boost c.collect.new.queue i.numbers i.refusals i.commits i.dead i.counted in
     record {
       collects = subst (λ (x : PassView). CollectsPass x (view c.collect.new.self) c.collect.result) c.self.view_is (record {
         after = ap view e.after;

@@ -12,4 +12,4 @@ invariant_of-self g c = rw c.look.ensures.after (pass_observing _ _ _ _ _ _ _ (p
 pub returns-clause-found : goal.returns-clause-found
 returns-clause-found g c =
     let i = c.self.inside in
-    subst (λ (x : PassView). FindsSeen x (pass_view c.look.new.self i.boost i.queue i.numbers i.refusals i.dead i.counted) c.args.rid c.look.result) c.self.view_is c.look.ensures.found
+    subst (λ (x : PassView). FindsSeen x (pass_view c.look.new.self i.boost i.queue i.numbers i.refusals i.commits i.dead i.counted) c.args.rid c.look.result) c.self.view_is c.look.ensures.found

@@ -14,9 +14,9 @@ pub returns-clause-begins : goal.returns-clause-begins
 returns-clause-begins g c =
     let e = c.begin_snapshot.ensures in
     let i = c.self.inside in
-    subst (λ (p : PassView). Begins p (pass_view c.begin_snapshot.new.self i.boost i.queue i.numbers i.refusals i.dead i.counted)) c.self.view_is (record {
+    subst (λ (p : PassView). Begins p (pass_view c.begin_snapshot.new.self i.boost i.queue i.numbers i.refusals i.commits i.dead i.counted)) c.self.view_is (record {
       stamp = c.begin_snapshot.result;
-      pass = ap (λ (q : PostView). pass_view q i.boost i.queue i.numbers i.refusals i.dead i.counted) e.after;
+      pass = ap (λ (q : PostView). pass_view q i.boost i.queue i.numbers i.refusals i.commits i.dead i.counted) e.after;
       grows = e.grows;
       minimum = e.minimum;
       met = e.met;

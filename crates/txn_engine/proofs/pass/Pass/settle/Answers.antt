@@ -10,20 +10,20 @@ pub invariant_of-self : goal.invariant_of-self
 invariant_of-self g c =
     let i = c.self.inside in
     let phase = ap (λ (p : PassView). p.phase) c.self.view_is ∙ ap (λ (d : DeskView). d.phase) c.requires.idle in
-    pass_settled g.J.Keeps.kept i.post c.settle.new.self i.queue i.numbers i.refusals i.dead i.counted c.self.invariant phase c.settle.ensures.settles
+    pass_settled g.J.Keeps.kept i.post c.settle.new.self i.queue i.numbers _ i.dead i.counted c.self.invariant phase c.settle.ensures.settles
 
 pub returns : goal.returns
 returns g c =
     let i = c.self.inside in
     let s = c.settle.ensures in
-    let view = λ (p : PostView). pass_view p i.boost i.queue i.numbers i.refusals i.dead i.counted in
+    let view = λ (p : PostView). pass_view p i.boost i.queue i.numbers i.refusals i.commits i.dead i.counted in
     record {
       settles = subst (λ (x : PassView). SettlesPass g.J.Keeps.kept x (view c.settle.new.self) c.settle.result) c.self.view_is (record {
         settles = s.settles;
         beside = refl;
         tidy = on_ok c.settle.result (tidy_settled g.J.Keeps.kept i.post c.settle.new.self s.settles) s.settled;
         roomy = on_ok c.settle.result (roomy_settled g.J.Keeps.kept i.post c.settle.new.self s.settles) s.settled;
-        absent = absent_settled g.J.Keeps.kept i.post c.settle.new.self i.boost i.queue i.numbers i.refusals i.dead i.counted s.settles;
+        absent = absent_settled g.J.Keeps.kept i.post c.settle.new.self i.boost i.queue i.numbers i.refusals i.commits i.dead i.counted s.settles;
         draws = s.draws;
         counts = s.counts;
         clock_out = s.clock_out;

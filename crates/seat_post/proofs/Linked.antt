@@ -13,7 +13,7 @@ use Rattle.validate_core.specs.Sets.{SetsView, Once}
 use Rattle.validate_core.specs.Installing.{LinksEach, none_yet, one_more as one_more_linked, FindsNoPlace, IsFullFor}
 use Rattle.validate_core.proofs.Placing.{one_view}
 use Rattle.seat_post.specs.Seats.{Known}
-use Rattle.seat_post.specs.Lists.{HasOutside, IsOneMore, AreLinked, AreSomeLinked, IsRoomyAt, IsFullAt}
+use Rattle.seat_post.specs.Lists.{HasOutside, IsOneMore, AreLinked, IsRoomyAt, IsFullAt}
 use Rattle.seat_post.proofs.Listed.{written_values-append, unheld, eqb_not, known_tail}
 use Rattle.core_rule.proofs.Among.{Among-last, Among-left}
 
@@ -133,12 +133,12 @@ post_linked z stamp us v w writes at before each once values same known =
     (subst (λ n. AreLinked writes n (known_by v) (known_by w)) same (subst (λ ws. AreLinked ws stamp (known_by v) (known_by w)) values (each_linked z stamp us v w each once)))
 
 -- the first few of them are, where there was no place for one more
-pub post_stuck : (z : Size) (s : SetsView) (v w : View) (writes : List (ℕ × Option (List ℕ))) (at : ℕ) (before : Known) → FindsNoPlace z s v w → Once number_of s.writes → written_values s.writes ≡ writes → v.published.write ≡ at → known_by v ≡ before → AreSomeLinked writes at before (known_by w)
-post_stuck z s v w writes at before stuck once values same known =
+pub post_stuck : (z : Size) (s : SetsView) (v w : View) (writes : List (ℕ × Option (List ℕ))) (at : ℕ) (before : Known) → Once number_of s.writes → written_values s.writes ≡ writes → v.published.write ≡ at → known_by v ≡ before → (stuck : FindsNoPlace z s v w) → AreLinked (take stuck.number writes) at before (known_by w)
+post_stuck z s v w writes at before once values same known stuck =
     let searched : known_by stuck.searched ≡ known_by stuck.installed = ap known_by stuck.none.view in
     let over : known_by w ≡ known_by stuck.searched = ap known_by stuck.works.only in
     let linked = post_linked z v.published.write (take stuck.number s.writes) v stuck.installed (take stuck.number writes) at before stuck.each (once_take stuck.number s.writes once) (written_values-take stuck.number s.writes ∙ ap (take stuck.number) values) same known in
-    record { count = stuck.number; linked = subst (λ k. AreLinked (take stuck.number writes) at before k) (sym (over ∙ searched)) linked }
+    subst (λ k. AreLinked (take stuck.number writes) at before k) (sym (over ∙ searched)) linked
 
 -- ---- where no place is free
 

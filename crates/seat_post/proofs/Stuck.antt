@@ -1,20 +1,21 @@
 -- Where one of the writes of a transaction found no place.
-use Rattle.std.proofs.Common.{ℕ, List}
-use Rattle.std.specs.Prelude.{IsSome}
+use Rattle.std.proofs.Common.{◌≡◌, ℕ, suc, List, [], ◌∷◌, ◌++◌, Option, take, sym, ap, ◌∙◌}
 use Rattle.word_layout.specs.Size.{Size}
 use Rattle.core_rule.specs.View.{View, Write}
-use Rattle.core_rule.specs.Deciding.{written_values}
-use Rattle.record_store.specs.Meaning.{value_at}
+use Rattle.core_rule.specs.Deciding.{written_values, value_of}
 use Rattle.validate_core.specs.Sets.{SetsView, Turn}
 use Rattle.validate_core.specs.Installing.{FindsNoPlace}
-use Rattle.validate_core.proofs.Works.{among_turn}
 use Rattle.validate_core.proofs.Placing.{each_grows}
 use Rattle.seat_post.specs.Observing.{MeetsNoPlace}
-use Rattle.seat_post.proofs.Listed.{among_written}
+use Rattle.seat_post.proofs.Linked.{written_values-take}
+use Rattle.seat_post.proofs.Listed.{written_values-append}
 use Rattle.seat_post.proofs.Observed.{lost_before}
 
-pub turned_some : (n : ℕ) (us : List Write) (u : Write) → Turn n us u → IsSome (value_at (written_values us) u.record_number)
-turned_some n us u turn = among_written us u (among_turn n us u turn)
+-- the write of a number, behind those before it
+pub next_written : (n : ℕ) (us : List Write) (writes : List (ℕ × Option (List ℕ))) (u : Write) → Turn n us u → written_values us ≡ writes → take (suc n) writes ≡ take n writes ++ (u.record_number, value_of u.cells) ∷ []
+next_written n us writes u turn values =
+    sym (written_values-take (suc n) us ∙ ap (take (suc n)) values) ∙ ap written_values turn.next ∙ written_values-append (take n us) u
+    ∙ ap (λ ws. ws ++ (u.record_number, value_of u.cells) ∷ []) (written_values-take n us ∙ ap (take n) values)
 
 pub meets_none : (z : Size) (s : SetsView) (v w : View) (f : FindsNoPlace z s v w) → MeetsNoPlace z f.write.record_number (record { loads = v.seen.loads; lost = v.seen.lost }) (record { loads = w.seen.loads; lost = w.seen.lost })
 meets_none z s v w f =

@@ -1,8 +1,11 @@
--- Which places the installed writes of a transaction took.
-use Rattle.std.specs.Prelude.{◌≡◌, ℕ, ◌==◌, Bool, List, Option, map, count_by}
+-- Which places the installed writes of a transaction took, and which of them found none.
+use Rattle.std.specs.Prelude.{◌≡◌, ℕ, suc, ◌==◌, Bool, List, [], ◌∷◌, ◌++◌, Option, map, take, count_by}
 use Rattle.word_layout.specs.Size.{Size}
 use Rattle.core_rule.specs.Views.{Among}
 use Rattle.validate_core.specs.Installing.{IsFor}
+use Rattle.seat_post.specs.Lists.{AreLinked}
+use Rattle.seat_post.specs.Observing.{MeetsNoPlace}
+use Rattle.seat_post.specs.Post.{PostView}
 use Rattle.seat_post.specs.Seats.{Placed}
 
 -- in the inline place of its record; and how many are
@@ -21,3 +24,13 @@ pub record HavePlaces (size : Size) (writes : List (ℕ × Option (List ℕ))) (
 pub record CountsPlaces (size : Size) (writes : List (ℕ × Option (List ℕ))) (placed : List Placed) (inlined : ℕ) : Type 0 where
   pub have : HavePlaces size writes placed
   pub count : inlined ≡ count_inline placed
+
+-- The first few of its writes have versions linked, each in such a place, and for the next one there was none: the inline place of its
+-- record was met not free, and each usable one.
+pub record WantsPlaceAt (before after' : PostView) : Type 0 where
+  pub count : ℕ
+  pub write : ℕ × Option (List ℕ)
+  pub next : take (suc count) before.writes ≡ take count before.writes ++ write ∷ []
+  pub linked : AreLinked (take count before.writes) before.stamp before.known after'.known
+  pub have : HavePlaces before.shared.size (take count before.writes) after'.placed
+  pub no_place : MeetsNoPlace before.shared.size write.0 before.observed after'.observed

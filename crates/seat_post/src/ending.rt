@@ -1,15 +1,14 @@
 //! Ending a transaction at a post: its versions are linked, it is decided, and they get their last status.
-ghost use Rattle.std.specs.Prelude.{◌≡◌, ◌≢◌, ◌+◌, ◌≤◌, ℕ, [], length, OnOk, OnErr, IfOk, IfErr, IsSome};
+ghost use Rattle.std.specs.Prelude.{◌≡◌, ◌≢◌, ◌+◌, ◌≤◌, [], length, OnOk, OnErr, IfOk, IfErr};
 ghost use Rattle.plain_data.specs.State.{Fits};
-ghost use Rattle.record_store.specs.Meaning.{value_at};
 ghost use Rattle.seat_post.specs.Conflicts.{Touches, IsLoaded};
 ghost use Rattle.seat_post.specs.Ends.{Stood};
 ghost use Rattle.seat_post.specs.Seats.{IsAloneAt};
 ghost use Rattle.seat_post.specs.Leaves.{AreLeft};
 ghost use Rattle.seat_post.specs.Logs.{IsAbove};
-ghost use Rattle.seat_post.specs.Lists.{AreLinked, AreSomeLinked, known_before, AreKnown, count_raised, IsFullAt};
-ghost use Rattle.seat_post.specs.Observing.{Grows, MeetsNoPlace};
-ghost use Rattle.seat_post.specs.Placing.{HavePlaces, CountsPlaces};
+ghost use Rattle.seat_post.specs.Lists.{AreLinked, known_before, AreKnown, count_raised, IsFullAt};
+ghost use Rattle.seat_post.specs.Observing.{Grows};
+ghost use Rattle.seat_post.specs.Placing.{HavePlaces, CountsPlaces, WantsPlaceAt};
 ghost use Rattle.seat_post.specs.Post.{knowing, placing, in_phase, closed, entered, entry_at, observing, IsShownAt};
 
 use crate::phase::Phase;
@@ -30,14 +29,12 @@ impl<J: Keeps> Post<J> {
         ensures stamp { IfOk result (λ installed. installed.stamp ≡ self.old.stamp) }
         ensures err { OnErr result (self.new ≡ observing (placing (closed (knowing self.old self.new.known)) self.new.placed) self.new.observed) }
         ensures grows { Grows self.old.observed self.new.observed }
-        // For a record that is written each place was met not free.
-        ensures places_out { OnErr result ((rid : ℕ) × IsSome (value_at self.old.writes rid) × MeetsNoPlace self.old.shared.size rid self.old.observed self.new.observed) }
+        ensures wants { OnErr result (WantsPlaceAt self.old self.new) }
         ensures written { OnErr result (self.old.writes ≢ []) }
         ensures above { IsAbove self.old.log self.old.stamp }
         ensures read_left { IsAloneAt self.old.shared.size self.old.seat self.old.others → AreLeft self.old.log self.old.stamp self.old.reads }
         ensures before { OnOk result (known_before (length self.old.writes) self.new.known ≡ self.old.known) }
         ensures linked { OnOk result (AreLinked self.old.writes self.old.stamp self.old.known self.new.known) }
-        ensures some_linked { OnErr result (AreSomeLinked self.old.writes self.old.stamp self.old.known self.new.known) }
         ensures full { OnErr result (IsAloneAt self.old.shared.size self.old.seat self.old.others → IsFullAt self.old.shared.size self.old.known (length self.old.writes)) }
     {
         fill(&mut self.sets, &self.writes);

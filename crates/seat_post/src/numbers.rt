@@ -163,9 +163,10 @@ impl Numbers {
         self.marks.unset((rid - self.fixed) as usize);
     }
 
-    /// Takes back what was given out.
+    /// Takes back what was given out. Each number is spare once then.
     pub fn take_back(&mut self)
-        ensures { self.new ≡ record self.old { spare = self.old.given ++ self.old.spare; given = [] } }
+        ensures after { self.new ≡ record self.old { spare = self.old.given ++ self.old.spare; given = [] } }
+        ensures distinct { IsDistinct nat_eq self.new.spare }
     {
         self.taken = 0;
     }

@@ -1,5 +1,5 @@
 -- Which answers refuse a transaction, and what a conflict says.
-use Rattle.std.specs.Prelude.{◌≡◌, ℕ, List, true, ⊤, IsSome}
+use Rattle.std.specs.Prelude.{◌≡◌, ℕ, List, true, ⊤}
 use Rattle.validate_core.specs.declared.conflict.Conflict.{Conflict}
 use Rattle.validate_core.specs.declared.conflict.Conflict.TheVariants.{Pending, ReadLater, Overtaken}
 use Rattle.txn_engine.specs.declared.faults.TxnFault.{TxnFault}
@@ -7,8 +7,7 @@ use Rattle.txn_engine.specs.declared.faults.TxnFault.TheVariants as txn
 use Rattle.txn_engine.specs.declared.faults.CommitFault.{CommitFault}
 use Rattle.txn_engine.specs.declared.faults.CommitFault.TheVariants as commit
 use Rattle.seat_post.specs.Conflicts.{ShowsPending, Touches, IsLoaded}
-use Rattle.record_store.specs.Meaning.{value_at}
-use Rattle.seat_post.specs.Observing.{MeetsNoPlace}
+use Rattle.seat_post.specs.Placing.{WantsPlaceAt}
 use Rattle.seat_post.specs.Post.{IsShownAt}
 use Rattle.seat_post.specs.Spare.{is_on}
 use Rattle.txn_engine.specs.Pass.{PassView}
@@ -40,9 +39,9 @@ IsPending p conflict = ShowsPending p.shared.size p.seat p.others p.stamp confli
 abbrev pub WasLoaded : (before after' : PassView) → Conflict → Type 0
 WasLoaded before after' conflict = IsLoaded before.stamp conflict before.observed after'.observed
 
--- between the two they met the inline place of a record that it writes not free, and each usable one
+-- between the two there was no place for one of its writes, after versions of those before it were linked
 abbrev pub WantsPlace : (before after' : PassView) → Type 0
-WantsPlace before after' = (rid : ℕ) × IsSome (value_at before.writes rid) × MeetsNoPlace before.shared.size rid before.observed after'.observed
+WantsPlace before after' = WantsPlaceAt before.post after'.post
 
 -- it is of a record that the transaction has read or written
 abbrev pub IsTouched : PassView → Conflict → Type 0

@@ -1,8 +1,7 @@
-use Rattle.std.proofs.Common.{◌≡◌, ap, sym, subst, ◌∙◌, length}
-use Rattle.std.specs.Prelude.{IsSome}
+use Rattle.std.proofs.Common.{◌≡◌, ap, sym, subst, ◌∙◌, length, take}
+use Rattle.core_rule.specs.Deciding.{value_of}
 use Rattle.core_rule.specs.Hands.{Shared}
 use Rattle.validate_core.specs.Installing.{IsBegun, Installs}
-use Rattle.record_store.specs.Meaning.{value_at}
 use Rattle.seat_post.specs.Observing.{MeetsNoPlace}
 use Rattle.seat_post.specs.Post.{PostView, closed, knowing, placing, known_in, observing, observed_in}
 use Rattle.seat_post.proofs.EndMore.{at_known, begun_filled, post_installed, turned_written, same_values}
@@ -15,9 +14,9 @@ use Rattle.seat_post.proofs.ReadMore.{open_left, open_above}
 use Rattle.seat_post.proofs.AloneSeats.{alone_told}
 use Rattle.seat_post.proofs.Listed.{length-written}
 use Rattle.seat_post.proofs.Placed.{each_before, each_fits, have_places}
-use Rattle.seat_post.proofs.Linked.{post_linked, post_stuck, post_full}
+use Rattle.seat_post.proofs.Linked.{written_values-take, post_linked, post_stuck, post_full}
 use Rattle.seat_post.proofs.Observed.{post_grows}
-use Rattle.seat_post.proofs.Stuck.{meets_none, turned_some}
+use Rattle.seat_post.proofs.Stuck.{meets_none, next_written}
 use Rattle.seat_post.proofs.post.Post.install.Goals as goal
 
 pub fill-requires-clause-none : goal.fill-requires-clause-none
@@ -76,19 +75,6 @@ returns-in-Ok-clause-grows g c = let i = c.self.inside in post_grows i.hand c.in
 pub returns-in-Err-clause-grows : goal.returns-in-Err-clause-grows
 returns-in-Err-clause-grows g c = let i = c.self.inside in post_grows i.hand c.install.new.hand i.phase i.stamp i.reads.entries i.writes.entries c.args.self.now c.self.view_is c.install.ensures.stands.grows
 
-pub returns-in-Err-clause-places_out : goal.returns-in-Err-clause-places_out
-returns-in-Err-clause-places_out g c =
-    let i = c.self.inside in
-    let f = c.in-Err.ensures.err in
-    let us = c.install.new.sets.writes in
-    let values = same_values c.fill.new.sets.writes us c.install.ensures.same.writes ∙ c.fill.ensures.written ∙ ap (λ (p : PostView). p.writes) c.self.view_is in
-    let met = meets_none c.args.core.now.size c.install.new.sets i.hand.view c.install.new.hand.view f in (
-      f.write.record_number,
-      subst (λ ws. IsSome (value_at ws f.write.record_number)) values (turned_some f.number us f.write f.turn),
-      subst (λ (p : PostView). MeetsNoPlace p.shared.size f.write.record_number p.observed (observed_in c.install.new.hand)) c.self.view_is
-          (subst (λ (x : Shared). MeetsNoPlace x.size f.write.record_number (observed_in i.hand) (observed_in c.install.new.hand)) (sym (ap (λ (p : PostView). p.shared) c.self.view_is ∙ c.requires.core)) met),
-    )
-
 pub returns-in-Ok-clause-linked : goal.returns-in-Ok-clause-linked
 returns-in-Ok-clause-linked g c =
     let is = at_known _ _ _ _ _ _ _ (ap (λ (p : PostView). p.phase) c.self.view_is ∙ c.requires.open) c.self.invariant in
@@ -98,14 +84,30 @@ returns-in-Ok-clause-linked g c =
     let values = same_values c.fill.new.sets.writes c.install.new.sets.writes n.same.writes ∙ f.written ∙ ap (λ (p : PostView). p.writes) c.self.view_is in
     post_linked c.args.core.now.size c.self.inside.hand.view.published.write c.install.new.sets.writes c.self.inside.hand.view c.install.new.hand.view c.args.self.now.writes c.args.self.now.stamp c.args.self.now.known c.in-Ok.ensures.ok.each once values (sym is.at.at ∙ ap (λ (p : PostView). p.stamp) c.self.view_is) (ap (λ (p : PostView). p.known) c.self.view_is)
 
-pub returns-in-Err-clause-some_linked : goal.returns-in-Err-clause-some_linked
-returns-in-Err-clause-some_linked g c =
+pub returns-in-Err-clause-wants : goal.returns-in-Err-clause-wants
+returns-in-Err-clause-wants g c =
+    let i = c.self.inside in
     let is = at_known _ _ _ _ _ _ _ (ap (λ (p : PostView). p.phase) c.self.view_is ∙ c.requires.open) c.self.invariant in
-    let f = c.fill.ensures in
-    let n = c.install.ensures in
-    let once = same_once c.fill.new.sets.writes c.install.new.sets.writes n.same.writes f.once in
-    let values = same_values c.fill.new.sets.writes c.install.new.sets.writes n.same.writes ∙ f.written ∙ ap (λ (p : PostView). p.writes) c.self.view_is in
-    post_stuck c.args.core.now.size c.install.new.sets c.self.inside.hand.view c.install.new.hand.view c.args.self.now.writes c.args.self.now.stamp c.args.self.now.known c.in-Err.ensures.err once values (sym is.at.at ∙ ap (λ (p : PostView). p.stamp) c.self.view_is) (ap (λ (p : PostView). p.known) c.self.view_is)
+    let z = c.args.core.now.size in
+    let p = c.args.self.now in
+    let f = c.in-Err.ensures.err in
+    let us = c.install.new.sets.writes in
+    let w = c.install.new.hand.view in
+    let few = take f.number p.writes in
+    let once = same_once c.fill.new.sets.writes us c.install.ensures.same.writes c.fill.ensures.once in
+    let values = same_values c.fill.new.sets.writes us c.install.ensures.same.writes ∙ c.fill.ensures.written ∙ ap (λ (q : PostView). q.writes) c.self.view_is in
+    let first = written_values-take f.number us ∙ ap (take f.number) values in
+    let have = have_places z (take f.number us) few (each_fits z i.hand.view.published.write (take f.number us) i.hand.view f.installed f.each) first in
+    let no_place = meets_none z c.install.new.sets i.hand.view w f in
+    record {
+      count = f.number;
+      write = (f.write.record_number, value_of f.write.cells);
+      next = next_written f.number us p.writes f.write f.turn values;
+      linked = post_stuck z c.install.new.sets i.hand.view w p.writes p.stamp p.known once values (sym is.at.at ∙ ap (λ (q : PostView). q.stamp) c.self.view_is) (ap (λ (q : PostView). q.known) c.self.view_is) f;
+      have = subst (λ (x : Shared). HavePlaces x.size few (placed_of w.work.linked)) (sym c.requires.core) (subst (λ ws. HavePlaces z few (placed_of ws)) (sym f.linked) have);
+      no_place = subst (λ (q : PostView). MeetsNoPlace q.shared.size f.write.record_number q.observed (observed_in c.install.new.hand)) c.self.view_is
+          (subst (λ (x : Shared). MeetsNoPlace x.size f.write.record_number (observed_in i.hand) (observed_in c.install.new.hand)) (sym (ap (λ (q : PostView). q.shared) c.self.view_is ∙ c.requires.core)) no_place);
+    }
 
 pub returns-in-Err-clause-full : goal.returns-in-Err-clause-full
 returns-in-Err-clause-full g c = λ on.

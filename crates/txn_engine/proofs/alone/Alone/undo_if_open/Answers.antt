@@ -1,11 +1,10 @@
-use Rattle.std.proofs.Common.{ap, subst, ◌∙◌}
-use Rattle.seat_post.specs.Observing.{Grows}
-use Rattle.txn_engine.specs.Accounts.{accounted}
-use Rattle.txn_engine.specs.Alone.{AloneView}
+use Rattle.std.proofs.Common.{subst}
+use Rattle.txn_engine.specs.Alone.{AloneView, counting}
+use Rattle.txn_engine.specs.Txn.{Undoes}
+use Rattle.txn_engine.proofs.Counting.{counting_undoes}
 use Rattle.txn_engine.proofs.alone.Alone.undo_if_open.Goals as goal
 
-pub returns-clause-accounts : goal.returns-clause-accounts
-returns-clause-accounts g c = c.undo_if_open.ensures.accounts ∙ ap (λ (a : AloneView). accounted a.pass) c.self.view_is
-
-pub returns-clause-grows : goal.returns-clause-grows
-returns-clause-grows g c = subst (λ (a : AloneView). Grows a.pass.observed c.undo_if_open.new.self.observed) c.self.view_is c.undo_if_open.ensures.grows
+pub returns-clause-undoes : goal.returns-clause-undoes
+returns-clause-undoes g c =
+    let i = c.self.inside in
+    subst (λ (a : AloneView). Undoes a.pass (counting c.undo_if_open.new.self i.earlier)) c.self.view_is (counting_undoes i.pass c.undo_if_open.new.self i.earlier c.undo_if_open.ensures.undoes)

@@ -17,7 +17,7 @@ invariant_of-self-2 g c =
     let alive = ap (λ (p : PassView). p.dead) c.self.view_is ∙ ap (λ (d : DeskView). d.dead) c.requires.idle in
     let room = pass_room _ c.self.inside.queue c.reserve.new.self _ _ _ _ c.self.invariant c.reserve.ensures.items c.reserve.ensures.not_less in
     let begun = pass_opened c.self.inside.post _ c.reserve.new.self _ _ _ _ room alive (drawn_later c.self.inside.post.clock c.saturating_add.result) (seat_below c.number.ensures.size (subst (λ (n : ℕ). n < c.self.inside.post.shared.size.seats) c.number.ensures.value c.number.ensures.within)) in
-    pass_numbers _ _ c.self.inside.numbers c.take_back.new.self _ _ _ (rw c.in_ok-open.ensures.ok begun) (ap (λ (n : NumbersView). n.fixed) c.take_back.ensures) (ap (λ (n : NumbersView). n.records) c.take_back.ensures)
+    pass_numbers _ _ c.self.inside.numbers c.take_back.new.self _ _ _ (rw c.in_ok-open.ensures.ok begun) (ap (λ (n : NumbersView). n.fixed) c.take_back.ensures.after) (ap (λ (n : NumbersView). n.records) c.take_back.ensures.after)
 
 pub returns-clause-above : goal.returns-clause-above
 returns-clause-above g c =

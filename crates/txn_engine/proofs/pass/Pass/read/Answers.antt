@@ -1,4 +1,4 @@
-use Rattle.std.proofs.Common.{◌≡◌, None, Some, ap, ◌∙◌, sym, subst}
+use Rattle.std.proofs.Common.{rules, ◌≡◌, None, Some, ap, ◌∙◌, sym, subst}
 use Rattle.record_store.specs.Meaning.{value_at}
 use Rattle.txn_engine.specs.Pass.{PassView, IsAlone}
 use Rattle.seat_post.specs.Leaves.{LeavesValue}
@@ -13,42 +13,68 @@ invariant_of-self g c =
     let phase = ap (λ (x : PassView). x.phase) c.self.view_is ∙ ap (λ (x : PassView). x.phase) c.in_ok-stopped.ensures.ok.0 ∙ c.requires.open in
     rw c.in-Ok.ensures.ok (pass_observing _ _ _ _ _ _ _ (pass_read c.self.inside.post _ _ _ _ _ _ _ c.self.invariant phase))
 
-pub returns-in-Ok-clause-answer : goal.returns-in-Ok-clause-answer
-returns-in-Ok-clause-answer g c =
-    let p = c.self.inside.post in
-    let unknown : known_at p c.args.rid ≡ None = sym c.known.ensures.value ∙ none_known c.known.result c.in_default.not-Some in
-    ap (λ (x : PostView). known_at x c.args.rid) c.in-Ok.ensures.ok ∙ known_noted p c.args.rid c.in-Ok.value unknown
-
 pub invariant_of-self-in-Err-Pending : goal.invariant_of-self-in-Err-Pending
 invariant_of-self-in-Err-Pending g c = rw c.in-Err-Pending.ensures.err (pass_observing _ _ _ _ _ _ _ c.self.invariant)
 
 pub invariant_of-self-in-Err-NoMemory : goal.invariant_of-self-in-Err-NoMemory
 invariant_of-self-in-Err-NoMemory g c = rw c.in-Err-NoMemory.ensures.err (pass_observing _ _ _ _ _ _ _ c.self.invariant)
 
-pub returns-in-Some-clause-left : goal.returns-in-Some-clause-left
-returns-in-Some-clause-left g c = λ alone unwritten.
+pub returns-in_err-stopped : goal.returns-in_err-stopped
+returns-in_err-stopped g c =
+    record {
+      reads = record {
+        ok = search rules;
+        answered = search rules;
+        err = search rules;
+        spare = search rules;
+        stays = record { same_frame = search rules; same_accounts = search rules; grows = grows_same c.args.self.now.observed c.stopped.new.self.observed (ap (λ (x : PassView). x.observed) c.in_err-stopped.ensures.err) };
+        refuses = search rules;
+        meets = search rules;
+        never = search rules;
+        left = search rules;
+        found = search rules;
+      };
+    }
+
+pub returns-in-Some : goal.returns-in-Some
+returns-in-Some g c =
     let same = c.self.view_is ∙ c.in_ok-stopped.ensures.ok.0 in
-    let flying = ap (λ (x : PassView). x.phase) same ∙ c.requires.open in
-    let still = ap (λ (x : PassView). value_at x.writes c.args.rid) same ∙ unwritten in
-    subst (λ (x : PassView). LeavesValue x.log c.args.rid x.stamp c.in-Some.value) same (c.in-Some.ensures.left flying (subst (λ (x : PassView). IsAlone x) (sym same) alone) still)
-
-pub returns-in-Ok-clause-left : goal.returns-in-Ok-clause-left
-returns-in-Ok-clause-left g c = λ alone unwritten.
-    let same = c.self.view_is ∙ c.in_ok-stopped.ensures.ok.0 in
-    subst (λ (x : PassView). LeavesValue x.log c.args.rid x.stamp c.in-Ok.value) same (c.in-Ok.ensures.left (subst (λ (x : PassView). IsAlone x) (sym same) alone))
-
-pub returns-in_err-stopped-clause-grows : goal.returns-in_err-stopped-clause-grows
-returns-in_err-stopped-clause-grows g c = grows_same c.args.self.now.observed c.stopped.new.self.observed (ap (λ (x : PassView). x.observed) c.in_err-stopped.ensures.err)
-
-pub returns-in-Some-clause-grows : goal.returns-in-Some-clause-grows
-returns-in-Some-clause-grows g c = grows_same c.args.self.now.observed c.stopped.new.self.observed (ap (λ (x : PassView). x.observed) c.in_ok-stopped.ensures.ok.0)
-
-pub returns-in-Some-clause-found : goal.returns-in-Some-clause-found
-returns-in-Some-clause-found g c = λ none.
     let some : known_at c.self.inside.post c.args.rid ≡ Some c.in-Some.value = sym c.known.ensures.value ∙ c.in-Some.is in
-    let same : known_at c.args.self.now.post c.args.rid ≡ known_at c.self.inside.post c.args.rid = sym (ap (λ (x : PassView). known_at x.post c.args.rid) (c.self.view_is ∙ c.in_ok-stopped.ensures.ok.0)) in
-    cc
+    let there : known_at c.args.self.now.post c.args.rid ≡ known_at c.self.inside.post c.args.rid = sym (ap (λ (x : PassView). known_at x.post c.args.rid) same) in
+    record {
+      reads = record {
+        ok = search rules;
+        answered = search rules;
+        err = search rules;
+        spare = search rules;
+        stays = record { same_frame = search rules; same_accounts = search rules; grows = grows_same c.args.self.now.observed c.stopped.new.self.observed (ap (λ (x : PassView). x.observed) c.in_ok-stopped.ensures.ok.0) };
+        refuses = search rules;
+        meets = search rules;
+        never = search rules;
+        left = λ alone unwritten.
+            let flying = ap (λ (x : PassView). x.phase) same ∙ c.requires.open in
+            let still = ap (λ (x : PassView). value_at x.writes c.args.rid) same ∙ unwritten in
+            subst (λ (x : PassView). LeavesValue x.log c.args.rid x.stamp c.in-Some.value) same (c.in-Some.ensures.left flying (subst (λ (x : PassView). IsAlone x) (sym same) alone) still);
+        found = λ none. (cc);
+      };
+    }
 
-pub returns-in-Ok-clause-found : goal.returns-in-Ok-clause-found
-returns-in-Ok-clause-found g c = λ none.
-    subst (λ (x : PassView). FindsValue x.stamp c.args.rid x.observed c.read.new.self.observed c.in-Ok.value) (c.self.view_is ∙ c.in_ok-stopped.ensures.ok.0) c.in-Ok.ensures.found
+pub returns-in-Ok : goal.returns-in-Ok
+returns-in-Ok g c =
+    let p = c.self.inside.post in
+    let same = c.self.view_is ∙ c.in_ok-stopped.ensures.ok.0 in
+    let unknown : known_at p c.args.rid ≡ None = sym c.known.ensures.value ∙ none_known c.known.result c.in_default.not-Some in
+    record {
+      reads = record {
+        ok = search rules;
+        answered = ap (λ (x : PostView). known_at x c.args.rid) c.in-Ok.ensures.ok ∙ known_noted p c.args.rid c.in-Ok.value unknown;
+        err = search rules;
+        spare = search rules;
+        stays = search rules;
+        refuses = search rules;
+        meets = search rules;
+        never = search rules;
+        left = λ alone unwritten. subst (λ (x : PassView). LeavesValue x.log c.args.rid x.stamp c.in-Ok.value) same (c.in-Ok.ensures.left (subst (λ (x : PassView). IsAlone x) (sym same) alone));
+        found = λ none. subst (λ (x : PassView). FindsValue x.stamp c.args.rid x.observed c.read.new.self.observed c.in-Ok.value) same c.in-Ok.ensures.found;
+      };
+    }

@@ -6,7 +6,7 @@ use Rattle.txn_engine.proofs.pass.Pass.retire.Goals as goal
 pub invariant_of-result : goal.invariant_of-result
 invariant_of-result g c =
     let same = c.retire.ensures.hand in
-    let numbers = c.take_back.ensures in
+    let numbers = c.take_back.ensures.after in
     let records = ap (λ (n : NumbersView). n.records) numbers in
     let fixed = ap (λ (n : NumbersView). n.fixed) numbers in
     record {

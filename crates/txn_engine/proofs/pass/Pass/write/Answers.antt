@@ -1,6 +1,8 @@
-use Rattle.std.proofs.Common.{◌≤◌, ◌+◌, ap, ◌∙◌, arith, length}
+use Rattle.std.proofs.Common.{rules, ◌≡◌, ◌≤◌, ◌+◌, ap, ◌∙◌, arith, length}
 use Rattle.record_store.specs.Meaning.{with_value}
 use Rattle.seat_post.specs.Post.{PostView}
+use Rattle.txn_engine.specs.Accounts.{accounted}
+use Rattle.txn_engine.specs.Inside.{pass_view}
 use Rattle.txn_engine.specs.Pass.{PassView}
 use Rattle.seat_post.proofs.Listed.{longer}
 use Rattle.txn_engine.proofs.Passes.{pass_written, pass_room}
@@ -22,14 +24,61 @@ invariant_of-self-2 g c =
     let r = c.in_ok-reserve.ensures.room in let i = ap length c.reserve.ensures.items in let w = ap length c.writes.ensures.value in let l = c.len.ensures.len in let m = longer p.writes c.args.rid c.args.value.now in omega arith in
     rw c.in_ok-write.ensures.ok (pass_written p _ c.reserve.new.self _ _ _ _ room phase enough)
 
-pub returns-in_err-stopped-clause-grows : goal.returns-in_err-stopped-clause-grows
-returns-in_err-stopped-clause-grows g c = grows_same c.args.self.now.observed c.stopped.new.self.observed (ap (λ (x : PassView). x.observed) c.in_err-stopped.ensures.err)
+pub returns-in_err-stopped : goal.returns-in_err-stopped
+returns-in_err-stopped g c =
+    record {
+      writes = record {
+        ok = search rules;
+        err = search rules;
+        spare = search rules;
+        stays = record { same_frame = search rules; same_accounts = search rules; grows = grows_same c.args.self.now.observed c.stopped.new.self.observed (ap (λ (x : PassView). x.observed) c.in_err-stopped.ensures.err) };
+        refuses = search rules;
+        alive = search rules;
+        never = search rules;
+      };
+    }
 
-pub returns-in_err-reserve-clause-grows : goal.returns-in_err-reserve-clause-grows
-returns-in_err-reserve-clause-grows g c = grows_same c.args.self.now.observed c.self.inside.post.observed (ap (λ (x : PassView). x.observed) (c.self.view_is ∙ c.in_ok-stopped.ensures.ok.0))
+pub returns-in_err-reserve : goal.returns-in_err-reserve
+returns-in_err-reserve g c =
+    record {
+      writes = record {
+        ok = search rules;
+        err = search rules;
+        spare = search rules;
+        stays = record { same_frame = search rules; same_accounts = search rules; grows = grows_same c.args.self.now.observed c.self.inside.post.observed (ap (λ (x : PassView). x.observed) (c.self.view_is ∙ c.in_ok-stopped.ensures.ok.0)) };
+        refuses = search rules;
+        alive = search rules;
+        never = search rules;
+      };
+    }
 
-pub returns-in_err-write-clause-grows : goal.returns-in_err-write-clause-grows
-returns-in_err-write-clause-grows g c = grows_same c.args.self.now.observed c.write.new.self.observed (ap (λ (x : PostView). x.observed) c.in_err-write.ensures.err ∙ ap (λ (x : PassView). x.observed) (c.self.view_is ∙ c.in_ok-stopped.ensures.ok.0))
+pub returns-in_err-write : goal.returns-in_err-write
+returns-in_err-write g c =
+    record {
+      writes = record {
+        ok = search rules;
+        err = search rules;
+        spare = search rules;
+        stays = record { same_frame = search rules; same_accounts = search rules; grows = grows_same c.args.self.now.observed c.write.new.self.observed (ap (λ (x : PostView). x.observed) c.in_err-write.ensures.err ∙ ap (λ (x : PassView). x.observed) (c.self.view_is ∙ c.in_ok-stopped.ensures.ok.0)) };
+        refuses = search rules;
+        alive = search rules;
+        never = search rules;
+      };
+    }
 
-pub returns-clause-grows : goal.returns-clause-grows
-returns-clause-grows g c = grows_same c.args.self.now.observed c.write.new.self.observed (ap (λ (x : PostView). x.observed) c.in_ok-write.ensures.ok ∙ ap (λ (x : PassView). x.observed) (c.self.view_is ∙ c.in_ok-stopped.ensures.ok.0))
+pub returns : goal.returns
+returns g c =
+    let i = c.self.inside in
+    let accounts : accounted (pass_view c.write.new.self i.boost c.reserve.new.self i.numbers i.refusals i.commits i.dead i.counted) ≡ accounted c.args.self.now =
+    ap (λ (q : PostView). accounted (pass_view q i.boost c.reserve.new.self i.numbers i.refusals i.commits i.dead i.counted)) c.in_ok-write.ensures.ok ∙ ap accounted (c.self.view_is ∙ c.in_ok-stopped.ensures.ok.0) in
+    record {
+      writes = record {
+        ok = search rules;
+        err = search rules;
+        spare = search rules;
+        stays = record { same_frame = search rules; same_accounts = accounts; grows = grows_same c.args.self.now.observed c.write.new.self.observed (ap (λ (x : PostView). x.observed) c.in_ok-write.ensures.ok ∙ ap (λ (x : PassView). x.observed) (c.self.view_is ∙ c.in_ok-stopped.ensures.ok.0)) };
+        refuses = search rules;
+        alive = search rules;
+        never = search rules;
+      };
+    }

@@ -1,0 +1,72 @@
+-- What becomes of a transaction in its stages: its versions are linked, it is decided, and they are published; or it is refused.
+use Rattle.std.specs.Prelude.{◌≡◌, ◌≢◌, ◌+◌, [], None, IfSome, length}
+use Rattle.plain_data.specs.State.{State}
+use Rattle.validate_core.specs.declared.conflict.Conflict.{Conflict}
+use Rattle.seat_post.specs.Ends.{Stood}
+use Rattle.seat_post.specs.Leaves.{AreLeft}
+use Rattle.seat_post.specs.Lists.{AreLinked, AreSomeLinked, known_before, AreKnown, count_raised}
+use Rattle.seat_post.specs.Logs.{IsAbove}
+use Rattle.seat_post.specs.Observing.{Grows}
+use Rattle.seat_post.specs.Placing.{HavePlaces, CountsPlaces}
+use Rattle.seat_post.specs.Seats.{Known}
+use Rattle.txn_engine.specs.declared.faults.CommitFault.{CommitFault}
+use Rattle.txn_engine.specs.declared.faults.CommitFault.TheVariants as fault
+use Rattle.txn_engine.specs.declared.transacting.Committed.{Committed}
+use Rattle.txn_engine.specs.Faults.{IsShown, IsTouched, MatchStopped, WasLoaded, WantsPlace}
+use Rattle.txn_engine.specs.Lists.{IsFull}
+use Rattle.txn_engine.specs.Pass.{PassView, IsAlone, knowing, observing, placing, entry_of, installed, decided, refused, published}
+
+-- its versions are linked as pending ones, each in a place for its record
+pub record Installs (before after' : PassView) : Type 0 where
+  pub after : after' ≡ observing (placing (installed (knowing before after'.known)) after'.placed) after'.observed
+  pub grows : Grows before.observed after'.observed
+  pub alive : before.dead ≡ None
+  pub have : HavePlaces before.shared.size before.writes after'.placed
+  pub above : IsAbove before.log before.stamp
+  pub read_left : IsAlone before → AreLeft before.log before.stamp before.reads
+  pub first : known_before (length before.writes) after'.known ≡ before.known
+  pub linked : AreLinked before.writes before.stamp before.known after'.known
+
+-- why they are not: it has met a conflict, or there is no place for one of them
+pub record MayRefuseInstall (before : PassView) (why : CommitFault) : Type 0 where
+  pub dead : IfSome before.dead (λ conflict. why ≡ fault.Conflict conflict)
+  pub alive : before.dead ≡ None → why ≡ fault.PlacesOut
+  pub cause : MatchStopped why (IsShown before) (before.writes ≢ [])
+  pub read_left : IsAlone before → AreLeft before.log before.stamp before.reads
+  pub full : why ≡ fault.PlacesOut → IsAlone before → IsFull before
+
+-- and what that leaves: the transaction has ended
+pub record RefusesInstall (before after' : PassView) (why : CommitFault) : Type 0 where
+  pub may : MayRefuseInstall before why
+  pub open may use *
+  pub after : after' ≡ observing (placing (refused (knowing before after'.known)) after'.placed) after'.observed
+  pub grows : Grows before.observed after'.observed
+  pub none_placed : IfSome before.dead (λ conflict. after'.placed ≡ before.placed)
+  pub some_linked : AreSomeLinked before.writes before.stamp before.known after'.known
+  pub places : why ≡ fault.PlacesOut → WantsPlace before after'
+
+-- what was known of lists before its versions were linked
+abbrev pub known_first : PassView → Known
+known_first p = known_before (length p.writes) p.known
+
+-- it is valid: its entry stands at the end of the log, and a kept state of the history agrees with its reads
+pub record Decides (kept : State → Type 0) (before after' : PassView) : Type 0 where
+  pub after : after' ≡ observing (decided before) after'.observed
+  pub grows : Grows before.observed after'.observed
+  pub stood : Stood kept before.shared.size.records before.log (entry_of before)
+
+-- it is not, since a load showed a conflict with what it has read or written, and has ended
+pub record RefusesDecision (before after' : PassView) (conflict : Conflict) : Type 0 where
+  pub after : after' ≡ observing (refused before) after'.observed
+  pub grows : Grows before.observed after'.observed
+  pub shown : IsShown before conflict
+  pub touched : IsTouched before conflict
+  pub loaded : WasLoaded before after' conflict
+
+-- its versions are published, and counted by the places that they took
+pub record Publishes (before after' : PassView) (told : Committed) : Type 0 where
+  pub after : after' ≡ published before
+  pub stamp : told.stamp ≡ before.stamp
+  pub counts : told.inlined + told.pooled ≡ length before.writes
+  pub inlined : CountsPlaces before.shared.size before.writes before.placed told.inlined
+  pub pooled : AreKnown (known_first before) before.writes → told.pooled ≡ count_raised (known_first before) before.known before.writes

@@ -26,6 +26,7 @@ impl<J: Keeps> Post<J> {
         ensures collects { CollectsPost self.old self.new queue.old.items queue.new.items result }
         ensures room { queue.old.room ≤ queue.new.room }
         ensures known { AreKept queue.old.items self.old.known.counts self.new.known.counts }
+        ensures tops { self.new.known.tops ≡ self.old.known.tops }
         // A post that is alone meets what it has published, keeps no item, and leaves one version where the newest is queued.
         ensures seen { IsAlonePost self.old → self.new.met ≡ self.new.published }
         ensures alone { IsAlonePost self.old → queue.new.items ≡ [] }

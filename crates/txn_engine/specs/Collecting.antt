@@ -26,6 +26,7 @@ pub record CollectsPass (before after' : PassView) (tally : Collected) : Type 0 
   pub within : after'.met ≤ after'.published
   pub above : IsAbove before.log after'.published
   pub kept : AreKept before.queue before.known.counts after'.known.counts
+  pub tops : after'.known.tops ≡ before.known.tops
   pub alone : IsAlone before → after'.queue ≡ []
   pub seen : IsAlone before → after'.met ≡ after'.published
   pub one_left : IsAlone before → LeavesOne before.queue before.known.tops after'.known.counts

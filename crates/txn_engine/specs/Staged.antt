@@ -1,5 +1,6 @@
 -- What becomes of a transaction in its stages: its versions are linked, it is decided, and they are published; or it is refused.
-use Rattle.std.specs.Prelude.{◌≡◌, ◌≢◌, ◌+◌, [], None, IfSome, length}
+use Rattle.std.specs.Prelude.{◌≡◌, ◌≢◌, ◌+◌, List, [], ◌∷◌, ◌++◌, None, IfSome, length}
+use Rattle.plain_data.specs.declared.entry.Entry.{Entry}
 use Rattle.plain_data.specs.State.{State}
 use Rattle.validate_core.specs.declared.conflict.Conflict.{Conflict}
 use Rattle.seat_post.specs.Ends.{Stood}
@@ -13,8 +14,9 @@ use Rattle.txn_engine.specs.declared.faults.CommitFault.{CommitFault}
 use Rattle.txn_engine.specs.declared.faults.CommitFault.TheVariants as fault
 use Rattle.txn_engine.specs.declared.transacting.Committed.{Committed}
 use Rattle.txn_engine.specs.Faults.{IsShown, IsTouched, MatchStopped, WasLoaded, WantsPlace}
-use Rattle.txn_engine.specs.Lists.{IsFull}
-use Rattle.txn_engine.specs.Pass.{PassView, IsAlone, knowing, observing, placing, entry_of, installed, decided, refused, published}
+use Rattle.txn_engine.specs.Leaves.{HoldsAbsent}
+use Rattle.txn_engine.specs.Lists.{IsFull, IsTidyOnceCollected, IsRoomyOnceCollected}
+use Rattle.txn_engine.specs.Pass.{PassView, IsAlone, knowing, observing, placing, with_log, entry_of, installed, decided, refused, published}
 
 -- its versions are linked as pending ones, each in a place for its record
 pub record Installs (before after' : PassView) : Type 0 where
@@ -70,3 +72,10 @@ pub record Publishes (before after' : PassView) (told : Committed) : Type 0 wher
   pub counts : told.inlined + told.pooled ≡ length before.writes
   pub inlined : CountsPlaces before.shared.size before.writes before.placed told.inlined
   pub pooled : AreKnown (known_first before) before.writes → told.pooled ≡ count_raised (known_first before) before.known before.writes
+
+-- Where each record but those whose newest version is queued had one version, or one at most outside its inline place, before the versions
+-- were linked, so it is now; and where each absent record was held before the entry stood in the log, so it is now.
+pub record StillHolds (before after' : PassView) : Type 0 where
+  pub tidy : (first : Known) → AreLinked before.writes before.stamp first before.known → IsTidyOnceCollected (knowing before first) → IsTidyOnceCollected after'
+  pub roomy : (first : Known) → AreLinked before.writes before.stamp first before.known → IsRoomyOnceCollected (knowing before first) → IsRoomyOnceCollected after'
+  pub absent : (log : List Entry) → before.log ≡ log ++ entry_of before ∷ [] → IsAbove log before.stamp → HoldsAbsent (with_log before log) → HoldsAbsent after'

@@ -46,6 +46,9 @@ invariant_of-self g c =
 pub returns-clause-known : goal.returns-clause-known
 returns-clause-known g c = subst (λ (p : PostView). AreKept c.args.queue.now.items p.known.counts c.collect.new.hand.view.counts) c.self.view_is c.collect.ensures.known
 
+pub returns-clause-tops : goal.returns-clause-tops
+returns-clause-tops g c = ap (λ (v : View). v.tops) c.collect.ensures.view ∙ ap (λ (p : PostView). p.known.tops) c.self.view_is
+
 pub returns-clause-seen : goal.returns-clause-seen
 returns-clause-seen g c = λ alone. c.collect.ensures.seen (alone_told c.self.inside.hand.view (subst IsAlonePost (sym c.self.view_is) alone))
 

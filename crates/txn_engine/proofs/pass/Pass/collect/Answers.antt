@@ -28,6 +28,7 @@ returns g c =
         within = e.within;
         above = λ x among commit. let h = c.self.invariant.commits x among commit in let a = ap (λ q. q.published) e.after in omega arith;
         kept = e.known;
+        tops = e.tops;
         alone = e.alone;
         seen = e.seen;
         one_left = e.one_left;

@@ -24,7 +24,7 @@ input_answered Check bytes order due runs is = absurd runs
 
 module _ (mode : Mode) (finish : Finish) (before after : Streams) (due : ℕ) (seen : List (ℕ × TableMap)) (bytes : List ℕ) (got : ReceivesFor mode before.left after.left bytes)
     (writes : WritesAs finish.status mode bytes finish.order.items finish.fault before.taken after.taken) where
-  of_end : (end : Option AloneView) → Accompanies finish.status mode bytes finish.order.items end finish.tables finish.verdict due seen → IfSome end (λ _. BelongsTogether mode finish before after seen)
+  of_end : (end : Option AloneView) → Accompanies finish.status mode bytes finish.order.items end finish.tables finish.verdict due seen → IfSome end (λ e. BelongsTogether mode finish e.pass before after seen)
   of_end None beside = tt
   of_end (Some end) beside =
       let done = beside.there.0 refl in
@@ -40,8 +40,10 @@ module _ (mode : Mode) (finish : Finish) (before after : Streams) (due : ℕ) (s
         is_input = of.1;
         well_formed = (beside.declared of.0 of.1).0;
         declared = (beside.declared of.0 of.1).1;
+        history = beside.history of.0 of.1;
         seen_in = beside.seen_in of.0 of.1;
+        snapshots = beside.snapshots of.0 of.1;
       }
 
-  pub belong : Accompanies finish.status mode bytes finish.order.items finish.end finish.tables finish.verdict due seen → IfSome finish.end (λ _. BelongsTogether mode finish before after seen)
+  pub belong : Accompanies finish.status mode bytes finish.order.items finish.end finish.tables finish.verdict due seen → IfSome finish.end (λ e. BelongsTogether mode finish e.pass before after seen)
   belong beside = of_end finish.end beside

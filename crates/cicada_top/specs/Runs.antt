@@ -5,7 +5,8 @@ use Rattle.outside_io.specs.Faults.{HasRisen}
 use Rattle.replay_model.specs.declared.input.Input.{Input}
 use Rattle.replay_model.specs.Input.{IsWellFormed}
 use Rattle.replay_model.specs.TableMap.{TableMap}
-use Rattle.input_runner.specs.Ran.{IsSeenIn}
+use Rattle.txn_engine.specs.Pass.{PassView}
+use Rattle.input_runner.specs.Ran.{IsSeenIn, AreSnapshotsOf}
 use Rattle.cicada_top.specs.declared.finish.Finish.{Finish}
 use Rattle.cicada_top.specs.declared.finish.Status.{Status}
 use Rattle.cicada_top.specs.declared.finish.Status.TheVariants.{Done, Usage, ReadFault, WriteFault, NoMemory, Differs}
@@ -74,9 +75,9 @@ pub record RunsBy (words : List (List ℕ)) (finish : Finish) (before after : St
   pub complete : AreAccepted words → IsDecided (mode_of words) finish.status before after
 
 -- What belongs together where blocks were run and all was written, also over a source that does not tell its bytes: the bytes that were
--- received, the text that was written for them in this order, and of the input whose blocks were run the tables that it declares and the
--- rows that were read beside its lanes.
-pub record BelongsTogether (mode : Mode) (finish : Finish) (before after : Streams) (seen : List (ℕ × TableMap)) : Type 0 where
+-- received, the text that was written for them in this order, and of the input whose blocks were run its history, the tables that it
+-- declares and the rows that were read beside its lanes, by snapshots that stand in that history.
+pub record BelongsTogether (mode : Mode) (finish : Finish) (end : PassView) (before after : Streams) (seen : List (ℕ × TableMap)) : Type 0 where
   pub bytes : List ℕ
   pub received : ReceivesFor mode before.left after.left bytes
   pub due : List ℕ
@@ -86,12 +87,17 @@ pub record BelongsTogether (mode : Mode) (finish : Finish) (before after : Strea
   pub is_input : IsInputFor mode bytes input
   pub well_formed : IsWellFormed input
   pub declared : finish.tables ≡ input.tables
+  pub history : IsHistoryOf input finish.order.items end
   pub seen_in : All (IsSeenIn input finish.order.items) seen
+  pub snapshots : AreSnapshotsOf input end seen
 
 -- Where blocks were run and all was written, all rows were read so often beside the lanes, and what was read at a stamp are the rows that
--- the transaction blocks of the order up to it leave.
+-- the transaction blocks of the order up to it leave. Each was read by a snapshot of that stamp in the log of the seat that is alone, behind
+-- the loading, and none at a stamp below that of an earlier one.
 pub record Sees (mode : Mode) (finish : Finish) (before after : Streams) (due : ℕ) (seen : List (ℕ × TableMap)) : Type 0 where
   pub count : IfSome finish.end (λ _. length seen ≡ due)
   pub each : (bytes : List ℕ) → HoldsFor mode before.left bytes
       → IfSome finish.end (λ _. (input : Input) → IsInputFor mode bytes input → All (IsSeenIn input finish.order.items) seen)
-  pub together : IfSome finish.end (λ _. BelongsTogether mode finish before after seen)
+  pub snapshots : (bytes : List ℕ) → HoldsFor mode before.left bytes
+      → IfSome finish.end (λ end. (input : Input) → IsInputFor mode bytes input → AreSnapshotsOf input end.pass seen)
+  pub together : IfSome finish.end (λ end. BelongsTogether mode finish end.pass before after seen)

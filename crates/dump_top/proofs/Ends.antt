@@ -9,6 +9,8 @@ use Rattle.replay_model.specs.declared.input.Input.{Input as InputValue}
 use Rattle.replay_model.specs.declared.outcome.Placed.{Placed}
 use Rattle.replay_model.specs.Order.{IsOrder}
 use Rattle.replay_model.specs.Report.{line, report}
+use Rattle.replay_model.specs.TableMap.{TableMap}
+use Rattle.txn_engine.specs.Alone.{AloneView}
 use Rattle.txn_script.specs.declared.fault.InputFault.{InputFault}
 use Rattle.txn_script.proofs.Unique.{one_input}
 use Rattle.outside_io.specs.Faults.{HasRisen, count_end}
@@ -20,11 +22,12 @@ use Rattle.cicada_top.specs.declared.finish.Status.TheVariants.{Done, Usage, Inp
 use Rattle.cicada_top.specs.declared.mode.Mode.TheVariants.{Run}
 use Rattle.cicada_top.specs.Due.{IsDueAt}
 use Rattle.cicada_top.specs.Delivery.{Answers, EndsAs, IsDue, StopsBegun, StopsShort, WritesNothing}
+use Rattle.cicada_top.specs.Ending.{IsLawfulEnd}
 use Rattle.cicada_top.specs.Received.{ReadsAtMostFor}
 use Rattle.cicada_top.specs.Runs.{BelongsTogether, GoesWith, IsDecided, RunsAs, Streams}
 use Rattle.snap_dump.specs.declared.dump.Dump.{Dump}
 use Rattle.snap_dump.specs.Dumps.{seen_in}
-use Rattle.dump_top.specs.Endings.{DeliversDumps, DumpsAs, EndsWithDumps, IsDueHere, IsReportWithDumps, WritesDumps, WritesPart, status_at, stopped}
+use Rattle.dump_top.specs.Endings.{AreStampsOf, DeliversDumps, DumpsAs, EndsWithDumps, IsDueHere, IsReportWithDumps, WritesDumps, WritesPart, status_at, stopped}
 use Rattle.dump_top.specs.Parts.{IsWrittenInPart}
 use Rattle.dump_top.specs.Texts.{dumps_text, readings_text}
 use Rattle.dump_top.specs.Words.{AsksFor, Text}
@@ -41,21 +44,25 @@ module _ (words : List Text) (dumps : ℕ) (asks : AsksFor words dumps) where
   asked = subst (AsksFor words) (sym (length-map-range_with_len (λ (n : ℕ). n) 0 dumps)) asks
 
   -- a part of a text that is due of a run is a part of one that is due with dumps
-  pub due_here : (bytes : List ℕ) (order : List Placed) (sent rest : List ℕ) → IsDue Run bytes order (sent ++ rest) → (rest' : List ℕ) × IsDueHere words bytes order (sent ++ rest') × (0 < length rest → 0 < length rest')
+  pub due_here : (bytes : List ℕ) (order : List Placed) (sent rest : List ℕ) → IsDue Run bytes order (sent ++ rest) → (rest' : List ℕ) × IsDueHere words bytes order sent rest' × (0 < length rest → 0 < length rest')
   due_here bytes order sent rest is = by is.status is.is_due where
-    by : (status : Status) → IsDueAt status Run bytes is.made_of is.fault (sent ++ rest) → (rest' : List ℕ) × IsDueHere words bytes order (sent ++ rest') × (0 < length rest → 0 < length rest')
+    by : (status : Status) → IsDueAt status Run bytes is.made_of is.fault (sent ++ rest) → (rest' : List ℕ) × IsDueHere words bytes order sent rest' × (0 < length rest → 0 < length rest')
     by Done due =
         let of = due.0 in
-        let more : List ℕ = dumps_text of.input order some_stamps in (
+        let more : List ℕ = dumps_text of.input order some_stamps in
+        let is_report : sent ++ rest ≡ report of.input order = of.reported ∙ ap (report of.input) (sym is.kept) in (
           rest ++ more,
           inl (record {
-            short = of.short;
-            input = of.input;
-            accepted = of.accepted;
-            ordered = subst (IsOrder of.input) (sym is.kept) of.ordered;
-            stamps = some_stamps;
-            asked = asked;
-            said = sym (append_assoc sent rest more) ∙ ap (λ text. text ++ more) (of.reported ∙ ap (report of.input) (sym is.kept));
+            whole = record {
+              short = of.short;
+              input = of.input;
+              accepted = of.accepted;
+              ordered = subst (IsOrder of.input) (sym is.kept) of.ordered;
+              stamps = some_stamps;
+              asked = asked;
+              said = sym (append_assoc sent rest more) ∙ ap (λ text. text ++ more) is_report;
+            };
+            stamps = λ longer. absurd (omega (arith, longer, ap (λ (text : List ℕ). length text) is_report, length-append sent rest));
           }),
           λ some. omega (arith, length-append rest more, some),
         )
@@ -67,7 +74,7 @@ module _ (words : List Text) (dumps : ℕ) (asks : AsksFor words dumps) where
     by NoMemory due = absurd due
     by Differs due = absurd due.0
 
-  module _ (order : List Placed) (fault : Option InputFault) (left left' before after : Option (List ℕ)) where
+  module _ (order : List Placed) (fault : Option InputFault) (end : Option AloneView) (left left' before after : Option (List ℕ)) where
     short_here : (status : Status) (is : Answers status Run order fault left left' before after) → StopsShort Run is.bytes order before after × (fault ≡ None)
         → (sent : List ℕ) × (rest : List ℕ) × WritesPart words order left left' before after sent rest × (0 < length rest) × (fault ≡ None)
     short_here status is stops =
@@ -80,7 +87,7 @@ module _ (words : List Text) (dumps : ℕ) (asks : AsksFor words dumps) where
         let due = due_here is.bytes order stops.0.sent stops.0.rest stops.0.part.is_due in
         (stops.0.sent, due.0, record { bytes = is.bytes; received = is.received; is_due = due.1; written = stops.0.part.written }, stops.0.begun, stops.1)
 
-    pub ends_as_run : (status : Status) → status ≢ Done → EndsAs status Run order fault left left' before after → EndsWithDumps status words order fault left left' before after
+    pub ends_as_run : (status : Status) → status ≢ Done → EndsAs status Run order fault left left' before after → EndsWithDumps status words order fault end left left' before after
     ends_as_run Done other ends = absurd (other refl)
     ends_as_run Usage other ends = ends
     ends_as_run Input other ends = ends
@@ -106,7 +113,13 @@ risen_later a b c later (inr end) = inr end
 
 -- ---- where it wrote the report whole
 
-module _ (words : List Text) (finish : Finish) (made : List Dump) (before mid : Streams) (asks : AsksFor words (length (seen_in made))) (one : BelongsTogether Run finish before mid (seen_in made)) where
+-- the stamps of dumps are those of what was read
+stamps_seen : (made : List Dump) → stamps_of made ≡ map (λ (reading : ℕ × TableMap). reading.0) (seen_in made)
+stamps_seen [] = refl
+stamps_seen (dump ∷ made) = ap (λ (stamps : List ℕ). dump.stamp ∷ stamps) (stamps_seen made)
+
+module _ (words : List Text) (finish : Finish) (made : List Dump) (before mid : Streams) (asks : AsksFor words (length (seen_in made))) (end : AloneView) (is_end : finish.end ≡ Some end) (lawful : IsLawfulEnd end.pass)
+    (one : BelongsTogether Run finish end.pass before mid (seen_in made)) where
   abbrev dumped : List ℕ
   dumped = dumps_text one.input finish.order.items (stamps_of made)
 
@@ -116,7 +129,17 @@ module _ (words : List Text) (finish : Finish) (made : List Dump) (before mid : 
   same_input : one.answers.input ≡ one.input
   same_input = one_input one.bytes one.answers.input one.input one.answers.accepted one.is_input.1
 
-  is_report : (due : List ℕ) → due ≡ one.due ++ dumped → IsReportWithDumps words one.bytes finish.order.items due
+  stamps_of_run : AreStampsOf one.input finish.order.items end.pass (stamps_of made)
+  stamps_of_run = record {
+    lawful = lawful;
+    history = one.history;
+    readings = seen_in made;
+    stamps_are = stamps_seen made;
+    shown = one.seen_in;
+    snapshots = one.snapshots;
+  }
+
+  abbrev is_report : (due : List ℕ) → due ≡ one.due ++ dumped → IsReportWithDumps words one.bytes finish.order.items due
   is_report due is = record {
     short = one.answers.short;
     input = one.input;
@@ -134,13 +157,14 @@ module _ (words : List Text) (finish : Finish) (made : List Dump) (before mid : 
     some a b low = omega (arith, length-append a b, low)
 
   module _ (after : Option (List ℕ)) where
-    writes_whole : IsAtEnd mid.left → after ≡ append_known mid.taken (readings_text finish.tables (seen_in made)) → WritesDumps words finish.order.items before.left mid.left before.taken after
+    writes_whole : IsAtEnd mid.left → after ≡ append_known mid.taken (readings_text finish.tables (seen_in made)) → WritesDumps words finish.order.items finish.end before.left mid.left before.taken after
     writes_whole at_end written = record {
       bytes = one.bytes;
       received = one.received;
       at_end = at_end;
       due = one.due ++ dumped;
       is_due = is_report (one.due ++ dumped) refl;
+      stamps = subst (λ (o : Option AloneView). IfSome o (λ e. AreStampsOf one.input finish.order.items e.pass (stamps_of made))) (sym is_end) stamps_of_run;
       written = written ∙ ap (append_known mid.taken) text_is ∙ ap (λ o. append_known o dumped) one.written ∙ sym (append_known-append before.taken one.due dumped);
     }
 
@@ -148,16 +172,23 @@ module _ (words : List Text) (finish : Finish) (made : List Dump) (before mid : 
     writes_part part = record {
       bytes = one.bytes;
       received = one.received;
-      is_due = inl (is_report ((one.due ++ part.sent) ++ part.rest) (append_assoc one.due part.sent part.rest ∙ ap (λ text. one.due ++ text) (sym part.text_is ∙ text_is)));
+      is_due = inl (record {
+        whole = is_report ((one.due ++ part.sent) ++ part.rest) (append_assoc one.due part.sent part.rest ∙ ap (λ text. one.due ++ text) (sym part.text_is ∙ text_is));
+        stamps = λ longer. (end.pass, stamps_of_run);
+      });
       written = part.written ∙ ap (λ o. append_known o part.sent) one.written ∙ sym (append_known-append before.taken one.due part.sent);
     }
 
     ends_stopped : (why : SinkFault) → IsWrittenInPart (readings_text finish.tables (seen_in made)) mid.taken after
-        → EndsWithDumps (stopped why finish).status words (stopped why finish).order.items (stopped why finish).fault before.left mid.left before.taken after
+        → EndsWithDumps (stopped why finish).status words (stopped why finish).order.items (stopped why finish).fault (stopped why finish).end before.left mid.left before.taken after
     ends_stopped Failed part = (one.due ++ part.sent, part.rest, writes_part part, part.unfinished, refl)
     ends_stopped NoRoom part = inl (one.due ++ part.sent, part.rest, writes_part part, omega (arith, length-append one.due part.sent, report_some), refl)
 
 -- ---- the dumps of a run that is done
+
+some_at : {X : Type 0} (o : Option X) → IsSome o → (x : X) × (o ≡ Some x)
+some_at None some = absurd (let no : false ≡ true = some in cc)
+some_at (Some x) some = (x, refl)
 
 pub some_of : {X : Type 0} (o : Option X) (P : Type 0) → IsSome o → IfSome o (λ _. P) → P
 some_of None P some told = absurd (let no : false ≡ true = some in cc)
@@ -205,23 +236,29 @@ beside_whole finish before mid after beside done same reads later = record {
 
 module _ (words : List Text) (finish result : Finish) (made : List Dump) (before mid after : Streams) (done : finish.status ≡ Done) (ran : RunsAs Run finish before mid)
     (same : after.left ≡ mid.left) (reads : after.read_faults ≡ mid.read_faults) (later : mid.write_faults ≤ after.write_faults) (failed : result.status ≡ WriteFault → HasRisen mid.write_faults after.write_faults)
-    (asks : AsksFor words (length (seen_in made))) (together : IfSome finish.end (λ _. BelongsTogether Run finish before mid (seen_in made))) where
-  one : BelongsTogether Run finish before mid (seen_in made)
-  one = some_of finish.end (BelongsTogether Run finish before mid (seen_in made)) (ran.beside.end.1 (done, tt)) together
+    (asks : AsksFor words (length (seen_in made))) (together : IfSome finish.end (λ e. BelongsTogether Run finish e.pass before mid (seen_in made))) where
+  there : (end : AloneView) × (finish.end ≡ Some end)
+  there = some_at finish.end (ran.beside.end.1 (done, tt))
+
+  lawful : IsLawfulEnd there.0.pass
+  lawful = subst (λ (o : Option AloneView). IfSome o (λ e. IsLawfulEnd e.pass)) there.1 ran.beside.lawful
+
+  one : BelongsTogether Run finish there.0.pass before mid (seen_in made)
+  one = subst (λ (o : Option AloneView). IfSome o (λ e. BelongsTogether Run finish e.pass before mid (seen_in made))) there.1 together
 
   whole : EndsAs Done Run finish.order.items finish.fault before.left mid.left before.taken mid.taken
   whole = subst (λ (s : Status). EndsAs s Run finish.order.items finish.fault before.left mid.left before.taken mid.taken) done ran.ends
 
   pub dumps_as : DeliversDumps finish result (readings_text finish.tables (seen_in made)) mid.taken after.taken → DumpsAs words result before after
   dumps_as (inl written) = subst (λ (r : Finish). DumpsAs words r before after) (sym written.0) (record {
-    ends = subst (λ (left : Option (List ℕ)). EndsWithDumps finish.status words finish.order.items finish.fault before.left left before.taken after.taken) (sym same)
-        (subst (λ (s : Status). EndsWithDumps s words finish.order.items finish.fault before.left mid.left before.taken after.taken) (sym done)
-        (writes_whole words finish made before mid asks one after.taken whole.1 written.1, whole.0.writes.is_due.1));
+    ends = subst (λ (left : Option (List ℕ)). EndsWithDumps finish.status words finish.order.items finish.fault finish.end before.left left before.taken after.taken) (sym same)
+        (subst (λ (s : Status). EndsWithDumps s words finish.order.items finish.fault finish.end before.left mid.left before.taken after.taken) (sym done)
+        (writes_whole words finish made before mid asks there.0 there.1 lawful one after.taken whole.1 written.1, whole.0.writes.is_due.1));
     beside = beside_whole finish before mid after ran.beside done same reads later;
   })
   dumps_as (inr stop) = subst (λ (r : Finish). DumpsAs words r before after) (sym stop.is) (record {
-    ends = subst (λ (left : Option (List ℕ)). EndsWithDumps (stopped stop.why finish).status words finish.order.items None before.left left before.taken after.taken) (sym same)
-        (ends_stopped words finish made before mid asks one after.taken stop.why stop.part);
+    ends = subst (λ (left : Option (List ℕ)). EndsWithDumps (stopped stop.why finish).status words finish.order.items None None before.left left before.taken after.taken) (sym same)
+        (ends_stopped words finish made before mid asks there.0 there.1 lawful one after.taken stop.why stop.part);
     beside = beside_stopped stop.why finish before mid after ran.beside same later (λ is. failed (ap (λ (r : Finish). r.status) stop.is ∙ is));
   })
 
@@ -257,9 +294,9 @@ module _ {X : Type 0} (o : Option X) (none : o ≡ None) where
 pub dumps_not_begun : (words : List Text) (finish : Finish) (at : Streams) → (finish.status ≡ Usage) ⊎ (finish.status ≡ NoMemory) → finish.order.items ≡ [] → finish.fault ≡ None → finish.end ≡ None → finish.tables ≡ [] → finish.verdict ≡ None
     → DumpsAs words finish at at
 dumps_not_begun words finish at which none_ordered faultless no_end no_tables no_verdict = record {
-  ends = elim which as (λ _. EndsWithDumps finish.status words finish.order.items finish.fault at.left at.left at.taken at.taken) [
-    | inl usage ↦ subst (λ (s : Status). EndsWithDumps s words finish.order.items finish.fault at.left at.left at.taken at.taken) (sym usage) nothing
-    | inr memory ↦ subst (λ (s : Status). EndsWithDumps s words finish.order.items finish.fault at.left at.left at.taken at.taken) (sym memory) (inr nothing)
+  ends = elim which as (λ _. EndsWithDumps finish.status words finish.order.items finish.fault finish.end at.left at.left at.taken at.taken) [
+    | inl usage ↦ subst (λ (s : Status). EndsWithDumps s words finish.order.items finish.fault finish.end at.left at.left at.taken at.taken) (sym usage) nothing
+    | inr memory ↦ subst (λ (s : Status). EndsWithDumps s words finish.order.items finish.fault finish.end at.left at.left at.taken at.taken) (sym memory) (inr nothing)
   ];
   beside = record {
     read_cause = λ is. absurd (other ReadFault is (λ e. cc) (λ e. cc));

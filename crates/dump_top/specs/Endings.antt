@@ -1,5 +1,5 @@
 -- How a run with dumps ends: the text that is due, and what each status says of what was received and written.
-use Rattle.std.specs.Prelude.{◌≡◌, ◌≢◌, ◌⊎◌, ℕ, ◌<◌, ◌≤◌, List, [], ◌++◌, length, Option, None, IsSome, ◌↔◌}
+use Rattle.std.specs.Prelude.{◌≡◌, ◌≢◌, ◌⊎◌, ℕ, ◌<◌, ◌≤◌, List, [], ◌++◌, length, map, All, Option, None, IsSome, IfSome, ◌↔◌}
 use Rattle.std.specs.Io.KnownBytes.{append_known, IsAtEnd}
 use Rattle.outside_io.specs.declared.sink.SinkFault.{SinkFault}
 use Rattle.outside_io.specs.declared.sink.SinkFault.TheVariants.{Failed, NoMemory as NoRoom}
@@ -7,6 +7,10 @@ use Rattle.replay_model.specs.declared.input.Input.{Input as InputValue}
 use Rattle.replay_model.specs.declared.outcome.Placed.{Placed}
 use Rattle.replay_model.specs.Order.{IsOrder}
 use Rattle.replay_model.specs.Report.{report}
+use Rattle.replay_model.specs.TableMap.{TableMap}
+use Rattle.txn_engine.specs.Alone.{AloneView}
+use Rattle.txn_engine.specs.Pass.{PassView}
+use Rattle.input_runner.specs.Ran.{IsSeenIn, AreSnapshotsOf}
 use Rattle.txn_script.specs.declared.fault.InputFault.{InputFault}
 use Rattle.txn_script.specs.Grammar.{IsInput}
 use Rattle.cicada_top.specs.declared.finish.Finish.{Finish}
@@ -15,6 +19,7 @@ use Rattle.cicada_top.specs.declared.finish.Status.TheVariants.{Done, Usage, Inp
 use Rattle.cicada_top.specs.declared.mode.Mode.TheVariants.{Run}
 use Rattle.cicada_top.specs.Received.{most_input, Receives}
 use Rattle.cicada_top.specs.Due.{IsDueAt}
+use Rattle.cicada_top.specs.Ending.{IsLawfulEnd, IsHistoryOf}
 use Rattle.cicada_top.specs.Delivery.{EndsAs, WritesNothing}
 use Rattle.cicada_top.specs.Runs.{GoesWith, IsDecided, Streams}
 use Rattle.dump_top.specs.Parts.{IsWrittenInPart}
@@ -32,6 +37,16 @@ pub record IsReportWithDumps (words : List Text) (bytes : List ℕ) (order : Lis
   pub asked : AsksFor words (length stamps)
   pub said : due ≡ report input order ++ dumps_text input order stamps
 
+-- THE STAMPS: each is that of a snapshot of the run that left this seat. Its log is lawful and the history of the input in the order; it has
+-- the entry of each snapshot, not below the loading nor below the one before, and what that read are the tables that are shown.
+pub record AreStampsOf (input : InputValue) (order : List Placed) (end : PassView) (stamps : List ℕ) : Type 0 where
+  pub lawful : IsLawfulEnd end
+  pub history : IsHistoryOf input order end
+  pub readings : List (ℕ × TableMap)
+  pub stamps_are : stamps ≡ map (λ (reading : ℕ × TableMap). reading.0) readings
+  pub shown : All (IsSeenIn input order) readings
+  pub snapshots : AreSnapshotsOf input end readings
+
 -- the bytes are refused, and the text says so
 pub record IsRefusal (bytes : List ℕ) (order : List Placed) (due : List ℕ) : Type 0 where
   pub status : Status
@@ -39,44 +54,50 @@ pub record IsRefusal (bytes : List ℕ) (order : List Placed) (due : List ℕ) :
   pub is_due : IsDueAt status Run bytes order fault due
   pub refuses : status ≢ Done
 
-abbrev pub IsDueHere : List Text → List ℕ → List Placed → List ℕ → Type 0
-IsDueHere words bytes order due = IsReportWithDumps words bytes order due ⊎ IsRefusal bytes order due
+-- of the report with the dumps `sent` was written; where that is more than the report, the stamps of the dumps are those of a run
+pub record IsReportInPart (words : List Text) (bytes : List ℕ) (order : List Placed) (sent rest : List ℕ) : Type 0 where
+  pub whole : IsReportWithDumps words bytes order (sent ++ rest)
+  pub stamps : length (report whole.input order) < length sent → (end : PassView) × AreStampsOf whole.input order end whole.stamps
 
--- bytes were received, and the report and the dumps of them were written whole
-pub record WritesDumps (words : List Text) (order : List Placed) (left left' before after : Option (List ℕ)) : Type 0 where
+abbrev pub IsDueHere : List Text → List ℕ → List Placed → (sent rest : List ℕ) → Type 0
+IsDueHere words bytes order sent rest = IsReportInPart words bytes order sent rest ⊎ IsRefusal bytes order (sent ++ rest)
+
+-- bytes were received, and the report and the dumps of them were written whole; the stamps are those of the run that left this seat
+pub record WritesDumps (words : List Text) (order : List Placed) (end : Option AloneView) (left left' before after : Option (List ℕ)) : Type 0 where
   pub bytes : List ℕ
   pub received : Receives most_input left left' bytes
   pub at_end : IsAtEnd left'
   pub due : List ℕ
   pub is_due : IsReportWithDumps words bytes order due
+  pub stamps : IfSome end (λ e. AreStampsOf is_due.input order e.pass is_due.stamps)
   pub written : after ≡ append_known before due
 
 -- bytes were received, and of the text due for them `sent` was written, and `rest` was not
 pub record WritesPart (words : List Text) (order : List Placed) (left left' before after : Option (List ℕ)) (sent rest : List ℕ) : Type 0 where
   pub bytes : List ℕ
   pub received : Receives most_input left left' bytes
-  pub is_due : IsDueHere words bytes order (sent ++ rest)
+  pub is_due : IsDueHere words bytes order sent rest
   pub written : after ≡ append_known before sent
 
 -- THE TABLE: at a refusal and at a fault of the source a run with dumps ends as a run does
-abbrev pub EndsWithDumps : Status → List Text → List Placed → Option InputFault → Option (List ℕ) → Option (List ℕ) → Option (List ℕ) → Option (List ℕ) → Type 0
-EndsWithDumps Done words order fault left left' before after = WritesDumps words order left left' before after × (fault ≡ None)
-EndsWithDumps Usage words order fault left left' before after = WritesNothing order fault before after
-EndsWithDumps Input words order fault left left' before after = EndsAs Input Run order fault left left' before after
-EndsWithDumps TooLong words order fault left left' before after = EndsAs TooLong Run order fault left left' before after
-EndsWithDumps ReadFault words order fault left left' before after = EndsAs ReadFault Run order fault left left' before after
-EndsWithDumps WriteFault words order fault left left' before after =
+abbrev pub EndsWithDumps : Status → List Text → List Placed → Option InputFault → Option AloneView → (left left' before after : Option (List ℕ)) → Type 0
+EndsWithDumps Done words order fault end left left' before after = WritesDumps words order end left left' before after × (fault ≡ None)
+EndsWithDumps Usage words order fault end left left' before after = WritesNothing order fault before after
+EndsWithDumps Input words order fault end left left' before after = EndsAs Input Run order fault left left' before after
+EndsWithDumps TooLong words order fault end left left' before after = EndsAs TooLong Run order fault left left' before after
+EndsWithDumps ReadFault words order fault end left left' before after = EndsAs ReadFault Run order fault left left' before after
+EndsWithDumps WriteFault words order fault end left left' before after =
     (sent : List ℕ) × (rest : List ℕ) × WritesPart words order left left' before after sent rest × (0 < length rest) × (fault ≡ None)
-EndsWithDumps NoMemory words order fault left left' before after =
+EndsWithDumps NoMemory words order fault end left left' before after =
     ((sent : List ℕ) × (rest : List ℕ) × WritesPart words order left left' before after sent rest × (0 < length sent) × (fault ≡ None))
     ⊎ WritesNothing order fault before after
-EndsWithDumps Differs words order fault left left' before after = ⊥
+EndsWithDumps Differs words order fault end left left' before after = ⊥
 
 -- ---- the whole contract
 
 -- What comes of a run with dumps whose words are taken: the table, and what goes with a status as in a run without.
 pub record DumpsAs (words : List Text) (finish : Finish) (before after : Streams) : Type 0 where
-  pub ends : EndsWithDumps finish.status words finish.order.items finish.fault before.left after.left before.taken after.taken
+  pub ends : EndsWithDumps finish.status words finish.order.items finish.fault finish.end before.left after.left before.taken after.taken
   pub beside : GoesWith Run finish before after
 
 -- What comes of a run with dumps that words ask for: where they are refused, that is said; where they are taken, what the source holds

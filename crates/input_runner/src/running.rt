@@ -6,7 +6,7 @@ ghost use Rattle.replay_model.specs.Input.{IsWellFormed};
 ghost use Rattle.txn_script.specs.Grammar.{IsWithinLimits, IsRunnable};
 ghost use Rattle.lane_runner.specs.Loading.{AreRowsOf};
 ghost use Rattle.lane_runner.specs.Finishing.{MayFinish};
-ghost use Rattle.input_runner.specs.Ran.{IsRunOf, AreSeenIn, order_of};
+ghost use Rattle.input_runner.specs.Ran.{IsRunOf, AreSeenIn, AreSnapshotsOf, order_of};
 ghost use Rattle.input_runner.specs.Running.{IsFor, IsLoaded, HasRunLanes, AreSeenBehind, GrowsBehind, HasRunAll};
 
 use crate::copying::copy_lanes;
@@ -129,7 +129,7 @@ fn run_rests(
 
 /// Runs an input on an engine of its own with so many seats, its lanes in this way, each seat with its clock; each transaction block is tried
 /// so many times beside the others, and those that remain are run by the seat that is alone. What was read beside the lanes are the rows
-/// that the transaction blocks up to its stamp leave.
+/// that the transaction blocks up to its stamp leave, each time by a snapshot of the run.
 ///
 /// `NoMemory` may come at any point.
 pub fn run_input<R: Threads + Wait + Sync, C: Clock, G: Gate, L: LaneRun<C, G>>(
@@ -152,6 +152,7 @@ pub fn run_input<R: Threads + Wait + Sync, C: Clock, G: Gate, L: LaneRun<C, G>>(
     ensures ran { IfOk result (λ ran. IsRunOf input.now ran.results.items ran.rows.items ran.end.pass) }
     ensures due { L.due way.new ≡ L.due way.old }
     ensures seen { IfOk result (λ ran. AreSeenIn (L.due way.old) input.now (order_of ran.results.items) (L.seen way.new)) }
+    ensures snapshots { IfOk result (λ ran. AreSnapshotsOf input.now ran.end.pass (L.seen way.new)) }
 {
     whole_runs_are_results();
     one_tables();

@@ -144,6 +144,7 @@ module _ (engine : EngineView) (queue : TableId) (tries : ℕ) where
     met = omega (arith, does.adds.met);
     few = works.few;
     each_read = works.each;
+    in_order = works.in_order;
   } where
     here : AreOfLanes engine.size.records works.does.entries u.took done
     here = subst (λ (e : EngineView). AreOfLanes e.size.records works.does.entries u.took done) may.engine_is works.does.are_of_lanes
@@ -171,6 +172,7 @@ module _ (engine : EngineView) (queue : TableId) (tries : ℕ) where
     met = omega (arith, so_far.met, does.adds.met, met_push first.met others (retired q), greatest_push passes p);
     few = so_far.few;
     each_read = subst (λ (m : ℕ). All (IsRead m first) readings) (sym (met_stays first.seat (map (λ (r : RetiredView). r.seat) others) passes p so_far.seats)) so_far.each_read;
+    in_order = so_far.in_order;
   } where
     both : AreOfLanes engine.size.records (all_added so_far.grown ++ does.entries) (taken_by ended ++ u.took) (done ++ more)
     both = AreOfLanes-append engine.size.records (all_added so_far.grown) does.entries (taken_by ended) u.took done more so_far.are_of_lanes

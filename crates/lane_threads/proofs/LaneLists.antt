@@ -186,6 +186,7 @@ none_read due tries p q lanes dones does = record {
   does = RunsLanes-weaker tries (draws_of lanes tries) (draws_of lanes tries + 0) p q lanes dones (omega arith) does;
   few = omega arith;
   each = All-nil (IsRead p.met q);
+  in_order = λ i j d less within. absurd (omega arith);
 }
 
 pub nothing_is_read : NothingIsRead

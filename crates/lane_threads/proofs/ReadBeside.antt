@@ -19,11 +19,11 @@ use Rattle.lane_runner.specs.Adds.{IsNext, AreInOrder}
 use Rattle.lane_runner.specs.Weighs.{LeavesTables}
 use Rattle.lane_threads.specs.All.{AreAllPasses, AreOfLanes, Grown, IsGrown, grown_logs, all_added, all_draws, latest_clock, greatest_met, RunsAll, RunsAndReads}
 use Rattle.lane_threads.specs.All.AreOfLanes.{none}
-use Rattle.lane_threads.specs.Seen.{met_first, IsRead, ReadsAll, IsSeen, AreSeen, ReadingsAreSeen}
+use Rattle.lane_threads.specs.Seen.{met_first, IsRead, NeverFall, ReadsAll, IsSeen, AreSeen, ReadingsAreSeen}
 use Rattle.lane_runner.proofs.Adding.{alone_stays, in_order_behind}
 use Rattle.lane_threads.proofs.LaneLists.{AreOfLanes-append}
 use Rattle.lane_threads.proofs.Together.{count_passes, added_in_logs}
-use Rattle.lane_threads.proofs.Readings.{read_later}
+use Rattle.lane_threads.proofs.Readings.{read_later, reads_behind}
 
 -- ---- room
 
@@ -107,11 +107,15 @@ module _ (engine : EngineView) (passes : List PassView) (lanes : List (List Bloc
   each_read : All (IsRead (met_first passes) alone'.pass) seen
   each_read = subst (All (IsRead (met_first passes) alone'.pass)) (sym reads.seen_are) (All-append (IsRead (met_first passes) alone'.pass) earlier reads.more
       (read_later (met_first passes) (met_first passes) alone.pass alone'.pass (omega arith) reads.others.adds.engine reads.others.adds.seat
-      (λ e among. subst (Among e) (sym reads.others.adds.log) (Among-left e alone.pass.log more among)) reads.others.adds.clock earlier both.each)
-      (read_later alone.pass.met (met_first passes) alone'.pass alone'.pass (omega (arith, runs.met, met_below passes)) refl refl (λ e among. among) (omega arith) reads.more reads.each))
+      (λ e among. subst (Among e) (sym reads.others.adds.log) (Among-left e alone.pass.log more among)) reads.others.adds.clock reads.others.adds.met earlier both.each)
+      (read_later alone.pass.met (met_first passes) alone'.pass alone'.pass (omega (arith, runs.met, met_below passes)) refl refl (λ e among. among) (omega arith) (omega arith) reads.more reads.each))
 
   pub seen_beside : ReadingsAreSeen → Lawful (StandsForSome stands) alone'.pass.shared.size.records alone'.pass.log → AreSeen due passes alone' seen
-  seen_beside law lawful = record { count = reads.count; each = law passes alone' seen lawful each_read }
+  seen_beside law lawful = record {
+    count = reads.count;
+    each = law passes alone' seen lawful each_read;
+    in_order = subst NeverFall (sym reads.seen_are) (reads_behind (met_first passes) alone.pass alone'.pass earlier reads.more both.each reads.each both.in_order reads.in_order);
+  }
 
   draws_are : length earlier + length reads.more ≡ due
   draws_are = omega (arith, reads.count, ap (λ (xs : List (ℕ × TableMap)). length xs) reads.seen_are, length-append earlier reads.more)
@@ -212,5 +216,6 @@ module _ (alone told : AloneView) (is : told ≡ with_pass alone (observing (wit
   seen_told due passes seen are = subst (λ (a : AloneView). AreSeen due passes a seen) (sym is) (record {
     count = are.count;
     each = All-weaker (IsSeen passes alone) (IsSeen passes (with_pass alone (observing (with_met alone.pass told.pass.met) told.pass.observed)))
-        (λ x s. record { tables = s.tables; leaves = s.leaves; rows = s.rows; up_to = s.up_to; met = s.met }) seen are.each;
+        (λ x s. record { entered = s.entered; tables = s.tables; leaves = s.leaves; rows = s.rows; up_to = s.up_to; met = s.met }) seen are.each;
+    in_order = are.in_order;
   })

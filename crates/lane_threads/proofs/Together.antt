@@ -18,7 +18,7 @@ use Rattle.txn_engine.specs.Pass.{EngineView, PassView, IsIdle, IsAlone, with_gl
 use Rattle.seat_post.specs.Glance.{GlanceView}
 use Rattle.txn_engine.specs.Retired.{RetiredView}
 use Rattle.txn_engine.specs.Alone.{AloneView}
-use Rattle.txn_engine.specs.Joining.{AreOthers, come_together, greatest_clock_of, logs_of}
+use Rattle.txn_engine.specs.Joining.{AreOthers, come_together, greatest_clock_of, greatest_met_of, logs_of}
 use Rattle.lane_runner.specs.declared.done.LaneDone.{LaneDone}
 use Rattle.lane_threads.specs.declared.workers.Worker.{Worker}
 use Rattle.lane_runner.specs.Room.{HasRoom}
@@ -124,6 +124,10 @@ clock_grows : (clock : ℕ) (rs : List RetiredView) → clock ≤ greatest_clock
 clock_grows clock [] = omega arith
 clock_grows clock (r ∷ rs) = let more : max clock r.clock ≤ greatest_clock_of (max clock r.clock) rs = clock_grows (max clock r.clock) rs in omega arith
 
+met_grows : (met : ℕ) (rs : List RetiredView) → met ≤ greatest_met_of met rs
+met_grows met [] = omega arith
+met_grows met (r ∷ rs) = let more : max met r.met ≤ greatest_met_of (max met r.met) rs = met_grows (max met r.met) rs in omega arith
+
 module _ (engine : EngineView) (passes : List PassView) (takers : List Taker) (lanes : List (List Block)) (tries due : ℕ) (first : PassView) (others : List RetiredView) (ended : List Taker) (done : List LaneDone) (readings : List (ℕ × TableMap))
     (alone : AloneView) (glance : Option GlanceView) (gathers : Gathers engine tries due passes takers first others ended done readings)
     (first_seat : first.seat ≡ 0) (each_once : IsPermutation (numbered 1 lanes) (taken_by ended)) (is : alone.pass ≡ with_glance (come_together first others) glance) (shared : alone.shared ≡ true) (is_alone : IsAlone alone.pass) where
@@ -162,7 +166,8 @@ module _ (engine : EngineView) (passes : List PassView) (takers : List Taker) (l
     few = gathers.few;
     each = read_later (met_first passes) (met_first passes) first alone.pass (omega arith) (ap engine_of is) (ap (λ (p : PassView). p.seat) is)
         (λ e among. subst (Among e) (sym (ap (λ (p : PassView). p.log) is)) (Among-left e first.log (logs_of others) among))
-        (omega (arith, clock_grows first.clock others, ap (λ (p : PassView). p.clock) is)) readings gathers.each_read;
+        (omega (arith, clock_grows first.clock others, ap (λ (p : PassView). p.clock) is)) (omega (arith, met_grows first.met others, ap (λ (p : PassView). p.met) is)) readings gathers.each_read;
+    in_order = gathers.in_order;
   }
 
 -- the same of passes that are these

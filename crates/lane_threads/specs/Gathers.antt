@@ -14,7 +14,7 @@ use Rattle.lane_threads.specs.declared.gathering.Gathered.{Gathered}
 use Rattle.lane_runner.specs.Room.{clock_after}
 use Rattle.lane_threads.specs.Workers.{draws_of}
 use Rattle.lane_threads.specs.All.{Grown, IsGrown, grown_logs, all_added, AreOfLanes, all_refusals, tries_of_rests, latest_clock, greatest_met}
-use Rattle.lane_threads.specs.Seen.{IsRead, met_first}
+use Rattle.lane_threads.specs.Seen.{IsRead, NeverFall, met_first}
 
 -- what is gathered is what this worker left
 pub record Starts (worked : Worked) (gathered : Gathered) : Type 0 where
@@ -63,6 +63,7 @@ pub record Gathers (engine : EngineView) (tries due : ℕ) (passes : List PassVi
   -- the readings
   pub few : length readings ≤ due
   pub each_read : All (IsRead (met_first passes) first) readings
+  pub in_order : NeverFall readings
 
 abbrev pub GathersIn : (engine : EngineView) (tries due : ℕ) (passes : List PassView) (takers : List Taker) → Gathered → List (ℕ × TableMap) → Type 0
 GathersIn engine tries due passes takers g readings = Gathers engine tries due passes takers g.pass g.retired.items g.takers.items g.done.items readings

@@ -16,7 +16,7 @@ use Rattle.lane_runner.specs.Room.{HasRoom, clock_after}
 use Rattle.lane_runner.specs.Adds.{Adds}
 use Rattle.lane_runner.specs.Lanes.{MayRun, AddsSome, lane_draws}
 use Rattle.lane_threads.specs.All.{AreOfLanes, tries_of_rests}
-use Rattle.lane_threads.specs.Seen.{IsRead}
+use Rattle.lane_threads.specs.Seen.{IsRead, NeverFall}
 
 -- each block of a lane may be run
 abbrev pub MayRunLane : Lane → Type 0
@@ -48,11 +48,12 @@ abbrev pub DoesLanes : (tries : ℕ) (before after' : PassView) (lanes : List La
 DoesLanes tries before after' lanes done = RunsLanes tries (draws_of lanes tries) before after' lanes done
 
 -- Or besides one for each reading that it made beside them: at most so many, each with its entry in the log of the pass. None of them is
--- more than one below what the pass had met before.
+-- more than one below what the pass had met before, nor below an earlier one.
 pub record DoesAndReads (tries due : ℕ) (before after' : PassView) (lanes : List Lane) (done : List LaneDone) (readings : List (ℕ × TableMap)) : Type 0 where
   pub does : RunsLanes tries (draws_of lanes tries + length readings) before after' lanes done
   pub few : length readings ≤ due
   pub each : All (IsRead before.met after') readings
+  pub in_order : NeverFall readings
 
 -- what a worker leaves that began with this pass and this right to take lanes: unless it had no memory, no lane was left
 pub record Works (tries : ℕ) (pass : PassView) (taker : Taker) (worked : Worked) : Type 0 where

@@ -69,6 +69,14 @@ module _ (p t s q : PassView) (clock : ℕ) (ticks : t ≡ ticked p clock) (begi
         let low = begins.below in
         omega (arith, met, as_begun, drawn, at, low)
 
+    -- the minimum that was met for it is the next number
+    met_next : f.met ≡ (has_seen p t s q clock ticks begins rest).0.stamp + 1
+    met_next =
+        let seen = has_seen p t s q clock ticks begins rest in
+        let ends : f ≡ observing (finished (with_glance (looking (ticked p clock) seen.0.stamp) (Some seen.0)) seen.0) r.observed =
+        same ∙ subst (λ (x : PassView). IfSome x.glance (λ g. r ≡ observing (finished x g) r.observed)) seen.1.same after in
+        ap (λ (x : PassView). x.met) ends
+
     pub dumps_seen : (lists : List (List (ℕ × Row))) (dump : Dump) → FitsRecords
         → EachTables (meaning_of_glance s) (meaning_of_glance q) (λ _ _ tables. AreRows 8 tables lists)
         → IfSome q.glance (λ g. dump.stamp ≡ g.stamp) → dump.rows ≡ tagged 0 lists → Dumps p f dump
@@ -87,4 +95,5 @@ module _ (p t s q : PassView) (clock : ℕ) (ticks : t ≡ ticked p clock) (begi
           };
           no_writes = refl;
           below = below;
+          met = met_next;
         }

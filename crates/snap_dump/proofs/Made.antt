@@ -1,7 +1,7 @@
 -- Dumps that are made between the blocks of a lane, and at the seat that is alone.
 use Rattle.std.proofs.Common.{◌≡◌, ◌≢◌, inl, inr, ⊎_elim, ℕ, ◌+◌, ◌-◌, ◌≤◌, true, false, List, [], ◌∷◌, ◌++◌, length, Option, None, Some, refl, sym, ap, subst, ◌∙◌, arith}
 use Rattle.std.specs.Prelude.{IfSome}
-use Rattle.std.proofs.lemmas.List.{append-nil, append_assoc, length-append}
+use Rattle.std.proofs.lemmas.List.{append-nil, append_assoc, length-append, map-append}
 use Rattle.std.proofs.lemmas.List.Elements.{All-nil, All-cons, All-append, All-weaker}
 use Rattle.plain_data.specs.declared.entry.Entry.{Entry}
 use Rattle.plain_data.specs.State.{overlay}
@@ -27,9 +27,11 @@ use Rattle.lane_runner.proofs.Adding.{Adds-none, Adds-trans}
 use Rattle.lane_runner.proofs.Attempted.{Steps, goes_trans, room_for_try, steps_none}
 use Rattle.lane_runner.proofs.Results.{keep_order}
 use Rattle.lane_runner.proofs.Run.{AreEntries-others}
-use Rattle.lane_threads.specs.Seen.{IsRead, IsReadingOf}
+use Rattle.lane_threads.specs.Seen.{IsRead, IsReadingOf, NeverFall}
+use Rattle.lane_threads.proofs.Readings.{entered_later, reads_behind}
 use Rattle.snap_dump.specs.declared.dump.Dump.{Dump}
-use Rattle.snap_dump.specs.Dumps.{Dumps, DumpsMade, KeepsOthers, how_many, seen_of}
+use Rattle.snap_dump.specs.Dumps.{Dumps, DumpsMade, KeepsOthers, how_many, seen_in, seen_of}
+use Rattle.snap_dump.proofs.Placed.{all_read}
 
 -- ---- the entry of a dump leaves the tables
 
@@ -77,21 +79,19 @@ stamp_later a b seat less = omega arith
 -- what was made stays as the log goes on
 goes_on : (minimum : ℕ) (q r : PassView) (entries : List Entry) (seen : ℕ × TableMap) → Adds q r entries → IsRead minimum q seen → IsRead minimum r seen
 goes_on minimum q r entries seen adds is = record {
-  entry = is.entry;
-  in_log = subst (Among is.entry) (sym adds.log) (Among-left is.entry q.log entries is.in_log);
-  is_reading = subst (λ (e : EngineView). IsReadingOf e.size.records seen is.entry) (sym adds.engine) is.is_reading;
+  entered = entered_later q r seen adds.engine (λ e among. subst (Among e) (sym adds.log) (Among-left e q.log entries among)) is.entered;
   up_to = (let later = stamp_later q.clock r.clock q.seat adds.clock in let seat : stamp_of r.clock r.seat ≡ stamp_of r.clock q.seat = ap (stamp_of r.clock) adds.seat in let low = is.up_to in omega (arith, later, seat, low));
   behind = is.behind;
+  below = (let later = adds.met in let low = is.below in omega (arith, later, low));
 }
 
 -- it was made behind an earlier pass too
 begins_earlier : (p q r : PassView) (entries : List Entry) (seen : ℕ × TableMap) → Adds p q entries → IsRead q.met r seen → IsRead p.met r seen
 begins_earlier p q r entries seen adds is = record {
-  entry = is.entry;
-  in_log = is.in_log;
-  is_reading = is.is_reading;
+  entered = is.entered;
   up_to = is.up_to;
   behind = (let m = adds.met in let low = is.behind in omega (arith, m, low));
+  below = is.below;
 }
 
 abbrev IsDumpOf : PassView → PassView → Dump → Type 0
@@ -99,24 +99,28 @@ IsDumpOf p q dump = IsRead p.met q (seen_of dump)
 
 -- none was made, whatever was added
 pub made_none : (p q : PassView) (old : List Dump) → DumpsMade p q old old
-made_none p q old = record { more = []; grown = sym (append-nil old); each = All-nil (IsDumpOf p q) }
+made_none p q old = record { more = []; grown = sym (append-nil old); each = All-nil (IsDumpOf p q); in_order = λ i j d less within. absurd (omega arith) }
 
 pub made_one : (p q : PassView) (old new : List Dump) (dump : Dump) → Dumps p q dump → new ≡ old ++ dump ∷ [] → DumpsMade p q old new
 made_one p q old new dump made grown = record {
   more = dump ∷ [];
   grown = grown;
   each = All-cons (IsDumpOf p q) dump [] is (All-nil (IsDumpOf p q));
+  in_order = λ i j d less within. absurd (omega (arith, less, within));
 } where
   next : IsNext p made.entry
   next = made.adds.each made.entry (inl refl)
 
   is : IsDumpOf p q dump
   is = record {
-    entry = made.entry;
-    in_log = subst (Among made.entry) (sym made.adds.log) (Among-right made.entry p.log (made.entry ∷ []) (inl refl));
-    is_reading = subst (λ (e : EngineView). IsReadingOf e.size.records (seen_of dump) made.entry) (sym made.adds.engine) made.reading;
+    entered = record {
+      entry = made.entry;
+      in_log = subst (Among made.entry) (sym made.adds.log) (Among-right made.entry p.log (made.entry ∷ []) (inl refl));
+      is_reading = subst (λ (e : EngineView). IsReadingOf e.size.records (seen_of dump) made.entry) (sym made.adds.engine) made.reading;
+    };
     up_to = (let low = made.below in let stamp = made.reading.stamp in omega (arith, low, stamp));
     behind = (let low = next.snapshot_met made.reading.kind in let stamp = made.reading.stamp in omega (arith, low, stamp));
+    below = (let met = made.met in let stamp = made.reading.stamp in omega (arith, met, stamp));
   }
 
 -- one part behind the other
@@ -127,6 +131,8 @@ made_then p q r old mid new before after first second = record {
   each = All-append (IsDumpOf p r) first.more second.more
       (All-weaker (IsDumpOf p q) (IsDumpOf p r) (λ dump is. goes_on p.met q r after.0 (seen_of dump) after.1 is) first.more first.each)
       (All-weaker (IsDumpOf q r) (IsDumpOf p r) (λ dump is. begins_earlier p q r before.0 (seen_of dump) before.1 is) second.more second.each);
+  in_order = subst NeverFall (sym (map-append seen_of first.more second.more))
+      (reads_behind p.met q r (seen_in first.more) (seen_in second.more) (all_read p.met q first.more first.each) (all_read q.met r second.more second.each) first.in_order second.in_order);
 }
 
 -- dumps do not become fewer

@@ -7,7 +7,7 @@ use Rattle.lane_runner.specs.declared.done.LaneDone.{LaneDone}
 use Rattle.lane_runner.specs.Done.{DoesLane}
 use Rattle.lane_runner.specs.Lanes.{lane_draws}
 use Rattle.lane_runner.specs.Room.{HasRoom, clock_after}
-use Rattle.lane_threads.specs.Seen.{IsRead}
+use Rattle.lane_threads.specs.Seen.{IsRead, NeverFall}
 use Rattle.lane_threads.specs.Workers.{DoesAndReads, RunsLanes, draws_of}
 use Rattle.lane_threads.proofs.LaneLists.{RunsLanes-next, RunsLanes-none, RunsLanes-weaker, draws_push, taken_room}
 use Rattle.snap_dump.specs.declared.dump.Dump.{Dump}
@@ -43,8 +43,10 @@ pub does_dumping : (tries due : ℕ) (p q : PassView) (took : List Lane) (dones 
     → DoesAndReads tries due p q took dones (seen_in new)
 does_dumping tries due p q took dones old new none does made within =
     let count = length-seen_in new in
+    let are_new : new ≡ made.more = made.grown ∙ ap (λ (ds : List Dump). ds ++ made.more) none in
     record {
       does = RunsLanes-weaker tries (draws_of took tries + how_many old new) (draws_of took tries + length (seen_in new)) p q took dones (omega (arith, count)) does;
       few = omega (arith, count, within);
-      each = subst (λ (ds : List Dump). All (IsRead p.met q) (seen_in ds)) (sym (made.grown ∙ ap (λ (ds : List Dump). ds ++ made.more) none)) (all_read p.met q made.more made.each);
+      each = subst (λ (ds : List Dump). All (IsRead p.met q) (seen_in ds)) (sym are_new) (all_read p.met q made.more made.each);
+      in_order = subst (λ (ds : List Dump). NeverFall (seen_in ds)) (sym are_new) made.in_order;
     }

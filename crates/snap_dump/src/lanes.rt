@@ -37,6 +37,7 @@ fn dump_behind<C: Reads>(
     ensures others { OnOk result (AddsOthers pass.old pass.new) }
     ensures made { OnOk result (DumpsMade pass.old pass.new made.old.items made.new.items) }
     ensures one { OnOk result (turn ≡ Turn.Outcome → length made.old.items < due → length made.new.items ≡ length made.old.items + 1) }
+    ensures none { turn ≢ Turn.Outcome → (made.new.items ≡ made.old.items) × (pass.new ≡ pass.old) }
     ensures within { OnOk result (length made.new.items ≤ due) }
     ensures adds { AddsSome pass.old pass.new }
     ensures clock { OnOk result (pass.new.clock ≤ clock_after pass.old.clock (how_many made.old.items made.new.items)) }

@@ -25,7 +25,7 @@ returns-then-ne-clause-runs g c given asks =
     let ran : RunsAs Run finish before mid = subst (λ (m : Mode). RunsAs m finish before mid) c.requires.runs c.run_with-finish.ensures.runs.asked in
     let other : finish.status ≢ Done = search rules in
     record {
-      ends = ends_as_run given c.args.dumps asks finish.order.items finish.fault before.left mid.left before.taken mid.taken finish.status other ran.ends;
+      ends = ends_as_run given c.args.dumps asks finish.order.items finish.fault finish.end before.left mid.left before.taken mid.taken finish.status other ran.ends;
       beside = ran.beside;
     }
 
@@ -42,8 +42,8 @@ returns-clause-runs g c given asks =
     let count : length (seen_in c.run_with-finish.new.lanes.made.items) ≡ c.in-Ok.dumping.dumps =
     some_of finish.end (length (seen_in c.run_with-finish.new.lanes.made.items) ≡ c.in-Ok.dumping.dumps) (ran.beside.end.1 (done, tt)) c.run_with-finish.ensures.sees.count in
     let number : c.args.dumps ≡ length (seen_in made) = sym (ap (λ (ds : List Dump). length (seen_in ds)) (sym are) ∙ count ∙ c.in-Ok.ensures.dumps) in
-    let together : IfSome finish.end (λ _. BelongsTogether Run finish before mid (seen_in made)) =
-    subst (λ (y : Mode × List Dump). IfSome finish.end (λ _. BelongsTogether y.0 finish before mid (seen_in y.1))) (λ i. (c.requires.runs i, are i)) c.run_with-finish.ensures.sees.together in
+    let together : IfSome finish.end (λ e. BelongsTogether Run finish e.pass before mid (seen_in made)) =
+    subst (λ (y : Mode × List Dump). IfSome finish.end (λ e. BelongsTogether y.0 finish e.pass before mid (seen_in y.1))) (λ i. (c.requires.runs i, are i)) c.run_with-finish.ensures.sees.together in
     dumps_as given finish c.deliver_dumps.result made before mid after done ran refl refl c.deliver_dumps.ensures.never_falls c.deliver_dumps.ensures.failed
     (subst (AsksFor given) number asks) together c.deliver_dumps.ensures.delivers
 

@@ -59,7 +59,6 @@ impl<'a, C: Reads + Drop, G: Meets> Lanes<'a, C, G> {
         let seat = Seat {
             pass,
             clock,
-            commits: 0,
         };
         Ok(Lanes {
             running: Some(Running {

@@ -71,7 +71,6 @@ impl<'a, C: Reads + Drop, G: Meets> Running<'a, C, G> {
             &mut self.seat.pass,
             &mut self.seat.clock,
             self.gate,
-            &mut self.seat.commits,
         )?;
         self.next = place + 1;
         Ok(())

@@ -3,10 +3,9 @@
 use stored_tables::RowsLawful;
 use txn_engine::Pass;
 
-/// A pass, its clock, and how often it has committed.
+/// A pass, and its clock.
 #[derive(Drop)]
 pub(crate) struct Seat<C> {
     pub(crate) pass: Pass<RowsLawful>,
     pub(crate) clock: C,
-    pub(crate) commits: u32,
 }

@@ -80,13 +80,12 @@ fn work_lanes<R: Wait, C: Reads, G: Meets>(
     ensures ended { IfOk result (λ done. HasEnded taker.new) }
     ensures does { IfOk result (λ done. DoesLanes tries pass.old pass.new taker.new.took done.items) }
 {
-    let mut commits = 0;
     let mut done = Vec::new(alloc);
     for _ in rt.forever() {
         let Some(lane) = queue.take(rt, taker) else {
             break;
         };
-        let ran = run_lane(alloc, engine, pass, lane, clock, gate, tries, &mut commits)?;
+        let ran = run_lane(alloc, engine, pass, lane, clock, gate, tries)?;
         done.push(ran)?;
     }
     Ok(done)

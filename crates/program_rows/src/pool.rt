@@ -24,7 +24,6 @@ fn after_three_tries(
     requires fixed { engine.now.fixed ≡ 4112 }
 {
     let lane = one_put(alloc, 5)?;
-    let mut commits = 0;
     let done = run_lane(
         alloc,
         engine,
@@ -33,7 +32,6 @@ fn after_three_tries(
         &mut CountClock,
         &OpenGate,
         3,
-        &mut commits,
     )?;
     Ok((
         done.results.len(),

@@ -63,7 +63,6 @@ pub(crate) fn run_lane_dumping<C: Reads, G: Meets>(
     clock: &mut C,
     gate: &G,
     tries: u32,
-    commits: &mut u32,
     due: u32,
     made: &mut Vec<Dump>,
 ) -> Result<LaneDone, NoMemory>
@@ -82,7 +81,7 @@ pub(crate) fn run_lane_dumping<C: Reads, G: Meets>(
 {
     let mut session = Session::new(alloc, lane, tries);
     'attempts: while session.has_next() {
-        let turn = session.attempt(engine, pass, clock, gate, commits)?;
+        let turn = session.attempt(engine, pass, clock, gate)?;
         dump_behind(alloc, engine, pass, clock, turn, due, made)?;
     }
     Ok(session.finish())

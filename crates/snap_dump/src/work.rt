@@ -42,7 +42,6 @@ pub(crate) fn work_dumping<R: Wait, C: Reads, G: Meets>(
     ensures ended { IfOk result (λ done. HasEnded taker.new) }
     ensures does { IfOk result (λ done. DoesAndReads tries due pass.old pass.new taker.new.took done.items (seen_in made.new.items)) }
 {
-    let mut commits = 0;
     let mut done = Vec::new(alloc);
     for _ in rt.forever() {
         let Some(lane) = queue.take(rt, taker) else {
@@ -56,7 +55,6 @@ pub(crate) fn work_dumping<R: Wait, C: Reads, G: Meets>(
             clock,
             gate,
             tries,
-            &mut commits,
             due,
             made,
         )?;

@@ -27,16 +27,16 @@ returns-clause-attempts g c =
     let behind : reverse c.pop.new.self.items ≡ next.0 = left_behind c.self.inside.blocks.items c.pop.new.self.items _ c.in-Some.block.now next.0 c.self.inside.blocks.ok.0 c.pop.ensures.rest back in
     let commits : Commits c.in-Some.block.now.commands c.args.pass.now c.try_block.new.pass c.in-Some-2.done.placed c.in-Some-2.done.outcome = rw c.in-Some-2.is at c.in_ok-done.ensures.committed in
     let place : IsPlaceOf c.in-Some.block.now c.in-Some-2.done.placed = rw c.in-Some-2.is at c.in_ok-done.ensures.placed in
-    gives_outcome c.args.self.now _ c.args.pass.now c.try_block.new.pass c.count_commit.new.pass c.in-Some.block.now (reverse c.pop.new.self.items) c.in-Some-2.done.placed c.in-Some-2.done.outcome
+    gives_outcome c.args.self.now _ c.args.pass.now c.try_block.new.pass c.promote_in_turn.new.pass c.in-Some.block.now (reverse c.pop.new.self.items) c.in-Some-2.done.placed c.in-Some-2.done.outcome
     (next.1 ∙ ap (λ (xs : List Block). c.in-Some.block.now ∷ xs) (sym behind))
     (session_given c.args.self.now _ c.push.new.self (c.in-Some-2.done.placed, c.in-Some-2.done.outcome) (reverse c.pop.new.self.items) (sym c.self.view_is) c.in_ok-push.ensures.ok)
-    commits place c.count_commit.ensures.others
-    (let once : CountsOnce c.args.pass.now c.try_block.new.pass = rw c.in-Some-2.is at c.in_ok-done.ensures.once in omega (arith, once.once, c.count_commit.ensures.refusals))
+    commits place c.promote_in_turn.ensures.others
+    (let once : CountsOnce c.args.pass.now c.try_block.new.pass = rw c.in-Some-2.is at c.in_ok-done.ensures.once in omega (arith, once.once, c.promote_in_turn.ensures.refusals))
 
 pub returns-clause-adds : goal.returns-clause-adds
 returns-clause-adds g c =
     let commits : Commits c.in-Some.block.now.commands c.args.pass.now c.try_block.new.pass c.in-Some-2.done.placed c.in-Some-2.done.outcome = rw c.in-Some-2.is at c.in_ok-done.ensures.committed in
-    adds_done c.in-Some.block.now.commands c.in-Some-2.done.placed c.in-Some-2.done.outcome c.args.pass.now c.try_block.new.pass c.count_commit.new.pass commits c.count_commit.ensures.others
+    adds_done c.in-Some.block.now.commands c.in-Some-2.done.placed c.in-Some-2.done.outcome c.args.pass.now c.try_block.new.pass c.promote_in_turn.new.pass commits c.promote_in_turn.ensures.others
 
 pub returns-clause-granted : goal.returns-clause-granted
 returns-clause-granted g c = λ none tried more ample.
@@ -47,4 +47,4 @@ returns-clause-granted g c = λ none tried more ample.
     let place : IsPlaceOf c.in-Some.block.now c.in-Some-2.done.placed = rw c.in-Some-2.is at c.in_ok-done.ensures.placed in
     let here = ample_left c.args.self.now c.args.pass.now c.in-Some.block.now (reverse c.pop.new.self.items) more none tried (next.1 ∙ ap (λ (xs : List Block). c.in-Some.block.now ∷ xs) (sym behind)) ample in
     let granted = c.in_ok-done.ensures.granted (ap (λ (s : SessionView). s.refused) c.self.view_is ∙ none) (reverse c.pop.new.self.items ++ more) here in
-    (refl, ample_next c.args.pass.now c.try_block.new.pass c.count_commit.new.pass c.in-Some.block.now (reverse c.pop.new.self.items ++ more) c.in-Some-2.done.placed c.in-Some-2.done.outcome here commits place c.count_commit.ensures.others (c.count_commit.ensures.ready granted.1))
+    (refl, ample_next c.args.pass.now c.try_block.new.pass c.promote_in_turn.new.pass c.in-Some.block.now (reverse c.pop.new.self.items ++ more) c.in-Some-2.done.placed c.in-Some-2.done.outcome here commits place c.promote_in_turn.ensures.others (c.promote_in_turn.ensures.ready granted.1))

@@ -56,10 +56,7 @@ impl<'a, C: Reads + Drop, G: Meets> Lanes<'a, C, G> {
         ensures tries { all_tries_left sessions.items ≤ all_tries sessions.items }
     {
         let done = Vec::with_capacity(alloc, sessions.len())?;
-        let seat = Seat {
-            pass,
-            clock,
-        };
+        let seat = Seat { pass, clock };
         Ok(Lanes {
             running: Some(Running {
                 engine,

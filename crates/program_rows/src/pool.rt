@@ -24,15 +24,7 @@ fn after_three_tries(
     requires fixed { engine.now.fixed ≡ 4112 }
 {
     let lane = one_put(alloc, 5)?;
-    let done = run_lane(
-        alloc,
-        engine,
-        pass,
-        lane,
-        &mut CountClock,
-        &OpenGate,
-        3,
-    )?;
+    let done = run_lane(alloc, engine, pass, lane, &mut CountClock, &OpenGate, 3)?;
     Ok((
         done.results.len(),
         done.rest.len(),

@@ -47,17 +47,7 @@ pub(crate) fn work_dumping<R: Wait, C: Reads, G: Meets>(
         let Some(lane) = queue.take(rt, taker) else {
             break;
         };
-        let ran = run_lane_dumping(
-            alloc,
-            engine,
-            pass,
-            lane,
-            clock,
-            gate,
-            tries,
-            due,
-            made,
-        )?;
+        let ran = run_lane_dumping(alloc, engine, pass, lane, clock, gate, tries, due, made)?;
         done.push(ran)?;
     }
     Ok(done)

@@ -6,8 +6,9 @@ dictionaries.
 
 It knows nothing of limits and refusals, and trusts its input. It is written from the description of the language and of stamps alone:
 with the clock that counts, the one seat 0 draws the stamps 256, 512 and so on, one for each index line, each row and each block. A
-transaction block has its stamp, and a snapshot the one below its own. Behind each 1,024th transaction block one more is drawn, for the
-promotion of the first record that this block has read, unless it reads none.
+transaction block has its stamp, and a snapshot the one below its own. Each index line, each row and each transaction block commits. Behind
+a block whose commit is a 1,024th one, one more is drawn, for the promotion of the first record that this block has read, unless it reads
+none.
 """
 import bisect
 import sys
@@ -107,10 +108,10 @@ def main():
             names.append(words[1])
             tables[words[1]] = {}
         elif words[0] == "index":
-            drawn += 1
+            drawn, commits = drawn + 1, commits + 1
         elif words[0] == "row":
             tables[words[1]][int(words[2])] = [int(word) for word in words[3:]]
-            drawn += 1
+            drawn, commits = drawn + 1, commits + 1
         elif words[0] == "lane":
             lane, number = lane + 1, 0
         elif words[0] in ("txn", "snap"):

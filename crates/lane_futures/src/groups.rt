@@ -1,10 +1,10 @@
 //! The lanes that a worker takes at a time.
 
-ghost use Rattle.std.specs.Prelude.{◌≡◌, ◌+◌, ◌/◌, ◌%◌, ◌<◌, ◌≤◌, min, max, [], All, IfOk, length};
+ghost use Rattle.std.specs.Prelude.{◌≡◌, ◌<◌, ◌≤◌, [], All, IfOk, length};
 ghost use Rattle.std.specs.Vec.{vec_capacity};
 ghost use Rattle.lane_queue.specs.Passes.{IsSamePass, HasEnded};
 ghost use Rattle.lane_threads.specs.Workers.{MayRunLane};
-ghost use Rattle.lane_futures.specs.Groups.{Takes};
+ghost use Rattle.lane_futures.specs.Groups.{Takes, lanes_at_a_time};
 
 use lane_queue::{LanePass, LaneQueue};
 use lane_runner::{LaneDone, Session};
@@ -15,10 +15,7 @@ use std::sync::Wait;
 /// How many lanes a worker takes at a time: its part of all lanes, rounded up, but at least one and at most four.
 pub(crate) fn group_size(lanes: usize, workers: u32) -> u32
     requires { 1 ≤ workers }
-    ensures some { 1 ≤ result }
-    ensures four { result ≤ 4 }
-    ensures part { result ≤ max 1 (lanes / workers + min 1 (lanes % workers)) }
-    ensures whole { min 4 (lanes / workers + min 1 (lanes % workers)) ≤ result }
+    ensures { result ≡ lanes_at_a_time lanes workers }
 {
     lanes.div_ceil(workers as usize).clamp(1, 4) as u32
 }

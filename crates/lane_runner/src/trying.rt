@@ -1,6 +1,6 @@
 //! One try of a transaction block.
 
-ghost use Rattle.std.specs.Prelude.{◌≡◌, ◌+◌, ◌<◌, ◌≤◌, List, [], ◌∷◌, false, All, IfOk, IfSome, IfNone, IsSome, OnOk, OnErr};
+ghost use Rattle.std.specs.Prelude.{◌≡◌, ◌+◌, ◌<◌, ◌≤◌, List, [], ◌∷◌, false, All, IfOk, IfSome, IsSome, OnOk, OnErr};
 ghost use Rattle.histories.specs.History.{Lawful};
 ghost use Rattle.history_replay.specs.Results.{StandsForSome};
 ghost use Rattle.replay_model.specs.declared.input.Block.{Block};
@@ -11,7 +11,7 @@ ghost use Rattle.txn_engine.specs.Pass.{IsIdle, IsAlone, engine_of};
 ghost use Rattle.lane_runner.specs.Rows.{stands};
 ghost use Rattle.lane_runner.specs.Room.{HasRoom, clock_after};
 ghost use Rattle.lane_runner.specs.Adds.{Adds};
-ghost use Rattle.lane_runner.specs.Blocks.{IsPlaceOf, Commits, IsRefused, CountsOnce};
+ghost use Rattle.lane_runner.specs.Blocks.{IsTried};
 ghost use Rattle.lane_runner.specs.Ready.{IsAmple, IsReady, IsReadyOnceCollected};
 
 use crate::collecting::collect;
@@ -43,11 +43,7 @@ fn try_txn<G: Meets>(
     requires short { All IsShort block.now.commands }
     requires fixed { fixed_records ≤ engine.now.fixed }
     requires room { HasRoom pass.old.clock 1 }
-    ensures committed { IfOk result (λ answer. IfSome answer (λ done. Commits block.now.commands pass.old pass.new done.placed done.outcome)) }
-    ensures placed { IfOk result (λ answer. IfSome answer (λ done. IsPlaceOf block.now done.placed)) }
-    ensures first { IfOk result (λ answer. IfSome answer (λ done. IfSome done.first_read (λ rid. rid < engine.now.size.records))) }
-    ensures refused { IfOk result (λ answer. IfNone answer (IsRefused 1 pass.old pass.new)) }
-    ensures once { IfOk result (λ answer. IfSome answer (λ _. CountsOnce pass.old pass.new)) }
+    ensures tried { IfOk result (λ answer. IsTried block.now pass.old pass.new answer) }
     ensures fault { OnErr result (Adds pass.old pass.new []) }
     ensures clock { pass.new.clock ≤ clock_after pass.old.clock 1 }
     ensures granted { Lawful (StandsForSome stands) pass.old.shared.size.records pass.old.log → (more : List Block) → IsAmple pass.old (block.now ∷ more) → IfOk result IsSome }
@@ -123,11 +119,7 @@ pub(crate) fn try_once<G: Meets>(
     requires short { All IsShort block.now.commands }
     requires fixed { fixed_records ≤ engine.now.fixed }
     requires room { HasRoom pass.old.clock 1 }
-    ensures committed { IfOk result (λ answer. IfSome answer (λ done. Commits block.now.commands pass.old pass.new done.placed done.outcome)) }
-    ensures placed { IfOk result (λ answer. IfSome answer (λ done. IsPlaceOf block.now done.placed)) }
-    ensures first { IfOk result (λ answer. IfSome answer (λ done. IfSome done.first_read (λ rid. rid < engine.now.size.records))) }
-    ensures refused { IfOk result (λ answer. IfNone answer (IsRefused 1 pass.old pass.new)) }
-    ensures once { IfOk result (λ answer. IfSome answer (λ _. CountsOnce pass.old pass.new)) }
+    ensures tried { IfOk result (λ answer. IsTried block.now pass.old pass.new answer) }
     ensures fault { OnErr result (Adds pass.old pass.new []) }
     ensures clock { pass.new.clock ≤ clock_after pass.old.clock 1 }
     ensures queue { OnOk result (IsAlone pass.old → pass.new.queue ≡ []) }

@@ -26,22 +26,21 @@ untorn-requires c =
     not_torn c.exec_snap-told.result _ c.exec_snap-told.ensures.torn
     (never_torn p c.tick.new.self s q (next_clock p c.args.reading) c.in-Ok.ensures.ok c.snapshot-snapshot.ensures.begins rest _ c.keeps_tables.ensures c.finish-stamp.ensures.finishes.stood)
 
-pub returns-clause-committed : goal.returns-clause-committed
-returns-clause-committed c =
+pub returns-clause-done : goal.returns-clause-done
+returns-clause-done c =
     let p = c.args.pass.now in
     let s = c.snapshot-snapshot.result.pass.now in
     let q = c.exec_snap-told.new.store.pass.now in
     let rest : unread q ≡ unread s = ap (λ (x : GlanceRest). x.of_pass) c.exec_snap-told.ensures.rest in
-    commits_seen p c.tick.new.self s q (next_clock p c.args.reading) c.in-Ok.ensures.ok c.snapshot-snapshot.ensures.begins rest c.finish-stamp.new.self.0 _ c.finish-stamp.ensures.finishes.after (search rules) c.requires.idle (omega arith)
-    c.args.block.now.commands c.in_ok-outcome.outcome _ c.fits_records.ensures (rw c.in_ok-outcome.ensures at c.exec_snap-told.ensures.outcome) c.finish-stamp.ensures.finishes.stamp refl
-
-pub returns-clause-once : goal.returns-clause-once
-returns-clause-once c =
-    let p = c.args.pass.now in
-    let s = c.snapshot-snapshot.result.pass.now in
-    let q = c.exec_snap-told.new.store.pass.now in
-    let rest : unread q ≡ unread s = ap (λ (x : GlanceRest). x.of_pass) c.exec_snap-told.ensures.rest in
-    none_refused p c.tick.new.self s q (next_clock p c.args.reading) c.in-Ok.ensures.ok c.snapshot-snapshot.ensures.begins rest c.finish-stamp.new.self.0 _ c.finish-stamp.ensures.finishes.after (search rules) c.requires.idle (omega arith)
+    record {
+      ran = record {
+        commits = commits_seen p c.tick.new.self s q (next_clock p c.args.reading) c.in-Ok.ensures.ok c.snapshot-snapshot.ensures.begins rest c.finish-stamp.new.self.0 _ c.finish-stamp.ensures.finishes.after (search rules) c.requires.idle (omega arith)
+            c.args.block.now.commands c.in_ok-outcome.outcome _ c.fits_records.ensures (rw c.in_ok-outcome.ensures at c.exec_snap-told.ensures.outcome) c.finish-stamp.ensures.finishes.stamp refl;
+        place = record { snap = sym c.requires.kind; lane = refl; number = refl };
+      };
+      once = none_refused p c.tick.new.self s q (next_clock p c.args.reading) c.in-Ok.ensures.ok c.snapshot-snapshot.ensures.begins rest c.finish-stamp.new.self.0 _ c.finish-stamp.ensures.finishes.after (search rules) c.requires.idle (omega arith);
+      first = tt;
+    }
 
 pub returns-in_err-outcome-clause-fault : goal.returns-in_err-outcome-clause-fault
 returns-in_err-outcome-clause-fault c =

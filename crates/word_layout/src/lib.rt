@@ -1,11 +1,14 @@
 //! The numbers of the words in an engine's one table of atomic words.
 #![tactic(auto)]
 
+mod first;
+
 ghost use Rattle.std.specs.Prelude.{◌≡◌, ◌<◌, ◌↔◌, IsOk, IsErr, IfOk};
-ghost use Rattle.word_layout.specs.Name.{published_write, published_read, min_write, min_read, head, lock, floor, status, wts, rts, next, cell, first_of_records, first_of_places, word_of, LiesWithin, AreApart};
+ghost use Rattle.word_layout.specs.Name.{published_write, published_read, min_write, min_read, head, lock, floor, status, wts, rts, next, cell, word_of, LiesWithin, AreApart};
 ghost use Rattle.word_layout.specs.Limits.{cells_of_value};
 ghost use Rattle.word_layout.specs.Size.{size_of, IsSize, places, words};
 
+use crate::first::FirstWords;
 use std::error::Error;
 use std::fmt;
 use std::marker::Model;
@@ -37,24 +40,28 @@ impl Error for Limit {}
 /// Where each word of a table with so many seats, records and places stands in it.
 ///
 /// Seats, records and places are numbered from 0. Place r, below `records`, is the inline place of
-/// record r; the other places are the pool's.
+/// record r; the other places are the pool's. Where each family of words begins is computed once, so that a word is found by
+/// one sum.
 #[derive(Clone, Copy, Debug, PartialEq, Eq, Hash)]
 pub struct Layout {
     seats: u32,
     records: u32,
     spare: u32,
+    first: FirstWords,
 }
 
 impl Model for Layout {
+    ghost use Rattle.std.specs.Prelude.{◌≡◌};
     ghost use Rattle.word_layout.specs.Size.{Size, size_of, IsSize};
+    ghost use Rattle.word_layout.specs.Families.{first_words};
 
     ghost Value = { Size };
 
     ghost view = { λ l. size_of l.seats l.records l.spare };
 
-    ghost invariant = { λ l. IsSize (size_of l.seats l.records l.spare) };
+    ghost invariant = { λ l. IsSize (size_of l.seats l.records l.spare) × (l.first ≡ first_words (size_of l.seats l.records l.spare)) };
 
-    ghost inverse = { λ z. record { seats = z.seats; records = z.records; spare = z.spare } };
+    ghost inverse = { λ z. record { seats = z.seats; records = z.records; spare = z.spare; first = first_words z } };
 }
 
 impl Layout {
@@ -72,6 +79,7 @@ impl Layout {
                 seats,
                 records,
                 spare,
+                first: FirstWords::of(seats, records, spare),
             })
         } else {
             Err(Limit)
@@ -117,7 +125,7 @@ impl Layout {
         ensures within { LiesWithin self.now }
         ensures apart { AreApart self.now }
     {
-        self.first_of_places() + 36 * self.places()
+        self.first.status + 36 * self.places()
     }
 
     /// The word that bounds the write stamps of seat `s` from below.
@@ -155,7 +163,7 @@ impl Layout {
         requires { r < self.now.records }
         ensures { result ≡ word_of self.now (head r) }
     {
-        self.first_of_records() + r
+        self.first.head + r
     }
 
     /// The word of the collectors' lock of record `r`.
@@ -163,7 +171,7 @@ impl Layout {
         requires { r < self.now.records }
         ensures { result ≡ word_of self.now (lock r) }
     {
-        self.first_of_records() + self.records + r
+        self.first.lock + r
     }
 
     /// The word of the stamp below which versions of record `r` may be gone.
@@ -171,7 +179,7 @@ impl Layout {
         requires { r < self.now.records }
         ensures { result ≡ word_of self.now (floor r) }
     {
-        self.first_of_records() + 2 * self.records + r
+        self.first.floor + r
     }
 
     /// The word of the status of place `p`.
@@ -179,7 +187,7 @@ impl Layout {
         requires { p < places self.now }
         ensures { result ≡ word_of self.now (status p) }
     {
-        self.first_of_places() + p
+        self.first.status + p
     }
 
     /// The word of the write stamp of place `p`.
@@ -187,7 +195,7 @@ impl Layout {
         requires { p < places self.now }
         ensures { result ≡ word_of self.now (wts p) }
     {
-        self.first_of_places() + self.places() + p
+        self.first.wts + p
     }
 
     /// The word of the read stamp of place `p`.
@@ -195,7 +203,7 @@ impl Layout {
         requires { p < places self.now }
         ensures { result ≡ word_of self.now (rts p) }
     {
-        self.first_of_places() + 2 * self.places() + p
+        self.first.rts + p
     }
 
     /// The word of the link from place `p` to the next older version.
@@ -203,7 +211,7 @@ impl Layout {
         requires { p < places self.now }
         ensures { result ≡ word_of self.now (next p) }
     {
-        self.first_of_places() + 3 * self.places() + p
+        self.first.next + p
     }
 
     /// The word of cell `i` of the value in place `p`.
@@ -212,20 +220,6 @@ impl Layout {
         requires cell { i < cells_of_value }
         ensures { result ≡ word_of self.now (cell p i) }
     {
-        self.first_of_places() + 4 * self.places() + CELLS * p + i
-    }
-
-    fn first_of_records(&self) -> u32
-        ensures first { result ≡ first_of_records self.now }
-        ensures in_range { IsSize self.now }
-    {
-        2 * self.seats + 2
-    }
-
-    fn first_of_places(&self) -> u32
-        ensures first { result ≡ first_of_places self.now }
-        ensures in_range { IsSize self.now }
-    {
-        self.first_of_records() + 3 * self.records
+        self.first.cell + CELLS * p + i
     }
 }

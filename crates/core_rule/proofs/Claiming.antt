@@ -11,7 +11,7 @@ use Rattle.core_rule.specs.View.{View, Flight, resting, writing, Read, Write, Ai
 use Rattle.core_rule.specs.Views.{At, Each, Has, Among}
 use Rattle.core_rule.specs.Searching.{ends, is_final, finished_with, limit_of, moved, stamp_seen}
 use Rattle.core_rule.specs.Deciding.{stamp_in, commit_of, snapshot_of}
-use Rattle.core_rule.specs.Kinds.{Kind, publish_stamp, publish_idle, retire_write, publish_bound, retire_read, fill_stamp, load_head, load_next, load_stamp, load_status, mark, point, link_head, link_next, raise_read_stamp, load_read_stamp, decide_by_check, decide_bare, store_status, finish, name, after, changed}
+use Rattle.core_rule.specs.Kinds.{Kind, fill_stamp, load_head, load_next, load_stamp, load_status, link_head, link_next, raise_read_stamp, decide_by_check, decide_bare, finish, name, after, changed}
 use Rattle.core_rule.specs.Hands.{split_left, split_right, joined_view}
 use Rattle.core_rule.specs.Rule.{status_words}
 use Rattle.core_rule.specs.Claims.{Claim, claim, AimClaims, SearchClaims, TxnClaims, Claims}
@@ -212,20 +212,16 @@ module _ (kept : State → Type 0) (z : Size) (g : World) (m : Memory) (vs : Lis
       by_case true x = tt
       by_case false x = subst (AimClaims S Q x p) (sym is) tt
 
+    still_claimed : (k : Kind) → Step kept z g m vs id v k → (x : ℕ) → SearchClaims S P x v.work.search → SearchClaims (stored (changed k v m)).stamps Q x v.work.search
+    still_claimed k s x = SearchClaims-map S (stored (changed k v m)).stamps P Q keeps x v.work.search (stands_same k s id v s.at s.allowed.is_open)
+
     pub claims_kept : (k : Kind) → Step kept z g m vs id v k → New Q k → Each (Claims (stored (changed k v m)).stamps Q) (set vs id (after k v (m (name k v))))
-    claims_kept (publish_stamp clock) s new = others _ s _ (rests _ s _ _ refl (λ e l f. l))
-    claims_kept publish_idle s new = others _ s _ (rests _ s _ _ refl (λ e l f. l))
-    claims_kept retire_write s new = others _ s _ (rests _ s _ _ refl (λ e l f. l))
-    claims_kept publish_bound s new = others _ s _ (rests _ s _ _ refl (λ e l f. l))
-    claims_kept retire_read s new = others _ s _ (rests _ s _ _ refl (λ e l f. l))
     claims_kept (load_head aim r) s new = others _ s _ (framed _ s S _ refl refl refl refl
         (λ x e h. new_at (m (head r) - 1) x e record { aim = aim; record_number = r; place = m (head r) - 1; under = end_of_stamps } aim refl new))
     claims_kept (load_next p look) s new = others _ s _ (framed _ s S _ refl refl refl refl
         (λ x e h. new_moved (m (next_word p.place) - 1) p.place x e record p { aim = moved p.aim p.place; place = m (next_word p.place) - 1; under = stamp_seen look } p.aim refl new))
     claims_kept (load_stamp p) s new = others _ s _ (framed _ s S _ refl refl refl refl (λ x e h. stays _ s p blank s.allowed.can x h))
     claims_kept (load_status p w) s new = others _ s _ (finished_case p w s p.aim refl (ends p.aim w (m (status p.place))) refl _ refl refl refl refl refl)
-    claims_kept (mark r f) s new = others _ s _ (framed _ s S _ refl refl refl refl (λ x e h. tt))
-    claims_kept (point p j w) s new = others _ s _ (framed _ s S _ refl refl refl refl (λ x e h. tt))
     claims_kept (link_head p j w) s new = others _ s _
         (links_case _ s (eqb (m (head p.record_number)) (suc p.place)) record p { aim = links record j { least = suc w; stored = false }; place = m (head p.record_number) - 1 } _ refl _ refl refl refl refl refl)
     claims_kept (link_next p j a w) s new = others _ s _
@@ -238,7 +234,6 @@ module _ (kept : State → Type 0) (z : Size) (g : World) (m : Memory) (vs : Lis
       };
       entered = λ y l f c o. keeps (claim y.stamp c c.version) ((mine _ s).entered y l f c o);
     }
-    claims_kept (load_read_stamp p u w n) s new = others _ s _ (framed _ s S _ refl refl refl refl (λ x e h. tt))
     claims_kept (decide_by_check p u w n) s new =
         let base = framed _ s S (record v { work = record v.work { search = still } }) refl refl refl refl (λ x e h. tt) in
         let is_flight = (aim_of_check kept z g m vs id v _ s p u s.allowed.can.0 s.allowed.can.1).0 in
@@ -252,11 +247,9 @@ module _ (kept : State → Type 0) (z : Size) (g : World) (m : Memory) (vs : Lis
           in_flight = λ x e. let b = base.in_flight x e in record { raised = b.raised; searched = tt; finished = b.finished };
           entered = entered_with _ s v.work.finished v.work.linked (finished_of _ s s.allowed.can.0) true;
         }
-    claims_kept (store_status u) s new = others _ s _ (framed _ s S _ refl refl refl refl (λ x e h. tt))
     claims_kept (finish ds) s new = others _ s _ (rests _ s _ _ refl (λ y l f. ⊎_elim (λ old. old) (λ (is : snapshot_of v.published.read ds ≡ y). absurd (let e : true ≡ false = ap (λ (c : Logged). c.snapshot) is ∙ f in cc))
         (Among-either y (snapshot_of v.published.read ds) v.log l)))
-    claims_kept k s new = others k s _ (framed k s (stored (changed k v m)).stamps _ refl refl refl refl
-        (λ x e h. SearchClaims-map S (stored (changed k v m)).stamps P Q keeps x v.work.search (stands_same k s id v s.at s.allowed.is_open) h))
+    claims_kept k s new = others k s _ (search (rests k s, framed k s, still_claimed k s, tt))
 
 -- ---- a seat is made, and one is taken in
 

@@ -5,9 +5,18 @@ use Rattle.word_layout.specs.Size.{Size, IsSize, places}
 use Rattle.core_rule.specs.View.{View, Places, Work, Counted, Front, Seen, Logged, Gone}
 use Rattle.core_rule.specs.Views.{AllOf, Has}
 use Rattle.core_rule.specs.Holding.{without}
-use Rattle.core_rule.specs.Hands.{Shared, Seated, HandOk}
+use Rattle.core_rule.specs.Hands.{Shared, Seated, HandOk, Steps}
+use Rattle.core_rule.specs.Kinds.{Kind}
+use Rattle.core_rule.specs.Learnt.{Told}
+use Rattle.plain_data.specs.State.{State}
 use Rattle.core_rule.proofs.EachView.{AllOf-Has}
 use Rattle.core_rule.proofs.Without.{AllOf-still}
+
+-- what a step tells of the seat inside a hand, said of the hand
+pub steps_of : (kept : State → Type 0) (k : View → Kind) (inside before : Seated) (n : ℕ) (after' : Seated) → inside ≡ before → after'.table ≡ inside.table → after'.id ≡ inside.id → Told kept (k inside.view) inside.view n after'.view
+    → Steps kept (k before.view) before n after'
+steps_of kept k inside before n after' same table id told =
+    subst (λ (s : Seated). Steps kept (k s.view) s n after') same record { seat = record { same_table = table; same_id = id }; view = told.view; learnt = told.learnt }
 
 module _ (number clock published bound made : ℕ) (last_pool : Option ℕ) (v : View) (ok : HandOk number clock published bound made last_pool v) where
   -- a place that the hand holds is a place of the table

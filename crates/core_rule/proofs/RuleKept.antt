@@ -1,16 +1,28 @@
 -- Each step, and each making and taking in of a seat, keeps the rule: one line for each part.
-use Rattle.std.proofs.Common.{ℕ, List, [], ◌∷◌, ◌++◌, set}
+use Rattle.std.proofs.Common.{ℕ, List, [], ◌∷◌, ◌++◌, set, refl, arith}
 use Rattle.plain_data.specs.State.{State, empty_state}
 use Rattle.word_layout.specs.Size.{Size, IsSize}
 use Rattle.core_rule.specs.View.{View, first_view}
-use Rattle.core_rule.specs.Memory.{Memory, start}
+use Rattle.core_rule.specs.Memory.{Memory, start, stored}
 use Rattle.core_rule.specs.World.{World, first_world}
 use Rattle.core_rule.specs.Kinds.{Kind, name, after, turned, changed}
 use Rattle.core_rule.specs.Hands.{split_left, split_right, joined_view}
-use Rattle.core_rule.specs.Rule.{Rule}
-use Rattle.core_rule.proofs.EachView.{joined}
+use Rattle.core_rule.specs.Rule.{Rule, head_words, status_words, floor_words}
+use Rattle.word_layout.specs.Name.{min_write, min_read}
+use Rattle.core_rule.specs.Parts.Bounds.{BoundOk}
+use Rattle.core_rule.specs.Parts.Filled.{FilledOk}
+use Rattle.core_rule.specs.Parts.Searches.{SearchesOk}
+use Rattle.core_rule.specs.Parts.Reads.{ReadsOk}
+use Rattle.core_rule.specs.Parts.Linking.{LinkingOk}
+use Rattle.core_rule.specs.Parts.Counts.{CountsOk}
+use Rattle.core_rule.specs.Parts.Txns.{TxnOk}
+use Rattle.core_rule.specs.Parts.Items.{ItemOk}
+use Rattle.core_rule.specs.Parts.Fronts.{FrontOk}
+use Rattle.core_rule.specs.Parts.Lefts.{LeftOk}
+use Rattle.core_rule.specs.Parts.Tops.{TopOk}
+use Rattle.core_rule.proofs.EachView.{Each-one, joined}
 use Rattle.core_rule.proofs.Step.{Step}
-use Rattle.core_rule.proofs.Making.{Split, Join}
+use Rattle.core_rule.proofs.Making.{Split, Join, split_each, join_each}
 use Rattle.core_rule.proofs.Parts.SeatsKept.{seats_kept, seats_split, seats_joined, seats_start}
 use Rattle.core_rule.proofs.Parts.PublishedKept.{published_kept, published_split, published_joined, published_start}
 use Rattle.core_rule.proofs.Parts.ClosedKept.{closed_kept, closed_split, closed_joined, closed_start}
@@ -18,30 +30,30 @@ use Rattle.core_rule.proofs.Parts.SplittingKept.{splittings_kept, splittings_spl
 use Rattle.core_rule.proofs.Parts.ClocksKept.{clocks_kept, clocks_split, clocks_joined, clocks_start}
 use Rattle.core_rule.proofs.Parts.MinimaKept.{minima_kept, minima_split, minima_joined, minima_start}
 use Rattle.core_rule.proofs.Parts.ScansKept.{scans_kept, scans_split, scans_joined, scans_start}
-use Rattle.core_rule.proofs.Parts.BoundsKept.{bounds_kept, bounds_split, bounds_joined, bounds_start}
+use Rattle.core_rule.proofs.Parts.BoundsKept.{bounds_kept}
 use Rattle.core_rule.proofs.Parts.PlacesKept.{places_kept, places_split, places_joined, places_start}
-use Rattle.core_rule.proofs.Parts.FilledKept.{filled_kept, filled_split, filled_joined, filled_start}
+use Rattle.core_rule.proofs.Parts.FilledKept.{filled_kept}
 use Rattle.core_rule.proofs.Parts.ListsKept.{lists_kept, lists_split, lists_joined, lists_start}
-use Rattle.core_rule.proofs.Parts.SearchesKept.{searches_kept, searches_split, searches_joined, searches_start}
-use Rattle.core_rule.proofs.Parts.ReadsKept.{reads_kept, reads_split, reads_joined, reads_start}
-use Rattle.core_rule.proofs.Parts.LinkingKept.{linking_kept, linking_split, linking_joined, linking_start}
+use Rattle.core_rule.proofs.Parts.SearchesKept.{searches_kept}
+use Rattle.core_rule.proofs.Parts.ReadsKept.{reads_kept, none}
+use Rattle.core_rule.proofs.Parts.LinkingKept.{linking_kept}
 use Rattle.core_rule.proofs.Parts.VersionsKept.{versions_kept, versions_split, versions_joined, versions_start}
-use Rattle.core_rule.proofs.Parts.CountsKept.{counts_kept, counts_split, counts_joined, counts_start}
-use Rattle.core_rule.proofs.Parts.TxnsKept.{txns_kept, txns_split, txns_joined, txns_start}
+use Rattle.core_rule.proofs.Parts.CountsKept.{counts_kept, counts_start, nothing}
+use Rattle.core_rule.proofs.Parts.TxnsKept.{txns_kept, rests}
 use Rattle.core_rule.proofs.Parts.CellsKept.{word_cells_kept, word_cells_split, word_cells_joined, word_cells_start}
-use Rattle.core_rule.proofs.Parts.JoinedKept.{joined_kept, joined_split, joined_joined, joined_start}
+use Rattle.core_rule.proofs.Parts.JoinedKept.{joined_kept, joined_split, joined_joined}
 use Rattle.core_rule.proofs.Parts.ReadStampsKept.{read_stamps_kept, read_stamps_split, read_stamps_joined, read_stamps_start}
 use Rattle.core_rule.proofs.Parts.AnchoredKept.{anchored_kept, anchored_split, anchored_joined, anchored_start}
 use Rattle.core_rule.proofs.Parts.ReachKept.{reach_kept, reach_split, reach_joined, reach_start}
 use Rattle.core_rule.proofs.Parts.ValuesKept.{values_kept, values_split, values_joined, values_start}
-use Rattle.core_rule.proofs.Parts.EnteredKept.{entered_kept, entered_split, entered_joined, entered_start}
+use Rattle.core_rule.proofs.Parts.EnteredKept.{entered_kept, entered_split, entered_joined}
 use Rattle.core_rule.proofs.Parts.HistoryKept.{history_kept, history_split, history_joined, history_start}
 use Rattle.core_rule.proofs.Parts.LocksKept.{locks_kept, locks_split, locks_joined, locks_start}
-use Rattle.core_rule.proofs.Parts.ItemsKept.{items_kept, items_split, items_joined, items_start}
+use Rattle.core_rule.proofs.Parts.ItemsKept.{items_kept}
 use Rattle.core_rule.proofs.Parts.ChainsKept.{chains_kept, chains_split, chains_joined, chains_start}
-use Rattle.core_rule.proofs.Parts.FrontsKept.{fronts_kept, fronts_split, fronts_joined, fronts_start}
-use Rattle.core_rule.proofs.Parts.LeftsKept.{lefts_kept, lefts_split, lefts_joined, lefts_start}
-use Rattle.core_rule.proofs.Parts.TopsKept.{tops_kept, tops_split, tops_joined, tops_start}
+use Rattle.core_rule.proofs.Parts.FrontsKept.{fronts_kept}
+use Rattle.core_rule.proofs.Parts.LeftsKept.{lefts_kept}
+use Rattle.core_rule.proofs.Parts.TopsKept.{tops_kept}
 use Rattle.core_rule.proofs.Parts.MarkedKept.{marked_kept, marked_split, marked_joined, marked_start}
 use Rattle.core_rule.proofs.Parts.MetKept.{met_kept, met_split, met_joined, met_start}
 use Rattle.core_rule.proofs.Parts.KeepingKept.{keeping_kept, keeping_split, keeping_joined, keeping_start}
@@ -98,16 +110,16 @@ module _ (kept : State → Type 0) (z : Size) (g : World) (m : Memory) (vs : Lis
     clocks = clocks_split kept z g m vs id v s;
     minima = minima_split kept z g m vs id v s;
     scans = scans_split kept z g m vs id v s;
-    bounds = bounds_split kept z g m vs id v s;
+    bounds = split_each s (BoundOk (m min_write)) s.rule.bounds (λ p. p) tt;
     places = places_split kept z g m vs id v s;
-    filled = filled_split kept z g m vs id v s;
+    filled = split_each s (FilledOk (stored m)) s.rule.filled (λ p. p) tt;
     lists = lists_split kept z g m vs id v s;
-    searches = searches_split kept z g m vs id v s;
-    reads = reads_split kept z g m vs id v s;
-    linking = linking_split kept z g m vs id v s;
+    searches = split_each s (SearchesOk z g.lists (stored m).stamps (status_words m)) s.rule.searches (λ p. tt) tt;
+    reads = split_each s (ReadsOk z g.lists (stored m).stamps (stored m).cells (status_words m)) s.rule.reads (λ p. none kept z g m vs id v _ _) (none kept z g m vs id v _ _);
+    linking = split_each s (LinkingOk z g.owner g.lists (stored m)) s.rule.linking (λ p. tt) tt;
     versions = versions_split kept z g m vs id v s;
-    counts = counts_split kept z g m vs id v s;
-    txns = txns_split kept z g m vs id v s;
+    counts = split_each s (CountsOk z g.lists (stored m).stamps) s.rule.counts (λ p alone. nothing z g.lists (stored m).stamps) (λ alone. nothing z g.lists (stored m).stamps);
+    txns = split_each s TxnOk s.rule.txns (λ p. rests _ refl refl refl refl refl refl) (rests _ refl refl refl refl refl refl);
     word_cells = word_cells_split kept z g m vs id v s;
     joined = joined_split kept z g m vs id v s;
     read_stamps = read_stamps_split kept z g m vs id v s;
@@ -117,13 +129,13 @@ module _ (kept : State → Type 0) (z : Size) (g : World) (m : Memory) (vs : Lis
     entered = entered_split kept z g m vs id v s;
     history = history_split kept z g m vs id v s;
     locks = locks_split kept z g m vs id v s;
-    items = items_split kept z g m vs id v s;
+    items = split_each s (ItemOk z g.lists (floor_words m) (stored m) (status_words m) (m min_read)) s.rule.items (λ p. record { reached = p.reached; item = tt }) (record { reached = (s.rule.items id v s.at s.is_open).reached; item = tt });
     chains = chains_split kept z g m vs id v s;
-    fronts = fronts_split kept z g m vs id v s;
-    lefts = lefts_split kept z g m vs id v s;
+    fronts = split_each s (FrontOk z (head_words m)) s.rule.fronts (λ p. tt) tt;
+    lefts = split_each s (LeftOk g.chains) s.rule.lefts (λ p f. absurd f) (λ f. absurd f);
     marked = marked_split kept z g m vs id v s;
     met = met_split kept z g m vs id v s;
-    tops = tops_split kept z g m vs id v s;
+    tops = split_each s (TopOk z (head_words m)) s.rule.tops (λ p alone. tt) (λ alone. tt);
     keeping = keeping_split kept z g m vs id v s;
   }
 
@@ -138,16 +150,16 @@ module _ (kept : State → Type 0) (z : Size) (g : World) (m : Memory) (vs : Lis
     clocks = clocks_joined kept z g m vs id other v w s;
     minima = minima_joined kept z g m vs id other v w s;
     scans = scans_joined kept z g m vs id other v w s;
-    bounds = bounds_joined kept z g m vs id other v w s;
+    bounds = join_each s (BoundOk (m min_write)) s.rule.bounds (s.rule.bounds id v s.at s.is_open);
     places = places_joined kept z g m vs id other v w s;
-    filled = filled_joined kept z g m vs id other v w s;
+    filled = join_each s (FilledOk (stored m)) s.rule.filled (s.rule.filled id v s.at s.is_open);
     lists = lists_joined kept z g m vs id other v w s;
-    searches = searches_joined kept z g m vs id other v w s;
-    reads = reads_joined kept z g m vs id other v w s;
-    linking = linking_joined kept z g m vs id other v w s;
+    searches = join_each s (SearchesOk z g.lists (stored m).stamps (status_words m)) s.rule.searches tt;
+    reads = join_each s (ReadsOk z g.lists (stored m).stamps (stored m).cells (status_words m)) s.rule.reads (none kept z g m vs id v _ _);
+    linking = join_each s (LinkingOk z g.owner g.lists (stored m)) s.rule.linking tt;
     versions = versions_joined kept z g m vs id other v w s;
-    counts = counts_joined kept z g m vs id other v w s;
-    txns = txns_joined kept z g m vs id other v w s;
+    counts = join_each s (CountsOk z g.lists (stored m).stamps) s.rule.counts (λ alone. nothing z g.lists (stored m).stamps);
+    txns = join_each s TxnOk s.rule.txns (rests _ refl refl refl refl refl refl);
     word_cells = word_cells_joined kept z g m vs id other v w s;
     joined = joined_joined kept z g m vs id other v w s;
     read_stamps = read_stamps_joined kept z g m vs id other v w s;
@@ -157,13 +169,13 @@ module _ (kept : State → Type 0) (z : Size) (g : World) (m : Memory) (vs : Lis
     entered = entered_joined kept z g m vs id other v w s;
     history = history_joined kept z g m vs id other v w s;
     locks = locks_joined kept z g m vs id other v w s;
-    items = items_joined kept z g m vs id other v w s;
+    items = join_each s (ItemOk z g.lists (floor_words m) (stored m) (status_words m) (m min_read)) s.rule.items (record { reached = (s.rule.items id v s.at s.is_open).reached; item = tt });
     chains = chains_joined kept z g m vs id other v w s;
-    fronts = fronts_joined kept z g m vs id other v w s;
-    lefts = lefts_joined kept z g m vs id other v w s;
+    fronts = join_each s (FrontOk z (head_words m)) s.rule.fronts tt;
+    lefts = join_each s (LeftOk g.chains) s.rule.lefts (λ f. absurd f);
     marked = marked_joined kept z g m vs id other v w s;
     met = met_joined kept z g m vs id other v w s;
-    tops = tops_joined kept z g m vs id other v w s;
+    tops = join_each s (TopOk z (head_words m)) s.rule.tops (λ alone. tt);
     keeping = keeping_joined kept z g m vs id other v w s;
   }
 
@@ -178,31 +190,31 @@ rule_start kept z h k = record {
   clocks = clocks_start z;
   minima = minima_start z;
   scans = scans_start z;
-  bounds = bounds_start z;
+  bounds = Each-one _ (first_view z) tt;
   places = places_start z;
-  filled = filled_start z;
+  filled = Each-one _ (first_view z) tt;
   lists = lists_start z h;
-  searches = searches_start z h;
-  reads = reads_start z h;
-  linking = linking_start z h;
+  searches = Each-one _ (first_view z) tt;
+  reads = Each-one _ (first_view z) record { found_ok = λ d k. absurd k; raised_ok = λ d k. absurd k };
+  linking = Each-one _ (first_view z) tt;
   versions = versions_start z h;
   counts = counts_start z h;
-  txns = txns_start z h;
+  txns = Each-one _ (first_view z) (rests _ refl refl refl refl refl refl);
   word_cells = word_cells_start z h;
-  joined = joined_start z h;
+  joined = Each-one _ (first_view z) record { within = tt; below = λ t e. tt };
   read_stamps = read_stamps_start z h;
   anchored = anchored_start z h;
   reach = reach_start z h;
   values = values_start z h;
-  entered = entered_start z h;
+  entered = Each-one _ (first_view z) record { commits = λ e l. absurd l; snapshots = λ e l. absurd l };
   history = history_start kept z h;
   locks = locks_start z h;
-  items = items_start z h;
+  items = Each-one _ (first_view z) record { reached = omega arith; item = tt };
   chains = chains_start z h;
-  fronts = fronts_start z h;
-  lefts = lefts_start z h;
+  fronts = Each-one _ (first_view z) tt;
+  lefts = Each-one _ (first_view z) (λ f. absurd f);
   marked = marked_start z h;
   met = met_start z h;
-  tops = tops_start z h;
+  tops = Each-one _ (first_view z) (λ alone. tt);
   keeping = keeping_start z h;
 }

@@ -24,7 +24,7 @@ impl<J: Keeps> Core<J> {
     {
         let word = self.layout.lock(rid);
         let number = u64::from(hand.number) + 1;
-        self.compare_exchange::<Brand>(&mut hand.seat, word, 0, number, rid.into(), stamp)
+        self.compare_exchange::<Brand, _>(&mut hand.seat, word, 0, number, &(rid, stamp))
     }
 
     /// Loads the floor of a record under its lock.
@@ -35,7 +35,7 @@ impl<J: Keeps> Core<J> {
         ensures { Steps J.kept (load_floor rid (version_in hand.old.view.work.item)) hand.old result hand.new }
     {
         let word = self.layout.floor(rid);
-        self.load::<Brand>(&mut hand.seat, word, 0)
+        self.load::<Brand, _>(&mut hand.seat, word, &())
     }
 
     /// Begins the search for the version: loads the head of its record's list.
@@ -46,7 +46,7 @@ impl<J: Keeps> Core<J> {
         ensures { Steps J.kept (seek_head rid (version_in hand.old.view.work.item)) hand.old result hand.new }
     {
         let word = self.layout.head(rid);
-        self.load::<Brand>(&mut hand.seat, word, 0)
+        self.load::<Brand, _>(&mut hand.seat, word, &())
     }
 
     /// Loads the write stamp at the place where the search stands.
@@ -57,7 +57,7 @@ impl<J: Keeps> Core<J> {
         ensures { Steps J.kept (seek_stamp (record_in hand.old.view.work.item) (version_in hand.old.view.work.item) place (number_in hand.old.view.work.item)) hand.old result hand.new }
     {
         let word = self.layout.wts(place);
-        self.load::<Brand>(&mut hand.seat, word, 0)
+        self.load::<Brand, _>(&mut hand.seat, word, &())
     }
 
     /// Goes on from a later version to the next older one.
@@ -68,7 +68,7 @@ impl<J: Keeps> Core<J> {
         ensures { Steps J.kept (seek_next (record_in hand.old.view.work.item) (version_in hand.old.view.work.item) place (number_in hand.old.view.work.item)) hand.old result hand.new }
     {
         let word = self.layout.next(place);
-        self.load::<Brand>(&mut hand.seat, word, 0)
+        self.load::<Brand, _>(&mut hand.seat, word, &())
     }
 
     /// Raises the floor of the record to the version that was found.
@@ -79,7 +79,7 @@ impl<J: Keeps> Core<J> {
         ensures { Steps J.kept (raise_floor rid stamp place) hand.old stamp hand.new }
     {
         let word = self.layout.floor(rid);
-        self.store::<Brand>(&mut hand.seat, word, stamp, 0);
+        self.store::<Brand, _>(&mut hand.seat, word, stamp, &());
     }
 
     /// Cuts off what is older than the version, and gives the link to the first of it, 0 where there is nothing.
@@ -101,7 +101,7 @@ impl<J: Keeps> Core<J> {
         ensures { Steps J.kept (unlock rid (version_in hand.old.view.work.item) (number_in hand.old.view.work.item)) hand.old 0 hand.new }
     {
         let word = self.layout.lock(rid);
-        self.store::<Brand>(&mut hand.seat, word, 0, 0);
+        self.store::<Brand, _>(&mut hand.seat, word, 0, &());
     }
 
     /// Unlocks the record where the version is below its floor.
@@ -112,7 +112,7 @@ impl<J: Keeps> Core<J> {
         ensures { Steps J.kept (drop rid (version_in hand.old.view.work.item)) hand.old 0 hand.new }
     {
         let lock = self.layout.lock(rid);
-        self.store::<Brand>(&mut hand.seat, lock, 0, 0);
+        self.store::<Brand, _>(&mut hand.seat, lock, 0, &());
     }
 
     /// Loads the link of the first place that was cut off and is not yet freed.
@@ -123,7 +123,7 @@ impl<J: Keeps> Core<J> {
         ensures { Steps J.kept (follow (record_in hand.old.view.work.item) (version_in hand.old.view.work.item) (suc place)) hand.old result hand.new }
     {
         let word = self.layout.next(place);
-        self.load::<Brand>(&mut hand.seat, word, 0)
+        self.load::<Brand, _>(&mut hand.seat, word, &())
     }
 
     /// Frees the place whose link was loaded.
@@ -134,6 +134,6 @@ impl<J: Keeps> Core<J> {
         ensures { Steps J.kept (free_place (record_in hand.old.view.work.item) (version_in hand.old.view.work.item) (number_in hand.old.view.work.item) place) hand.old 0 hand.new }
     {
         let status = self.layout.status(place);
-        self.store::<Brand>(&mut hand.seat, status, 0, 0);
+        self.store::<Brand, _>(&mut hand.seat, status, 0, &());
     }
 }

@@ -29,7 +29,7 @@ impl<J: Keeps> Core<J> {
         ensures { Steps J.kept (adopt_clock other) hand.old result hand.new }
     {
         let write_word = self.layout.published_write(other);
-        let found = self.load::<Brand>(&mut hand.seat, write_word, other.into());
+        let found = self.load::<Brand, _>(&mut hand.seat, write_word, &other);
         hand.clock = adopted_clock(hand.clock, found);
         found
     }
@@ -40,7 +40,7 @@ impl<J: Keeps> Core<J> {
         ensures { Steps J.kept (hear stamp) hand.old result hand.new }
     {
         let write_word = self.layout.published_write(hand.number);
-        let found = self.load::<Brand>(&mut hand.seat, write_word, stamp.number());
+        let found = self.load::<Brand, _>(&mut hand.seat, write_word, &stamp);
         hand.clock = hand.clock.max(stamp.clock());
         found
     }
@@ -53,7 +53,7 @@ impl<J: Keeps> Core<J> {
         ensures { Steps J.kept (scan_writes seat) hand.old result hand.new }
     {
         let write_word = self.layout.published_write(seat);
-        self.load::<Brand>(&mut hand.seat, write_word, seat.into())
+        self.load::<Brand, _>(&mut hand.seat, write_word, &seat)
     }
 
     /// Loads the published read word of the next seat, for `min_rts`. At seat 0 the raise begins anew.
@@ -64,7 +64,7 @@ impl<J: Keeps> Core<J> {
         ensures { Steps J.kept (scan_reads seat) hand.old result hand.new }
     {
         let read_word = self.layout.published_read(seat);
-        self.load::<Brand>(&mut hand.seat, read_word, seat.into())
+        self.load::<Brand, _>(&mut hand.seat, read_word, &seat)
     }
 
     /// Loads `min_wts`, for the own published read word.
@@ -73,7 +73,7 @@ impl<J: Keeps> Core<J> {
         ensures { Steps J.kept load_min_write hand.old result hand.new }
     {
         let min_write = self.layout.min_write();
-        self.load::<Brand>(&mut hand.seat, min_write, 0)
+        self.load::<Brand, _>(&mut hand.seat, min_write, &())
     }
 
     /// Loads `min_rts`, which is at most the own published read word. A retired seat may load it too. What a snapshot has read so
@@ -83,7 +83,7 @@ impl<J: Keeps> Core<J> {
         ensures { Steps J.kept load_min_read hand.old result hand.new }
     {
         let min_read = self.layout.min_read();
-        self.load::<Brand>(&mut hand.seat, min_read, 0)
+        self.load::<Brand, _>(&mut hand.seat, min_read, &())
     }
 
     /// Raises `min_wts` to the least of the words that were loaded for it, and gives what it was before.
@@ -94,7 +94,7 @@ impl<J: Keeps> Core<J> {
         ensures { Steps J.kept raise_min_write hand.old result hand.new }
     {
         let min_write = self.layout.min_write();
-        self.fetch_max::<Brand>(&mut hand.seat, min_write, least)
+        self.fetch_max::<Brand, _>(&mut hand.seat, min_write, least, &())
     }
 
     /// Raises `min_rts` to the least of the words that were loaded for it, and gives what it was before.
@@ -105,6 +105,6 @@ impl<J: Keeps> Core<J> {
         ensures { Steps J.kept raise_min_read hand.old result hand.new }
     {
         let min_read = self.layout.min_read();
-        self.fetch_max::<Brand>(&mut hand.seat, min_read, least)
+        self.fetch_max::<Brand, _>(&mut hand.seat, min_read, least, &())
     }
 }

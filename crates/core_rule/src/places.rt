@@ -27,14 +27,7 @@ impl<J: Keeps> Core<J> {
         ensures { Takes J.kept place hand.old result hand.new }
     {
         let word = self.layout.status(place);
-        let found = self.compare_exchange::<Brand>(
-            &mut hand.seat,
-            word,
-            FREE,
-            HELD,
-            place.into(),
-            0,
-        );
+        let found = self.compare_exchange::<Brand, _>(&mut hand.seat, word, FREE, HELD, &place);
         let taken = found == FREE;
         if taken && place >= self.layout.records() && place + 1 < self.layout.places() {
             hand.last_pool = Some(place);
@@ -50,7 +43,7 @@ impl<J: Keeps> Core<J> {
     {
         let seat = &mut hand.seat;
         let word = self.layout.wts(place);
-        self.store::<Brand>(seat, word, stamp.number(), place.into());
+        self.store::<Brand, _>(seat, word, stamp.number(), &place);
     }
 
     /// Stores 0 as read stamp, in the place that is being filled.
@@ -63,7 +56,7 @@ impl<J: Keeps> Core<J> {
     {
         let seat = &mut hand.seat;
         let word = self.layout.rts(place);
-        self.store::<Brand>(seat, word, 0, 0);
+        self.store::<Brand, _>(seat, word, 0, &());
     }
 
     /// The word of the first cell of a held place. Its other cells stand in the words behind that one.
@@ -88,7 +81,7 @@ impl<J: Keeps> Core<J> {
     {
         let seat = &mut hand.seat;
         let word = first + index;
-        self.store::<Brand>(seat, word, value, 0);
+        self.store::<Brand, _>(seat, word, value, &());
     }
 
     /// Loads that cell. Where it shows this value already, it counts as stored.
@@ -103,7 +96,7 @@ impl<J: Keeps> Core<J> {
     {
         let seat = &mut hand.seat;
         let word = first + index;
-        self.load::<Brand>(seat, word, value)
+        self.load::<Brand, _>(seat, word, &value)
     }
 
     /// Gives a held place back.
@@ -114,6 +107,6 @@ impl<J: Keeps> Core<J> {
     {
         let seat = &mut hand.seat;
         let word = self.layout.status(place);
-        self.store::<Brand>(seat, word, FREE, place.into());
+        self.store::<Brand, _>(seat, word, FREE, &place);
     }
 }

@@ -27,7 +27,7 @@ impl<J: Keeps> Core<J> {
     {
         let stamp = Stamp::make(clock, hand.number);
         let write_word = self.layout.published_write(hand.number);
-        self.store::<Brand>(&mut hand.seat, write_word, stamp.number(), 0);
+        self.store::<Brand, _>(&mut hand.seat, write_word, stamp.number(), &());
         hand.clock = clock;
         hand.published = stamp.number();
         stamp
@@ -43,7 +43,7 @@ impl<J: Keeps> Core<J> {
     {
         let bound = hand.clock * 256 + u64::from(SEATS);
         let write_word = self.layout.published_write(hand.number);
-        self.store::<Brand>(&mut hand.seat, write_word, bound, 0);
+        self.store::<Brand, _>(&mut hand.seat, write_word, bound, &());
         hand.published = bound;
         bound
     }
@@ -56,7 +56,7 @@ impl<J: Keeps> Core<J> {
         ensures { Steps J.kept retire_write hand.old end_of_stamps hand.new }
     {
         let write_word = self.layout.published_write(hand.number);
-        self.store::<Brand>(&mut hand.seat, write_word, END, 0);
+        self.store::<Brand, _>(&mut hand.seat, write_word, END, &());
         hand.published = END;
     }
 
@@ -71,7 +71,7 @@ impl<J: Keeps> Core<J> {
     {
         let bound = loaded - 1;
         let read_word = self.layout.published_read(hand.number);
-        self.store::<Brand>(&mut hand.seat, read_word, bound, 0);
+        self.store::<Brand, _>(&mut hand.seat, read_word, bound, &());
         hand.bound = bound;
         bound
     }
@@ -83,7 +83,7 @@ impl<J: Keeps> Core<J> {
         ensures { Steps J.kept retire_read hand.old end_of_stamps hand.new }
     {
         let read_word = self.layout.published_read(hand.number);
-        self.store::<Brand>(&mut hand.seat, read_word, END, 0);
+        self.store::<Brand, _>(&mut hand.seat, read_word, END, &());
         hand.bound = END;
     }
 }

@@ -27,7 +27,7 @@ impl<J: Keeps> Core<J> {
         ensures { Steps J.kept (load_head reads rid) hand.old result hand.new }
     {
         let word = self.layout.head(rid);
-        self.load::<Brand>(&mut hand.seat, word, rid.into())
+        self.load::<Brand, _>(&mut hand.seat, word, &rid)
     }
 
     /// Goes on to the next older version, from one that is too late or aborted.
@@ -40,7 +40,7 @@ impl<J: Keeps> Core<J> {
         ensures { Steps J.kept (load_next (stand_in hand.old.view.work.search) (look_in hand.old.view.work.search)) hand.old result hand.new }
     {
         let word = self.layout.next(place);
-        self.load::<Brand>(&mut hand.seat, word, 0)
+        self.load::<Brand, _>(&mut hand.seat, word, &())
     }
 
     /// Loads the write stamp at the place where the search stands.
@@ -52,7 +52,7 @@ impl<J: Keeps> Core<J> {
         ensures { Steps J.kept (load_stamp (stand_in hand.old.view.work.search)) hand.old result hand.new }
     {
         let word = self.layout.wts(place);
-        self.load::<Brand>(&mut hand.seat, word, 0)
+        self.load::<Brand, _>(&mut hand.seat, word, &())
     }
 
     /// Loads the status there, of a version of this stamp that is not too late.
@@ -66,7 +66,7 @@ impl<J: Keeps> Core<J> {
         ensures { Steps J.kept (load_status (stand_in hand.old.view.work.search) stamp) hand.old (status_word result) hand.new }
     {
         let word = self.layout.status(place);
-        let found = self.load::<Brand>(&mut hand.seat, word, stamp);
+        let found = self.load::<Brand, _>(&mut hand.seat, word, &stamp);
         Status::shown_by(found)
     }
 
@@ -82,7 +82,7 @@ impl<J: Keeps> Core<J> {
     {
         let seat = &mut hand.seat;
         let word = first + index;
-        self.load::<Brand>(seat, word, 0)
+        self.load::<Brand, _>(seat, word, &())
     }
 
     /// Begins the search for the place of a version that is marked.
@@ -94,7 +94,7 @@ impl<J: Keeps> Core<J> {
         ensures { Steps J.kept (load_head (links (first_joint (write_in hand.old.view.work.search))) rid) hand.old result hand.new }
     {
         let word = self.layout.head(rid);
-        self.load::<Brand>(&mut hand.seat, word, rid.into())
+        self.load::<Brand, _>(&mut hand.seat, word, &rid)
     }
 
     /// Marks what is filled as a pending version of a record.
@@ -113,7 +113,7 @@ impl<J: Keeps> Core<J> {
         ensures { Steps J.kept (mark rid (front_fill hand.old.view.places.fills)) hand.old (status_word Status.Pending) hand.new }
     {
         let word = self.layout.status(place);
-        self.store::<Brand>(&mut hand.seat, word, Status::Pending.word(), rid.into());
+        self.store::<Brand, _>(&mut hand.seat, word, Status::Pending.word(), &rid);
     }
 
     /// Stores in the own link of a marked version the place below, where the search stands.
@@ -129,7 +129,7 @@ impl<J: Keeps> Core<J> {
     {
         let word = self.layout.next(place);
         let seat = &mut hand.seat;
-        self.store::<Brand>(seat, word, u64::from(below) + 1, 0);
+        self.store::<Brand, _>(seat, word, u64::from(below) + 1, &());
     }
 
     /// Links the marked version at the head of its record's list, if the head still names the place below.
@@ -146,8 +146,8 @@ impl<J: Keeps> Core<J> {
         ensures { Steps J.kept (link_head (stand_in hand.old.view.work.search) (joint_in hand.old.view.work.search) (stamp_seen (look_in hand.old.view.work.search))) hand.old result hand.new }
     {
         let word = self.layout.head(rid);
-        let seat = &mut hand.seat;
-        self.compare_exchange::<Brand>(seat, word, u64::from(below) + 1, u64::from(place) + 1, 0, 0)
+        let (old, new) = (u64::from(below) + 1, u64::from(place) + 1);
+        self.compare_exchange::<Brand, _>(&mut hand.seat, word, old, new, &())
     }
 
     /// Links the marked version behind the place above, if that place's link still names the place below.
@@ -163,15 +163,8 @@ impl<J: Keeps> Core<J> {
         ensures { Steps J.kept (link_next (stand_in hand.old.view.work.search) (joint_in hand.old.view.work.search) above (stamp_seen (look_in hand.old.view.work.search))) hand.old result hand.new }
     {
         let word = self.layout.next(above);
-        let seat = &mut hand.seat;
-        self.compare_exchange::<Brand>(
-            seat,
-            word,
-            u64::from(below) + 1,
-            u64::from(place) + 1,
-            above.into(),
-            0,
-        )
+        let (old, new) = (u64::from(below) + 1, u64::from(place) + 1);
+        self.compare_exchange::<Brand, _>(&mut hand.seat, word, old, new, &above)
     }
 }
 
@@ -184,7 +177,7 @@ impl<J: Keeps> Core<J> {
         ensures { Steps J.kept (front_head rid) hand.old result hand.new }
     {
         let word = self.layout.head(rid);
-        self.load::<Brand>(&mut hand.seat, word, rid.into())
+        self.load::<Brand, _>(&mut hand.seat, word, &rid)
     }
 
     /// Loads the write stamp of the first version.
@@ -195,7 +188,7 @@ impl<J: Keeps> Core<J> {
         ensures { Steps J.kept (front_stamp rid place) hand.old result hand.new }
     {
         let word = self.layout.wts(place);
-        self.load::<Brand>(&mut hand.seat, word, 0)
+        self.load::<Brand, _>(&mut hand.seat, word, &())
     }
 
     /// Loads its status.
@@ -206,7 +199,7 @@ impl<J: Keeps> Core<J> {
         ensures { Steps J.kept (front_status rid place stamp) hand.old (status_word result) hand.new }
     {
         let word = self.layout.status(place);
-        let found = self.load::<Brand>(&mut hand.seat, word, stamp);
+        let found = self.load::<Brand, _>(&mut hand.seat, word, &stamp);
         Status::shown_by(found)
     }
 
@@ -225,6 +218,6 @@ impl<J: Keeps> Core<J> {
         ensures { Steps J.kept (front_next rid place stamp (status_word status)) hand.old result hand.new }
     {
         let word = self.layout.next(place);
-        self.load::<Brand>(&mut hand.seat, word, 0)
+        self.load::<Brand, _>(&mut hand.seat, word, &())
     }
 }

@@ -118,7 +118,7 @@ impl<J: Keeps> Core<J> {
         ensures told { Told J.kept offer_write_word seat.old.me.0 published seat.new.me.0 }
     {
         let word = self.layout.published_write(made);
-        self.store::<Brand>(seat, word, published, 0);
+        self.store::<Brand, _>(seat, word, published, &());
     }
 
     // The same for the published read word.
@@ -135,6 +135,6 @@ impl<J: Keeps> Core<J> {
         ensures told { Told J.kept offer_read_word seat.old.me.0 published seat.new.me.0 }
     {
         let word = self.layout.published_read(made);
-        self.store::<Brand>(seat, word, published, 0);
+        self.store::<Brand, _>(seat, word, published, &());
     }
 }

@@ -1,4 +1,5 @@
-//! The operations of the table, each for every kind of step that has this way.
+//! The operations of the table, each for every kind of step that has this way. `_of` has what the kind is of: it is for the choice of
+//! the kind alone.
 ghost use Rattle.std.specs.Prelude.{◌≡◌, []};
 ghost use Rattle.word_layout.specs.Name.{IsNamed, word_of};
 ghost use Rattle.core_rule.specs.Ways.{Looks, stores, raises_to, exchanges, swaps};
@@ -12,8 +13,7 @@ use atomic_table::Seat;
 use histories::Keeps;
 
 impl<J: Keeps> Core<J> {
-    /// `operand` is for the choice of the kind alone.
-    pub(crate) fn load<M: Deed>(&self, seat: &mut Seat<(), View>, word: u32, _operand: u64) -> u64
+    pub(crate) fn load<M: Deed, O>(&self, seat: &mut Seat<(), View>, word: u32, _of: &O) -> u64
         requires table { seat.old.table_id ≡ self.now.table }
         requires bare { seat.old.me.1 ≡ [] }
         requires named { IsNamed self.now.size (name M.kind seat.old.me.0) }
@@ -28,14 +28,7 @@ impl<J: Keeps> Core<J> {
         self.table.shared.load::<Does<J, M>>(seat, word as usize)
     }
 
-    /// `operand` is for the choice of the kind alone.
-    pub(crate) fn store<M: Deed>(
-        &self,
-        seat: &mut Seat<(), View>,
-        word: u32,
-        new: u64,
-        _operand: u64,
-    )
+    pub(crate) fn store<M: Deed, O>(&self, seat: &mut Seat<(), View>, word: u32, new: u64, _of: &O)
         requires table { seat.old.table_id ≡ self.now.table }
         requires bare { seat.old.me.1 ≡ [] }
         requires named { IsNamed self.now.size (name M.kind seat.old.me.0) }
@@ -52,61 +45,7 @@ impl<J: Keeps> Core<J> {
             .store::<Does<J, M>>(seat, word as usize, new);
     }
 
-    pub(crate) fn fetch_max<M: Deed>(&self, seat: &mut Seat<(), View>, word: u32, bound: u64) -> u64
-        requires table { seat.old.table_id ≡ self.now.table }
-        requires bare { seat.old.me.1 ≡ [] }
-        requires named { IsNamed self.now.size (name M.kind seat.old.me.0) }
-        requires word { word ≡ word_of self.now.size (name M.kind seat.old.me.0) }
-        requires allowed { Allowed J.kept M.kind seat.old.me.0 }
-        requires way { way M.kind seat.old.me.0 ≡ raises_to bound }
-        ensures table { seat.new.table_id ≡ seat.old.table_id }
-        ensures id { seat.new.id ≡ seat.old.id }
-        ensures bare { seat.new.me.1 ≡ [] }
-        ensures told { Told J.kept M.kind seat.old.me.0 result seat.new.me.0 }
-    {
-        self.table
-            .shared
-            .fetch_max::<Does<J, M>>(seat, word as usize, bound)
-    }
-
-    /// The next three are for kinds that the value behind `_of` tells.
-    pub(crate) fn load_of<M: Deed, O>(&self, seat: &mut Seat<(), View>, word: u32, _of: &O) -> u64
-        requires table { seat.old.table_id ≡ self.now.table }
-        requires bare { seat.old.me.1 ≡ [] }
-        requires named { IsNamed self.now.size (name M.kind seat.old.me.0) }
-        requires word { word ≡ word_of self.now.size (name M.kind seat.old.me.0) }
-        requires allowed { Allowed J.kept M.kind seat.old.me.0 }
-        requires way { Looks (way M.kind seat.old.me.0) }
-        ensures table { seat.new.table_id ≡ seat.old.table_id }
-        ensures id { seat.new.id ≡ seat.old.id }
-        ensures bare { seat.new.me.1 ≡ [] }
-        ensures told { Told J.kept M.kind seat.old.me.0 result seat.new.me.0 }
-    {
-        self.load::<M>(seat, word, 0)
-    }
-
-    pub(crate) fn store_of<M: Deed, O>(
-        &self,
-        seat: &mut Seat<(), View>,
-        word: u32,
-        new: u64,
-        _of: &O,
-    )
-        requires table { seat.old.table_id ≡ self.now.table }
-        requires bare { seat.old.me.1 ≡ [] }
-        requires named { IsNamed self.now.size (name M.kind seat.old.me.0) }
-        requires word { word ≡ word_of self.now.size (name M.kind seat.old.me.0) }
-        requires allowed { Allowed J.kept M.kind seat.old.me.0 }
-        requires way { way M.kind seat.old.me.0 ≡ stores new }
-        ensures table { seat.new.table_id ≡ seat.old.table_id }
-        ensures id { seat.new.id ≡ seat.old.id }
-        ensures bare { seat.new.me.1 ≡ [] }
-        ensures told { Told J.kept M.kind seat.old.me.0 new seat.new.me.0 }
-    {
-        self.store::<M>(seat, word, new, 0);
-    }
-
-    pub(crate) fn fetch_max_of<M: Deed, O>(
+    pub(crate) fn fetch_max<M: Deed, O>(
         &self,
         seat: &mut Seat<(), View>,
         word: u32,
@@ -124,18 +63,19 @@ impl<J: Keeps> Core<J> {
         ensures bare { seat.new.me.1 ≡ [] }
         ensures told { Told J.kept M.kind seat.old.me.0 result seat.new.me.0 }
     {
-        self.fetch_max::<M>(seat, word, bound)
+        self.table
+            .shared
+            .fetch_max::<Does<J, M>>(seat, word as usize, bound)
     }
 
-    /// Gives the number found, which has become `new` where it was `old`. The operands are for the choice of the kind alone.
-    pub(crate) fn compare_exchange<M: Deed>(
+    /// Gives the number found, which has become `new` where it was `old`.
+    pub(crate) fn compare_exchange<M: Deed, O>(
         &self,
         seat: &mut Seat<(), View>,
         word: u32,
         old: u64,
         new: u64,
-        _operand: u64,
-        _other: u64,
+        _of: &O,
     ) -> u64
         requires table { seat.old.table_id ≡ self.now.table }
         requires bare { seat.old.me.1 ≡ [] }

@@ -31,7 +31,7 @@ impl<J: Keeps> Core<J> {
         ensures { Steps J.kept (raise_read_stamp read.now) hand.old result hand.new }
     {
         let word = self.layout.rts(read.place());
-        self.fetch_max_of::<Brand, ReadVersion>(&mut hand.seat, word, stamp, read)
+        self.fetch_max::<Brand, _>(&mut hand.seat, word, stamp, read)
     }
 
     /// Begins the second search for a version that was read, whose read stamp is raised.
@@ -42,7 +42,7 @@ impl<J: Keeps> Core<J> {
         ensures { Steps J.kept (load_head (again read.now) read.now.record_number) hand.old result hand.new }
     {
         let word = self.layout.head(read.rid());
-        self.load_of::<Brand, ReadVersion>(&mut hand.seat, word, read)
+        self.load::<Brand, _>(&mut hand.seat, word, read)
     }
 
     /// Begins the search for the version that a linked one overwrites.
@@ -53,7 +53,7 @@ impl<J: Keeps> Core<J> {
         ensures { Steps J.kept (load_head (checks write.now) write.now.record_number) hand.old result hand.new }
     {
         let word = self.layout.head(write.rid());
-        self.load_of::<Brand, WrittenVersion>(&mut hand.seat, word, write)
+        self.load::<Brand, _>(&mut hand.seat, word, write)
     }
 
     /// Loads the read stamp of the version that a linked one overwrites: at most the stamp in flight, it passes the check.
@@ -67,7 +67,7 @@ impl<J: Keeps> Core<J> {
         ensures { Steps J.kept (load_read_stamp (stand_in hand.old.view.work.search) (checked_in hand.old.view.work.search) (stamp_seen (look_in hand.old.view.work.search)) (state_seen (look_in hand.old.view.work.search))) hand.old result hand.new }
     {
         let word = self.layout.rts(place);
-        self.load::<Brand>(&mut hand.seat, word, 0)
+        self.load::<Brand, _>(&mut hand.seat, word, &())
     }
 
     /// The same at the last check of a transaction, which decides to commit where it passes.
@@ -85,7 +85,7 @@ impl<J: Keeps> Core<J> {
         ensures { Steps J.kept (decide_by_check (stand_in hand.old.view.work.search) (checked_in hand.old.view.work.search) (stamp_seen (look_in hand.old.view.work.search)) (state_seen (look_in hand.old.view.work.search))) hand.old result hand.new }
     {
         let rts = self.layout.rts(place);
-        self.load::<Brand>(&mut hand.seat, rts, 0)
+        self.load::<Brand, _>(&mut hand.seat, rts, &())
     }
 
     /// Decides to commit a transaction whose reads were all searched again and that writes nothing, at a load of its
@@ -101,7 +101,7 @@ impl<J: Keeps> Core<J> {
         ensures { Steps J.kept decide_bare hand.old result hand.new }
     {
         let word = self.layout.published_write(hand.number);
-        self.load::<Brand>(&mut hand.seat, word, 0)
+        self.load::<Brand, _>(&mut hand.seat, word, &())
     }
 
     /// Stores the last status of a linked version: committed or deleted where the transaction was decided, else aborted.
@@ -116,7 +116,7 @@ impl<J: Keeps> Core<J> {
     {
         let word = self.layout.status(write.place());
         let last = last_status(write, decided);
-        self.store_of::<Brand, WrittenVersion>(&mut hand.seat, word, last.word(), write);
+        self.store::<Brand, _>(&mut hand.seat, word, last.word(), write);
     }
 
     /// Ends a snapshot with all that it has read, at a load of the own published read word: its entry enters the log. The
@@ -129,7 +129,7 @@ impl<J: Keeps> Core<J> {
         ensures { Steps J.kept (finish (firsts hand.old.view.work.reads)) hand.old result hand.new }
     {
         let word = self.layout.published_read(hand.number);
-        self.load::<Brand>(&mut hand.seat, word, 0)
+        self.load::<Brand, _>(&mut hand.seat, word, &())
     }
 }
 

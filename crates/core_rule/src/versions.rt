@@ -4,36 +4,85 @@ use plain_data::Cells;
 use std::marker::Model;
 
 /// A version that a search found, with the value that was loaded; `None` where it is a deletion.
+///
+/// It can become another version, in whose cells a value is then loaded word by word, so that no value is copied.
 #[derive(Drop)]
 pub struct ReadVersion {
     rid: u32,
     place: u32,
     wts: u64,
-    value: Option<Cells>,
+    present: bool,
+    words: [u64; 32],
 }
 
 impl Model for ReadVersion {
+    ghost use Rattle.std.specs.Prelude.{[], if◌then◌else◌};
     ghost use Rattle.core_rule.specs.View.{Read};
-    ghost use Rattle.core_rule.specs.Versions.{state_of, cells_of};
+    ghost use Rattle.core_rule.specs.Status.{status_word};
+    ghost use Rattle.core_rule.specs.declared.status.Status.TheVariants.{Committed, Deleted};
 
     ghost Value = { Read };
 
-    ghost view = { λ r. record { record_number = r.rid; place = r.place; version = r.wts; status = state_of r.value; cells = cells_of r.value } };
+    ghost view = { λ r. record { record_number = r.rid; place = r.place; version = r.wts; status = if r.present then status_word Committed else status_word Deleted; cells = if r.present then r.words else [] } };
 }
 
 impl ReadVersion {
-    ghost use Rattle.std.specs.Prelude.{◌≡◌};
+    ghost use Rattle.std.specs.Prelude.{◌≡◌, ◌<◌, Some, IfSome, length, slice_set};
+    ghost use Rattle.core_rule.specs.Deciding.{read_value};
     ghost use Rattle.core_rule.specs.Versions.{read_version};
 
     pub fn new(rid: u32, place: u32, wts: u64, value: Option<Cells>) -> Self
         ensures { result ≡ read_version rid place wts value }
     {
-        ReadVersion {
-            rid,
-            place,
-            wts,
-            value,
+        match value {
+            None => ReadVersion {
+                rid,
+                place,
+                wts,
+                present: false,
+                words: [0; 32],
+            },
+            Some(cells) => ReadVersion {
+                rid,
+                place,
+                wts,
+                present: true,
+                words: cells.words(),
+            },
         }
+    }
+
+    /// Becomes another version.
+    pub fn set(&mut self, rid: u32, place: u32, wts: u64, value: &Option<Cells>)
+        ensures { self.new ≡ read_version rid place wts value.now }
+    {
+        self.rid = rid;
+        self.place = place;
+        self.wts = wts;
+        self.present = value.is_some();
+        if let Some(cells) = value {
+            self.words = cells.words();
+        }
+    }
+
+    /// Becomes another version, of a record that is present; what stands in its cells before they are set is any.
+    pub fn begin(&mut self, rid: u32, place: u32, wts: u64)
+        ensures version { self.new ≡ read_version rid place wts (Some self.new.cells) }
+        ensures whole { length self.new.cells ≡ 32 }
+    {
+        self.rid = rid;
+        self.place = place;
+        self.wts = wts;
+        self.present = true;
+    }
+
+    /// Sets the cell of this number, counted from 0.
+    pub fn set_cell(&mut self, i: u32, word: u64)
+        requires cell { i < 32 }
+        requires present { length self.old.cells ≡ 32 }
+        ensures { self.new ≡ record self.old { cells = slice_set self.old.cells i word } }
+    {
+        self.words[i as usize] = word;
     }
 
     /// The record's number.
@@ -54,6 +103,18 @@ impl ReadVersion {
         ensures { result ≡ self.now.version }
     {
         self.wts
+    }
+
+    /// The value; `None` where it is a deletion.
+    pub fn value(&self) -> Option<Cells>
+        ensures value { result ≡ read_value self.now }
+        ensures whole { IfSome result (λ words. length words ≡ 32) }
+    {
+        if self.present {
+            Some(Cells::new(self.words))
+        } else {
+            None
+        }
     }
 }
 
@@ -78,6 +139,7 @@ impl Model for WrittenVersion {
 
 impl WrittenVersion {
     ghost use Rattle.std.specs.Prelude.{◌≡◌, ◌↔◌, ◌⊎◌, IsTrue, [], length};
+    ghost use Rattle.core_rule.specs.Deciding.{value_of};
     ghost use Rattle.core_rule.specs.Versions.{written_version, cells_of};
 
     pub fn new(rid: u32, place: u32, stamp: u64, value: Option<Cells>) -> Self
@@ -104,8 +166,19 @@ impl WrittenVersion {
         self.place
     }
 
+    /// Becomes a write of this value to a record, without a place.
+    pub fn set(&mut self, rid: u32, value: &Option<Cells>)
+        ensures { self.new ≡ written_version rid 0 0 value.now }
+    {
+        self.rid = rid;
+        self.place = 0;
+        self.stamp = 0;
+        self.value = *value;
+    }
+
     /// The value; `None` where it is a deletion.
     pub fn value(&self) -> &Option<Cells>
+        ensures value { result.now ≡ value_of self.now.cells }
         ensures cells { cells_of result.now ≡ self.now.cells }
         ensures whole { (self.now.cells ≡ []) ⊎ (length self.now.cells ≡ 32) }
     {

@@ -9,7 +9,7 @@ use Rattle.core_rule.specs.View.{View, Fill, Read, Write, Aim, Joint, reads, lin
 use Rattle.core_rule.specs.Views.{Among}
 use Rattle.core_rule.specs.Holding.{without_fill, reset_fill, more_cells}
 use Rattle.core_rule.specs.Searching.{ends, moved, reads_with, finished_with, read_found, more_read, read_place, read_cells, IsLoading, Begins}
-use Rattle.core_rule.specs.Kinds.{Kind, publish_stamp, publish_idle, retire_write, publish_bound, retire_read, take, fill_stamp, fill_reset, fill_cell, meet_cell, give, load_head, load_next, load_stamp, load_status, load_cell, mark, point, link_head, link_next, raise_read_stamp, load_read_stamp, decide_by_check, decide_bare, store_status, finish, name, after}
+use Rattle.core_rule.specs.Kinds.{Kind, take, fill_stamp, fill_reset, fill_cell, meet_cell, give, load_head, load_next, load_stamp, load_status, load_cell, mark, point, link_head, link_next, raise_read_stamp, name, after}
 use Rattle.core_rule.specs.Hands.{split_left, split_right, joined_view}
 use Rattle.core_rule.specs.Parts.Cells.{AreWords, AimWords, SearchWords, IsReadOnce, IsWrittenOnce, CellsOk}
 use Rattle.core_rule.specs.Parts.Cells as part
@@ -170,11 +170,6 @@ module _ (kept : State → Type 0) (z : Size) (g : World) (m : Memory) (vs : Lis
   same_search k s = (mine k s).marked
 
   pub word_cells_kept : (k : Kind) → Step kept z g m vs id v k → part.Cells (set vs id (after k v (m (name k v))))
-  word_cells_kept (publish_stamp clock) s = own _ s _ (rests v _ refl refl refl refl refl refl)
-  word_cells_kept publish_idle s = own _ s _ (rests v _ refl refl refl refl refl refl)
-  word_cells_kept retire_write s = own _ s _ (rests v _ refl refl refl refl refl refl)
-  word_cells_kept publish_bound s = own _ s _ (rests v _ refl refl refl refl refl refl)
-  word_cells_kept retire_read s = own _ s _ (rests v _ refl refl refl refl refl refl)
   word_cells_kept (take p) s = own _ s _ (λ h. with_fills v.places.fills _ refl refl h.fills h)
   word_cells_kept (fill_stamp p t) s = own _ s _ (λ h. with_fills (record { place = p; stamp = t; reset = false; cells = [] } ∷ without_fill p v.places.fills) _ refl refl (begins h) h) where
     begins : CellsOk v → FillsWords (record { place = p; stamp = t; reset = false; cells = [] } ∷ without_fill p v.places.fills)
@@ -212,12 +207,7 @@ module _ (kept : State → Type 0) (z : Size) (g : World) (m : Memory) (vs : Lis
     finished_once = h.finished_once;
     linked_once = h.linked_once;
   })
-  word_cells_kept (load_read_stamp p u w n) s = own _ s _ (with_search _ refl refl refl refl refl tt)
-  word_cells_kept (decide_by_check p u w n) s = own _ s _ (with_search _ refl refl refl refl refl tt)
-  word_cells_kept decide_bare s = own _ s _ (with_search _ refl refl refl refl refl tt)
-  word_cells_kept (store_status u) s = own _ s _ (with_search _ refl refl refl refl refl tt)
-  word_cells_kept (finish ds) s = own _ s _ (rests v _ refl refl refl refl refl refl)
-  word_cells_kept k s = own k s _ (with_search _ refl refl refl refl refl (same_search k s))
+  word_cells_kept k s = own k s _ (search (rests v, with_search, same_search k s, tt))
 
 module _ (kept : State → Type 0) (z : Size) (g : World) (m : Memory) (vs : List View) (id : ℕ) (v : View) (s : Split kept z g m vs id v) where
   pub word_cells_split : part.Cells (set vs id (split_left v) ++ split_right v ∷ [])

@@ -13,7 +13,7 @@ use Rattle.core_rule.specs.Views.{At, Has, Among, SomeView}
 use Rattle.core_rule.specs.Rule.{head_words}
 use Rattle.core_rule.specs.Deciding.{stamp_in, commit_of}
 use Rattle.core_rule.specs.Collecting.{HasEntry, HasChain, Frees}
-use Rattle.core_rule.specs.Kinds.{Kind, publish_stamp, publish_idle, retire_write, publish_bound, retire_read, take, fill_stamp, give, mark, point, link_head, link_next, decide_by_check, decide_bare, finish, take_lock, load_floor, seek_head, seek_stamp, seek_next, raise_floor, cut, unlock, drop, follow, free_place, name, after, turned, changed}
+use Rattle.core_rule.specs.Kinds.{Kind, take, fill_stamp, give, mark, point, link_head, link_next, decide_by_check, decide_bare, take_lock, load_floor, seek_head, seek_stamp, seek_next, raise_floor, cut, unlock, drop, follow, free_place, name, after, turned, changed}
 use Rattle.core_rule.specs.Hands.{split_left, split_right, joined_view}
 use Rattle.core_rule.specs.Parts.Lists.{Spells, Falls}
 use Rattle.core_rule.specs.Parts.Linking.{IsAbove}
@@ -387,12 +387,6 @@ module _ (kept : State → Type 0) (z : Size) (g : World) (m : Memory) (vs : Lis
       still false e q has = tt
 
   pub chains_kept : (k : Kind) → Step kept z g m vs id v k → part.Chains z (turned k v (m (name k v)) g).owner (turned k v (m (name k v)) g).chains (stored (changed k v m)).links (stored (changed k v m)).stamps (set vs id (after k v (m (name k v))))
-  chains_kept (publish_stamp clock) s = quiet_item _ s _ (minima_kept kept z g m vs id v _ s) tt (λ q l. l) refl (λ f. f) (none_frees v.work.item s.allowed.can.3.collected)
-  chains_kept publish_idle s = quiet_item _ s _ (minima_kept kept z g m vs id v _ s) tt (λ q l. l) refl (λ f. f) (none_frees v.work.item s.allowed.can.1.collected)
-  chains_kept retire_write s = quiet_item _ s _ (minima_kept kept z g m vs id v _ s) tt (λ q l. l) refl (λ f. f) (none_frees v.work.item s.allowed.can.collected)
-  chains_kept publish_bound s = quiet_item _ s _ (minima_kept kept z g m vs id v _ s) tt (λ q l. l) refl (λ f. f) (none_frees v.work.item s.allowed.can.1.collected)
-  chains_kept retire_read s = quiet_item _ s _ (minima_kept kept z g m vs id v _ s) tt (λ q l. l) refl (λ f. f) (none_frees v.work.item s.allowed.can.collected)
-  chains_kept (finish ds) s = quiet_item _ s _ (minima_kept kept z g m vs id v _ s) tt (λ q l. l) refl (λ f. f) (none_frees v.work.item s.allowed.can.3)
   chains_kept (decide_by_check p u w n) s = framed _ s _ (minima_kept kept z g m vs id v _ s) tt (λ q l. l) refl
       (item_same _ s _ (minima_kept kept z g m vs id v _ s) id v s.at s.allowed.is_open (λ q there l. l) _ (λ e a. Among-if (nat_le (m (rts p.place)) (stamp_in v.flight)) e (commit_of v.flight v.work.finished v.work.linked) v.log a)) (λ seat q e h. record { number = h.number; frees = h.frees; there = h.there })
   chains_kept decide_bare s = framed _ s _ (minima_kept kept z g m vs id v _ s) tt (λ q l. l) refl
@@ -409,7 +403,7 @@ module _ (kept : State → Type 0) (z : Size) (g : World) (m : Memory) (vs : Lis
   chains_kept (follow r c to) s = follows r c to s
   chains_kept (free_place r c to p) s = frees r c to p s (eqb to 0) refl _ (minima_kept kept z g m vs id v _ s) refl refl refl refl
   chains_kept k s = framed k s _ (minima_kept kept z g m vs id v k s) tt (λ q l. l) refl
-      (item_same k s _ (minima_kept kept z g m vs id v k s) id v s.at s.allowed.is_open (λ q there l. l) _ (λ e a. a)) (λ seat q e h. record { number = h.number; frees = h.frees; there = h.there })
+      (search (tt, item_same k s _ (minima_kept kept z g m vs id v k s) id v s.at s.allowed.is_open (λ q there l. l) v.log (λ e a. a))) (λ seat q e h. search (h, none_frees v.work.item, s.allowed.can))
 
 -- the same words, and other views
 module _ (least_write least_read : ℕ) (vs vs' : List View) (minima : Minima least_write least_read vs') (z : Size) (owner : ℕ → Owner) (links stamps : ℕ → ℕ) where

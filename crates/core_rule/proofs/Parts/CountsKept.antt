@@ -1,5 +1,5 @@
 -- Counts: a seat that is alone counts what it links itself, at its stamp in flight, which is above all that are linked.
-use Rattle.std.proofs.Common.{◌≡◌, ◌≢◌, ◌⊎◌, ℕ, suc, ◌-◌, ◌<◌, ◌≤◌, true, false, Bool, cond, eqb, List, [], ◌∷◌, ◌++◌, length, set, refl, sym, ap, subst, arith, eqb-true, inl, inr, Option, Some, None}
+use Rattle.std.proofs.Common.{◌≡◌, ◌≢◌, ◌⊎◌, ℕ, suc, ◌-◌, ◌<◌, ◌≤◌, true, false, Bool, cond, eqb, List, [], ◌∷◌, length, set, refl, sym, ap, subst, arith, eqb-true, inl, inr, Option, Some, None}
 use Rattle.std.specs.Prelude.{nat_lt}
 use Rattle.std.proofs.lemmas.Bool.{leb-true}
 use Rattle.plain_data.specs.State.{State}
@@ -11,14 +11,12 @@ use Rattle.core_rule.specs.View.{View, Bound, Counted, Top, Stand, Joint, blank,
 use Rattle.core_rule.specs.Views.{At, Has, OthersTaken}
 use Rattle.core_rule.specs.Searching.{one_more, known_of, newest_stamp, is_newest, counted_more, counted_one}
 use Rattle.core_rule.specs.Kinds.{Kind, offer_write_word, offer_read_word, link_head, link_next, front_stamp, front_next, cut, name, after, turned, changed}
-use Rattle.core_rule.specs.Hands.{split_left, split_right, joined_view}
 use Rattle.core_rule.specs.Parts.Lists.{Spells, Falls}
 use Rattle.core_rule.specs.Parts.Linking.{JointOk}
 use Rattle.core_rule.specs.Parts.Counts.{outside, IsBounded, IsTop, Knows, CountsOk}
 use Rattle.core_rule.specs.Parts.Counts as part
-use Rattle.core_rule.proofs.EachView.{Each-set, Each-push, Each-join, Each-one, Each-own, joined}
+use Rattle.core_rule.proofs.EachView.{Each-set, Each-one}
 use Rattle.core_rule.proofs.Step.{Step, differs, at_cases, at_both, ltb-true_from}
-use Rattle.core_rule.proofs.Making.{Split, Join}
 use Rattle.core_rule.proofs.Alone.{none_else, linked_low, OthersTaken-before}
 use Rattle.core_rule.proofs.Working.{stand_of, joint_of, front_of}
 use Rattle.core_rule.proofs.Listed.{top as top_over, behind_only}
@@ -99,7 +97,7 @@ IsTop-fewer a (Some t) xs ys fewer h = λ q has. h q (fewer q has)
 
 -- ---- the part
 
-nothing : (z : Size) (lists : ℕ → List ℕ) (stamps : ℕ → ℕ) → Knows z lists stamps (known_of nothing_known) (newest_stamp [])
+pub nothing : (z : Size) (lists : ℕ → List ℕ) (stamps : ℕ → ℕ) → Knows z lists stamps (known_of nothing_known) (newest_stamp [])
 nothing z lists stamps = record { bounded = λ r lt. tt; newest = λ r lt. tt }
 
 -- the only one
@@ -255,15 +253,6 @@ module _ (kept : State → Type 0) (z : Size) (g : World) (m : Memory) (vs : Lis
   counts_kept (front_next r p w x) s = let f = front_of kept z g m vs id v _ s r p (shown w x) s.allowed.can in framed _ s g.lists S _ (looked _ s r p (eqb (m (next_word p)) 0) refl f.0 f.2)
   counts_kept (cut r c p) s = framed _ s (at_number g.lists r (up_to p (g.lists r))) S _ (cut_known r c p s (is_newest c (newest_stamp v.tops r)) refl)
   counts_kept k s = framed k s g.lists (stored (changed k v m)).stamps _ (λ alone. still k s tt v.counts v.tops (knew s alone))
-
-module _ (kept : State → Type 0) (z : Size) (g : World) (m : Memory) (vs : List View) (id : ℕ) (v : View) (s : Split kept z g m vs id v) where
-  pub counts_split : part.Counts z g.lists (stored m).stamps (set vs id (split_left v) ++ split_right v ∷ [])
-  counts_split = Each-push (CountsOk z g.lists (stored m).stamps) (CountsOk z g.lists (stored m).stamps) (set vs id (split_left v)) (split_right v) (λ i u at live p. p) (λ live alone. nothing z g.lists (stored m).stamps)
-      (Each-own (CountsOk z g.lists (stored m).stamps) vs id v _ s.rule.counts s.at s.is_open (λ p alone. nothing z g.lists (stored m).stamps))
-
-module _ (kept : State → Type 0) (z : Size) (g : World) (m : Memory) (vs : List View) (id other : ℕ) (v w : View) (s : Join kept z g m vs id other v w) where
-  pub counts_joined : part.Counts z g.lists (stored m).stamps (joined vs (joined_view v w) id other)
-  counts_joined = Each-join vs _ id other (CountsOk z g.lists (stored m).stamps) (CountsOk z g.lists (stored m).stamps) (λ i u h live p. p) (λ live alone. nothing z g.lists (stored m).stamps) s.rule.counts
 
 pub counts_start : (z : Size) → IsSize z → part.Counts z (first_world z).lists (stored (start z)).stamps (first_view z ∷ [])
 counts_start z h = Each-one (CountsOk z (first_world z).lists (stored (start z)).stamps) (first_view z) (λ alone. record {

@@ -4,18 +4,18 @@ use Rattle.std.specs.Prelude.{nat_le}
 use mathlib.Core.Logic.{dite}
 use native.Mathlib.Decide.{ℕ_discrete}
 use Rattle.plain_data.specs.State.{State}
-use Rattle.word_layout.specs.Size.{Size, IsSize}
+use Rattle.word_layout.specs.Size.{Size}
 use Rattle.word_layout.specs.Name.{min_write, head, status, rts, cell, next as next_word}
 use Rattle.stamp_base.specs.Limits.{end_of_stamps}
 use Rattle.stamp_base.specs.Stamp.{stamp_of, seat_of}
-use Rattle.core_rule.specs.Memory.{Memory, stored, start}
-use Rattle.core_rule.specs.World.{World, first_world}
-use Rattle.core_rule.specs.View.{View, Flight, resting, writing, Read, Write, Aim, reads, links, again, checks, Stand, Look, blank, stamped, shown, Search, still, marks, stands, Logged, first_view}
+use Rattle.core_rule.specs.Memory.{Memory, stored}
+use Rattle.core_rule.specs.World.{World}
+use Rattle.core_rule.specs.View.{View, Flight, resting, writing, Read, Write, Aim, reads, links, again, checks, Stand, Look, blank, stamped, shown, Search, still, marks, stands, Logged}
 use Rattle.core_rule.specs.Views.{At, Has, Among, SomeView}
 use Rattle.core_rule.specs.Searching.{limit_of, IsPassed, ends, moved, reads_with, more_read, read_place, read_cells, stamp_seen, shown_at}
 use Rattle.core_rule.specs.Deciding.{stamp_in, commit_of, snapshot_of}
 use Rattle.core_rule.specs.Rule.{status_words, floor_words}
-use Rattle.core_rule.specs.Kinds.{Kind, publish_stamp, publish_idle, retire_write, publish_bound, retire_read, raise_min_write, load_head, load_next, load_stamp, load_status, load_cell, mark, point, link_head, link_next, raise_read_stamp, load_read_stamp, decide_by_check, decide_bare, store_status, finish, name, after, turned, changed}
+use Rattle.core_rule.specs.Kinds.{Kind, publish_stamp, raise_min_write, load_head, load_next, load_stamp, load_status, load_cell, link_head, link_next, raise_read_stamp, decide_by_check, decide_bare, finish, name, after, turned, changed}
 use Rattle.core_rule.specs.Hands.{split_left, split_right, joined_view}
 use Rattle.core_rule.specs.Entries.{Wrote}
 use Rattle.core_rule.specs.Parts.Clocks.{IsDrawn}
@@ -24,7 +24,7 @@ use Rattle.core_rule.specs.Parts.Values.{Publishes, IsInstalled}
 use Rattle.core_rule.specs.Parts.Entered.{AimAbove, SearchAbove, Below, CommitOk, EntriesOk}
 use Rattle.core_rule.specs.Parts.Entered as part
 use Rattle.core_rule.proofs.Among.{Among-split, Among-either, if_more}
-use Rattle.core_rule.proofs.EachView.{Each-set, Each-push, Each-join, Each-one, AllOf-Has, joined}
+use Rattle.core_rule.proofs.EachView.{Each-set, Each-push, Each-join, AllOf-Has, joined}
 use Rattle.core_rule.proofs.Step.{Step}
 use Rattle.core_rule.proofs.Making.{Split, Join}
 use Rattle.core_rule.proofs.Listed.{one_place, top, below}
@@ -182,6 +182,15 @@ module _ (kept : State → Type 0) (z : Size) (g : World) (m : Memory) (vs : Lis
       λ lt x k'. keeps e t x record { among = l; commit = c; in_flight = f'; later = lt; writes = k'; below = o.own t f' lt x k' },
     )))
 
+    -- and what was read
+    searches : (u : View) → u.number ≡ v.number → u.clock.taken_in ≡ v.clock.taken_in → u.log ≡ v.log → u.flight ≡ v.flight → u.work.decided ≡ v.work.decided → u.work.reads ≡ v.work.reads → u.work.raised ≡ v.work.raised
+        → ((e : Logged) (t : ℕ) (x : Write) → Met e t x → SearchAbove S' x.record_number e.stamp u.work.search) → part.Entered (turned k v (m (name k v)) g).drawn (changed k v m min_write) S' (set vs id u)
+    searches u number taken log flight decided found raised above = framed u number taken log flight decided
+        (λ e t x h. record { search = above e t x h; reads = rw found h.below.reads; raised = rw raised h.below.raised })
+
+    above_same : (e : Logged) (t : ℕ) (x : Write) → Met e t x → SearchAbove S' x.record_number e.stamp v.work.search
+    above_same e t x h = search_same id v s.at s.allowed.is_open x.record_number e.stamp h.below.search
+
     -- the transaction decides, or not
     decides : (u : View) → u.number ≡ v.number → u.clock.taken_in ≡ v.clock.taken_in → u.flight ≡ v.flight → v.flight ≡ writing (stamp_in v.flight) → v.work.decided ≡ false
         → (ds : List Read) (us : List Write) (b : Bool) → u.work.decided ≡ b → u.log ≡ v.log ++ cond b (commit_of v.flight ds us ∷ []) [] → ((e : Logged) (t : ℕ) (x : Write) → Met e t x → Below S' u x.record_number e.stamp)
@@ -277,22 +286,12 @@ module _ (kept : State → Type 0) (z : Size) (g : World) (m : Memory) (vs : Lis
     inl (new_above clock s e x same o),
     λ lt y k. record { search = tt; reads = λ d a. absurd a; raised = λ d a. absurd a },
   )))
-  entered_kept publish_idle s = stops _ s _ refl refl refl refl
-  entered_kept retire_write s = stops _ s _ refl refl refl refl
-  entered_kept publish_bound s = stops _ s _ refl refl refl refl
-  entered_kept retire_read s = stops _ s _ refl refl refl refl
-  entered_kept (load_head aim r) s = framed _ s _ refl refl refl refl refl (λ e t x h. record {
-    search = above_at S x.record_number e.stamp record { aim = aim; record_number = r; place = m (head r) - 1; under = end_of_stamps } aim (λ is. at_head _ s e t x h r is);
-    reads = h.below.reads;
-    raised = h.below.raised;
-  })
-  entered_kept (load_next p look) s = framed _ s _ refl refl refl refl refl (λ e t x h. record {
-    search = above_next S x.record_number e.stamp p record p { aim = moved p.aim p.place; place = m (next_word p.place) - 1; under = stamp_seen look } p.aim refl
-        (λ is over. at_next _ s e t x h p look s.allowed.can.0 s.allowed.can.1 is over) (subst (SearchAbove S x.record_number e.stamp) s.allowed.can.0 h.below.search);
-    reads = h.below.reads;
-    raised = h.below.raised;
-  })
-  entered_kept (load_stamp p) s = framed _ s _ refl refl refl refl refl (λ e t x h. record { search = subst (SearchAbove S x.record_number e.stamp) s.allowed.can h.below.search; reads = h.below.reads; raised = h.below.raised })
+  entered_kept (load_head aim r) s = searches _ s _ refl refl refl refl refl refl refl
+      (λ e t x h. above_at S x.record_number e.stamp record { aim = aim; record_number = r; place = m (head r) - 1; under = end_of_stamps } aim (λ is. at_head _ s e t x h r is))
+  entered_kept (load_next p look) s = searches _ s _ refl refl refl refl refl refl refl
+      (λ e t x h. above_next S x.record_number e.stamp p record p { aim = moved p.aim p.place; place = m (next_word p.place) - 1; under = stamp_seen look } p.aim refl
+      (λ is over. at_next _ s e t x h p look s.allowed.can.0 s.allowed.can.1 is over) (subst (SearchAbove S x.record_number e.stamp) s.allowed.can.0 h.below.search))
+  entered_kept (load_stamp p) s = searches _ s _ refl refl refl refl refl refl refl (λ e t x h. subst (SearchAbove S x.record_number e.stamp) s.allowed.can h.below.search)
   entered_kept (load_status p w) s = framed _ s _ refl refl refl refl refl (λ e t x h.
       let above : AimAbove S x.record_number e.stamp p p.aim = subst (SearchAbove S x.record_number e.stamp) s.allowed.can.0 h.below.search in record {
         search = ends_or_stays x.record_number e.stamp p (shown w (m (status p.place))) above (ends p.aim w (m (status p.place)));
@@ -304,36 +303,26 @@ module _ (kept : State → Type 0) (z : Size) (g : World) (m : Memory) (vs : Lis
     reads = more_at S x.record_number e.stamp (m (cell (read_place v.work.reads) (read_cells v.work.reads))) v.work.reads h.below.reads;
     raised = h.below.raised;
   })
-  entered_kept (mark r f) s = framed _ s _ refl refl refl refl refl (λ e t x h. record { search = tt; reads = h.below.reads; raised = h.below.raised })
-  entered_kept (point p j w) s = framed _ s _ refl refl refl refl refl (λ e t x h. record { search = tt; reads = h.below.reads; raised = h.below.raised })
-  entered_kept (link_head p j w) s = framed _ s _ refl refl refl refl refl (λ e t x h. record {
-    search = ends_or_stays x.record_number e.stamp record p { aim = links record j { least = suc w; stored = false }; place = m (head p.record_number) - 1 } blank tt (eqb (m (head p.record_number)) (suc p.place));
-    reads = h.below.reads;
-    raised = h.below.raised;
-  })
-  entered_kept (link_next p j a w) s = framed _ s _ refl refl refl refl refl (λ e t x h. record {
-    search = ends_or_stays x.record_number e.stamp record p { aim = links record j { least = suc w; stored = false }; place = m (next_word a) - 1 } blank tt (eqb (m (next_word a)) (suc p.place));
-    reads = h.below.reads;
-    raised = h.below.raised;
-  })
+  entered_kept (link_head p j w) s = searches _ s _ refl refl refl refl refl refl refl
+      (λ e t x h. ends_or_stays x.record_number e.stamp record p { aim = links record j { least = suc w; stored = false }; place = m (head p.record_number) - 1 } blank tt (eqb (m (head p.record_number)) (suc p.place)))
+  entered_kept (link_next p j a w) s = searches _ s _ refl refl refl refl refl refl refl
+      (λ e t x h. ends_or_stays x.record_number e.stamp record p { aim = links record j { least = suc w; stored = false }; place = m (next_word a) - 1 } blank tt (eqb (m (next_word a)) (suc p.place)))
   entered_kept (raise_read_stamp d) s = framed _ s _ refl refl refl refl refl (λ e t x h. record {
     search = h.below.search;
     reads = h.below.reads;
     raised = λ c k. ⊎_elim (λ old. h.below.raised c old) (λ (new : d ≡ c). subst (λ (y : Read). y.record_number ≡ x.record_number → e.stamp ≤ y.version) new (h.below.reads d s.allowed.can.1)) (Among-either c d v.work.raised k);
   })
-  entered_kept (load_read_stamp p u w n) s = framed _ s _ refl refl refl refl refl (λ e t x h. record { search = tt; reads = h.below.reads; raised = h.below.raised })
   entered_kept (decide_by_check p u w n) s =
       decides _ s _ refl refl refl (aim_of_check kept z g m vs id v _ s p u s.allowed.can.0 s.allowed.can.1).0 s.allowed.can.5.undecided v.work.finished v.work.linked (nat_le (m (rts p.place)) (stamp_in v.flight)) refl (if_more (nat_le (m (rts p.place)) (stamp_in v.flight)) (commit_of v.flight v.work.finished v.work.linked) v.log)
       (λ e t x h. record { search = tt; reads = h.below.reads; raised = h.below.raised })
   entered_kept decide_bare s = decides _ s _ refl refl refl s.allowed.can.0 s.allowed.can.4.undecided v.work.finished v.work.linked true refl refl (λ e t x h. record { search = tt; reads = h.below.reads; raised = h.below.raised })
-  entered_kept (store_status u) s = framed _ s _ refl refl refl refl refl (λ e t x h. record { search = tt; reads = h.below.reads; raised = h.below.raised })
   entered_kept (finish ds) s = others _ s _ record {
     commits = λ e l c. ⊎_elim (λ old. let o = (mine _ s).commits e old c in CommitOk-from g.drawn g.drawn S S (λ seat. omega arith) v _ e refl refl (rests_since S _ e s.allowed.can.0) o)
         (λ (new : snapshot_of v.published.read ds ≡ e). absurd (let f : true ≡ false = ap (λ (y : Logged). y.snapshot) new ∙ c in cc)) (Among-either e (snapshot_of v.published.read ds) v.log l);
     snapshots = λ e l c. ⊎_elim (λ old. (mine _ s).snapshots e old c)
         (λ (new : snapshot_of v.published.read ds ≡ e). subst (λ (y : Logged). y.stamp < m min_write) new ((s.rule.minima.each id v s.at s.allowed.is_open).settled s.allowed.can.1)) (Among-either e (snapshot_of v.published.read ds) v.log l);
   }
-  entered_kept k s = framed k s _ refl refl refl refl refl (λ e t x h. record { search = search_same k s id v s.at s.allowed.is_open x.record_number e.stamp h.below.search; reads = h.below.reads; raised = h.below.raised })
+  entered_kept k s = search (stops k s, searches k s, above_same k s, tt)
 
 module _ (kept : State → Type 0) (z : Size) (g : World) (m : Memory) (vs : List View) (id : ℕ) (v : View) (s : Split kept z g m vs id v) where
   abbrev P : View → Type 0
@@ -374,6 +363,3 @@ module _ (kept : State → Type 0) (z : Size) (g : World) (m : Memory) (vs : Lis
           before = λ t f. absurd (cc);
           own = λ t f. absurd (cc);
         }
-
-pub entered_start : (z : Size) → IsSize z → part.Entered (first_world z).drawn ((start z) min_write) (stored (start z)).stamps (first_view z ∷ [])
-entered_start z h = Each-one (EntriesOk (first_world z).drawn (start z min_write) (stored (start z)).stamps) (first_view z) record { commits = λ e l. absurd l; snapshots = λ e l. absurd l }

@@ -2,18 +2,16 @@
 use Rattle.std.proofs.Common.{◌≡◌, ◌≢◌, ℕ, suc, ◌+◌, ◌<◌, max, true, false, Bool, cond, eqb, ◌&&◌, List, [], ◌∷◌, ◌++◌, length, set, refl, sym, ◌∙◌, subst, arith, eq-eqb, eqb-true, ne_eqb, inr, add-zero, zero-add}
 use Rattle.plain_data.specs.State.{State}
 use Rattle.word_layout.specs.Size.{Size}
-use Rattle.core_rule.specs.Memory.{Memory, Stored, stored, start}
+use Rattle.core_rule.specs.Memory.{Memory, Stored, stored}
 use Rattle.core_rule.specs.World.{World, linked, at_number}
 use Rattle.core_rule.specs.Views.{AllOf, Has}
-use Rattle.core_rule.specs.View.{View, Fill, first_view}
-use Rattle.core_rule.specs.Hands.{split_left, split_right, joined_view}
+use Rattle.core_rule.specs.View.{View, Fill}
 use Rattle.core_rule.proofs.Step.{Step, at_number-other, at_number-same}
-use Rattle.core_rule.proofs.Making.{Split, Join}
 use Rattle.word_layout.specs.Name.{status, rts}
 use Rattle.core_rule.specs.Holding.{filled_place, filled_cells, reset_fill, more_cells, without, without_fill, IsFilling}
 use Rattle.core_rule.specs.Kinds.{Kind, take, fill_stamp, fill_reset, fill_cell, meet_cell, give, mark, point, link_next, raise_read_stamp, cut, name, after, changed}
 use Rattle.core_rule.specs.Parts.Filled.{CellsAre, Stands, Others, FillsOk, FilledOk, Filled}
-use Rattle.core_rule.proofs.EachView.{Each-set, Each-own, Each-push, Each-join, Each-one, AllOf-Has, joined}
+use Rattle.core_rule.proofs.EachView.{Each-set, Each-own, AllOf-Has}
 use Rattle.core_rule.proofs.Without.{Has-without, Others-without, FillsOk-without}
 use Rattle.core_rule.proofs.Parts.PlacesKept.{others_hold_not, not_held}
 use Rattle.core_rule.specs.View.{Places}
@@ -226,15 +224,3 @@ module _ (kept : State → Type 0) (z : Size) (g : World) (m : Memory) (vs : Lis
       (record { stamps = λ q ne. refl; reads = λ q ne. at_number-other (stored m).reads d.place q x (λ e. ne (sym e)); cells = λ q i ne. refl }) _ refl refl
   filled_kept (cut r c p) s = relinks _ s (at_number (stored m).links p 0) _ refl
   filled_kept k s = Each-own (FilledOk (stored m)) vs id v _ s.rule.filled s.at s.allowed.is_open (λ p. p)
-
-module _ (kept : State → Type 0) (z : Size) (g : World) (m : Memory) (vs : List View) (id : ℕ) (v : View) (s : Split kept z g m vs id v) where
-  pub filled_split : Filled (stored m) (set vs id (split_left v) ++ split_right v ∷ [])
-  filled_split = Each-push (FilledOk (stored m)) (FilledOk (stored m)) (set vs id (split_left v)) (split_right v)
-      (λ i u at live p. p) (λ live. tt) (Each-own (FilledOk (stored m)) vs id v _ s.rule.filled s.at s.is_open (λ p. p))
-
-module _ (kept : State → Type 0) (z : Size) (g : World) (m : Memory) (vs : List View) (id other : ℕ) (v w : View) (s : Join kept z g m vs id other v w) where
-  pub filled_joined : Filled (stored m) (joined vs (joined_view v w) id other)
-  filled_joined = Each-join vs _ id other (FilledOk (stored m)) (FilledOk (stored m)) (λ i u h live p. p) (λ live. s.rule.filled id v s.at s.is_open) s.rule.filled
-
-pub filled_start : (z : Size) → Filled (stored (start z)) (first_view z ∷ [])
-filled_start z = Each-one (FilledOk (stored (start z))) (first_view z) tt

@@ -1,22 +1,20 @@
 -- Fronts: while a seat is alone, nobody else links.
-use Rattle.std.proofs.Common.{◌≡◌, ◌≢◌, ℕ, suc, ◌<◌, List, [], ◌∷◌, ◌++◌, set, true, false, Bool, cond, eqb, refl, sym, arith, subst}
+use Rattle.std.proofs.Common.{◌≡◌, ◌≢◌, ℕ, suc, ◌<◌, List, set, true, false, Bool, cond, eqb, refl, sym, arith, subst}
 use Rattle.plain_data.specs.State.{State}
-use Rattle.word_layout.specs.Size.{Size, IsSize}
+use Rattle.word_layout.specs.Size.{Size}
 use Rattle.word_layout.specs.Name.{head, next as next_word}
 use prog.Atomic.{either}
-use Rattle.core_rule.specs.Memory.{Memory, stored, start}
+use Rattle.core_rule.specs.Memory.{Memory, stored}
 use Rattle.core_rule.specs.World.{World, at_number}
-use Rattle.core_rule.specs.View.{View, Front, no_front, at_front, Look, blank, stamped, Splitting, first_view}
+use Rattle.core_rule.specs.View.{View, Front, no_front, at_front, Look, blank, stamped, Splitting}
 use Rattle.core_rule.specs.Views.{At, OthersTaken}
 use Rattle.core_rule.specs.Offers.{offered_read}
 use Rattle.core_rule.specs.Rule.{head_words}
 use Rattle.core_rule.specs.Kinds.{Kind, offer_write_word, offer_read_word, link_head, link_next, front_head, front_stamp, front_status, front_next, name, after, changed}
-use Rattle.core_rule.specs.Hands.{split_left, split_right, joined_view}
 use Rattle.core_rule.specs.Parts.Fronts.{IsFront, FrontOk}
 use Rattle.core_rule.specs.Parts.Fronts as part
-use Rattle.core_rule.proofs.EachView.{Each-set, Each-own, Each-push, Each-join, Each-one, joined}
+use Rattle.core_rule.proofs.EachView.{Each-set}
 use Rattle.core_rule.proofs.Step.{Step, at_number-stays}
-use Rattle.core_rule.proofs.Making.{Split, Join}
 use Rattle.core_rule.proofs.Listed.{top}
 use Rattle.core_rule.proofs.Working.{front_of}
 use Rattle.core_rule.proofs.Parts.CountsKept.{none_other}
@@ -66,15 +64,3 @@ module _ (kept : State → Type 0) (z : Size) (g : World) (m : Memory) (vs : Lis
   fronts_kept (front_status r p w) s = framed _ s (head_words m) _ (looks _ s r p (stamped w) s.allowed.can)
   fronts_kept (front_next r p w x) s = framed _ s (head_words m) _ tt
   fronts_kept k s = framed k s (head_words m) _ (s.rule.fronts id v s.at s.allowed.is_open)
-
-module _ (kept : State → Type 0) (z : Size) (g : World) (m : Memory) (vs : List View) (id : ℕ) (v : View) (s : Split kept z g m vs id v) where
-  pub fronts_split : part.Fronts z (head_words m) (set vs id (split_left v) ++ split_right v ∷ [])
-  fronts_split = Each-push (FrontOk z (head_words m)) (FrontOk z (head_words m)) (set vs id (split_left v)) (split_right v) (λ i u at live p. p) (λ live. tt)
-      (Each-own (FrontOk z (head_words m)) vs id v _ s.rule.fronts s.at s.is_open (λ p. tt))
-
-module _ (kept : State → Type 0) (z : Size) (g : World) (m : Memory) (vs : List View) (id other : ℕ) (v w : View) (s : Join kept z g m vs id other v w) where
-  pub fronts_joined : part.Fronts z (head_words m) (joined vs (joined_view v w) id other)
-  fronts_joined = Each-join vs _ id other (FrontOk z (head_words m)) (FrontOk z (head_words m)) (λ i u h live p. p) (λ live. tt) s.rule.fronts
-
-pub fronts_start : (z : Size) → IsSize z → part.Fronts z (head_words (start z)) (first_view z ∷ [])
-fronts_start z h = Each-one (FrontOk z (head_words (start z))) (first_view z) tt

@@ -1,27 +1,25 @@
 -- Items: what is collected stays linked under its lock, and each step of a collection finds what the next one needs.
-use Rattle.std.proofs.Common.{◌≡◌, ◌≢◌, ℕ, suc, ◌-◌, ◌<◌, ◌≤◌, max, Bool, true, false, cond, eqb, List, [], ◌∷◌, ◌++◌, set, refl, sym, ap, ◌∙◌, subst, ⊎_elim, arith, eqb-true, Some, None}
+use Rattle.std.proofs.Common.{◌≡◌, ◌≢◌, ℕ, suc, ◌-◌, ◌<◌, ◌≤◌, max, Bool, true, false, cond, eqb, List, ◌∷◌, set, refl, sym, ap, ◌∙◌, subst, ⊎_elim, arith, eqb-true, Some, None}
 use Rattle.std.specs.Prelude.{nat_le}
 use Rattle.std.proofs.lemmas.Bool.{leb-true}
 use Rattle.plain_data.specs.State.{State}
-use Rattle.word_layout.specs.Size.{Size, IsSize}
+use Rattle.word_layout.specs.Size.{Size}
 use Rattle.word_layout.specs.Name.{min_read, head, rts, next as next_word}
-use Rattle.core_rule.specs.Memory.{Memory, Stored, stored, start}
-use Rattle.core_rule.specs.World.{World, linked, at_number, behind, up_to, first_world}
-use Rattle.core_rule.specs.View.{View, Logged, Joint, Stand, Stage, locked, above_floor, seeks, passes, found, floored, cut_off, freeing, Item, no_item, collects, first_view}
+use Rattle.core_rule.specs.Memory.{Memory, Stored, stored}
+use Rattle.core_rule.specs.World.{World, linked, at_number, behind, up_to}
+use Rattle.core_rule.specs.View.{View, Logged, Joint, Stand, Stage, locked, above_floor, seeks, passes, found, floored, cut_off, freeing, Item, no_item, collects}
 use Rattle.core_rule.specs.Views.{At, Has, Among}
 use Rattle.core_rule.specs.Rule.{status_words, floor_words, lock_words}
 use Rattle.core_rule.specs.Searching.{IsFinal}
 use Rattle.core_rule.specs.Deciding.{stamp_in, commit_of}
 use Rattle.core_rule.specs.Collecting.{HasEntry, HasLock}
-use Rattle.core_rule.specs.Kinds.{Kind, publish_stamp, publish_idle, retire_write, publish_bound, retire_read, raise_min_read, link_head, link_next, decide_by_check, decide_bare, finish, take_lock, load_floor, seek_head, seek_stamp, seek_next, raise_floor, cut, unlock, drop, follow, free_place, name, after, turned, changed}
-use Rattle.core_rule.specs.Hands.{split_left, split_right, joined_view}
+use Rattle.core_rule.specs.Kinds.{Kind, raise_min_read, link_head, link_next, decide_by_check, decide_bare, take_lock, load_floor, seek_head, seek_stamp, seek_next, raise_floor, cut, unlock, drop, follow, free_place, name, after, turned, changed}
 use Rattle.core_rule.specs.Parts.Linking.{JointOk, IsAbove}
 use Rattle.core_rule.specs.Parts.Items.{IsLast, IsVersion, IsAt, InWork, IsItem, ItemOk}
 use Rattle.core_rule.specs.Parts.Items as part
 use Rattle.core_rule.proofs.Among.{Among-left, Among-if}
-use Rattle.core_rule.proofs.EachView.{Each-set, Each-own, Each-push, Each-join, Each-one, joined}
+use Rattle.core_rule.proofs.EachView.{Each-set}
 use Rattle.core_rule.proofs.Step.{Step, differs, at_number-other, at_number-same}
-use Rattle.core_rule.proofs.Making.{Split, Join}
 use Rattle.core_rule.proofs.Listed.{Grown, one_place, top, grown_head, grown_behind}
 use Rattle.core_rule.proofs.Touched.{Quiet, quiet, linked_owner}
 use Rattle.core_rule.proofs.Working.{joint_of, in_flight_late}
@@ -219,12 +217,6 @@ module _ (kept : State → Type 0) (z : Size) (g : World) (m : Memory) (vs : Lis
         by_test false r lt = record { more = λ q has. has; stamps = λ q has. refl; final = λ q has f. f; last = λ is q has at. same_links r q lt has at ∙ is q has at }
 
   pub items_kept : (k : Kind) → Step kept z g m vs id v k → part.Items z (turned k v (m (name k v)) g).lists (floor_words (changed k v m)) (stored (changed k v m)) (status_words (changed k v m)) ((changed k v m) min_read) (set vs id (after k v (m (name k v))))
-  items_kept (publish_stamp clock) s = framed _ s tt _ (resting_ok _ s _ refl refl)
-  items_kept publish_idle s = framed _ s tt _ (resting_ok _ s _ refl refl)
-  items_kept retire_write s = framed _ s tt _ (resting_ok _ s _ refl refl)
-  items_kept publish_bound s = framed _ s tt _ (resting_ok _ s _ refl refl)
-  items_kept retire_read s = framed _ s tt _ (resting_ok _ s _ refl refl)
-  items_kept (finish ds) s = framed _ s tt _ (resting_ok _ s _ refl refl)
   items_kept (decide_by_check p u w n) s = framed _ s tt _ (still _ refl refl (λ e a. Among-if (nat_le (m (rts p.place)) (stamp_in v.flight)) e (commit_of v.flight v.work.finished v.work.linked) v.log a) (same _ s tt v (mine_ok _ s)))
   items_kept decide_bare s = framed _ s tt _ (still _ refl refl (λ e a. Among-left e v.log _ a) (same _ s tt v (mine_ok _ s)))
   items_kept raise_min_read s =
@@ -293,20 +285,4 @@ module _ (kept : State → Type 0) (z : Size) (g : World) (m : Memory) (vs : Lis
   items_kept (drop r c) s = framed _ s tt _ (resting_ok _ s _ refl refl)
   items_kept (follow r c to) s = framed _ s tt _ (staged _ s _ refl refl r c (freeing to None) _ s.allowed.can.0 refl tt)
   items_kept (free_place r c to p) s = framed _ s tt _ (rested _ s _ refl refl r c to (freeing to (Some p)) s.allowed.can (eqb to 0) refl)
-  items_kept k s = framed k s tt _ (still _ refl refl (λ e a. a) (same k s tt v (mine_ok k s)))
-
-module _ (kept : State → Type 0) (z : Size) (g : World) (m : Memory) (vs : List View) (id : ℕ) (v : View) (s : Split kept z g m vs id v) where
-  abbrev P : View → Type 0
-  P = ItemOk z g.lists (floor_words m) (stored m) (status_words m) (m min_read)
-
-  pub items_split : part.Items z g.lists (floor_words m) (stored m) (status_words m) (m min_read) (set vs id (split_left v) ++ split_right v ∷ [])
-  items_split = Each-push P P (set vs id (split_left v)) (split_right v) (λ i u at live h. h) (λ live. record { reached = (s.rule.items id v s.at s.is_open).reached; item = tt })
-      (Each-own P vs id v (split_left v) s.rule.items s.at s.is_open (λ h. record { reached = h.reached; item = tt }))
-
-module _ (kept : State → Type 0) (z : Size) (g : World) (m : Memory) (vs : List View) (id other : ℕ) (v w : View) (s : Join kept z g m vs id other v w) where
-  pub items_joined : part.Items z g.lists (floor_words m) (stored m) (status_words m) (m min_read) (joined vs (joined_view v w) id other)
-  items_joined = Each-join vs (joined_view v w) id other (ItemOk z g.lists (floor_words m) (stored m) (status_words m) (m min_read)) (ItemOk z g.lists (floor_words m) (stored m) (status_words m) (m min_read))
-      (λ i u third live h. h) (λ live. record { reached = (s.rule.items id v s.at s.is_open).reached; item = tt }) s.rule.items
-
-pub items_start : (z : Size) → IsSize z → part.Items z (first_world z).lists (floor_words (start z)) (stored (start z)) (status_words (start z)) ((start z) min_read) (first_view z ∷ [])
-items_start z h = Each-one (ItemOk z (first_world z).lists (floor_words (start z)) (stored (start z)) (status_words (start z)) ((start z) min_read)) (first_view z) record { reached = omega arith; item = tt }
+  items_kept k s = framed k s tt _ (search (resting_ok k s, still, same k s tt v (mine_ok k s)))

@@ -1,19 +1,19 @@
 -- Joined: a stamp that is drawn is above all that the seats taken in have drawn, and those draw no more.
 use Rattle.std.proofs.Common.{◌≡◌, ◌≢◌, ℕ, ◌<◌, List, [], ◌∷◌, ◌++◌, set, refl, sym, ap, ◌∙◌, arith, inl, inr}
 use Rattle.plain_data.specs.State.{State}
-use Rattle.word_layout.specs.Size.{Size, IsSize}
+use Rattle.word_layout.specs.Size.{Size}
 use Rattle.stamp_base.specs.Limits.{most_seats}
 use Rattle.stamp_base.specs.Stamp.{stamp_of}
 use Rattle.core_rule.specs.Memory.{Memory}
-use Rattle.core_rule.specs.World.{World, at_number, first_world}
-use Rattle.core_rule.specs.View.{View, resting, first_view}
+use Rattle.core_rule.specs.World.{World, at_number}
+use Rattle.core_rule.specs.View.{View, resting}
 use Rattle.core_rule.specs.Deciding.{stamp_in}
-use Rattle.core_rule.specs.Kinds.{Kind, publish_stamp, publish_idle, retire_write, publish_bound, retire_read, name, after, turned}
+use Rattle.core_rule.specs.Kinds.{Kind, publish_stamp, name, after, turned}
 use Rattle.core_rule.specs.Hands.{split_left, split_right, joined_view}
 use Rattle.core_rule.specs.Parts.Clocks.{IsDrawn}
 use Rattle.core_rule.specs.Parts.Joined.{JoinedOk}
 use Rattle.core_rule.specs.Parts.Joined as part
-use Rattle.core_rule.proofs.EachView.{Each-set, Each-own, Each-push, Each-join, Each-one, AllOf-zip, AllOf-append, joined}
+use Rattle.core_rule.proofs.EachView.{Each-set, Each-own, Each-push, Each-join, AllOf-zip, AllOf-append, joined}
 use Rattle.core_rule.proofs.Step.{Step, at_number-other}
 use Rattle.core_rule.proofs.Making.{Split, Join}
 
@@ -49,11 +49,7 @@ module _ (kept : State → Type 0) (z : Size) (g : World) (m : Memory) (vs : Lis
         before : (j d x : ℕ) → v.clock.clock < clock → stamp_of clock v.number ≡ x → j < most_seats → IsDrawn j v.clock.clock d → d < x
         before j d x later same lt (inl none) = omega arith
         before j d x later same lt (inr h) = let le = h.1 in let is = h.2 in omega arith
-  joined_kept publish_idle s = stops _ s _ refl refl
-  joined_kept retire_write s = stops _ s _ refl refl
-  joined_kept publish_bound s = stops _ s _ refl refl
-  joined_kept retire_read s = stops _ s _ refl refl
-  joined_kept k s = framed k s _ refl refl
+  joined_kept k s = search (framed k s, stops k s)
 
 module _ (kept : State → Type 0) (z : Size) (g : World) (m : Memory) (vs : List View) (id : ℕ) (v : View) (s : Split kept z g m vs id v) where
   pub joined_split : part.Joined g.drawn (set vs id (split_left v) ++ split_right v ∷ [])
@@ -69,6 +65,3 @@ module _ (kept : State → Type 0) (z : Size) (g : World) (m : Memory) (vs : Lis
             (let n = (s.rule.seats.each other w s.at_other s.other_open).within in let size = s.rule.sized.seats_in_range in omega arith, (s.rule.joined other w s.at_other s.other_open).within);
         below = λ t e. absurd (cc);
       }) s.rule.joined
-
-pub joined_start : (z : Size) → IsSize z → part.Joined (first_world z).drawn (first_view z ∷ [])
-joined_start z h = Each-one (JoinedOk (first_world z).drawn) (first_view z) record { within = tt; below = λ t e. tt }

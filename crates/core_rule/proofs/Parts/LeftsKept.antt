@@ -1,24 +1,22 @@
 -- Lefts: what was cut off falls by stamp below the version, so it is no more than the version's stamp; freeing takes one away.
-use Rattle.std.proofs.Common.{◌≡◌, ℕ, ◌-◌, ◌<◌, ◌≤◌, true, false, Bool, cond, eqb, List, [], ◌∷◌, ◌++◌, length, set, refl, sym, subst, arith, inl}
+use Rattle.std.proofs.Common.{◌≡◌, ℕ, ◌-◌, ◌<◌, ◌≤◌, true, false, Bool, cond, eqb, List, [], ◌∷◌, length, set, refl, sym, subst, arith, inl}
 use Rattle.std.specs.Prelude.{nat_le}
 use Rattle.plain_data.specs.State.{State}
-use Rattle.word_layout.specs.Size.{Size, IsSize}
+use Rattle.word_layout.specs.Size.{Size}
 use Rattle.core_rule.specs.Memory.{Memory, stored}
-use Rattle.core_rule.specs.World.{World, at_number, from_behind, all_but_first, first_world}
-use Rattle.core_rule.specs.View.{View, locked, above_floor, passes, found, no_item, collects, first_view}
+use Rattle.core_rule.specs.World.{World, at_number, from_behind, all_but_first}
+use Rattle.core_rule.specs.View.{View, locked, above_floor, passes, found, no_item, collects}
 use Rattle.core_rule.specs.Views.{Has}
 use Rattle.core_rule.specs.Collecting.{HasChain, Frees}
-use Rattle.core_rule.specs.Kinds.{Kind, publish_stamp, publish_idle, retire_write, publish_bound, retire_read, finish, take_lock, load_floor, seek_head, seek_stamp, seek_next, raise_floor, cut, unlock, drop, follow, free_place, name, after, turned}
+use Rattle.core_rule.specs.Kinds.{Kind, take_lock, load_floor, seek_stamp, cut, unlock, follow, free_place, name, after, turned}
 use Rattle.word_layout.specs.Name.{floor, wts, lock}
-use Rattle.core_rule.specs.Hands.{split_left, split_right, joined_view}
 use Rattle.core_rule.specs.Parts.Lists.{Falls}
 use Rattle.core_rule.specs.Parts.Lefts.{LeftOk}
 use Rattle.core_rule.specs.Parts.Lefts as part
-use Rattle.core_rule.proofs.EachView.{Each-set, Each-own, Each-push, Each-join, Each-one, joined}
+use Rattle.core_rule.proofs.EachView.{Each-set}
 use Rattle.core_rule.proofs.Step.{Step, differs, at_number-other, at_number-same}
 use Rattle.core_rule.proofs.Tails.{falls_from}
 use Rattle.core_rule.proofs.Cutting.{cut_work, tail_low}
-use Rattle.core_rule.proofs.Making.{Split, Join}
 
 -- a list that falls below a number is no longer than it
 falls_short : (stamps : ℕ → ℕ) (xs : List ℕ) (b : ℕ) → Falls stamps xs → ((q : ℕ) → Has q xs → stamps q < b) → length xs ≤ b
@@ -56,34 +54,12 @@ module _ (kept : State → Type 0) (z : Size) (g : World) (m : Memory) (vs : Lis
   none_seen p n false f = f
 
   pub lefts_kept : (k : Kind) → Step kept z g m vs id v k → part.Lefts (turned k v (m (name k v)) g).chains (set vs id (after k v (m (name k v))))
-  lefts_kept (publish_stamp clock) s = framed _ s _ (λ f. absurd f)
-  lefts_kept publish_idle s = framed _ s _ (λ f. absurd f)
-  lefts_kept retire_write s = framed _ s _ (λ f. absurd f)
-  lefts_kept publish_bound s = framed _ s _ (λ f. absurd f)
-  lefts_kept retire_read s = framed _ s _ (λ f. absurd f)
-  lefts_kept (finish ds) s = framed _ s _ (λ f. absurd f)
   lefts_kept (take_lock r c) s = framed _ s _ (λ f. absurd (none_taken r c (eqb (m (lock r)) 0) f))
   lefts_kept (load_floor r c) s = framed _ s _ (λ f. absurd (none_loaded (nat_le (m (floor r)) c) f))
-  lefts_kept (seek_head r c) s = framed _ s _ (λ f. absurd f)
   lefts_kept (seek_stamp r c p u) s = framed _ s _ (λ f. absurd (none_seen p (m (wts p)) (eqb (m (wts p)) c) f))
-  lefts_kept (seek_next r c p w) s = framed _ s _ (λ f. absurd f)
-  lefts_kept (raise_floor r c p) s = framed _ s _ (λ f. absurd f)
   lefts_kept (cut r c p) s = changes _ s (from_behind p (g.lists r)) _ refl (λ f. falls_short (stored m).stamps (from_behind p (g.lists r)) c
       (falls_from p (stored m).stamps (g.lists r) (s.rule.lists.each r (cut_work kept z g m vs id v r c p s).on_record).falls) (tail_low kept z g m vs id v r c p s))
   lefts_kept (unlock r c to) s = framed _ s _ (λ f. before _ s (subst Frees (sym s.allowed.can) tt))
-  lefts_kept (drop r c) s = framed _ s _ (λ f. absurd f)
   lefts_kept (follow r c to) s = framed _ s _ (λ f. before _ s (subst Frees (sym s.allowed.can.0) tt))
   lefts_kept (free_place r c to p) s = changes _ s (all_but_first (g.chains v.number)) _ refl (λ f. one_less (g.chains v.number) v.gone.left (before _ s (subst Frees (sym s.allowed.can) tt)))
-  lefts_kept k s = framed k s _ (before k s)
-
-module _ (kept : State → Type 0) (z : Size) (g : World) (m : Memory) (vs : List View) (id : ℕ) (v : View) (s : Split kept z g m vs id v) where
-  pub lefts_split : part.Lefts g.chains (set vs id (split_left v) ++ split_right v ∷ [])
-  lefts_split = Each-push (LeftOk g.chains) (LeftOk g.chains) (set vs id (split_left v)) (split_right v) (λ i u at live p. p) (λ live f. absurd f)
-      (Each-own (LeftOk g.chains) vs id v _ s.rule.lefts s.at s.is_open (λ p f. absurd f))
-
-module _ (kept : State → Type 0) (z : Size) (g : World) (m : Memory) (vs : List View) (id other : ℕ) (v w : View) (s : Join kept z g m vs id other v w) where
-  pub lefts_joined : part.Lefts g.chains (joined vs (joined_view v w) id other)
-  lefts_joined = Each-join vs _ id other (LeftOk g.chains) (LeftOk g.chains) (λ i u h live p. p) (λ live f. absurd f) s.rule.lefts
-
-pub lefts_start : (z : Size) → IsSize z → part.Lefts (first_world z).chains (first_view z ∷ [])
-lefts_start z h = Each-one (LeftOk (first_world z).chains) (first_view z) (λ f. absurd f)
+  lefts_kept k s = framed k s _ (λ f. search (before k s))

@@ -2,25 +2,23 @@
 use Rattle.std.proofs.Common.{◌≡◌, ◌≢◌, ℕ, suc, ◌-◌, ◌<◌, ◌≤◌, true, false, Bool, cond, eqb, List, [], ◌∷◌, ◌++◌, set, refl, sym, ap, ◌∙◌, subst, arith, eqb-true, ne_eqb, Option, Some, None}
 use Rattle.plain_data.specs.State.{State}
 use prog.Atomic.{either}
-use Rattle.word_layout.specs.Size.{Size, IsSize, places}
+use Rattle.word_layout.specs.Size.{Size, places}
 use Rattle.word_layout.specs.Name.{head, status, next as next_word}
 use Rattle.stamp_base.specs.Limits.{end_of_stamps}
-use Rattle.core_rule.specs.Memory.{Memory, Stored, stored, start}
-use Rattle.core_rule.specs.World.{World, Owner, free, held, marked, linked, at_number, behind, up_to, from_behind, cut_from, first_world}
-use Rattle.core_rule.specs.View.{View, Flight, writing, Write, Joint, Aim, reads, links, again, checks, Stand, Look, blank, stamped, shown, Search, still, marks, stands, first_view}
+use Rattle.core_rule.specs.Memory.{Memory, Stored, stored}
+use Rattle.core_rule.specs.World.{World, Owner, free, held, marked, linked, at_number, behind, up_to, from_behind, cut_from}
+use Rattle.core_rule.specs.View.{View, Flight, writing, Write, Joint, Aim, reads, links, again, checks, Stand, Look, blank, stamped, shown, Search, still, marks, stands}
 use Rattle.core_rule.specs.Views.{At, Has}
 use Rattle.core_rule.specs.Holding.{filled_place}
 use Rattle.core_rule.specs.Searching.{limit_of, IsPassed, IsLate, stamp_seen, ends, moved, Begins, IsNotLinked, HasWrite, FitsPlace}
 use Rattle.core_rule.specs.Rule.{status_words}
-use Rattle.core_rule.specs.Kinds.{Kind, publish_stamp, publish_idle, retire_write, publish_bound, retire_read, take, fill_stamp, fill_reset, fill_cell, give, load_head, load_next, load_stamp, load_status, mark, point, link_head, link_next, raise_read_stamp, load_read_stamp, decide_by_check, decide_bare, store_status, finish, cut, free_place, name, after, turned, changed}
-use Rattle.core_rule.specs.Hands.{split_left, split_right, joined_view}
+use Rattle.core_rule.specs.Kinds.{Kind, take, fill_stamp, fill_reset, fill_cell, give, load_head, load_next, load_stamp, load_status, mark, point, link_head, link_next, raise_read_stamp, cut, free_place, name, after, turned, changed}
 use Rattle.core_rule.specs.Parts.Filled.{IsReset}
 use Rattle.core_rule.specs.Parts.Searches.{SearchOk}
 use Rattle.core_rule.specs.Parts.Linking.{MarkOk, IsAbove, IsLeast, JointOk, AimOk, IsLinking, LinkingOk}
 use Rattle.core_rule.specs.Parts.Linking as part
-use Rattle.core_rule.proofs.EachView.{Each-set, Each-own, Each-push, Each-join, Each-one, AllOf-Has, joined}
+use Rattle.core_rule.proofs.EachView.{Each-set, AllOf-Has}
 use Rattle.core_rule.proofs.Step.{Step, at_number-other, at_number-same, at_cases, differs}
-use Rattle.core_rule.proofs.Making.{Split, Join}
 use Rattle.core_rule.proofs.Listed.{one_place, grown_head, grown_behind, top, below}
 use Rattle.core_rule.proofs.Touched.{quiet, linked_owner}
 use Rattle.core_rule.proofs.Cutting.{cut_work, cut_version, shrunk, flight_high, tail_linked}
@@ -338,11 +336,6 @@ module _ (kept : State → Type 0) (z : Size) (g : World) (m : Memory) (vs : Lis
     cut_off (stands q look) ok h = cut_aim q q.aim h
 
   pub linking_kept : (k : Kind) → Step kept z g m vs id v k → part.Linking z (turned k v (m (name k v)) g).owner (turned k v (m (name k v)) g).lists (stored (changed k v m)) (set vs id (after k v (m (name k v))))
-  linking_kept (publish_stamp clock) s = framed _ s tt _ tt
-  linking_kept publish_idle s = framed _ s tt _ tt
-  linking_kept retire_write s = framed _ s tt _ tt
-  linking_kept publish_bound s = framed _ s tt _ tt
-  linking_kept retire_read s = framed _ s tt _ tt
   linking_kept (load_head aim r) s = framed _ s tt _ (begins_ok _ s r (rw (← (s.rule.seats.each id v s.at s.allowed.is_open).size) s.allowed.can.0) record { aim = aim; record_number = r; place = m (head r) - 1; under = end_of_stamps } refl refl aim s.allowed.can.2)
   linking_kept (load_next p look) s = framed _ s tt _
       (moves_ok _ s p record p { aim = moved p.aim p.place; place = m (next_word p.place) - 1; under = stamp_seen look } look s.allowed.can.0 s.allowed.can.1 refl refl refl p.aim s.allowed.can.2 (aim_of kept z g m vs id v _ s p look s.allowed.can.0))
@@ -385,24 +378,7 @@ module _ (kept : State → Type 0) (z : Size) (g : World) (m : Memory) (vs : Lis
       let q : Stand = record p { aim = links j'; place = n - 1 } in
       framed _ s tt _ (won_or_lost _ s (at_number g.owner j.write.place (linked p.record_number)) (at_number g.lists p.record_number (behind a j.write.place (g.lists p.record_number))) links' (v.work.linked ++ j.write ∷ []) q j' n (suc p.place) (eqb n (suc p.place)) refl refl
       (λ ne. loses_ok _ s links' p j w n s.allowed.can.0 s.allowed.can.1 s.allowed.can.2 ne t.positive t.there t.over q refl refl refl))
-  linking_kept (load_read_stamp p u w n) s = framed _ s tt _ tt
-  linking_kept (decide_by_check p u w n) s = framed _ s tt _ tt
-  linking_kept decide_bare s = framed _ s tt _ tt
-  linking_kept (store_status u) s = framed _ s tt _ tt
-  linking_kept (finish ds) s = framed _ s tt _ tt
   linking_kept (cut r c p) s = Each-set (LinkingOk z g.owner g.lists (stored m)) (LinkingOk z (cut_from v.number (from_behind p (g.lists r)) g.owner) (at_number g.lists r (up_to p (g.lists r))) (stored (changed (cut r c p) v m))) vs _ id
       (λ i x ne at live h. cut_off r c p s i x at live x.work.search (s.rule.searches i x at live) h)
       (λ live. cut_off r c p s id v s.at s.allowed.is_open v.work.search (s.rule.searches id v s.at s.allowed.is_open) (s.rule.linking id v s.at s.allowed.is_open)) s.rule.linking
-  linking_kept k s = framed k s tt _ (same_for k s tt id v s.at s.allowed.is_open (λ q is joins. joins) (s.rule.linking id v s.at s.allowed.is_open))
-
-module _ (kept : State → Type 0) (z : Size) (g : World) (m : Memory) (vs : List View) (id : ℕ) (v : View) (s : Split kept z g m vs id v) where
-  pub linking_split : part.Linking z g.owner g.lists (stored m) (set vs id (split_left v) ++ split_right v ∷ [])
-  linking_split = Each-push (LinkingOk z g.owner g.lists (stored m)) (LinkingOk z g.owner g.lists (stored m)) (set vs id (split_left v)) (split_right v)
-      (λ i u at live p. p) (λ live. tt) (Each-own (LinkingOk z g.owner g.lists (stored m)) vs id v _ s.rule.linking s.at s.is_open (λ p. tt))
-
-module _ (kept : State → Type 0) (z : Size) (g : World) (m : Memory) (vs : List View) (id other : ℕ) (v w : View) (s : Join kept z g m vs id other v w) where
-  pub linking_joined : part.Linking z g.owner g.lists (stored m) (joined vs (joined_view v w) id other)
-  linking_joined = Each-join vs _ id other (LinkingOk z g.owner g.lists (stored m)) (LinkingOk z g.owner g.lists (stored m)) (λ i u h live p. p) (λ live. tt) s.rule.linking
-
-pub linking_start : (z : Size) → IsSize z → part.Linking z (first_world z).owner (first_world z).lists (stored (start z)) (first_view z ∷ [])
-linking_start z h = Each-one (LinkingOk z (first_world z).owner (first_world z).lists (stored (start z))) (first_view z) tt
+  linking_kept k s = framed k s tt _ (search (tt, same_for k s tt id v s.at s.allowed.is_open (λ q is joins. joins) (s.rule.linking id v s.at s.allowed.is_open)))

@@ -11,7 +11,7 @@ use Rattle.core_rule.specs.View.{View, Stage, locked, above_floor, seeks, passes
 use Rattle.core_rule.specs.Views.{SomeView}
 use Rattle.core_rule.specs.Rule.{lock_words}
 use Rattle.core_rule.specs.Collecting.{HasLock, Locking, rests_at}
-use Rattle.core_rule.specs.Kinds.{Kind, publish_stamp, publish_idle, retire_write, publish_bound, retire_read, finish, take_lock, load_floor, seek_head, seek_stamp, seek_next, raise_floor, cut, unlock, drop, follow, free_place, name, after, changed}
+use Rattle.core_rule.specs.Kinds.{Kind, take_lock, load_floor, seek_head, seek_stamp, seek_next, raise_floor, cut, unlock, drop, follow, free_place, name, after, changed}
 use Rattle.core_rule.specs.Hands.{split_left, split_right, joined_view}
 use Rattle.core_rule.specs.Parts.Locks.{LockOk, LocksAt}
 use Rattle.core_rule.specs.Parts.Locks as part
@@ -96,12 +96,6 @@ module _ (kept : State → Type 0) (z : Size) (g : World) (m : Memory) (vs : Lis
   sought_stage p n false = tt
 
   pub locks_kept : (k : Kind) → Step kept z g m vs id v k → part.Locks z (lock_words (changed k v m)) (set vs id (after k v (m (name k v))))
-  locks_kept (publish_stamp clock) s = unlocked_stays _ s _ refl refl (λ r l. l) (λ r. unlocking r v.work.item s.allowed.can.3.collected)
-  locks_kept publish_idle s = unlocked_stays _ s _ refl refl (λ r l. l) (λ r. unlocking r v.work.item s.allowed.can.1.collected)
-  locks_kept retire_write s = unlocked_stays _ s _ refl refl (λ r l. l) (λ r. unlocking r v.work.item s.allowed.can.collected)
-  locks_kept publish_bound s = unlocked_stays _ s _ refl refl (λ r l. l) (λ r. unlocking r v.work.item s.allowed.can.1.collected)
-  locks_kept retire_read s = unlocked_stays _ s _ refl refl (λ r l. l) (λ r. unlocking r v.work.item s.allowed.can.collected)
-  locks_kept (finish ds) s = unlocked_stays _ s _ refl refl (λ r l. l) (λ r. unlocking r v.work.item s.allowed.can.3)
   locks_kept (take_lock r c) s = takes r c s (eqb (L r) 0) refl _ refl refl refl
   locks_kept (load_floor r c) s = goes_on _ s r c locked _ s.allowed.can tt (floor_stage (nat_le (m (floor r)) c)) _ refl refl refl
   locks_kept (seek_head r c) s = goes_on _ s r c above_floor _ s.allowed.can tt tt _ refl refl refl
@@ -113,7 +107,7 @@ module _ (kept : State → Type 0) (z : Size) (g : World) (m : Memory) (vs : Lis
   locks_kept (drop r c) s = releases _ s r c locked s.allowed.can tt _ refl (λ q l. l)
   locks_kept (follow r c to) s = unlocked_stays _ s _ refl refl (λ q l. l.1) (λ q l. (subst (Locking q) s.allowed.can.0 l).1)
   locks_kept (free_place r c to p) s = unlocked_stays _ s _ refl refl (λ q. rests_unlocked q r c to) (λ q l. (subst (Locking q) s.allowed.can l).1)
-  locks_kept k s = framed k s _ refl refl (λ r l. l) (λ r l. l)
+  locks_kept k s = framed k s _ refl refl (λ r l. search l) (λ r l. search (l, unlocking r v.work.item, s.allowed.can))
 
 module _ (kept : State → Type 0) (z : Size) (g : World) (m : Memory) (vs : List View) (id : ℕ) (v : View) (s : Split kept z g m vs id v) where
   pub locks_split : part.Locks z (lock_words m) (set vs id (split_left v) ++ split_right v ∷ [])

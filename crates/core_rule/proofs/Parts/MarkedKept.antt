@@ -9,7 +9,7 @@ use Rattle.core_rule.specs.World.{World, Owner, free, held, marked, linked, cut_
 use Rattle.core_rule.specs.View.{View, Flight, resting, Write, Work, Aim, reads, links, again, checks, Joint, Stand, Look, blank, stamped, shown, Search, still, marks, stands, first_view}
 use Rattle.core_rule.specs.Views.{SomeView}
 use Rattle.core_rule.specs.Searching.{AsksStatus, moved, Begins, Rests}
-use Rattle.core_rule.specs.Kinds.{Kind, publish_stamp, publish_idle, retire_write, publish_bound, retire_read, take, give, load_head, load_next, load_stamp, load_status, mark, point, link_head, link_next, load_read_stamp, decide_by_check, decide_bare, store_status, finish, cut, free_place, name, after, turned}
+use Rattle.core_rule.specs.Kinds.{Kind, take, give, load_head, load_next, load_stamp, load_status, mark, point, link_head, link_next, load_read_stamp, decide_by_check, finish, cut, free_place, name, after, turned}
 use Rattle.core_rule.specs.Hands.{split_left, split_right, joined_view}
 use Rattle.core_rule.specs.Parts.Marked.{AimMarks, SearchMarks, MarksPlace}
 use Rattle.core_rule.specs.Parts.Marked as part
@@ -96,11 +96,6 @@ module _ (kept : State → Type 0) (z : Size) (g : World) (m : Memory) (vs : Lis
       (λ x n is h. subst (SearchMarks x) (sym search) (subst (AimMarks x) (sym aim_then) (ap (λ (y : Write). y.place) same ∙ subst (AimMarks x) aim_is (subst (SearchMarks x) at h))))
 
   pub marked_kept : (k : Kind) → Step kept z g m vs id v k → part.Marked z (turned k v (m (name k v)) g).owner (set vs id (after k v (m (name k v))))
-  marked_kept (publish_stamp clock) s = rested s _ refl refl s.allowed.can.3.rests
-  marked_kept publish_idle s = rested s _ refl refl s.allowed.can.1.rests
-  marked_kept retire_write s = rested s _ refl refl s.allowed.can.rests
-  marked_kept publish_bound s = rested s _ refl refl s.allowed.can.1.rests
-  marked_kept retire_read s = rested s _ refl refl s.allowed.can.rests
   marked_kept (take p) s = same_search s _ _ refl refl refl
       (λ q n. at_cases g.owner p (cond (eqb (m (status p)) 0) (held v.number) (g.owner p)) q (λ o. o ≡ marked n → g.owner q ≡ marked n) (λ e. taken e (eqb (m (status p)) 0)) (λ ne is. is)) where
         taken : {q n : ℕ} → p ≡ q → (b : Bool) → cond b (held v.number) (g.owner p) ≡ marked n → g.owner q ≡ marked n
@@ -123,8 +118,6 @@ module _ (kept : State → Type 0) (z : Size) (g : World) (m : Memory) (vs : Lis
       (eqb (m (next_word a)) (suc p.place)) _ refl refl refl
   marked_kept (load_read_stamp p u w n) s = moves s p (shown w n) s.allowed.can.0 _ refl refl (λ q h. absurd (subst (AimMarks q) s.allowed.can.1 h))
   marked_kept (decide_by_check p u w n) s = moves s p (shown w n) s.allowed.can.0 _ refl refl (λ q h. absurd (subst (AimMarks q) s.allowed.can.1 h))
-  marked_kept decide_bare s = rested s _ refl refl s.allowed.can.1
-  marked_kept (store_status u) s = rested s _ refl refl s.allowed.can.0
   marked_kept (finish ds) s = framed _ s g.owner _ refl refl (λ q n is. is)
       (λ q n is h. absurd (none_resting z g.owner g.lists (stored m) v.number v.flight v.work.linked q v.work.search (s.rule.linking id v s.at s.allowed.is_open) s.allowed.can.0 h))
   marked_kept (cut r c p) s = same_search s _ _ refl refl refl (λ q n. by_test (is_in q (from_behind p (g.lists r)))) where
@@ -132,7 +125,7 @@ module _ (kept : State → Type 0) (z : Size) (g : World) (m : Memory) (vs : Lis
     by_test {q} {n} true is = absurd cc
     by_test {q} {n} false is = is
   marked_kept (free_place r c to p) s = same_search s _ _ refl refl refl (λ q n. at_cases g.owner p free q (λ o. o ≡ marked n → g.owner q ≡ marked n) (λ e is. absurd cc) (λ ne is. is))
-  marked_kept k s = same_search s g.owner _ refl refl refl (λ q n is. is)
+  marked_kept k s = search (rested s, same_search s g.owner, s.allowed.can)
 
 module _ (kept : State → Type 0) (z : Size) (g : World) (m : Memory) (vs : List View) (id : ℕ) (v : View) (s : Split kept z g m vs id v) where
   pub marked_split : part.Marked z g.owner (set vs id (split_left v) ++ split_right v ∷ [])

@@ -16,7 +16,7 @@ use Rattle.core_rule.specs.Searching.{limit_of, IsPassed, IsFinal, Begins, stamp
 use Rattle.core_rule.specs.Deciding.{stamp_in}
 use Rattle.core_rule.specs.Claims.{Claim, claim, AimClaims, SearchClaims}
 use Rattle.core_rule.specs.Rule.{status_words}
-use Rattle.core_rule.specs.Kinds.{Kind, publish_stamp, publish_idle, retire_write, publish_bound, retire_read, load_head, load_next, load_stamp, load_status, mark, point, link_head, link_next, raise_read_stamp, load_read_stamp, decide_by_check, decide_bare, store_status, finish, cut, name, after, turned, changed}
+use Rattle.core_rule.specs.Kinds.{Kind, load_head, load_next, load_stamp, load_status, link_head, link_next, raise_read_stamp, load_read_stamp, decide_by_check, store_status, cut, name, after, turned, changed}
 use Rattle.core_rule.specs.Hands.{split_left, split_right, joined_view}
 use Rattle.core_rule.specs.Parts.Places.{Shows}
 use Rattle.core_rule.specs.Parts.Searches.{StandOk, SearchOk}
@@ -426,11 +426,6 @@ module _ (kept : State → Type 0) (z : Size) (g : World) (m : Memory) (vs : Lis
         (o.0, own_waits (cut r c p) s _ refl refl q.record_number q.version (S y) (λ k. k) o.1))
 
   keeps_all : (k : Kind) → Step kept z g m vs id v k → Adds k → (c : Claim) → Known c → After k c
-  keeps_all (publish_stamp clock) s adds = rests _ s tt _ refl
-  keeps_all publish_idle s adds = rests _ s tt _ refl
-  keeps_all retire_write s adds = rests _ s tt _ refl
-  keeps_all publish_bound s adds = rests _ s tt _ refl
-  keeps_all retire_read s adds = rests _ s tt _ refl
   keeps_all (load_head aim r) s adds = searches_on _ s tt _ refl refl (λ c known x over under f old.
       begins_check _ s record { aim = aim; record_number = r; place = m (head r) - 1; under = end_of_stamps } aim r (rw (← (s.rule.seats.each id v s.at s.allowed.is_open).size) s.allowed.can.0) s.allowed.can.2 refl c known x under f)
   keeps_all (load_next p look) s adds = searches_on _ s tt _ refl refl (λ c known x over under f old.
@@ -438,8 +433,6 @@ module _ (kept : State → Type 0) (z : Size) (g : World) (m : Memory) (vs : Lis
       (subst (IsBehind S c.record_number c.version) s.allowed.can.0 old))
   keeps_all (load_stamp p) s adds = looks_on _ s tt _ refl refl (λ r version. subst (IsBehind S r version) s.allowed.can)
   keeps_all (load_status p w) s adds = looks_on _ s tt _ refl refl (λ r version h. ended p (stamped w) (shown w (m (status p.place))) s.allowed.can.0 r version h (ends p.aim w (m (status p.place))))
-  keeps_all (mark r f) s adds = looks_on _ s tt _ refl refl (λ r version h. tt)
-  keeps_all (point p j w) s adds = looks_on _ s tt _ refl refl (λ r version h. tt)
   keeps_all (link_head p j w) s adds =
       let o = joint_of kept z g m vs id v _ s p j w s.allowed.can.0 s.allowed.can.1 in
       links_keep _ s p j (at_number g.lists p.record_number (j.write.place ∷ g.lists p.record_number)) (grown_head g.lists p.record_number j.write.place) o (eqb (m (head p.record_number)) (suc p.place)) _ _ refl refl refl (λ r version. tt)
@@ -450,11 +443,9 @@ module _ (kept : State → Type 0) (z : Size) (g : World) (m : Memory) (vs : Lis
       (λ r version. tt)
   keeps_all (load_read_stamp p u w n) s adds = check_case _ s p u w n s.allowed.can.0 s.allowed.can.1 s.allowed.can.2 (nat_le (R p.place) t) refl _ refl refl refl
   keeps_all (decide_by_check p u w n) s adds = check_case _ s p u w n s.allowed.can.0 s.allowed.can.1 s.allowed.can.2 (nat_le (R p.place) t) refl _ refl refl refl
-  keeps_all decide_bare s adds = looks_on _ s tt _ refl refl (λ r version h. tt)
   keeps_all (store_status u) s adds = stores u s _ refl refl refl
-  keeps_all (finish ds) s adds = rests _ s tt _ refl
   keeps_all (cut r c p) s adds = absurd adds
-  keeps_all k s adds = looks_on k s tt _ refl refl (λ r version h. h)
+  keeps_all k s adds = search (rests k s tt, looks_on k s tt, tt)
 
   new_head : (aim : Aim) (r : ℕ) (s : Step kept z g m vs id v (load_head aim r)) (vs' : List View) → Begins aim r v.work → (by : Aim) → aim ≡ by → NewAt kept z g m vs id v (InReach g.lists S T vs') (m (head r) - 1) by
   new_head aim r s vs' begins reads is = tt

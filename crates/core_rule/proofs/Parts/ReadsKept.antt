@@ -3,24 +3,22 @@ use Rattle.std.proofs.Common.{◌≡◌, ℕ, suc, ◌<◌, true, false, Bool, c
 use Rattle.std.specs.Prelude.{nat_le}
 use Rattle.std.proofs.lemmas.Bool.{leb-true}
 use Rattle.plain_data.specs.State.{State}
-use Rattle.word_layout.specs.Size.{Size, IsSize}
+use Rattle.word_layout.specs.Size.{Size}
 use Rattle.word_layout.specs.Name.{head, status, cell, next as next_word}
 use Rattle.stamp_base.specs.Limits.{end_of_stamps}
-use Rattle.core_rule.specs.Memory.{Memory, stored, start}
-use Rattle.core_rule.specs.World.{World, at_number, behind, up_to, first_world}
+use Rattle.core_rule.specs.Memory.{Memory, stored}
+use Rattle.core_rule.specs.World.{World, at_number, behind, up_to}
 use Rattle.core_rule.specs.Views.{At, Among}
-use Rattle.core_rule.specs.View.{View, Read, Aim, reads, stands, links, again, checks, Stand, Joint, stamped, first_view}
+use Rattle.core_rule.specs.View.{View, Read, Aim, reads, stands, links, again, checks, Stand, Joint, stamped}
 use Rattle.core_rule.specs.Searching.{limit_of, IsFinal, is_final, ends, reads_with, read_place, read_cells, more_read, IsLoading}
 use Rattle.core_rule.specs.Rule.{status_words}
-use Rattle.core_rule.specs.Kinds.{Kind, publish_stamp, publish_idle, retire_write, publish_bound, retire_read, load_status, load_cell, raise_read_stamp, finish, link_head, link_next, cut, name, after, turned, changed}
-use Rattle.core_rule.specs.Hands.{split_left, split_right, joined_view}
+use Rattle.core_rule.specs.Kinds.{Kind, load_status, load_cell, raise_read_stamp, link_head, link_next, cut, name, after, turned, changed}
 use Rattle.core_rule.specs.Parts.Linking.{JointOk, IsAbove}
 use Rattle.core_rule.specs.Parts.Reads.{ReadOk, FoundOk, ReadsOk}
 use Rattle.core_rule.specs.Parts.Reads as part
-use Rattle.core_rule.proofs.EachView.{Each-set, Each-own, Each-push, Each-join, Each-one, joined}
+use Rattle.core_rule.proofs.EachView.{Each-set, Each-own}
 use Rattle.core_rule.proofs.Step.{Step}
 use Rattle.core_rule.proofs.Among.{Among-either}
-use Rattle.core_rule.proofs.Making.{Split, Join}
 use Rattle.core_rule.proofs.Listed.{Grown, grown_head, grown_behind}
 use Rattle.core_rule.proofs.Touched.{Quiet, quiet}
 use Rattle.core_rule.proofs.Cutting.{IsKept-cut}
@@ -114,15 +112,10 @@ module _ (kept : State → Type 0) (z : Size) (g : World) (m : Memory) (vs : Lis
     raises c there d a = let h = s.rule.reads id v s.at s.allowed.is_open in
         ⊎_elim (λ old. h.raised_ok d old) (λ (new : c ≡ d). subst Ok new (h.found_ok c there)) (Among-either d c v.work.raised a)
 
-  none : (limit settled : ℕ) → FoundOk z g.lists S C T limit settled [] []
+  pub none : (limit settled : ℕ) → FoundOk z g.lists S C T limit settled [] []
   none limit settled = record { found_ok = λ d k. absurd k; raised_ok = λ d k. absurd k }
 
   pub reads_kept : (k : Kind) → Step kept z g m vs id v k → part.Reads z (turned k v (m (name k v)) g).lists (stored (changed k v m)).stamps (stored (changed k v m)).cells (status_words (changed k v m)) (set vs id (after k v (m (name k v))))
-  reads_kept (publish_stamp clock) s = framed _ s tt _ (none _ _)
-  reads_kept publish_idle s = framed _ s tt _ (none _ _)
-  reads_kept retire_write s = framed _ s tt _ (none _ _)
-  reads_kept publish_bound s = framed _ s tt _ (none _ _)
-  reads_kept retire_read s = framed _ s tt _ (none _ _)
   reads_kept (load_status p w) s = framed _ s tt _ record {
     found_ok = found _ s p w s.allowed.can.0 s.allowed.can.1 p.aim (ends p.aim w (m (status p.place))) refl;
     raised_ok = (s.rule.reads id v s.at s.allowed.is_open).raised_ok;
@@ -132,7 +125,6 @@ module _ (kept : State → Type 0) (z : Size) (g : World) (m : Memory) (vs : Lis
     raised_ok = (s.rule.reads id v s.at s.allowed.is_open).raised_ok;
   }
   reads_kept (raise_read_stamp d) s = framed _ s tt _ record { found_ok = (s.rule.reads id v s.at s.allowed.is_open).found_ok; raised_ok = raises _ s d s.allowed.can.1 }
-  reads_kept (finish ds) s = framed _ s tt _ (none _ _)
   reads_kept (link_head p j w) s =
       let o = joint_of kept z g m vs id v _ s p j w s.allowed.can.0 s.allowed.can.1 in
       links_kept _ s p j (at_number g.lists p.record_number (j.write.place ∷ g.lists p.record_number)) (grown_head g.lists p.record_number j.write.place) o (eqb (m (head p.record_number)) (suc p.place)) _ refl
@@ -154,19 +146,4 @@ module _ (kept : State → Type 0) (z : Size) (g : World) (m : Memory) (vs : Lis
       }) in
       Each-set (ReadsOk z g.lists S C T) (ReadsOk z (at_number g.lists r (up_to p (g.lists r))) S C T) vs _ id (λ i x ne at live h. less i x at live h)
       (λ live. less id v s.at s.allowed.is_open (s.rule.reads id v s.at s.allowed.is_open)) s.rule.reads
-  reads_kept k s = framed k s tt _ (s.rule.reads id v s.at s.allowed.is_open)
-
-module _ (kept : State → Type 0) (z : Size) (g : World) (m : Memory) (vs : List View) (id : ℕ) (v : View) (s : Split kept z g m vs id v) where
-  abbrev P : View → Type 0
-  P = ReadsOk z g.lists (stored m).stamps (stored m).cells (status_words m)
-
-  pub reads_split : part.Reads z g.lists (stored m).stamps (stored m).cells (status_words m) (set vs id (split_left v) ++ split_right v ∷ [])
-  reads_split = Each-push P P (set vs id (split_left v)) (split_right v) (λ i u at live p. p) (λ live. none kept z g m vs id v _ _) (Each-own P vs id v _ s.rule.reads s.at s.is_open (λ p. none kept z g m vs id v _ _))
-
-module _ (kept : State → Type 0) (z : Size) (g : World) (m : Memory) (vs : List View) (id other : ℕ) (v w : View) (s : Join kept z g m vs id other v w) where
-  pub reads_joined : part.Reads z g.lists (stored m).stamps (stored m).cells (status_words m) (joined vs (joined_view v w) id other)
-  reads_joined = Each-join vs _ id other (ReadsOk z g.lists (stored m).stamps (stored m).cells (status_words m)) (ReadsOk z g.lists (stored m).stamps (stored m).cells (status_words m))
-      (λ i u h live p. p) (λ live. none kept z g m vs id v _ _) s.rule.reads
-
-pub reads_start : (z : Size) → IsSize z → part.Reads z (first_world z).lists (stored (start z)).stamps (stored (start z)).cells (status_words (start z)) (first_view z ∷ [])
-reads_start z h = Each-one (ReadsOk z (first_world z).lists (stored (start z)).stamps (stored (start z)).cells (status_words (start z))) (first_view z) record { found_ok = λ d k. absurd k; raised_ok = λ d k. absurd k }
+  reads_kept k s = framed k s tt _ (search (none, s.rule.reads id v s.at s.allowed.is_open))

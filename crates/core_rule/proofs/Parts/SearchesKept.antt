@@ -1,25 +1,23 @@
 -- Searches: a search moves on to the place that a link names, and what is linked meanwhile is not settled.
-use Rattle.std.proofs.Common.{◌≡◌, ◌⊎◌, ℕ, suc, ◌-◌, ◌<◌, ◌≤◌, true, false, Bool, cond, eqb, List, [], ◌∷◌, ◌++◌, set, refl, sym, ap, ◌∙◌, subst, arith, inl, inr, ⊎_elim, Some}
+use Rattle.std.proofs.Common.{◌≡◌, ◌⊎◌, ℕ, suc, ◌-◌, ◌<◌, ◌≤◌, true, false, Bool, cond, eqb, List, ◌∷◌, set, refl, sym, ap, ◌∙◌, subst, arith, inl, inr, ⊎_elim, Some}
 use mathlib.Core.Logic.{dite}
 use native.Mathlib.Decide.{dec_lt, ℕ_discrete}
 use Rattle.plain_data.specs.State.{State}
-use Rattle.word_layout.specs.Size.{Size, IsSize}
+use Rattle.word_layout.specs.Size.{Size}
 use Rattle.word_layout.specs.Name.{head, status, next as next_word}
 use Rattle.stamp_base.specs.Limits.{end_of_stamps}
-use Rattle.core_rule.specs.Memory.{Memory, Stored, stored, start}
-use Rattle.core_rule.specs.World.{World, at_number, behind, up_to, first_world}
-use Rattle.core_rule.specs.View.{View, links, Stand, Joint, Look, blank, stamped, shown, Search, still, marks, stands, first_view}
+use Rattle.core_rule.specs.Memory.{Memory, Stored, stored}
+use Rattle.core_rule.specs.World.{World, at_number, behind, up_to}
+use Rattle.core_rule.specs.View.{View, links, Stand, Joint, Look, blank, stamped, shown, Search, still, marks, stands}
 use Rattle.core_rule.specs.Views.{At, Has}
 use Rattle.core_rule.specs.Searching.{limit_of, IsPassed, stamp_seen, ends, moved}
 use Rattle.core_rule.specs.Rule.{status_words}
-use Rattle.core_rule.specs.Kinds.{Kind, publish_stamp, publish_idle, retire_write, publish_bound, retire_read, load_head, load_next, load_stamp, load_status, mark, point, link_head, link_next, load_read_stamp, decide_by_check, decide_bare, store_status, finish, cut, name, after, turned, changed}
-use Rattle.core_rule.specs.Hands.{split_left, split_right, joined_view}
+use Rattle.core_rule.specs.Kinds.{Kind, load_head, load_next, load_stamp, load_status, point, link_head, link_next, cut, name, after, turned, changed}
 use Rattle.core_rule.specs.Parts.Linking.{JointOk, IsAbove}
 use Rattle.core_rule.specs.Parts.Searches.{IsKept, IsSeen, StandOk, SearchOk, SearchesOk}
 use Rattle.core_rule.specs.Parts.Searches as part
-use Rattle.core_rule.proofs.EachView.{Each-set, Each-own, Each-push, Each-join, Each-one, joined}
+use Rattle.core_rule.proofs.EachView.{Each-set, Each-own}
 use Rattle.core_rule.proofs.Step.{Step}
-use Rattle.core_rule.proofs.Making.{Split, Join}
 use Rattle.core_rule.proofs.Listed.{Follows, Grown, one_place, top, below, grown_head, grown_behind}
 use Rattle.core_rule.proofs.Touched.{Untouched, Quiet, quiet}
 use Rattle.core_rule.proofs.Cutting.{IsKept-cut}
@@ -216,11 +214,6 @@ module _ (kept : State → Type 0) (z : Size) (g : World) (m : Memory) (vs : Lis
   cut_off r c p s i x at live (stands q look) h = record { kept = IsKept-cut kept z g m vs id v r c p s i x at live q.record_number q.place h.kept; under = h.under; seen = h.seen }
 
   pub searches_kept : (k : Kind) → Step kept z g m vs id v k → part.Searches z (turned k v (m (name k v)) g).lists (stored (changed k v m)).stamps (status_words (changed k v m)) (set vs id (after k v (m (name k v))))
-  searches_kept (publish_stamp clock) s = framed _ s tt _ tt
-  searches_kept publish_idle s = framed _ s tt _ tt
-  searches_kept retire_write s = framed _ s tt _ tt
-  searches_kept publish_bound s = framed _ s tt _ tt
-  searches_kept retire_read s = framed _ s tt _ tt
   searches_kept (load_head aim r) s = framed _ s tt _
       (begins _ s record { aim = aim; record_number = r; place = m (head r) - 1; under = end_of_stamps } (rw (← (s.rule.seats.each id v s.at s.allowed.is_open).size) s.allowed.can.0) s.allowed.can.1 refl refl)
   searches_kept (load_next p look) s = framed _ s tt _
@@ -230,7 +223,6 @@ module _ (kept : State → Type 0) (z : Size) (g : World) (m : Memory) (vs : Lis
     by_test : (b : Bool) → SearchOk z g.lists S T (limit_of v.flight v.published.read) v.published.read (cond b still (stands p (shown w (m (status p.place)))))
     by_test true = tt
     by_test false = let h = stand_of kept z g m vs id v _ s p (stamped w) s.allowed.can.0 in record { kept = h.kept; under = h.under; seen = (h.seen, s.allowed.can.1, λ le. refl) }
-  searches_kept (mark r f) s = framed _ s tt _ tt
   searches_kept (point p j w) s = framed _ s tt _ (let h = stand_of kept z g m vs id v _ s p (stamped w) s.allowed.can.0 in record { kept = h.kept; under = h.under; seen = h.seen })
   searches_kept (link_head p j w) s =
       let o = joint_of kept z g m vs id v _ s p j w s.allowed.can.0 s.allowed.can.1 in
@@ -247,23 +239,6 @@ module _ (kept : State → Type 0) (z : Size) (g : World) (m : Memory) (vs : Lis
       let there = (subst (IsAbove (g.lists p.record_number) S j.write.stamp p.under) s.allowed.can.3 o.above).0 in
       let lists' = at_number g.lists p.record_number (behind a j.write.place (g.lists p.record_number)) in
       links_kept _ s p j lists' (grown_behind g.lists p.record_number j.write.place a there) o (eqb n (suc p.place)) _ (won_or_lost _ s lists' _ lost (eqb n (suc p.place)))
-  searches_kept (load_read_stamp p u w n) s = framed _ s tt _ tt
-  searches_kept (decide_by_check p u w n) s = framed _ s tt _ tt
-  searches_kept decide_bare s = framed _ s tt _ tt
-  searches_kept (store_status u) s = framed _ s tt _ tt
-  searches_kept (finish ds) s = framed _ s tt _ tt
   searches_kept (cut r c p) s = Each-set (SearchesOk z g.lists S T) (SearchesOk z (at_number g.lists r (up_to p (g.lists r))) S T) vs _ id
       (λ i x ne at live h. cut_off r c p s i x at live x.work.search h) (λ live. cut_off r c p s id v s.at s.allowed.is_open v.work.search (s.rule.searches id v s.at s.allowed.is_open)) s.rule.searches
-  searches_kept k s = framed k s tt _ (s.rule.searches id v s.at s.allowed.is_open)
-
-module _ (kept : State → Type 0) (z : Size) (g : World) (m : Memory) (vs : List View) (id : ℕ) (v : View) (s : Split kept z g m vs id v) where
-  pub searches_split : part.Searches z g.lists (stored m).stamps (status_words m) (set vs id (split_left v) ++ split_right v ∷ [])
-  searches_split = Each-push (SearchesOk z g.lists (stored m).stamps (status_words m)) (SearchesOk z g.lists (stored m).stamps (status_words m)) (set vs id (split_left v)) (split_right v)
-      (λ i u at live p. p) (λ live. tt) (Each-own (SearchesOk z g.lists (stored m).stamps (status_words m)) vs id v _ s.rule.searches s.at s.is_open (λ p. tt))
-
-module _ (kept : State → Type 0) (z : Size) (g : World) (m : Memory) (vs : List View) (id other : ℕ) (v w : View) (s : Join kept z g m vs id other v w) where
-  pub searches_joined : part.Searches z g.lists (stored m).stamps (status_words m) (joined vs (joined_view v w) id other)
-  searches_joined = Each-join vs _ id other (SearchesOk z g.lists (stored m).stamps (status_words m)) (SearchesOk z g.lists (stored m).stamps (status_words m)) (λ i u h live p. p) (λ live. tt) s.rule.searches
-
-pub searches_start : (z : Size) → IsSize z → part.Searches z (first_world z).lists (stored (start z)).stamps (status_words (start z)) (first_view z ∷ [])
-searches_start z h = Each-one (SearchesOk z (first_world z).lists (stored (start z)).stamps (status_words (start z))) (first_view z) tt
+  searches_kept k s = framed k s tt _ (search (tt, s.rule.searches id v s.at s.allowed.is_open))

@@ -8,7 +8,7 @@ use Rattle.core_rule.specs.Views.{At}
 use Rattle.core_rule.proofs.Step.{Step, differs, at_number-other, at_number-same}
 use Rattle.core_rule.specs.View.{View, Published, Splitting, single, sharing, offers_write, offers_both, shared, first_view}
 use Rattle.core_rule.specs.Offers.{made_of, MayOffer, HasOffered, HasOfferedBoth, IsSettled}
-use Rattle.core_rule.specs.Kinds.{Kind, offer_write_word, offer_read_word, publish_stamp, publish_idle, retire_write, publish_bound, retire_read, name, after, turned, changed}
+use Rattle.core_rule.specs.Kinds.{Kind, offer_write_word, offer_read_word, name, after, turned, changed}
 use Rattle.core_rule.specs.Rule.{write_words, read_words}
 use Rattle.core_rule.specs.Parts.Splitting.{Makes, Offered, SplittingOk, IsBelow, IsMade, Splittings}
 use Rattle.core_rule.proofs.EachView.{Each-set, Pairs-own, AllOf-map, Each-push, Each-join, Each-one, Pairs-push, Pairs-join, Pairs-one, AllOf-append, joined, Each-own}
@@ -153,12 +153,7 @@ module _ (kept : State → Type 0) (z : Size) (g : World) (m : Memory) (vs : Lis
       (rw (← (s.rule.seats.each id v s.at s.allowed.is_open).size) s.allowed.can, at_number-same (write_words m) (made_of v.splitting) v.published.write) refl refl
   splittings_kept offer_read_word s = offers _ s (Makes-of_offered v.splitting s.allowed.fits) _ _ _ (λ made h. h)
       (let o = offered_write_is z (write_words m) (read_words m) v.published v.splitting s.allowed.fits (s.rule.splittings.each id v s.at s.allowed.is_open).offered in (o.0, o.1, at_number-same (read_words m) (made_of v.splitting) v.published.read)) refl refl
-  splittings_kept (publish_stamp clock) s = stays _ s s.allowed.fits _ _ _ _ refl refl refl (λ i h. (own g.drawn _ i h, own (write_words m) _ i h, refl))
-  splittings_kept publish_idle s = stays _ s s.allowed.fits _ _ _ _ refl refl refl (λ i h. (refl, own (write_words m) _ i h, refl))
-  splittings_kept retire_write s = stays _ s s.allowed.fits _ _ _ _ refl refl refl (λ i h. (refl, own (write_words m) _ i h, refl))
-  splittings_kept publish_bound s = stays _ s s.allowed.fits _ _ _ _ refl refl refl (λ i h. (refl, refl, own (read_words m) _ i h))
-  splittings_kept retire_read s = stays _ s s.allowed.fits _ _ _ _ refl refl refl (λ i h. (refl, refl, own (read_words m) _ i h))
-  splittings_kept k s = stays _ s s.allowed.fits _ _ _ _ refl refl refl (λ i h. (refl, refl, refl))
+  splittings_kept k s = stays _ s s.allowed.fits _ _ _ _ refl refl refl (λ i h. (search (own g.drawn), search (own (write_words m)), search (own (read_words m))))
 
 module _ (kept : State → Type 0) (z : Size) (g : World) (m : Memory) (vs : List View) (id : ℕ) (v : View) (s : Split kept z g m vs id v) where
   made : ℕ

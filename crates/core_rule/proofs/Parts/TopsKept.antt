@@ -1,24 +1,22 @@
 -- Tops: while a seat is alone, nobody else links, and its own search to link never passes a version.
 use Rattle.std.proofs.Common.{◌≡◌, ℕ, suc, ◌-◌, ◌<◌, List, [], ◌∷◌, ◌++◌, set, true, false, Bool, cond, eqb, sym, ◌∙◌, arith, subst, None}
 use Rattle.plain_data.specs.State.{State}
-use Rattle.word_layout.specs.Size.{Size, IsSize}
+use Rattle.word_layout.specs.Size.{Size}
 use Rattle.word_layout.specs.Name.{head, status, next as next_word}
 use Rattle.stamp_base.specs.Limits.{end_of_stamps}
 use prog.Atomic.{either}
-use Rattle.core_rule.specs.Memory.{Memory, stored, start}
+use Rattle.core_rule.specs.Memory.{Memory, stored}
 use Rattle.core_rule.specs.World.{World, at_number}
-use Rattle.core_rule.specs.View.{View, Aim, reads, links, again, checks, Joint, Stand, Look, blank, stamped, shown, still, stands, Splitting, single, sharing, offers_write, offers_both, shared, first_view}
+use Rattle.core_rule.specs.View.{View, Aim, reads, links, again, checks, Joint, Stand, Look, blank, stamped, shown, still, stands, Splitting, single, sharing, offers_write, offers_both, shared}
 use Rattle.core_rule.specs.Views.{At, OthersTaken}
 use Rattle.core_rule.specs.Offers.{MayOffer, HasOffered, offered_write, offered_read}
 use Rattle.core_rule.specs.Searching.{ends, moved, stamp_seen}
 use Rattle.core_rule.specs.Rule.{Rule, head_words}
-use Rattle.core_rule.specs.Kinds.{Kind, offer_write_word, offer_read_word, publish_stamp, publish_idle, retire_write, publish_bound, retire_read, load_head, load_next, load_stamp, load_status, mark, point, link_head, link_next, load_read_stamp, decide_by_check, decide_bare, store_status, finish, name, after, changed}
-use Rattle.core_rule.specs.Hands.{split_left, split_right, joined_view}
+use Rattle.core_rule.specs.Kinds.{Kind, offer_write_word, offer_read_word, load_head, load_next, load_stamp, load_status, point, link_head, link_next, name, after, changed}
 use Rattle.core_rule.specs.Parts.Tops.{AimAtTop, IsAtTop, TopOk}
 use Rattle.core_rule.specs.Parts.Tops as part
-use Rattle.core_rule.proofs.EachView.{Each-set, Each-own, Each-push, Each-join, Each-one, joined}
+use Rattle.core_rule.proofs.EachView.{Each-set}
 use Rattle.core_rule.proofs.Step.{Step, at_number-stays}
-use Rattle.core_rule.proofs.Making.{Split, Join}
 use Rattle.core_rule.proofs.Listed.{top}
 use Rattle.core_rule.proofs.Working.{stand_of}
 use Rattle.core_rule.proofs.Parts.CountsKept.{none_other}
@@ -97,11 +95,6 @@ module _ (kept : State → Type 0) (z : Size) (g : World) (m : Memory) (vs : Lis
   pub tops_kept : (k : Kind) → Step kept z g m vs id v k → part.Tops z (head_words (changed k v m)) (set vs id (after k v (m (name k v))))
   tops_kept offer_write_word s = framed _ s H _ (λ alone. mine s (before_offer z.seats v.number v.splitting v.clock.taken_in s.allowed.fits alone))
   tops_kept offer_read_word s = framed _ s H _ (λ alone. mine s (before_both z.seats v.number v.splitting v.clock.taken_in s.allowed.fits alone))
-  tops_kept (publish_stamp clock) s = framed _ s H _ (λ alone. tt)
-  tops_kept publish_idle s = framed _ s H _ (λ alone. tt)
-  tops_kept retire_write s = framed _ s H _ (λ alone. tt)
-  tops_kept publish_bound s = framed _ s H _ (λ alone. tt)
-  tops_kept retire_read s = framed _ s H _ (λ alone. tt)
   tops_kept (load_head aim r) s =
       let lt : r < z.records = rw (← (s.rule.seats.each id v s.at s.allowed.is_open).size) s.allowed.can.0 in
       let l = s.rule.lists.each r lt in
@@ -113,7 +106,6 @@ module _ (kept : State → Type 0) (z : Size) (g : World) (m : Memory) (vs : Lis
     by_test : (b : Bool) → AimAtTop H p p.aim → IsAtTop H (cond b still (stands p (shown w (m (status p.place)))))
     by_test true h = tt
     by_test false h = h
-  tops_kept (mark r f) s = framed _ s H _ (λ alone. tt)
   tops_kept (point p j w) s = framed _ s H _ (λ alone. subst (AimAtTop H p) s.allowed.can.1 (stays_at s p (stamped w) s.allowed.can.0 alone))
   tops_kept (link_head p j w) s = heads_it p j w s (eqb (m (head p.record_number)) (suc p.place))
   tops_kept (link_next p j a w) s = links_it (eqb (m (next_word a)) (suc p.place)) where
@@ -125,21 +117,4 @@ module _ (kept : State → Type 0) (z : Size) (g : World) (m : Memory) (vs : Lis
     })
     links_it true = framed _ s H _ (λ alone. tt)
     links_it false = framed _ s H _ (λ alone first. absurd (let e = sym s.allowed.can.3 ∙ first in cc))
-  tops_kept (load_read_stamp p u w n) s = framed _ s H _ (λ alone. tt)
-  tops_kept (decide_by_check p u w n) s = framed _ s H _ (λ alone. tt)
-  tops_kept decide_bare s = framed _ s H _ (λ alone. tt)
-  tops_kept (store_status u) s = framed _ s H _ (λ alone. tt)
-  tops_kept (finish ds) s = framed _ s H _ (λ alone. tt)
-  tops_kept k s = framed k s H _ (mine s)
-
-module _ (kept : State → Type 0) (z : Size) (g : World) (m : Memory) (vs : List View) (id : ℕ) (v : View) (s : Split kept z g m vs id v) where
-  pub tops_split : part.Tops z (head_words m) (set vs id (split_left v) ++ split_right v ∷ [])
-  tops_split = Each-push (TopOk z (head_words m)) (TopOk z (head_words m)) (set vs id (split_left v)) (split_right v) (λ i u at live p. p) (λ live alone. tt)
-      (Each-own (TopOk z (head_words m)) vs id v _ s.rule.tops s.at s.is_open (λ p alone. tt))
-
-module _ (kept : State → Type 0) (z : Size) (g : World) (m : Memory) (vs : List View) (id other : ℕ) (v w : View) (s : Join kept z g m vs id other v w) where
-  pub tops_joined : part.Tops z (head_words m) (joined vs (joined_view v w) id other)
-  tops_joined = Each-join vs _ id other (TopOk z (head_words m)) (TopOk z (head_words m)) (λ i u h live p. p) (λ live alone. tt) s.rule.tops
-
-pub tops_start : (z : Size) → IsSize z → part.Tops z (head_words (start z)) (first_view z ∷ [])
-tops_start z h = Each-one (TopOk z (head_words (start z))) (first_view z) (λ alone. tt)
+  tops_kept k s = framed k s H _ (λ alone. search (tt, mine s alone))

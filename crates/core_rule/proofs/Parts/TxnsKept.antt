@@ -2,23 +2,21 @@
 use Rattle.std.proofs.Common.{◌≡◌, ◌⊎◌, ℕ, suc, ◌-◌, Bool, true, false, cond, eqb, List, [], ◌∷◌, ◌++◌, set, refl, sym, ap, ◌∙◌, subst, inl, inr, ⊎_elim}
 use Rattle.std.specs.Prelude.{nat_le}
 use Rattle.plain_data.specs.State.{State}
-use Rattle.word_layout.specs.Size.{Size, IsSize}
+use Rattle.word_layout.specs.Size.{Size}
 use Rattle.word_layout.specs.Name.{head, rts, wts, status, next as next_word}
 use Rattle.stamp_base.specs.Limits.{end_of_stamps}
 use Rattle.core_rule.specs.Memory.{Memory}
 use Rattle.core_rule.specs.World.{World}
-use Rattle.core_rule.specs.View.{View, writing, Read, Write, Aim, Joint, reads, links, again, checks, Stand, Look, blank, stamped, shown, Search, still, marks, stands, Work, first_view}
+use Rattle.core_rule.specs.View.{View, writing, Read, Write, Aim, Joint, reads, links, again, checks, Stand, Look, blank, stamped, shown, Search, still, marks, stands, Work}
 use Rattle.core_rule.specs.Views.{Has, Among}
 use Rattle.core_rule.specs.Searching.{ends, moved, stamp_seen, finished_with, IsWhole, AllPassed, OthersPassed, Begins}
 use Rattle.core_rule.specs.Deciding.{stamp_in, commit_of}
-use Rattle.core_rule.specs.Kinds.{Kind, publish_stamp, publish_idle, retire_write, publish_bound, retire_read, load_head, load_next, load_stamp, load_status, mark, point, link_head, link_next, raise_read_stamp, load_read_stamp, decide_by_check, decide_bare, store_status, finish, name, after}
-use Rattle.core_rule.specs.Hands.{split_left, split_right, joined_view}
+use Rattle.core_rule.specs.Kinds.{Kind, load_head, load_next, load_stamp, load_status, mark, point, link_head, link_next, raise_read_stamp, load_read_stamp, decide_by_check, decide_bare, store_status, name, after}
 use Rattle.core_rule.specs.Parts.Txns.{HasWriteOf, AimFits, SearchFits, IsDecided, TxnOk}
 use Rattle.core_rule.specs.Parts.Txns as part
 use Rattle.core_rule.proofs.Among.{Among-left, Among-last, Among-either, if_more}
-use Rattle.core_rule.proofs.EachView.{Each-own, Each-push, Each-join, Each-one, joined}
+use Rattle.core_rule.proofs.EachView.{Each-own}
 use Rattle.core_rule.proofs.Step.{Step}
-use Rattle.core_rule.proofs.Making.{Split, Join}
 use Rattle.core_rule.proofs.Working.{aim_of_read, aim_of_check}
 
 HasWriteOf-more : (r : ℕ) (us : List Write) (x : Write) → HasWriteOf r us → HasWriteOf r (us ++ x ∷ [])
@@ -190,11 +188,6 @@ module _ (kept : State → Type 0) (z : Size) (g : World) (m : Memory) (vs : Lis
   still_fits k s search h = h
 
   pub txns_kept : (k : Kind) → Step kept z g m vs id v k → part.Txns (set vs id (after k v (m (name k v))))
-  txns_kept (publish_stamp clock) s = own _ s _ (λ h. rests _ refl refl refl refl refl refl)
-  txns_kept publish_idle s = own _ s _ (λ h. rests _ refl refl refl refl refl refl)
-  txns_kept retire_write s = own _ s _ (λ h. rests _ refl refl refl refl refl refl)
-  txns_kept publish_bound s = own _ s _ (λ h. rests _ refl refl refl refl refl refl)
-  txns_kept retire_read s = own _ s _ (λ h. rests _ refl refl refl refl refl refl)
   txns_kept (load_head aim r) s =
       let p : Stand = record { aim = aim; record_number = r; place = m (head r) - 1; under = end_of_stamps } in
       own _ s _ (search_is _ refl refl refl refl refl refl refl refl (AimFits-same v.work (record v.work { search = stands p blank }) p p aim refl refl refl refl refl (begins_fits _ s aim r p refl s.allowed.can.2)))
@@ -230,17 +223,4 @@ module _ (kept : State → Type 0) (z : Size) (g : World) (m : Memory) (vs : Lis
     search = tt;
     decided = λ e. let o = h.decided e in (o.0, record { passed = o.1.passed; finished = o.1.finished; entered = o.1.entered });
   })
-  txns_kept (finish ds) s = own _ s _ (λ h. rests _ refl refl refl refl refl refl)
-  txns_kept k s = own k s _ (search_is _ refl refl refl refl refl refl refl refl (still_fits k s v.work.search (mine k s).search))
-
-module _ (kept : State → Type 0) (z : Size) (g : World) (m : Memory) (vs : List View) (id : ℕ) (v : View) (s : Split kept z g m vs id v) where
-  pub txns_split : part.Txns (set vs id (split_left v) ++ split_right v ∷ [])
-  txns_split = Each-push TxnOk TxnOk (set vs id (split_left v)) (split_right v) (λ i u at live p. p) (λ live. rests _ refl refl refl refl refl refl)
-      (Each-own TxnOk vs id v _ s.rule.txns s.at s.is_open (λ h. rests _ refl refl refl refl refl refl))
-
-module _ (kept : State → Type 0) (z : Size) (g : World) (m : Memory) (vs : List View) (id other : ℕ) (v w : View) (s : Join kept z g m vs id other v w) where
-  pub txns_joined : part.Txns (joined vs (joined_view v w) id other)
-  txns_joined = Each-join vs _ id other TxnOk TxnOk (λ i u h live p. p) (λ live. rests _ refl refl refl refl refl refl) s.rule.txns
-
-pub txns_start : (z : Size) → IsSize z → part.Txns (first_view z ∷ [])
-txns_start z h = Each-one TxnOk (first_view z) (rests _ refl refl refl refl refl refl)
+  txns_kept k s = own k s _ (search (rests, search_is, still_fits k s v.work.search (mine k s).search))

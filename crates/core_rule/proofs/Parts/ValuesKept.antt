@@ -15,7 +15,7 @@ use Rattle.core_rule.specs.Rule.{status_words, floor_words}
 use Rattle.core_rule.specs.Searching.{IsFinal, shown_at, Ends}
 use Rattle.core_rule.specs.Deciding.{stamp_in, commit_of, snapshot_of, IsUndecided}
 use Rattle.core_rule.specs.Entries.{InLog, Wrote}
-use Rattle.core_rule.specs.Kinds.{Kind, publish_stamp, publish_idle, retire_write, publish_bound, retire_read, link_head, link_next, decide_by_check, decide_bare, store_status, finish, name, after, turned, changed}
+use Rattle.core_rule.specs.Kinds.{Kind, link_head, link_next, decide_by_check, decide_bare, store_status, finish, name, after, turned, changed}
 use Rattle.core_rule.specs.Hands.{split_left, split_right, joined_view}
 use Rattle.core_rule.specs.Parts.Places.{Shows}
 use Rattle.core_rule.specs.Parts.Linking.{JointOk, IsAbove}
@@ -395,11 +395,6 @@ module _ (kept : State → Type 0) (z : Size) (g : World) (m : Memory) (vs : Lis
       s.rule.values
 
   pub values_kept : (k : Kind) → Step kept z g m vs id v k → part.Values z (turned k v (m (name k v)) g).lists (floor_words (changed k v m)) (stored (changed k v m)).stamps (stored (changed k v m)).cells (status_words (changed k v m)) (set vs id (after k v (m (name k v))))
-  values_kept (publish_stamp clock) s = same_log _ s tt tt _ refl refl (λ w x. published w x v _ s.allowed.can.3)
-  values_kept publish_idle s = same_log _ s tt tt _ refl refl (λ w x. published w x v _ s.allowed.can.1)
-  values_kept retire_write s = same_log _ s tt tt _ refl refl (λ w x. published w x v _ s.allowed.can)
-  values_kept publish_bound s = same_log _ s tt tt _ refl refl (λ w x. published w x v _ s.allowed.can.1)
-  values_kept retire_read s = same_log _ s tt tt _ refl refl (λ w x. published w x v _ s.allowed.can)
   values_kept (link_head p j w) s =
       let o = joint_of kept z g m vs id v _ s p j w s.allowed.can.0 s.allowed.can.1 in
       links_kept _ s p j (at_number g.lists p.record_number (j.write.place ∷ g.lists p.record_number)) (grown_head g.lists p.record_number j.write.place) o (eqb (m (head p.record_number)) (suc p.place)) _ refl refl
@@ -426,7 +421,7 @@ module _ (kept : State → Type 0) (z : Size) (g : World) (m : Memory) (vs : Lis
       lessened z g.lists (at_number g.lists r (up_to p (g.lists r))) (floor_words m) (floor_words m) S C T _ (shrunk kept z g m vs id v r c p s).fewer (λ q lt. omega arith)
       (λ q x lt has high. (shrunk kept z g m vs id v r c p s).stays q x has (λ same. let at_floor = n.at.0 in let e : floor_words m r ≡ floor_words m q = ap (floor_words m) same in omega arith))
       (collecting _ s _ refl refl refl refl)
-  values_kept k s = same_log k s tt tt _ refl refl (λ w x h. record { in_flight = h.in_flight; decided = h.decided; linked = h.linked; unsettled = h.unsettled })
+  values_kept k s = same_log k s tt tt _ refl refl (λ w x h. search (published w x v, s.allowed.can, h))
 
 module _ (kept : State → Type 0) (z : Size) (g : World) (m : Memory) (vs : List View) (id : ℕ) (v : View) (s : Split kept z g m vs id v) where
   abbrev left : List View

@@ -12,7 +12,7 @@ use Rattle.core_rule.specs.View.{View, Flight, resting, writing, Write, Joint, S
 use Rattle.core_rule.specs.Views.{At, Has, Among, SomeView}
 use Rattle.core_rule.specs.Searching.{HasWrite, Ends, shown_at}
 use Rattle.core_rule.specs.Rule.{status_words}
-use Rattle.core_rule.specs.Kinds.{Kind, publish_stamp, publish_idle, retire_write, publish_bound, retire_read, link_head, link_next, decide_by_check, decide_bare, store_status, finish, cut, name, after, turned, changed}
+use Rattle.core_rule.specs.Kinds.{Kind, publish_stamp, link_head, link_next, decide_by_check, decide_bare, store_status, finish, cut, name, after, turned, changed}
 use Rattle.core_rule.specs.Hands.{split_left, split_right, joined_view}
 use Rattle.core_rule.specs.Parts.Clocks.{IsDrawn, InFlight}
 use Rattle.core_rule.specs.Parts.Places.{Shows}
@@ -363,10 +363,6 @@ module _ (kept : State → Type 0) (z : Size) (g : World) (m : Memory) (vs : Lis
       record { linked = λ u k. absurd k; once = λ u x k l. absurd k; own = λ t r p is lt has at. absurd (new_stamp clock s r p lt has (at ∙ writing_one t (stamp_of clock v.number) (sym is))) } where
         writing_one : (a b : ℕ) → writing a ≡ writing b → a ≡ b
         writing_one a b e = cc
-  versions_kept publish_idle s = framed _ s tt tt _ refl g.drawn (λ seat. omega arith) (ends_all _ s s.allowed.can.1 _) rests
-  versions_kept retire_write s = framed _ s tt tt _ refl g.drawn (λ seat. omega arith) (ends_all _ s s.allowed.can _) rests
-  versions_kept publish_bound s = framed _ s tt tt _ refl g.drawn (λ seat. omega arith) (ends_all _ s s.allowed.can.1 _) rests
-  versions_kept retire_read s = framed _ s tt tt _ refl g.drawn (λ seat. omega arith) (ends_all _ s s.allowed.can _) rests
   versions_kept (link_head p j w) s =
       let o = joint_of kept z g m vs id v _ s p j w s.allowed.can.0 s.allowed.can.1 in
       links_kept _ s p j (at_number g.lists p.record_number (j.write.place ∷ g.lists p.record_number)) (grown_head g.lists p.record_number j.write.place) (stand_of kept z g m vs id v _ s p (stamped w) s.allowed.can.0).kept.on_record o
@@ -395,7 +391,7 @@ module _ (kept : State → Type 0) (z : Size) (g : World) (m : Memory) (vs : Lis
     views = Each-set (WritesOk z g.lists S C T) (WritesOk z (at_number g.lists r (up_to p (g.lists r))) S C T) vs _ id (λ i x ne at live h. cut_off r c p s i x at live h)
         (λ live. cut_off r c p s id v s.at s.allowed.is_open (s.rule.versions.views id v s.at s.allowed.is_open)) s.rule.versions.views;
   }
-  versions_kept k s = framed k s tt tt _ refl g.drawn (λ seat. omega arith) (λ r p t two h. record { in_flight = h.in_flight; write = h.write }) (s.rule.versions.views id v s.at s.allowed.is_open)
+  versions_kept k s = framed k s tt tt _ refl g.drawn (λ seat. omega arith) (λ r p t two h. search (ends_all k s, s.allowed.can, two, h)) (search (rests, s.rule.versions.views id v s.at s.allowed.is_open))
 
 module _ (kept : State → Type 0) (z : Size) (g : World) (m : Memory) (vs : List View) (id : ℕ) (v : View) (s : Split kept z g m vs id v) where
   pub versions_split : part.Versions z g.drawn g.lists (stored m).stamps (stored m).cells (status_words m) (set vs id (split_left v) ++ split_right v ∷ [])

@@ -1,12 +1,10 @@
-use Rattle.std.proofs.Common.{◌≡◌, ℕ, sym, ap, ◌∙◌, subst, arith}
+use Rattle.std.proofs.Common.{ℕ, sym, ap, ◌∙◌, arith}
 use Rattle.word_layout.specs.Name.{cell, word_of}
 use Rattle.core_rule.specs.Searching.{read_place, read_cells}
 use Rattle.core_rule.proofs.CellWords.{cell_word, cell_in_range}
-use Rattle.core_rule.proofs.HandKept.{size_in}
-use Rattle.core_rule.specs.View.{View}
+use Rattle.core_rule.proofs.HandKept.{size_in, steps_of}
 use Rattle.core_rule.specs.Hands.{Seated}
-use Rattle.core_rule.specs.Kinds.{load_cell, after}
-use Rattle.core_rule.specs.Learnt.{Learnt}
+use Rattle.core_rule.specs.Kinds.{load_cell}
 use Rattle.core_rule.proofs.shared.Core.load_cell.Goals as goal
 
 pub overflow_add-word : goal.overflow_add-word
@@ -23,12 +21,4 @@ load-requires-clause-word g c =
     ∙ ap (λ (t : Seated). word_of c.args.self.now.size (cell (read_place t.view.work.reads) (read_cells t.view.work.reads))) (sym c.hand.view_is)
 
 pub returns : goal.returns
-returns g c =
-    let here : c.hand.inside.seat.me.0 ≡ c.args.hand.now.view = ap (λ (h : Seated). h.view) c.hand.view_is in record {
-      seat = record {
-        same_table = c.load.ensures.table ∙ ap (λ (h : Seated). h.table) c.hand.view_is;
-        same_id = c.load.ensures.id ∙ ap (λ (h : Seated). h.id) c.hand.view_is;
-      };
-      view = subst (λ (x : View). c.load.new.seat.me.0 ≡ after load_cell x c.load.result) here c.load.ensures.told.view;
-      learnt = subst (λ (x : View). Learnt g.J.Keeps.kept load_cell x c.load.result) here c.load.ensures.told.learnt;
-    }
+returns g c = let e = c.load.ensures in steps_of g.J.Keeps.kept (λ v. load_cell) _ _ c.load.result _ c.hand.view_is e.table e.id e.told

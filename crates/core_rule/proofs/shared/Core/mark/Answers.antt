@@ -29,8 +29,7 @@ store-requires-clause-allowed g c =
       fits = subst (λ (x : View). IsSettled x.splitting) here c.hand.invariant.1.settled;
       can = (has_front v.places.fills c.requires.in_work, c.requires.in_flight, c.requires.reset, fits, c.requires.rests, c.requires.only, c.requires.whole, c.requires.undecided);
     } in
-    subst (λ (n : ℕ). Allowed g.J.Keeps.kept (mark n (front_fill c.hand.inside.seat.me.0.places.fills)) c.hand.inside.seat.me.0) (sym c.into.ensures)
-    (subst (λ (x : View). Allowed g.J.Keeps.kept (mark c.args.rid (front_fill x.places.fills)) x) (sym here) all)
+    subst (λ (x : View). Allowed g.J.Keeps.kept (mark c.args.rid (front_fill x.places.fills)) x) (sym here) all
 
 pub invariant_of-hand : goal.invariant_of-hand
 invariant_of-hand g c =

@@ -4,8 +4,8 @@ use Rattle.core_rule.specs.Kinds.{Can, raise_read_stamp}
 use Rattle.core_rule.proofs.HandKept.{after_work}
 use Rattle.core_rule.proofs.shared.Core.raise_read_stamp.Goals as goal
 
-pub fetch_max_of-requires-clause-allowed : goal.fetch_max_of-requires-clause-allowed
-fetch_max_of-requires-clause-allowed g c =
+pub fetch_max-requires-clause-allowed : goal.fetch_max-requires-clause-allowed
+fetch_max-requires-clause-allowed g c =
     let r = c.requires in let v = c.args.hand.now.view in record {
       is_open = c.hand.invariant.1.is_open;
       fits = c.hand.invariant.1.settled;
@@ -16,4 +16,4 @@ fetch_max_of-requires-clause-allowed g c =
 pub invariant_of-hand : goal.invariant_of-hand
 invariant_of-hand g c =
     let h = c.hand.inside in
-    (c.fetch_max_of.ensures.bare, after_work h.number h.clock h.published h.bound h.made h.last_pool h.seat.me.0 c.hand.invariant.1 _ _ _ c.fetch_max_of.new.seat.me.0 c.fetch_max_of.ensures.told.view)
+    (c.fetch_max.ensures.bare, after_work h.number h.clock h.published h.bound h.made h.last_pool h.seat.me.0 c.hand.invariant.1 _ _ _ c.fetch_max.new.seat.me.0 c.fetch_max.ensures.told.view)

@@ -1,10 +1,9 @@
 -- Cells stored or met one by one, in the place that is being filled.
-use Rattle.std.proofs.Common.{◌≡◌, ◌≢◌, ℕ, ◌+◌, ◌<◌, List, [], ◌∷◌, ◌++◌, Bool, cond, eqb, length, take, append_assoc, refl, sym, ap, ◌∙◌, ne_eqb, eq-eqb}
-use Rattle.plain_data.specs.State.{State}
+use Rattle.std.proofs.Common.{◌≡◌, ◌≢◌, ℕ, List, [], ◌∷◌, ◌++◌, Bool, cond, take, append_assoc, refl, sym, ap, ◌∙◌, ne_eqb, eq-eqb}
 use Rattle.core_rule.specs.View.{View, Fill}
 use Rattle.core_rule.specs.Holding.{more_cells}
 use Rattle.core_rule.specs.Kinds.{fill_cell, meet_cell, after}
-use Rattle.core_rule.specs.Hands.{Shared, Seated, StaysReady, Steps}
+use Rattle.core_rule.specs.Hands.{Shared, Seated, StaysReady}
 use Rattle.version_pool.specs.Fills.{with_cells, with_more}
 use Rattle.version_pool.proofs.Calls.{both-ready}
 

@@ -52,6 +52,11 @@ pub record Loaded (core : Shared) (before : Seated) (words : List ℕ) (n : ℕ)
   pub grows : Grows before.view.seen now.view.seen
   pub loads : now.view.seen.loads ≡ before.view.seen.loads ++ cells_loaded (read_place before.view.work.reads) 0 (take n words)
 
+-- the same into a version, of which all but the cells stays
+pub record LoadedInto (core : Shared) (before : Seated) (read : Read) (n : ℕ) (now : Seated) (read' : Read) : Type 0 where
+  pub loaded : Loaded core before read'.cells n now
+  pub only : read' ≡ record read { cells = read'.cells }
+
 pub reads_of : (core : Shared) (before : Seated) (words : List ℕ) (n : ℕ) (now : Seated) → Loaded core before words n now → now.view.work.reads ≡ with_cells (take n words) before.view.work.reads
 reads_of core before words n now l = ap (λ (v : View). v.work.reads) l.view
 
@@ -116,3 +121,13 @@ module _ (core : Shared) (before : Seated) (words : List ℕ) (loading : IsLoadi
       ap (λ (ds : List Read). (newest ds).cells) (reads_of core before words 32 now l) ∙ newest_with (take 32 words) before.view.work.reads loading none
       ∙ take_all 32 words (let c = l.count in omega arith) in
       subst (LeavesCells now.view.log (newest now.view.work.reads).record_number (limit_of now.view.flight now.view.published.read) (newest now.view.work.reads).version) cells_are (l.left refl alone)
+
+-- one cell more, into a version
+pub one_more_into : (core : Shared) (before : Seated) {kept : State → Type 0} (i j n : ℕ) (now next' : Seated) (read d d' : Read) → IsLoading before.view.work.reads → read_cells before.view.work.reads ≡ 0 → i < 32 → j ≡ i + 1 → LoadedInto core before read i now d → Steps kept load_cell now n next' → d' ≡ record d { cells = set d.cells i n } → LoadedInto core before read j next' d'
+one_more_into core before i j n now next' read d d' loading none inside up l step put =
+    let words : d'.cells ≡ set d.cells i n = ap (λ (x : Read). x.cells) put in
+    record {
+      loaded = subst (λ (k : ℕ). Loaded core before d'.cells k next') (sym up)
+          (subst (λ (ws : List ℕ). Loaded core before ws (i + 1) next') (sym words) (one_more core before d.cells loading none i n now next' inside l.loaded step));
+      only = put ∙ (λ k. record (l.only k) { cells = sym words k });
+    }

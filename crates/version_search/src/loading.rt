@@ -1,14 +1,17 @@
 //! Loading the value of the version that a search found.
-ghost use Rattle.std.specs.Prelude.{◌≡◌, ◌<◌, ◌++◌};
+ghost use Rattle.std.specs.Prelude.{◌≡◌, ◌<◌, ◌++◌, length};
 ghost use Rattle.word_layout.specs.Size.{places};
 ghost use Rattle.core_rule.specs.Searching.{IsLoading, read_place, read_cells};
 ghost use Rattle.core_rule.specs.Hands.{IsReady, StaysReady};
 ghost use Rattle.version_search.specs.Growing.{Grows};
 ghost use Rattle.version_search.specs.Loading.{with_value, IsLeftIn, cells_loaded};
 
-use core_rule::{Core, Hand, Keeps};
+use core_rule::{Core, Hand, Keeps, ReadVersion};
 use plain_data::Cells;
 use word_layout::CELLS;
+
+// The cells are loaded in rows of so many: a loop of constant length.
+const ROW: u32 = 8;
 
 /// Loads the value of the version that the last search for a read found, which is committed.
 pub fn load_value<J: Keeps>(core: &Core<J>, hand: &mut Hand<J>, place: u32) -> Cells
@@ -24,10 +27,37 @@ pub fn load_value<J: Keeps>(core: &Core<J>, hand: &mut Hand<J>, place: u32) -> C
     ensures loads { hand.new.view.seen.loads ≡ hand.old.view.seen.loads ++ cells_loaded place 0 result }
     ensures stays { StaysReady core.now hand.old hand.new }
 {
+    let mut read = ReadVersion::new(0, place, 0, None);
+    read.begin(0, place, 0);
+    load_into(core, hand, place, &mut read);
+    let Some(cells) = read.value() else {
+        unreachable!();
+    };
+    cells
+}
+
+/// The same, into a version whose cells are to hold the value.
+pub fn load_into<J: Keeps>(core: &Core<J>, hand: &mut Hand<J>, place: u32, read: &mut ReadVersion)
+    requires ready { IsReady core.now hand.old }
+    requires loading { IsLoading hand.old.view.work.reads }
+    requires place { place ≡ read_place hand.old.view.work.reads }
+    requires inside { place < places core.now.size }
+    requires begins { read_cells hand.old.view.work.reads ≡ 0 }
+    requires present { length read.old.cells ≡ 32 }
+    ensures read { read.new ≡ record read.old { cells = read.new.cells } }
+    ensures whole { length read.new.cells ≡ 32 }
+    ensures view { hand.new.view ≡ with_value hand.old.view read.new.cells hand.new.view.seen }
+    ensures left { IsLeftIn hand.new.view read.new.cells }
+    ensures grows { Grows hand.old.view.seen hand.new.view.seen }
+    ensures loads { hand.new.view.seen.loads ≡ hand.old.view.seen.loads ++ cells_loaded place 0 read.new.cells }
+    ensures stays { StaysReady core.now hand.old hand.new }
+{
     let first = core.layout().cell(place, 0);
-    let mut words = [0; 32];
-    for index in 0..CELLS {
-        words[index as usize] = core.load_cell(hand, first, index);
+    for row in 0..CELLS / ROW {
+        for column in 0..ROW {
+            let index = row * ROW + column;
+            let word = core.load_cell(hand, first, index);
+            read.set_cell(index, word);
+        }
     }
-    Cells::new(words)
 }

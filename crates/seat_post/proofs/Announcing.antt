@@ -1,5 +1,5 @@
 -- What a post keeps where it publishes the bound of its clock, and where it makes the next seat.
-use Rattle.std.proofs.Common.{◌≡◌, ℕ, ◌<◌, ◌≤◌, List, Option, refl, sym, ap, subst, ◌∙◌, arith}
+use Rattle.std.proofs.Common.{◌≡◌, ℕ, ◌<◌, ◌≤◌, refl, sym, ap, subst, ◌∙◌, arith}
 use Rattle.std.specs.Prelude.{max}
 use mathlib.Core.Logic.{dite}
 use native.Mathlib.Decide.{dec_lt}
@@ -15,7 +15,7 @@ use Rattle.clock_stamps.specs.Minima.{Raises, raised_write}
 use Rattle.validate_core.specs.Sets.{SetsView}
 use Rattle.seat_post.specs.declared.phase.Phase.{Phase}
 use Rattle.seat_post.specs.declared.phase.Phase.TheVariants.{Idle}
-use Rattle.seat_post.specs.Post.{IsAt, IsPost, post_view, observed_in}
+use Rattle.seat_post.specs.Post.{IsAt, IsPost, post_of, observed_in}
 use Rattle.seat_post.specs.Sharing.{announced_at}
 use Rattle.seat_post.specs.Seats.{IsAloneAt}
 use Rattle.seat_post.proofs.AloneSeats.{others_of, alone_told}
@@ -101,19 +101,17 @@ announces hand idle raised result ends whole rises unchanged alone raises view =
     let is = idles hand.view idle.view ends whole rises (λ high. ap (λ (h : Seated). h.view) (unchanged high)) in
     announces_of hand.view idle.view raised.view result is (reached hand.view idle.view raised.view result is.only (alone_told hand.view alone) raises) view
 
-pub announced_view : (hand hand' : Seated) (phase : Phase) (stamp : ℕ) (reads writes : List (ℕ × Option (List ℕ))) → hand'.table ≡ hand.table → Announces hand.view hand'.view → post_view hand' phase stamp reads writes ≡ record (announced_at (post_view hand phase stamp reads writes)) { placed = (post_view hand' phase stamp reads writes).placed; glance = (post_view hand' phase stamp reads writes).glance; observed = observed_in hand' }
-announced_view hand hand' phase stamp reads writes table is = rw (table, is.only) refl
+pub announced_view : (hand hand' : Seated) (phase : Phase) (stamp : ℕ) (sets : SetsView) → hand'.table ≡ hand.table → Announces hand.view hand'.view → post_of hand' phase stamp sets ≡ record (announced_at (post_of hand phase stamp sets)) { placed = (post_of hand' phase stamp sets).placed; glance = (post_of hand' phase stamp sets).glance; observed = observed_in hand' }
+announced_view hand hand' phase stamp sets table is = rw (table, is.only) refl
 
 -- an idle post whose hand has nothing to be done
-pub post_ended : (core : Shared) (phase : Phase) (hand hand' : Seated) (stamp : ℕ) (reads writes : List (ℕ × Option (List ℕ))) (sets : SetsView) → phase ≡ Idle → IsPost hand phase stamp reads writes sets → IsReady core hand' → hand'.view.size ≡ hand.view.size → hand'.view.places.held ≡ hand.view.places.held → hand'.view.counts.in_kept ≡ hand.view.counts.in_kept → Ends hand'.view.work → (hand'.view.flight ≡ resting → AreAllWhole hand'.view.work.reads) → IsPost hand' phase stamp reads writes sets
-post_ended core phase hand hand' stamp reads writes sets idle is ready size held kept ends whole =
-    let at = subst (λ (p : Phase). IsAt p hand stamp reads writes sets) idle is.at in
-    post_idle core phase hand' stamp reads writes sets idle ready (rw size is.size) (held ∙ is.holds_none) (kept ∙ is.keeps_none) (record {
+pub post_ended : (core : Shared) (phase : Phase) (hand hand' : Seated) (stamp : ℕ) (sets : SetsView) → phase ≡ Idle → IsPost hand phase stamp sets → IsReady core hand' → hand'.view.size ≡ hand.view.size → hand'.view.places.held ≡ hand.view.places.held → hand'.view.counts.in_kept ≡ hand.view.counts.in_kept → Ends hand'.view.work → (hand'.view.flight ≡ resting → AreAllWhole hand'.view.work.reads) → IsPost hand' phase stamp sets
+post_ended core phase hand hand' stamp sets idle is ready size held kept ends whole =
+    let at = subst (λ (p : Phase). IsAt p hand stamp sets) idle is.at in
+    post_idle core phase hand' stamp sets idle ready (rw size is.size) (held ∙ is.holds_none) (kept ∙ is.keeps_none) (record {
       ends = ends;
       whole = whole;
       no_stamp = at.no_stamp;
-      no_reads = at.no_reads;
-      no_writes = at.no_writes;
       none_read = at.none_read;
       none_written = at.none_written;
     })

@@ -1,5 +1,5 @@
 -- What settling does for a record, and what shows it.
-use Rattle.std.proofs.Common.{◌≡◌, ◌≢◌, ℕ, suc, ◌+◌, ◌<◌, ◌≤◌, ◌⊎◌, Bool, true, false, cond, List, [], ◌∷◌, ◌++◌, append_assoc, append-nil, length, length-append, max, Some, refl, sym, ap, ◌∙◌, subst, inl, inr, arith}
+use Rattle.std.proofs.Common.{◌≡◌, ◌≢◌, ℕ, ◌+◌, ◌<◌, ◌⊎◌, Bool, true, false, cond, List, [], ◌∷◌, ◌++◌, append_assoc, append-nil, length-append, max, refl, sym, ap, ◌∙◌, subst, inl, inr, arith}
 use Rattle.std.specs.Prelude.{sum_by}
 use Rattle.std.proofs.lemmas.List.Sums.{sum_by-append, sum_by-cons}
 use Rattle.word_layout.specs.Name.{min_write}
@@ -21,8 +21,8 @@ use Rattle.rapid_gc.specs.declared.fate.Fate.TheVariants.{Late, Locked, Dropped,
 use Rattle.seat_post.specs.declared.settled.Settled.{Settled}
 use Rattle.seat_post.specs.Seats.{observed_of}
 use Rattle.seat_post.specs.Observing.{WasLost, MeetsNoPlace}
-use Rattle.seat_post.specs.Collecting.{trail_in, Trail}
-use Rattle.seat_post.specs.Settling.{FindsOther, IsHidden, LooksFirst, IsDue, CutsAsDue, CutsOf, SettlesOne, SettlesEach, none_yet, one_more, SettlesFirst, RunsOut, WantsKept}
+use Rattle.seat_post.specs.Collecting.{trail_in}
+use Rattle.seat_post.specs.Settling.{FindsOther, IsHidden, LooksFirst, IsDue, CutsOf, SettlesOne, none_yet, one_more, SettlesFirst, RunsOut, WantsKept}
 use Rattle.seat_post.proofs.Observed.{lost_before}
 
 -- ---- whether a writing again is due

@@ -1,9 +1,6 @@
 -- What a post keeps where the versions of its transaction are linked, decided and published, and what that tells.
-use Rattle.std.proofs.Common.{◌≡◌, ◌≢◌, ℕ, ◌<◌, ◌≤◌, true, false, Bool, cond, eqb, zero, suc, List, [], ◌∷◌, ◌++◌, Option, None, Some, refl, sym, ap, ◌∙◌, subst, inl, inr, ◌⊎◌, arith, length, map, take, drop, length-append, eq-eqb}
+use Rattle.std.proofs.Common.{◌≡◌, ◌≢◌, ℕ, ◌<◌, ◌≤◌, eqb, zero, suc, List, [], ◌∷◌, ◌++◌, None, refl, sym, ap, ◌∙◌, subst, inl, inr, ◌⊎◌, arith, length, map, take, drop, length-append, eq-eqb}
 use Rattle.std.specs.Prelude.{IsSome, Contains, slice_index_or}
-use Rattle.std.specs.List.{IsDistinct}
-use Rattle.std.specs.Map.{keys_of}
-use Rattle.std.proofs.lemmas.Bool.Decides.{eqb_tells}
 use Rattle.std.proofs.lemmas.List.{map_push}
 use Rattle.plain_data.specs.declared.entry.Entry.{Entry}
 use Rattle.plain_data.specs.State.{State, Fits}
@@ -18,31 +15,27 @@ use Rattle.record_store.specs.Meaning.{value_at}
 use Rattle.validate_core.specs.declared.conflict.Conflict.{Conflict}
 use Rattle.validate_core.specs.declared.conflict.Conflict.TheVariants.{Pending, ReadLater, Overtaken}
 use Rattle.validate_core.specs.Sets.{SetsView, Once, SameWrites, Turn, IsInside}
-use Rattle.validate_core.specs.Installing.{IsBegun, SameSets, Installs}
+use Rattle.validate_core.specs.Installing.{SameSets, Installs}
 use Rattle.validate_core.specs.Validating as validating
 use Rattle.seat_post.proofs.AloneSeats.{others_of, alone_told}
 use Rattle.seat_post.specs.Glance.{glance_of}
 use Rattle.seat_post.specs.Conflicts.{IsOfAnother, Touches}
 use Rattle.seat_post.specs.Ends.{Stood}
-use Rattle.seat_post.specs.Post.{IsPost, AreSets, IsShownAt, entered, PostView, post_view, entry_at, observing, observed_in}
+use Rattle.seat_post.specs.Post.{IsPost, IsShownAt, entered, PostView, post_of, entry_at, observing, observed_in}
 use Rattle.seat_post.specs.declared.phase.Phase.{Phase}
 use Rattle.seat_post.specs.declared.phase.Phase.TheVariants.{Idle, Open, Installed, Decided}
 use Rattle.seat_post.proofs.Observed.{were_found}
-use Rattle.seat_post.proofs.Posts.{own_ready, none_in_range}
-use Rattle.seat_post.proofs.Listed.{length-written, few, among_written}
+use Rattle.seat_post.proofs.Posts.{own_ready}
+use Rattle.seat_post.proofs.WriteMore.{written_in}
+use Rattle.seat_post.proofs.Listed.{few, once_distinct, some_or, among_written}
 use Rattle.seat_post.proofs.Placed.{each_counted, each_fits, placed_kept}
 
 -- ---- what stands in the sets stands in the lists
 
-found_or : (b : Bool) (x : Option (List ℕ)) (found : Option (Option (List ℕ))) → (b ≡ true) ⊎ IsSome found → IsSome (cond b (Some x) found)
-found_or true x found some = refl
-found_or false x found (inl off) = cc
-found_or false x found (inr some) = some
-
 pub among_read : (ds : List Read) (d : Read) → Among d ds → IsSome (value_at (read_values ds) d.record_number)
 among_read [] d among = absurd among
-among_read (e ∷ ds) d (inl same) = found_or (eqb d.record_number e.record_number) _ (value_at (read_values ds) d.record_number) (inl (eq-eqb d.record_number e.record_number (ap (λ (x : Read). x.record_number) (sym same))))
-among_read (e ∷ ds) d (inr among) = found_or (eqb d.record_number e.record_number) _ (value_at (read_values ds) d.record_number) (inr (among_read ds d among))
+among_read (e ∷ ds) d (inl same) = some_or (eqb d.record_number e.record_number) _ (value_at (read_values ds) d.record_number) (inl (eq-eqb d.record_number e.record_number (ap (λ (x : Read). x.record_number) (sym same))))
+among_read (e ∷ ds) d (inr among) = some_or (eqb d.record_number e.record_number) _ (value_at (read_values ds) d.record_number) (inr (among_read ds d among))
 
 -- the same writes at other places have the same values
 pub same_values : (us ws : List Write) → SameWrites us ws → written_values ws ≡ written_values us
@@ -53,31 +46,8 @@ same_values (u ∷ us) (w ∷ ws) same = let rest = same_values us ws same.2 in 
 
 -- ---- installing
 
--- the sets are filled, and may be installed
-pub begun_filled : (hand : Seated) (stamp : ℕ) (reads writes : List (ℕ × Option (List ℕ))) (sets sets' : SetsView) → IsPost hand Open stamp reads writes sets → sets'.reads ≡ sets.reads → written_values sets'.writes ≡ writes → Once (λ (u : Write). u.record_number) sets'.writes → IsBegun hand.view.size sets' hand.view
-begun_filled hand stamp reads writes sets sets' is set_reads written once =
-    let b = is.at.begun in
-    record {
-      in_flight = b.in_flight;
-      stamp = b.stamp;
-      rests = b.rests;
-      reads = rw set_reads b.reads;
-      raised = b.raised;
-      finished = b.finished;
-      linked = b.linked;
-      passed = b.passed;
-      undecided = b.undecided;
-      collected = b.collected;
-      inside = record {
-        reads = rw set_reads b.inside.reads;
-        writes = λ u among. is.at.in_range u.record_number (subst (λ (ws : List (ℕ × Option (List ℕ))). IsSome (value_at ws u.record_number)) written (among_written sets'.writes u among));
-        once = once;
-      };
-    }
-
--- they are installed
-pub post_installed : (core : Shared) (hand hand' : Seated) (stamp : ℕ) (reads writes : List (ℕ × Option (List ℕ))) (sets filled sets' : SetsView) → IsPost hand Open stamp reads writes sets → filled.reads ≡ sets.reads → written_values filled.writes ≡ writes → SameSets filled sets' → Installs hand.view.size sets' hand.view hand'.view → validating.Stands hand.view hand'.view → hand'.view.counts.in_kept ≡ hand.view.counts.in_kept → IsReady core hand' → IsPost hand' Installed stamp reads writes sets'
-post_installed core hand hand' stamp reads writes sets filled sets' is set_reads written same installs stands kept ready =
+pub post_installed : (core : Shared) (hand hand' : Seated) (stamp : ℕ) (sets sets' : SetsView) → IsPost hand Open stamp sets → SameSets sets sets' → Installs hand.view.size sets' hand.view hand'.view → validating.Stands hand.view hand'.view → hand'.view.counts.in_kept ≡ hand.view.counts.in_kept → IsReady core hand' → IsPost hand' Installed stamp sets'
+post_installed core hand hand' stamp sets sets' is same installs stands kept ready =
     let size : hand'.view.size ≡ hand.view.size = ap (λ (v : View). v.size) stands.others in
     record {
       ready = own_ready core hand' ready;
@@ -86,14 +56,10 @@ post_installed core hand hand' stamp reads writes sets filled sets' is set_reads
       keeps_none = kept ∙ is.keeps_none;
       at = record {
         installed = subst (λ (n : ℕ). validating.IsInstalled n sets' hand'.view) (sym is.at.at) installs.installed;
-        are_sets = record {
-          as_read = ap read_values (same.reads ∙ set_reads) ∙ is.at.as_read;
-          as_written = same_values filled.writes sets'.writes same.writes ∙ written;
-          inside = rw size installs.inside;
-        };
+        inside = rw size installs.inside;
         placed = each_counted hand.view.size hand.view.published.write sets'.writes hand hand' installs.each kept installs.inside.once;
         fit = rw size (each_fits hand.view.size hand.view.published.write sets'.writes hand.view hand'.view installs.each);
-        found = rw (same.reads ∙ set_reads) (were_found stamp sets.reads hand.view hand'.view stands.grows is.at.found);
+        found = rw same.reads (were_found stamp sets.reads hand.view hand'.view stands.grows is.at.found);
       };
     }
 
@@ -123,12 +89,12 @@ stood_same kept records log c entry same stood = subst (λ (e : Entry). Stood ke
 })
 
 -- the post with the entry in its log
-pub decided_view : (kept : State → Type 0) (records : ℕ) (hand hand' : Seated) (phase : Phase) (stamp t t' : ℕ) (reads writes : List (ℕ × Option (List ℕ))) (sets : SetsView) → hand.view.flight ≡ writing t' → hand.view.work.linked ≡ sets.writes → hand'.table ≡ hand.table → validating.Decides kept records t sets hand.view hand'.view → entry_of (commit_of (writing t) sets.reads sets.writes) ≡ entry_at (post_view hand phase stamp reads writes) → post_view hand' Decided stamp reads writes ≡ observing (entered (post_view hand phase stamp reads writes)) (observed_in hand')
-decided_view kept records hand hand' phase stamp t t' reads writes sets flight linked table decides entry =
+pub decided_view : (kept : State → Type 0) (records : ℕ) (hand hand' : Seated) (phase : Phase) (stamp t t' : ℕ) (sets : SetsView) → hand.view.flight ≡ writing t' → hand.view.work.linked ≡ sets.writes → hand'.table ≡ hand.table → validating.Decides kept records t sets hand.view hand'.view → entry_of (commit_of (writing t) sets.reads sets.writes) ≡ entry_at (post_of hand phase stamp sets) → post_of hand' Decided stamp sets ≡ observing (entered (post_of hand phase stamp sets)) (observed_in hand')
+decided_view kept records hand hand' phase stamp t t' sets flight linked table decides entry =
     let number : hand'.view.number ≡ hand.view.number = ap (λ (v : View). v.number) decides.only in
     let size : hand'.view.size ≡ hand.view.size = ap (λ (v : View). v.size) decides.only in
     let clock : hand'.view.clock ≡ hand.view.clock = ap (λ (v : View). v.clock) decides.only in
-    let log : map entry_of hand'.view.log ≡ map entry_of hand.view.log ++ entry_at (post_view hand phase stamp reads writes) ∷ [] = ap (λ es. map entry_of es) decides.log ∙ map_push entry_of hand.view.log (commit_of (writing t) sets.reads sets.writes) ∙ ap (λ e. map entry_of hand.view.log ++ e ∷ []) entry in
+    let log : map entry_of hand'.view.log ≡ map entry_of hand.view.log ++ entry_at (post_of hand phase stamp sets) ∷ [] = ap (λ es. map entry_of es) decides.log ∙ map_push entry_of hand.view.log (commit_of (writing t) sets.reads sets.writes) ∙ ap (λ e. map entry_of hand.view.log ++ e ∷ []) entry in
     let published : hand'.view.published ≡ hand.view.published = ap (λ (v : View). v.published) decides.only in
     let splitting : hand'.view.splitting ≡ hand.view.splitting = ap (λ (v : View). v.splitting) decides.only in
     let counts : hand'.view.counts ≡ hand.view.counts = ap (λ (v : View). v.counts) decides.only in
@@ -141,8 +107,8 @@ decided_view kept records hand hand' phase stamp t t' reads writes sets flight l
 
 -- ---- what is kept
 
-pub post_decided : (core : Shared) (kept : State → Type 0) (records : ℕ) (hand hand' : Seated) (stamp : ℕ) (reads writes : List (ℕ × Option (List ℕ))) (sets : SetsView) → IsPost hand Installed stamp reads writes sets → IsReady core hand' → validating.Decides kept records stamp sets hand.view hand'.view → IsPost hand' Decided stamp reads writes sets
-post_decided core kept records hand hand' stamp reads writes sets is ready decides =
+pub post_decided : (core : Shared) (kept : State → Type 0) (records : ℕ) (hand hand' : Seated) (stamp : ℕ) (sets : SetsView) → IsPost hand Installed stamp sets → IsReady core hand' → validating.Decides kept records stamp sets hand.view hand'.view → IsPost hand' Decided stamp sets
+post_decided core kept records hand hand' stamp sets is ready decides =
     let size : hand'.view.size ≡ hand.view.size = ap (λ (v : View). v.size) decides.only in
     let held : hand'.view.places.held ≡ hand.view.places.held = ap (λ (v : View). v.places.held) decides.only in
     record {
@@ -152,15 +118,15 @@ post_decided core kept records hand hand' stamp reads writes sets is ready decid
       keeps_none = ap (λ (v : View). v.counts.in_kept) decides.only ∙ is.keeps_none;
       at = record {
         decided = decides.decided;
-        are_sets = record { as_read = is.at.are_sets.as_read; as_written = is.at.are_sets.as_written; inside = rw size is.at.are_sets.inside };
+        inside = rw size is.at.inside;
         placed = placed_kept hand hand' sets.writes size (ap (λ (v : View). v.counts) decides.only) is.at.placed;
         fit = rw size is.at.fit;
       };
     }
 
 -- the post where its phase is known
-pub at_known : (phase known : Phase) (hand : Seated) (stamp : ℕ) (reads writes : List (ℕ × Option (List ℕ))) (sets : SetsView) → phase ≡ known → IsPost hand phase stamp reads writes sets → IsPost hand known stamp reads writes sets
-at_known phase known hand stamp reads writes sets same is = subst (λ (p : Phase). IsPost hand p stamp reads writes sets) same is
+pub at_known : (phase known : Phase) (hand : Seated) (stamp : ℕ) (sets : SetsView) → phase ≡ known → IsPost hand phase stamp sets → IsPost hand known stamp sets
+at_known phase known hand stamp sets same is = subst (λ (p : Phase). IsPost hand p stamp sets) same is
 
 -- ---- a conflict
 
@@ -185,39 +151,34 @@ another_of v w n stands inside is =
     record { another = apart; within = within; more = omega arith; not_alone = λ alone. is.not_alone (still_alone v w stands (alone_told v alone)) }
 
 -- what stands in the sets was read, or is written
-read_some : (sets : SetsView) (reads : List (ℕ × Option (List ℕ))) (rid version : ℕ) → read_values sets.reads ≡ reads → validating.HasRead rid version sets → IsSome (value_at reads rid)
-read_some sets reads rid version as_read d =
-    subst (λ (ws : List (ℕ × Option (List ℕ))). IsSome (value_at ws rid)) as_read (subst (λ (n : ℕ). IsSome (value_at (read_values sets.reads) n)) d.of_record (among_read sets.reads d.read d.among))
+read_some : (sets : SetsView) (rid version : ℕ) → validating.HasRead rid version sets → IsSome (value_at (read_values sets.reads) rid)
+read_some sets rid version d = subst (λ (n : ℕ). IsSome (value_at (read_values sets.reads) n)) d.of_record (among_read sets.reads d.read d.among)
 
-written_some : (sets : SetsView) (writes : List (ℕ × Option (List ℕ))) (rid : ℕ) → written_values sets.writes ≡ writes → validating.Writes rid sets → IsSome (value_at writes rid)
-written_some sets writes rid as_written w =
-    subst (λ (ws : List (ℕ × Option (List ℕ))). IsSome (value_at ws rid)) as_written (subst (λ (n : ℕ). IsSome (value_at (written_values sets.writes) n)) w.of_record (among_written sets.writes w.write w.among))
+written_some : (sets : SetsView) (rid : ℕ) → validating.Writes rid sets → IsSome (value_at (written_values sets.writes) rid)
+written_some sets rid w = subst (λ (n : ℕ). IsSome (value_at (written_values sets.writes) n)) w.of_record (among_written sets.writes w.write w.among)
 
-pub shown_at : (hand hand' : Seated) (phase : Phase) (stamp t : ℕ) (reads writes : List (ℕ × Option (List ℕ))) (sets : SetsView) (conflict : Conflict) → AreSets hand reads writes sets → hand.view.number < hand.view.size.seats → t ≡ stamp → validating.Stands hand.view hand'.view → validating.IsShown t sets hand.view hand'.view conflict → IsShownAt (post_view hand phase stamp reads writes) conflict
-shown_at hand hand' phase stamp t reads writes sets (Pending rid wts) are inside same stands shown =
+pub shown_at : (hand hand' : Seated) (phase : Phase) (stamp t : ℕ) (sets : SetsView) (conflict : Conflict) → IsInside hand.view.size sets → hand.view.number < hand.view.size.seats → t ≡ stamp → validating.Stands hand.view hand'.view → validating.IsShown t sets hand.view hand'.view conflict → IsShownAt (post_of hand phase stamp sets) conflict
+shown_at hand hand' phase stamp t sets (Pending rid wts) within inside same stands shown =
     let other = another_of hand.view hand'.view wts stands inside shown.1 in
-    (touched hand.view.size sets rid are.inside shown.2, subst (λ (n : ℕ). wts < n) same shown.0, other)
-shown_at hand hand' phase stamp t reads writes sets (ReadLater rid wts rts) are inside same stands shown =
+    (touched hand.view.size sets rid within shown.2, subst (λ (n : ℕ). wts < n) same shown.0, other)
+shown_at hand hand' phase stamp t sets (ReadLater rid wts rts) within inside same stands shown =
     let other = another_of hand.view hand'.view rts stands inside shown.1 in
-    (written_some sets writes rid are.as_written shown.2, subst (λ (n : ℕ). wts < n) same shown.3.met.path.early, subst (λ (n : ℕ). n < rts) same shown.0, other)
-shown_at hand hand' phase stamp t reads writes sets (Overtaken rid seen now) are inside same stands shown =
+    (written_some sets rid shown.2, subst (λ (n : ℕ). wts < n) same shown.3.met.path.early, subst (λ (n : ℕ). n < rts) same shown.0, other)
+shown_at hand hand' phase stamp t sets (Overtaken rid seen now) within inside same stands shown =
     let other = another_of hand.view hand'.view now stands inside shown.2 in
-    (read_some sets reads rid seen are.as_read shown.3, shown.0, subst (λ (n : ℕ). now < n) same shown.1, other)
+    (read_some sets rid seen shown.3, shown.0, subst (λ (n : ℕ). now < n) same shown.1, other)
 
 -- it is of a record that was read or is written
-pub touches_at : (hand : Seated) (t : ℕ) (v w : View) (reads writes : List (ℕ × Option (List ℕ))) (sets : SetsView) (conflict : Conflict) → AreSets hand reads writes sets → validating.IsShown t sets v w conflict → Touches reads writes conflict
-touches_at hand t v w reads writes sets (Pending rid wts) are shown =
-    elim shown.2 as (λ _. IsSome (value_at reads rid) ⊎ IsSome (value_at writes rid)) [
-      | inl r ↦ inl (read_some sets reads rid r.0 are.as_read r.1)
-      | inr u ↦ inr (written_some sets writes rid are.as_written u)
+pub touches_at : (t : ℕ) (v w : View) (sets : SetsView) (conflict : Conflict) → validating.IsShown t sets v w conflict → Touches (read_values sets.reads) (written_values sets.writes) conflict
+touches_at t v w sets (Pending rid wts) shown =
+    elim shown.2 as (λ _. IsSome (value_at (read_values sets.reads) rid) ⊎ IsSome (value_at (written_values sets.writes) rid)) [
+      | inl r ↦ inl (read_some sets rid r.0 r.1)
+      | inr u ↦ inr (written_some sets rid u)
     ]
-touches_at hand t v w reads writes sets (ReadLater rid wts rts) are shown = written_some sets writes rid are.as_written shown.2
-touches_at hand t v w reads writes sets (Overtaken rid seen now) are shown = read_some sets reads rid seen are.as_read shown.3
+touches_at t v w sets (ReadLater rid wts rts) shown = written_some sets rid shown.2
+touches_at t v w sets (Overtaken rid seen now) shown = read_some sets rid seen shown.3
 
 -- ---- counts
-
-pub length_sets : (hand : Seated) (reads writes : List (ℕ × Option (List ℕ))) (sets : SetsView) → AreSets hand reads writes sets → length sets.writes ≡ length writes
-length_sets hand reads writes sets are = sym (length-written sets.writes) ∙ ap length are.as_written
 
 -- there is something to be written where one of the writes has no place
 pub turned_written : (n : ℕ) (us ws : List Write) (u : Write) → SameWrites us ws → Turn n ws u → written_values us ≡ [] → ⊥
@@ -226,25 +187,23 @@ turned_written n [] (w ∷ ws) u same turn none = absurd same
 turned_written n (x ∷ us) ws u same turn none = cc
 
 -- what is written lies in the table, at whatever phase
-written_in : (size : Size) (us : List Write) (rid : ℕ) → ((u : Write) → Among u us → u.record_number < size.records) → IsSome (value_at (written_values us) rid) → rid < size.records
-written_in size [] rid each some = let h : false ≡ true = some in cc
-written_in size (w ∷ us) rid each some =
-    elim (eqb_tells rid w.record_number) as (λ _. rid < size.records) [
-      | inl t ↦ (let h = each w (inl refl) in let e = t.1 in omega arith)
-      | inr t ↦ written_in size us rid (λ u among. each u (inr among)) (subst (λ (b : Bool). IsSome (cond b (Some (value_of w.cells)) (value_at (written_values us) rid))) t.0 some)
-    ]
+pub written_below : (hand : Seated) (phase : Phase) (stamp : ℕ) (sets : SetsView) → IsPost hand phase stamp sets → (u : Write) → Among u sets.writes → u.record_number < hand.view.size.records
+written_below hand Idle stamp sets is u among = absurd (subst (λ (us : List Write). Among u us) is.at.none_written among)
+written_below hand Open stamp sets is u among = is.at.begun.inside.writes u among
+written_below hand Installed stamp sets is u among = (is.at.inside.writes u among).0
+written_below hand Decided stamp sets is u among = (is.at.inside.writes u among).0
 
-sets_in : (hand : Seated) (reads writes : List (ℕ × Option (List ℕ))) (sets : SetsView) → AreSets hand reads writes sets → (rid : ℕ) → IsSome (value_at writes rid) → rid < hand.view.size.records
-sets_in hand reads writes sets are rid some = written_in hand.view.size sets.writes rid (λ u among. (are.inside.writes u among).0) (subst (λ (ws : List (ℕ × Option (List ℕ))). IsSome (value_at ws rid)) (sym are.as_written) some)
+-- no record is written twice, at whatever phase
+pub written_once : (hand : Seated) (phase : Phase) (stamp : ℕ) (sets : SetsView) → IsPost hand phase stamp sets → Once (λ (u : Write). u.record_number) sets.writes
+written_once hand Idle stamp sets is = rw is.at.none_written tt
+written_once hand Open stamp sets is = is.at.begun.inside.once
+written_once hand Installed stamp sets is = is.at.inside.once
+written_once hand Decided stamp sets is = is.at.inside.once
 
-pub written_below : (hand : Seated) (phase : Phase) (stamp : ℕ) (reads writes : List (ℕ × Option (List ℕ))) (sets : SetsView) → IsPost hand phase stamp reads writes sets → (rid : ℕ) → IsSome (value_at writes rid) → rid < hand.view.size.records
-written_below hand Idle stamp reads writes sets is rid some = none_in_range hand.view.size.records writes is.at.no_writes rid some
-written_below hand Open stamp reads writes sets is rid some = is.at.in_range rid some
-written_below hand Installed stamp reads writes sets is rid some = sets_in hand reads writes sets is.at.are_sets rid some
-written_below hand Decided stamp reads writes sets is rid some = sets_in hand reads writes sets is.at.are_sets rid some
-
-pub written_few : (hand : Seated) (phase : Phase) (stamp : ℕ) (reads writes : List (ℕ × Option (List ℕ))) (sets : SetsView) → IsPost hand phase stamp reads writes sets → IsDistinct eqb (keys_of writes) → length writes ≤ 200000
-written_few hand phase stamp reads writes sets is distinct =
-    let h = few writes hand.view.size.records distinct (written_below hand phase stamp reads writes sets is) in
+-- there are few of them
+pub written_few : (hand : Seated) (phase : Phase) (stamp : ℕ) (sets : SetsView) → IsPost hand phase stamp sets → length (written_values sets.writes) ≤ 200000
+written_few hand phase stamp sets is =
+    let distinct = once_distinct sets.writes (written_once hand phase stamp sets is) in
+    let h = few (written_values sets.writes) hand.view.size.records distinct (λ rid. written_in hand.view.size sets.writes rid (written_below hand phase stamp sets is)) in
     let k = is.size.records_in_range in
     omega arith

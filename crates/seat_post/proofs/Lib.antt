@@ -13,7 +13,6 @@ pub mod Listed
 pub mod Looking
 pub mod MarkWords
 pub mod Marked
-pub mod Noting
 pub mod NumberLists
 pub mod Observed
 pub mod Over

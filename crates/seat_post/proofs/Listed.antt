@@ -2,19 +2,16 @@
 use Rattle.std.proofs.Common.{◌||◌, ◌<◌, ◌≤◌, ◌+◌, zero, suc, take, drop, add-one, take-suc, drop-cons, ◌⊎◌, arith, length, ◌≡◌, ◌≢◌, ℕ, true, false, cond, Bool, eqb, List, [], ◌∷◌, ◌++◌, Option, None, Some, refl, sym, ap, ◌∙◌, eq-eqb, inl, inr, subst}
 use Rattle.std.specs.Prelude.{is_some, IsSome, IfSome, slice_get}
 use Rattle.std.specs.List.{list_any, IsDistinct, AllByRecursion}
-use Rattle.std.specs.Map.{keys_of, lookup}
+use Rattle.std.specs.Map.{keys_of}
 use Rattle.std.proofs.lemmas.Option.{slice_get_within, get_or_from_slice_get}
-use Rattle.std.proofs.lemmas.Bool.{eqb-false}
 use Rattle.std.proofs.lemmas.Bool.Decides.{eqb_tells}
-use Rattle.std.proofs.lemmas.Map.Keys.{IsDistinct-head, IsDistinct-tail}
 use Rattle.std.proofs.lemmas.Map.Steps.{length-le_from_distinct_below}
-use Rattle.indexmap.specs.IndexMap.{insert_entry}
 use Rattle.seat_post.specs.Spare.{holds}
 use Rattle.record_store.specs.Meaning.{value_at, with_value}
-use Rattle.record_store.proofs.Values.{lookup-value_at}
-use Rattle.core_rule.specs.Versions.{read_version, written_version, cells_of}
+use Rattle.core_rule.specs.Versions.{read_version, cells_of}
 use Rattle.core_rule.specs.View.{Read, Write}
 use Rattle.core_rule.specs.Views.{Among}
+use Rattle.validate_core.specs.Sets.{Once}
 use Rattle.core_rule.specs.Deciding.{read_values, read_value, written_values, value_of}
 
 -- what is among the reads is known by them
@@ -30,15 +27,6 @@ unread [] rid none d among = absurd among
 unread (e ∷ ds) rid none d (inl same) = λ at. known_head (eqb rid e.record_number) _ (value_at (read_values ds) rid) (eq-eqb rid e.record_number (sym at ∙ ap (λ (x : Read). x.record_number) (sym same))) none
 unread (e ∷ ds) rid none d (inr among) = unread ds rid (known_tail (eqb rid e.record_number) _ (value_at (read_values ds) rid) none) d among
 
-new_at : (b : Bool) (rid : ℕ) (value : Option (List ℕ)) (e : ℕ × Option (List ℕ)) (es : List (ℕ × Option (List ℕ))) (found : Option (Option (List ℕ))) → cond b (Some e.1) found ≡ None → (found ≡ None → insert_entry eqb es rid value ≡ es ++ (rid, value) ∷ []) → cond b ((e.0, value) ∷ es) (e ∷ insert_entry eqb es rid value) ≡ e ∷ (es ++ (rid, value) ∷ [])
-new_at true rid value e es found none more = cc
-new_at false rid value e es found none more = ap (λ xs. e ∷ xs) (more none)
-
--- a record that is not there is added at the end
-pub insert_new : (entries : List (ℕ × Option (List ℕ))) (rid : ℕ) (value : Option (List ℕ)) → value_at entries rid ≡ None → insert_entry eqb entries rid value ≡ entries ++ (rid, value) ∷ []
-insert_new [] rid value none = refl
-insert_new (e ∷ es) rid value none = new_at (eqb rid e.0) rid value e es (value_at es rid) none (insert_new es rid value)
-
 -- reads and their values, with one more
 pub read_values-append : (ds : List Read) (d : Read) → read_values (ds ++ d ∷ []) ≡ read_values ds ++ read_values (d ∷ [])
 read_values-append [] d = refl
@@ -49,13 +37,6 @@ pub read_value-version : (rid place wts : ℕ) (value : Option (List ℕ)) → r
 read_value-version rid place wts None = refl
 read_value-version rid place wts (Some words) = refl
 
--- what is known of a record, by what a look at its write found
-pub known_by_write : (found written read : Option (Option (List ℕ))) (value : Option (List ℕ)) → written ≡ found → found ≡ Some value → Some value ≡ cond (is_some written) written read
-known_by_write found written read value same is = rw (same, is) refl
-
-pub known_by_read : (written read answer : Option (Option (List ℕ))) → written ≡ None → answer ≡ read → answer ≡ cond (is_some written) written read
-known_by_read written read answer none is = rw (none, is) refl
-
 -- ---- writes
 
 -- the records of a list, by its keys
@@ -63,7 +44,7 @@ listed_step : (b : Bool) (x : Option (List ℕ)) (found : Option (Option (List �
 listed_step true x found any same = refl
 listed_step false x found any same = same
 
-pub list_any-keys : (entries : List (ℕ × Option (List ℕ))) (rid : ℕ) → list_any (eqb rid) (keys_of entries) ≡ is_some (value_at entries rid)
+list_any-keys : (entries : List (ℕ × Option (List ℕ))) (rid : ℕ) → list_any (eqb rid) (keys_of entries) ≡ is_some (value_at entries rid)
 list_any-keys [] rid = refl
 list_any-keys (e ∷ es) rid = listed_step (eqb rid e.0) e.1 (value_at es rid) (list_any (eqb rid) (keys_of es)) (list_any-keys es rid)
 
@@ -87,7 +68,7 @@ pub longer : (entries : List (ℕ × Option (List ℕ))) (rid : ℕ) (value : Op
 longer [] rid value = omega arith
 longer (e ∷ es) rid value = longer_step (eqb rid e.0) (e.0, value) e es (with_value es rid value) (longer es rid value)
 
--- ---- writes put into sets, one after another
+-- ---- versions to be written
 
 pub length-written : (us : List Write) → length (written_values us) ≡ length us
 length-written [] = refl
@@ -103,17 +84,6 @@ value_of-cells None whole = refl
 value_of-cells (Some []) whole = cc
 value_of-cells (Some (x ∷ xs)) whole = refl
 
-pub unwritten_yet : (us : List Write) (rid : ℕ) → value_at (written_values us) rid ≡ None → (u : Write) → Among u us → u.record_number ≢ rid
-unwritten_yet [] rid none u among = absurd among
-unwritten_yet (w ∷ us) rid none u (inl same) = λ at. known_head (eqb rid w.record_number) _ (value_at (written_values us) rid) (eq-eqb rid w.record_number (sym at ∙ ap (λ (x : Write). x.record_number) (sym same))) none
-unwritten_yet (w ∷ us) rid none u (inr among) = unwritten_yet us rid (known_tail (eqb rid w.record_number) _ (value_at (written_values us) rid) none) u among
-
--- the entries before one do not have its key
-other_key : (P : ℕ → Type 0) (es : List (ℕ × Option (List ℕ))) (i rid : ℕ) (value : Option (List ℕ)) → AllByRecursion P (keys_of es) → slice_get es i ≡ Some (rid, value) → P rid
-other_key P [] i rid value all at = cc
-other_key P (e ∷ es) zero rid value all at = let same : e ≡ (rid, value) = cc in subst (λ (x : ℕ × Option (List ℕ)). P x.0) same all.0
-other_key P (e ∷ es) (suc i) rid value all at = other_key P es i rid value all.1 at
-
 pub unheld : (b : Bool) (x : Option (List ℕ)) (found : Option (Option (List ℕ))) → b ≡ false → found ≡ None → cond b (Some x) found ≡ None
 unheld true x found off none = cc
 unheld false x found off none = none
@@ -121,36 +91,16 @@ unheld false x found off none = none
 pub eqb_not : (a b : ℕ) → (a ≡ b → ⊥) → eqb a b ≡ false
 eqb_not a b apart = elim (eqb_tells a b) as (λ _. eqb a b ≡ false) [ inl t ↦ absurd (apart t.1) | inr t ↦ t.0 ]
 
-pub not_before : (es : List (ℕ × Option (List ℕ))) (i rid : ℕ) (value : Option (List ℕ)) → IsDistinct eqb (keys_of es) → slice_get es i ≡ Some (rid, value) → value_at (take i es) rid ≡ None
-not_before [] i rid value distinct at = cc
-not_before (e ∷ es) zero rid value distinct at = refl
-not_before (e ∷ es) (suc i) rid value distinct at =
-    let other = other_key (λ k. eqb e.0 k ≡ false) es i rid value (IsDistinct-head eqb e.0 (keys_of es) distinct) at in
-    unheld (eqb rid e.0) e.1 (value_at (take i es) rid) (eqb_not rid e.0 (λ same. eqb-false e.0 rid other (sym same))) (not_before es i rid value (IsDistinct-tail eqb e.0 (keys_of es) distinct) at)
-
 -- the first entries, with one more
 pub take_more : (es : List (ℕ × Option (List ℕ))) (i : ℕ) (e : ℕ × Option (List ℕ)) → slice_get es i ≡ Some e → take (i + 1) es ≡ take i es ++ e ∷ []
 take_more es i e at =
     let h : i < length es = slice_get_within es i e at in
     rw (add-one, take-suc es i e h) (ap (λ x. take i es ++ x ∷ []) (get_or_from_slice_get es i e e at))
 
--- the sets after one more write is put there
-pub put_more : (us us' : List Write) (es : List (ℕ × Option (List ℕ))) (i rid : ℕ) (value copied : Option (List ℕ)) → written_values us ≡ take i es → us' ≡ us ++ written_version rid 0 0 copied ∷ [] → slice_get es i ≡ Some (rid, value) → copied ≡ value → IfSome copied (λ words. length words ≡ 32) → written_values us' ≡ take (i + 1) es
-put_more us us' es i rid value copied written more at same whole =
-    ap written_values more
-    ∙ written_values-append us (written_version rid 0 0 copied)
-    ∙ ap (λ v. written_values us ++ (rid, v) ∷ []) (value_of-cells copied whole ∙ same)
-    ∙ ap (λ vs. vs ++ (rid, value) ∷ []) written
-    ∙ sym (take_more es i (rid, value) at)
-
-some_or : (b : Bool) (x : Option (List ℕ)) (found : Option (Option (List ℕ))) → (b ≡ true) ⊎ IsSome found → IsSome (cond b (Some x) found)
+pub some_or : (b : Bool) (x : Option (List ℕ)) (found : Option (Option (List ℕ))) → (b ≡ true) ⊎ IsSome found → IsSome (cond b (Some x) found)
 some_or true x found some = refl
 some_or false x found (inl off) = cc
 some_or false x found (inr some) = some
-
--- what a look at a record finds
-pub looked : (entries : List (ℕ × Option (List ℕ))) (rid : ℕ) (found : Option (Option (List ℕ))) → found ≡ lookup (eqb rid) entries → value_at entries rid ≡ found
-looked entries rid found is = sym (lookup-value_at entries rid) ∙ sym is
 
 -- a record with a write, at its place
 pub some_at : (es : List (ℕ × Option (List ℕ))) (i : ℕ) (e : ℕ × Option (List ℕ)) → slice_get es i ≡ Some e → IsSome (value_at es e.0)
@@ -173,3 +123,20 @@ pub among_written : (us : List Write) (u : Write) → Among u us → IsSome (val
 among_written [] u among = absurd among
 among_written (w ∷ us) u (inl same) = some_or (eqb u.record_number w.record_number) _ (value_at (written_values us) u.record_number) (inl (eq-eqb u.record_number w.record_number (ap (λ (x : Write). x.record_number) (sym same))))
 among_written (w ∷ us) u (inr among) = some_or (eqb u.record_number w.record_number) _ (value_at (written_values us) u.record_number) (inr (among_written us u among))
+
+-- the value of a write, at its number
+pub turn_get : (i : ℕ) (us : List Write) (u : Write) → us ≡ take i us ++ u ∷ drop (suc i) us → slice_get (written_values us) i ≡ Some (u.record_number, value_of u.cells)
+turn_get zero [] u splits = let h = ap length splits in absurd (omega arith)
+turn_get (suc i) [] u splits = let h = ap length splits in absurd (omega arith)
+turn_get zero (w ∷ us) u splits = let same : w ≡ u = cc in rw same refl
+turn_get (suc i) (w ∷ us) u splits = turn_get i us u (ap (drop 1) splits)
+
+-- no record twice
+unequal : (n : ℕ) (us : List Write) → ((u : Write) → Among u us → u.record_number ≢ n) → AllByRecursion (λ k. eqb n k ≡ false) (keys_of (written_values us))
+unequal n [] apart = tt
+unequal n (w ∷ us) apart = (eqb_not n w.record_number (λ same. apart w (inl refl) (sym same)), unequal n us (λ u among. apart u (inr among)))
+
+pub once_distinct : (us : List Write) → Once (λ (u : Write). u.record_number) us → IsDistinct eqb (keys_of (written_values us))
+unfolding IsDistinct
+once_distinct [] once = tt
+once_distinct (u ∷ us) once = (unequal u.record_number us once.0, once_distinct us once.1)

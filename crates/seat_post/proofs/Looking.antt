@@ -1,10 +1,10 @@
 -- A snapshot at a post and at a pass: what both keep while it reads, and what its end tells.
-use Rattle.std.proofs.Common.{◌≡◌, ℕ, ◌≤◌, ◌+◌, true, List, [], ◌∷◌, ◌++◌, Option, refl, ap, ◌∙◌, subst, arith, map}
+use Rattle.std.proofs.Common.{◌≡◌, ℕ, ◌≤◌, ◌+◌, true, List, Option, refl, ap, ◌∙◌, subst, arith, map}
 use Rattle.std.specs.Prelude.{IsSome, IfSome}
 use Rattle.plain_data.specs.declared.entry.Entry.{Entry}
 use Rattle.plain_data.specs.State.{State}
 use Rattle.histories.specs.History.{IsValue, UpTo}
-use Rattle.core_rule.specs.View.{View, Flight, resting, writing, Read, Logged, Seen, no_work}
+use Rattle.core_rule.specs.View.{View, Flight, resting, writing, Read, Logged, no_work}
 use Rattle.core_rule.specs.Versions.{state_of}
 use Rattle.validate_core.specs.Validating.{Met}
 use Rattle.core_rule.specs.Views.{Among, IsAlone}
@@ -32,34 +32,30 @@ rests_of : (f : Flight) (bound : ℕ) (ds : List Read) → IsSome (glance_of f b
 rests_of resting bound ds some = refl
 rests_of (writing t) bound ds some = cc
 
-pub glancing_of : (hand : Seated) (stamp : ℕ) (reads writes : List (ℕ × Option (List ℕ))) (sets : SetsView) → IsIdleAt hand stamp reads writes sets → IsSome (glance_of hand.view.flight hand.view.published.read hand.view.work.reads) → IsGlancing hand.view
-glancing_of hand stamp reads writes sets idle some =
+pub glancing_of : (hand : Seated) (stamp : ℕ) (sets : SetsView) → IsIdleAt hand stamp sets → IsSome (glance_of hand.view.flight hand.view.published.read hand.view.work.reads) → IsGlancing hand.view
+glancing_of hand stamp sets idle some =
     let rests = rests_of hand.view.flight hand.view.published.read hand.view.work.reads some in
     record { rests = rests; ends = idle.ends; whole = idle.whole rests }
 
 -- an idle post at another hand that reads for a snapshot
-pub post_glancing : (core : Shared) (phase : Phase) (hand hand' : Seated) (stamp : ℕ) (reads writes : List (ℕ × Option (List ℕ))) (sets : SetsView) → IsPost hand phase stamp reads writes sets → IsIdleAt hand stamp reads writes sets → phase ≡ Idle → IsReady core hand' → hand'.view.size ≡ hand.view.size → hand'.view.places.held ≡ hand.view.places.held → hand'.view.counts.in_kept ≡ hand.view.counts.in_kept → IsGlancing hand'.view → IsPost hand' phase stamp reads writes sets
-post_glancing core phase hand hand' stamp reads writes sets is idle same ready size held kept glancing =
-    post_idle core phase hand' stamp reads writes sets same ready (rw size is.size) (held ∙ is.holds_none) (kept ∙ is.keeps_none) (record {
+pub post_glancing : (core : Shared) (phase : Phase) (hand hand' : Seated) (stamp : ℕ) (sets : SetsView) → IsPost hand phase stamp sets → IsIdleAt hand stamp sets → phase ≡ Idle → IsReady core hand' → hand'.view.size ≡ hand.view.size → hand'.view.places.held ≡ hand.view.places.held → hand'.view.counts.in_kept ≡ hand.view.counts.in_kept → IsGlancing hand'.view → IsPost hand' phase stamp sets
+post_glancing core phase hand hand' stamp sets is idle same ready size held kept glancing =
+    post_idle core phase hand' stamp sets same ready (rw size is.size) (held ∙ is.holds_none) (kept ∙ is.keeps_none) (record {
       ends = glancing.ends;
       whole = λ at. glancing.whole;
       no_stamp = idle.no_stamp;
-      no_reads = idle.no_reads;
-      no_writes = idle.no_writes;
       none_read = idle.none_read;
       none_written = idle.none_written;
     })
 
 -- a snapshot has ended there
-pub post_ended : (core : Shared) (phase : Phase) (hand hand' : Seated) (stamp : ℕ) (reads writes : List (ℕ × Option (List ℕ))) (sets : SetsView) → IsPost hand phase stamp reads writes sets → IsIdleAt hand stamp reads writes sets → phase ≡ Idle → IsReady core hand' → hand'.view ≡ glances_ended hand.view hand'.view.seen → IsPost hand' phase stamp reads writes sets
-post_ended core phase hand hand' stamp reads writes sets is idle same ready view =
+pub post_ended : (core : Shared) (phase : Phase) (hand hand' : Seated) (stamp : ℕ) (sets : SetsView) → IsPost hand phase stamp sets → IsIdleAt hand stamp sets → phase ≡ Idle → IsReady core hand' → hand'.view ≡ glances_ended hand.view hand'.view.seen → IsPost hand' phase stamp sets
+post_ended core phase hand hand' stamp sets is idle same ready view =
     let work : hand'.view.work ≡ no_work = ap (λ (v : View). v.work) view in
-    post_idle core phase hand' stamp reads writes sets same ready (rw view is.size) (ap (λ (v : View). v.places.held) view ∙ is.holds_none) (ap (λ (v : View). v.counts.in_kept) view ∙ is.keeps_none) (record {
+    post_idle core phase hand' stamp sets same ready (rw view is.size) (ap (λ (v : View). v.places.held) view ∙ is.holds_none) (ap (λ (v : View). v.counts.in_kept) view ∙ is.keeps_none) (record {
       ends = rw work (record { rests = tt; settled = λ u among. absurd among; collected = refl });
       whole = λ at. rw work (λ d among. absurd among);
       no_stamp = idle.no_stamp;
-      no_reads = idle.no_reads;
-      no_writes = idle.no_writes;
       none_read = idle.none_read;
       none_written = idle.none_written;
     })

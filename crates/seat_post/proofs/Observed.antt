@@ -1,5 +1,5 @@
 -- What the steps of a call came upon, from view to view and from post to post.
-use Rattle.std.proofs.Common.{◌≡◌, ℕ, ◌<◌, ◌≤◌, List, [], ◌∷◌, ◌++◌, Option, append_assoc, append-nil, refl, sym, ap, ◌∙◌, subst, ⊎_elim}
+use Rattle.std.proofs.Common.{◌≡◌, ℕ, ◌<◌, ◌≤◌, List, [], ◌∷◌, ◌++◌, append_assoc, append-nil, refl, sym, ap, ◌∙◌, subst, ⊎_elim}
 use Rattle.std.proofs.lemmas.Bool.{cases_lt}
 use Rattle.stamp_base.specs.Stamp.{bound_of_clock}
 use Rattle.word_layout.specs.Name.{Name}
@@ -21,15 +21,15 @@ use Rattle.seat_post.specs.declared.phase.Phase.{Phase}
 use Rattle.seat_post.specs.Conflicts.{WasFound, WereFound}
 use Rattle.seat_post.specs.Observing.{Grows, WasLost}
 use Rattle.seat_post.specs.Rewriting.{IsLoadedIn}
-use Rattle.seat_post.specs.Post.{PostView, post_view, observed_in}
+use Rattle.seat_post.specs.Post.{PostView, post_of, observed_in}
 
 -- ---- what was added
 
 pub observed_grows : (h k : Seated) → growing.Grows h.view.seen k.view.seen → Grows (observed_in h) (observed_in k)
 observed_grows h k g = record { loaded = g.loaded; missed = g.missed; loads = g.loads; lost = g.lost }
 
-pub post_grows : (hand hand' : Seated) (phase : Phase) (stamp : ℕ) (reads writes : List (ℕ × Option (List ℕ))) (p : PostView) → post_view hand phase stamp reads writes ≡ p → growing.Grows hand.view.seen hand'.view.seen → Grows p.observed (observed_in hand')
-post_grows hand hand' phase stamp reads writes p same g = subst (λ (q : PostView). Grows q.observed (observed_in hand')) same (observed_grows hand hand' g)
+pub post_grows : (hand hand' : Seated) (phase : Phase) (stamp : ℕ) (sets : SetsView) (p : PostView) → post_of hand phase stamp sets ≡ p → growing.Grows hand.view.seen hand'.view.seen → Grows p.observed (observed_in hand')
+post_grows hand hand' phase stamp sets p same g = subst (λ (q : PostView). Grows q.observed (observed_in hand')) same (observed_grows hand hand' g)
 
 -- by nothing
 pub seen_grows : (s t : Seen) → t ≡ s → growing.Grows s t

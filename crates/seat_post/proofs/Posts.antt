@@ -1,7 +1,5 @@
 -- What a post keeps of its hand, from call to call.
-use Rattle.std.proofs.Common.{◌≡◌, ℕ, ◌<◌, map, List, [], Option, refl, sym, ap, subst, arith}
-use Rattle.std.specs.Prelude.{IsSome}
-use Rattle.record_store.specs.Meaning.{value_at}
+use Rattle.std.proofs.Common.{◌≡◌, ℕ, map, List, [], refl, sym, ap, subst}
 use Rattle.stamp_base.specs.Stamp.{IsStamp, stamp_of}
 use Rattle.core_rule.specs.Views.{Among, OthersTaken}
 use Rattle.core_rule.specs.Deciding.{entry_of}
@@ -17,7 +15,7 @@ use Rattle.validate_core.specs.Installing.{IsBegun}
 use Rattle.validate_core.specs.Validating as validating
 use Rattle.seat_post.specs.declared.phase.Phase.{Phase}
 use Rattle.seat_post.specs.declared.phase.Phase.TheVariants.{Idle, Open, Installed, Decided}
-use Rattle.seat_post.specs.Post.{IsAt, IsIdleAt, IsPost, shared_of, post_view, observing, with_clock, observed_in}
+use Rattle.seat_post.specs.Post.{IsAt, IsIdleAt, IsPost, shared_of, post_of, observing, with_clock, observed_in}
 use Rattle.seat_post.proofs.Observed.{were_found}
 use Rattle.version_search.specs.Growing.{Grows}
 
@@ -29,8 +27,8 @@ own_ready core hand is = record {
 }
 
 -- what is kept where the phase is known
-pub at_phase : (phase known : Phase) (hand : Seated) (stamp : ℕ) (reads writes : List (ℕ × Option (List ℕ))) (sets : SetsView) → IsPost hand phase stamp reads writes sets → phase ≡ known → IsAt known hand stamp reads writes sets
-at_phase phase known hand stamp reads writes sets is same = subst (λ (p : Phase). IsAt p hand stamp reads writes sets) same is.at
+pub at_phase : (phase known : Phase) (hand : Seated) (stamp : ℕ) (sets : SetsView) → IsPost hand phase stamp sets → phase ≡ known → IsAt known hand stamp sets
+at_phase phase known hand stamp sets is same = subst (λ (p : Phase). IsAt p hand stamp sets) same is.at
 
 -- the view with another clock and other loads
 abbrev turned : View → Clock → Seen → View
@@ -64,57 +62,51 @@ decided_turned stamp s v clock seen is = record {
 abbrev turned_hand : Seated → Seated → Clock → Seen → Seated
 turned_hand hand hand' clock seen = record hand' { view = turned hand.view clock seen }
 
-at_turned : (phase : Phase) (hand hand' : Seated) (stamp : ℕ) (reads writes : List (ℕ × Option (List ℕ))) (sets : SetsView) (clock : Clock) (seen : Seen) → Grows hand.view.seen seen → clock.taken_in ≡ hand.view.clock.taken_in → IsAt phase hand stamp reads writes sets → IsAt phase (turned_hand hand hand' clock seen) stamp reads writes sets
-at_turned Idle hand hand' stamp reads writes sets clock seen grows taken is = record {
+at_turned : (phase : Phase) (hand hand' : Seated) (stamp : ℕ) (sets : SetsView) (clock : Clock) (seen : Seen) → Grows hand.view.seen seen → clock.taken_in ≡ hand.view.clock.taken_in → IsAt phase hand stamp sets → IsAt phase (turned_hand hand hand' clock seen) stamp sets
+at_turned Idle hand hand' stamp sets clock seen grows taken is = record {
   ends = is.ends;
   whole = is.whole;
   no_stamp = is.no_stamp;
-  no_reads = is.no_reads;
-  no_writes = is.no_writes;
   none_read = is.none_read;
   none_written = is.none_written;
 }
-at_turned Open hand hand' stamp reads writes sets clock seen grows taken is = record {
+at_turned Open hand hand' stamp sets clock seen grows taken is = record {
   begun = begun_turned hand.view.size sets hand.view clock seen is.begun;
   at = is.at;
-  as_read = is.as_read;
-  none_written = is.none_written;
-  in_range = is.in_range;
-  room = is.room;
   above = is.above;
   left = λ alone. is.left (subst (λ (taken_in : List ℕ). OthersTaken hand.view.size.seats hand.view.number hand.view.splitting taken_in) taken alone);
   found = were_found stamp sets.reads hand.view (turned hand.view clock seen) grows is.found;
 }
-at_turned Installed hand hand' stamp reads writes sets clock seen grows taken is = record {
+at_turned Installed hand hand' stamp sets clock seen grows taken is = record {
   installed = is.installed;
-  are_sets = record { as_read = is.are_sets.as_read; as_written = is.are_sets.as_written; inside = is.are_sets.inside };
+  inside = is.inside;
   placed = is.placed;
   fit = is.fit;
   found = were_found stamp sets.reads hand.view (turned hand.view clock seen) grows is.found;
 }
-at_turned Decided hand hand' stamp reads writes sets clock seen grows taken is = record {
+at_turned Decided hand hand' stamp sets clock seen grows taken is = record {
   decided = decided_turned stamp sets hand.view clock seen is.decided;
-  are_sets = record { as_read = is.are_sets.as_read; as_written = is.are_sets.as_written; inside = is.are_sets.inside };
+  inside = is.inside;
   placed = is.placed;
   fit = is.fit;
 }
 
 -- a call that changes the clock alone keeps what a post keeps
-pub post_turned : (core : Shared) (phase : Phase) (hand hand' : Seated) (stamp : ℕ) (reads writes : List (ℕ × Option (List ℕ))) (sets : SetsView) (clock : Clock) (seen : Seen) → IsPost hand phase stamp reads writes sets → IsReady core hand' → hand'.view ≡ turned hand.view clock seen → Grows hand.view.seen hand'.view.seen → clock.taken_in ≡ hand.view.clock.taken_in → IsPost hand' phase stamp reads writes sets
-post_turned core phase hand hand' stamp reads writes sets clock seen is ready view grows taken = record {
+pub post_turned : (core : Shared) (phase : Phase) (hand hand' : Seated) (stamp : ℕ) (sets : SetsView) (clock : Clock) (seen : Seen) → IsPost hand phase stamp sets → IsReady core hand' → hand'.view ≡ turned hand.view clock seen → Grows hand.view.seen hand'.view.seen → clock.taken_in ≡ hand.view.clock.taken_in → IsPost hand' phase stamp sets
+post_turned core phase hand hand' stamp sets clock seen is ready view grows taken = record {
   ready = own_ready core hand' ready;
   size = rw view is.size;
   holds_none = rw view is.holds_none;
   keeps_none = rw view is.keeps_none;
-  at = let same : turned_hand hand hand' clock seen ≡ hand' = ap (λ (v : View). record hand' { view = v }) (sym view) in subst (λ (h : Seated). IsAt phase h stamp reads writes sets) same (at_turned phase hand hand' stamp reads writes sets clock seen (subst (λ (s : Seen). Grows hand.view.seen s) (ap (λ (v : View). v.seen) view) grows) taken is.at);
+  at = let same : turned_hand hand hand' clock seen ≡ hand' = ap (λ (v : View). record hand' { view = v }) (sym view) in subst (λ (h : Seated). IsAt phase h stamp sets) same (at_turned phase hand hand' stamp sets clock seen (subst (λ (s : Seen). Grows hand.view.seen s) (ap (λ (v : View). v.seen) view) grows) taken is.at);
 }
 
 -- what it shows
-pub seen_turned : (hand hand' : Seated) (phase : Phase) (stamp : ℕ) (reads writes : List (ℕ × Option (List ℕ))) (clock : Clock) (seen : Seen) → hand'.table ≡ hand.table → hand'.view ≡ turned hand.view clock seen → clock.taken_in ≡ hand.view.clock.taken_in → clock.met ≡ hand.view.clock.met → post_view hand' phase stamp reads writes ≡ observing (with_clock (post_view hand phase stamp reads writes) clock.clock) (record { loads = seen.loads; lost = seen.lost })
-seen_turned hand hand' phase stamp reads writes clock seen table view taken met = rw (table, view, taken, met) refl
+pub seen_turned : (hand hand' : Seated) (phase : Phase) (stamp : ℕ) (sets : SetsView) (clock : Clock) (seen : Seen) → hand'.table ≡ hand.table → hand'.view ≡ turned hand.view clock seen → clock.taken_in ≡ hand.view.clock.taken_in → clock.met ≡ hand.view.clock.met → post_of hand' phase stamp sets ≡ observing (with_clock (post_of hand phase stamp sets) clock.clock) (record { loads = seen.loads; lost = seen.lost })
+seen_turned hand hand' phase stamp sets clock seen table view taken met = rw (table, view, taken, met) refl
 
-pub view_turned : (hand hand' : Seated) (phase : Phase) (stamp : ℕ) (reads writes : List (ℕ × Option (List ℕ))) (clock : Clock) (seen : Seen) → hand'.table ≡ hand.table → hand'.view ≡ turned hand.view clock seen → clock.taken_in ≡ hand.view.clock.taken_in → clock.met ≡ hand.view.clock.met → post_view hand' phase stamp reads writes ≡ observing (with_clock (post_view hand phase stamp reads writes) clock.clock) (observed_in hand')
-view_turned hand hand' phase stamp reads writes clock seen table view taken met = rw (table, view, taken, met) refl
+pub view_turned : (hand hand' : Seated) (phase : Phase) (stamp : ℕ) (sets : SetsView) (clock : Clock) (seen : Seen) → hand'.table ≡ hand.table → hand'.view ≡ turned hand.view clock seen → clock.taken_in ≡ hand.view.clock.taken_in → clock.met ≡ hand.view.clock.met → post_of hand' phase stamp sets ≡ observing (with_clock (post_of hand phase stamp sets) clock.clock) (observed_in hand')
+view_turned hand hand' phase stamp sets clock seen table view taken met = rw (table, view, taken, met) refl
 
 -- ---- drawing a stamp
 
@@ -140,12 +132,9 @@ begun_drawn z s v clock no_reads no_writes stamp = record {
   inside = may_install_none z s no_reads no_writes;
 }
 
-pub none_in_range : (records : ℕ) (writes : List (ℕ × Option (List ℕ))) → writes ≡ [] → (rid : ℕ) → IsSome (value_at writes rid) → rid < records
-none_in_range records writes none rid some = let h : IsSome (value_at [] rid) = subst (λ (ws : List (ℕ × Option (List ℕ))). IsSome (value_at ws rid)) none some in cc
-
 -- a transaction begins at the stamp that was drawn
-pub post_opened : (core : Shared) (hand hand' : Seated) (stamp t clock : ℕ) (reads writes : List (ℕ × Option (List ℕ))) (sets : SetsView) → IsIdleAt hand stamp reads writes sets → hand.view.places.held ≡ [] → hand.view.counts.in_kept ≡ nothing_kept → IsSize hand.view.size → IsReady core hand' → hand'.view ≡ drawn hand.view clock → IsStamp t → t ≡ stamp_of clock hand.view.number → IsAbove (map entry_of hand.view.log) (stamp_of clock hand.view.number) → IsPost hand' Open t reads writes sets
-post_opened core hand hand' stamp t clock reads writes sets idle held kept size ready view is_stamp at above = record {
+pub post_opened : (core : Shared) (hand hand' : Seated) (stamp t clock : ℕ) (sets : SetsView) → IsIdleAt hand stamp sets → hand.view.places.held ≡ [] → hand.view.counts.in_kept ≡ nothing_kept → IsSize hand.view.size → IsReady core hand' → hand'.view ≡ drawn hand.view clock → IsStamp t → t ≡ stamp_of clock hand.view.number → IsAbove (map entry_of hand.view.log) (stamp_of clock hand.view.number) → IsPost hand' Open t sets
+post_opened core hand hand' stamp t clock sets idle held kept size ready view is_stamp at above = record {
   ready = own_ready core hand' ready;
   size = rw view size;
   holds_none = rw view held;
@@ -153,34 +142,28 @@ post_opened core hand hand' stamp t clock reads writes sets idle held kept size 
   at = record {
     begun = rw view (begun_drawn hand.view.size sets hand.view clock idle.none_read idle.none_written (subst (λ (n : ℕ). IsStamp n) at is_stamp));
     at = rw view at;
-    as_read = rw (idle.none_read, idle.no_reads) refl;
-    none_written = idle.none_written;
-    in_range = none_in_range hand'.view.size.records writes idle.no_writes;
-    room = rw idle.no_writes (omega arith);
     above = rw (view, at) above;
-    left = λ alone. rw idle.no_reads (All-nil (λ read. LeavesValue (map entry_of hand'.view.log) read.0 t read.1));
+    left = λ alone. rw idle.none_read (All-nil (λ read. LeavesValue (map entry_of hand'.view.log) read.0 t read.1));
     found = λ d among. absurd (subst (λ (ds : List Read). Among d ds) idle.none_read among);
   };
 }
 
 -- no transaction is in flight after a stamp that none gets
-pub post_ticked : (hand hand' : Seated) (stamp clock : ℕ) (reads writes : List (ℕ × Option (List ℕ))) (sets : SetsView) → IsIdleAt hand stamp reads writes sets → hand'.view ≡ drawn hand.view clock → IsIdleAt hand' stamp reads writes sets
-post_ticked hand hand' stamp clock reads writes sets idle view = record {
+pub post_ticked : (hand hand' : Seated) (stamp clock : ℕ) (sets : SetsView) → IsIdleAt hand stamp sets → hand'.view ≡ drawn hand.view clock → IsIdleAt hand' stamp sets
+post_ticked hand hand' stamp clock sets idle view = record {
   ends = rw view (record { rests = tt; settled = λ u among. absurd among; collected = refl });
   whole = rw view (λ at. let e : writing (stamp_of clock hand.view.number) ≡ resting = at in cc);
   no_stamp = idle.no_stamp;
-  no_reads = idle.no_reads;
-  no_writes = idle.no_writes;
   none_read = idle.none_read;
   none_written = idle.none_written;
 }
 
 -- a call that leaves the post idle
-pub post_idle : (core : Shared) (phase : Phase) (hand' : Seated) (stamp : ℕ) (reads writes : List (ℕ × Option (List ℕ))) (sets : SetsView) → phase ≡ Idle → IsReady core hand' → IsSize hand'.view.size → hand'.view.places.held ≡ [] → hand'.view.counts.in_kept ≡ nothing_kept → IsIdleAt hand' stamp reads writes sets → IsPost hand' phase stamp reads writes sets
-post_idle core phase hand' stamp reads writes sets same ready size held kept is = record {
+pub post_idle : (core : Shared) (phase : Phase) (hand' : Seated) (stamp : ℕ) (sets : SetsView) → phase ≡ Idle → IsReady core hand' → IsSize hand'.view.size → hand'.view.places.held ≡ [] → hand'.view.counts.in_kept ≡ nothing_kept → IsIdleAt hand' stamp sets → IsPost hand' phase stamp sets
+post_idle core phase hand' stamp sets same ready size held kept is = record {
   ready = own_ready core hand' ready;
   size = size;
   holds_none = held;
   keeps_none = kept;
-  at = subst (λ (p : Phase). IsAt p hand' stamp reads writes sets) (sym same) is;
+  at = subst (λ (p : Phase). IsAt p hand' stamp sets) (sym same) is;
 }

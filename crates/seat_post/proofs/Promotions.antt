@@ -26,7 +26,7 @@ use Rattle.seat_post.specs.Observing.{WasLost}
 use Rattle.seat_post.specs.declared.promoting.Promotion.{Promotion}
 use Rattle.seat_post.specs.declared.promoting.Promotion.TheVariants.{Promoted, Inline, Absent, Occupied}
 use Rattle.seat_post.specs.Conflicts.{ShowsOf, WasFound}
-use Rattle.seat_post.specs.Post.{IsPost, post_view}
+use Rattle.seat_post.specs.Post.{IsPost, post_of}
 use Rattle.stamp_base.specs.Stamp.{stamp_of, IsStamp}
 use Rattle.seat_post.specs.declared.phase.Phase.{Phase}
 use Rattle.seat_post.specs.declared.phase.Phase.TheVariants.{Idle}
@@ -45,7 +45,7 @@ ends_none work rests linked item = record {
 
 pub pending_at : (hand hand' : Seated) (stamp rid wts : ℕ) → Stops stamp rid wts hand.view hand'.view → hand.view.number < hand.view.size.seats → IsDrawn stamp hand.view → MeetsPending stamp rid hand.view hand'.view (Pending rid wts)
 pending_at hand hand' stamp rid wts stops inside drawn =
-    let met = met_at hand hand' Idle stamp rid wts [] [] stops inside in
+    let met = met_at hand hand' stamp rid wts stops inside in
     record {
       only = subst (λ (y : View). y ≡ worked hand.view y.work y.seen) (sym stops.view) refl;
       ends = ends_none hand'.view.work (rw stops.view stops.rests) (ap (λ (y : View). y.work.linked) stops.view ∙ ap (λ (w : Work). w.linked) drawn.work) (ap (λ (y : View). y.work.item) stops.view ∙ ap (λ (w : Work). w.item) drawn.work);
@@ -239,16 +239,14 @@ still_drawn : (hand hand' : Seated) (v : View) (clock : ℕ) → v ≡ drawn han
 still_drawn hand hand' v clock view rested = ap (λ (y : View). y.flight) rested.only ∙ ap (λ (y : View). y.flight) view
 
 -- a post whose hand has rested again is idle
-pub post_rested : (core : Shared) (phase : Phase) (hand hand' : Seated) (v : View) (clock stamp : ℕ) (reads writes : List (ℕ × Option (List ℕ))) (sets : SetsView) → phase ≡ Idle → IsPost hand phase stamp reads writes sets → v ≡ drawn hand.view clock → Rested v hand'.view → IsReady core hand' → IsPost hand' phase stamp reads writes sets
-post_rested core phase hand hand' v clock stamp reads writes sets same is view rested ready =
-    let idle = at_phase phase Idle hand stamp reads writes sets is same in
+pub post_rested : (core : Shared) (phase : Phase) (hand hand' : Seated) (v : View) (clock stamp : ℕ) (sets : SetsView) → phase ≡ Idle → IsPost hand phase stamp sets → v ≡ drawn hand.view clock → Rested v hand'.view → IsReady core hand' → IsPost hand' phase stamp sets
+post_rested core phase hand hand' v clock stamp sets same is view rested ready =
+    let idle = at_phase phase Idle hand stamp sets is same in
     let size : hand'.view.size ≡ hand.view.size = ap (λ (y : View). y.size) rested.only ∙ ap (λ (y : View). y.size) view in
-    post_idle core phase hand' stamp reads writes sets same ready (rw size is.size) rested.held (rested.in_kept ∙ ap (λ (y : View). y.counts.in_kept) view ∙ is.keeps_none) (record {
+    post_idle core phase hand' stamp sets same ready (rw size is.size) rested.held (rested.in_kept ∙ ap (λ (y : View). y.counts.in_kept) view ∙ is.keeps_none) (record {
       ends = rested.ends;
       whole = none_resting hand'.view.flight (stamp_of clock hand.view.number) hand'.view.work.reads (still_drawn hand hand' v clock view rested);
       no_stamp = idle.no_stamp;
-      no_reads = idle.no_reads;
-      no_writes = idle.no_writes;
       none_read = idle.none_read;
       none_written = idle.none_written;
     })
@@ -274,7 +272,7 @@ stopped_only stamp rid v w conflict stops =
     ∙ ap (λ (y : View). record y { places = w.places; work = w.work; counts = counted_more y.size rid stamp rid y.counts; tops = record { record_number = rid; stamp = stamp } ∷ y.tops; front = w.front; log = w.log; seen = w.seen }) holds.only
     ∙ ap (λ es. record v { places = w.places; work = w.work; counts = counted_more v.size rid stamp rid v.counts; tops = record { record_number = rid; stamp = stamp } ∷ v.tops; front = w.front; log = es; seen = w.seen }) log
 
-module _ (hand hand' : Seated) (phase : Phase) (ps : ℕ) (reads writes : List (ℕ × Option (List ℕ))) (v : View) (clock stamp rid : ℕ) (conflict : Conflict) (table : hand'.table ≡ hand.table) (drew : v ≡ drawn hand.view clock) (at : stamp ≡ stamp_of clock hand.view.number) where
+module _ (hand hand' : Seated) (phase : Phase) (ps : ℕ) (sets : SetsView) (v : View) (clock stamp rid : ℕ) (conflict : Conflict) (table : hand'.table ≡ hand.table) (drew : v ≡ drawn hand.view clock) (at : stamp ≡ stamp_of clock hand.view.number) where
   shown_drawn : ShowsOf rid v.size v.number (others_in v) stamp conflict → ShowsOf rid hand.view.size hand.view.number (others_in hand.view) (stamp_of clock hand.view.number) conflict
   shown_drawn shown =
       subst (λ (n : ℕ). ShowsOf rid hand.view.size hand.view.number (others_in hand.view) n conflict) at
@@ -285,7 +283,7 @@ module _ (hand hand' : Seated) (phase : Phase) (ps : ℕ) (reads writes : List (
       subst (λ (n : ℕ). IsLoadedIn n conflict hand.view hand'.view) at
       (loaded_before stamp hand.view v hand'.view conflict (drawn_grows hand.view v clock drew) (fails_loaded stamp rid v hand'.view conflict fails))
 
-  met_post : MeetsPending stamp rid v hand'.view conflict → IsStoppedPost rid clock (post_view hand phase ps reads writes) (post_view hand' phase ps reads writes) conflict
+  met_post : MeetsPending stamp rid v hand'.view conflict → IsStoppedPost rid clock (post_of hand phase ps sets) (post_of hand' phase ps sets) conflict
   met_post met =
       let is : hand'.view ≡ worked (drawn hand.view clock) hand'.view.work hand'.view.seen = met.only ∙ ap (λ (y : View). worked y hand'.view.work hand'.view.seen) drew in record {
         after = rw (table, is) refl;
@@ -294,7 +292,7 @@ module _ (hand hand' : Seated) (phase : Phase) (ps : ℕ) (reads writes : List (
         loaded = loaded_drawn (inl met);
       }
 
-  stopped_post : IsStoppedWriting stamp rid v hand'.view conflict → IsStoppedPost rid clock (post_view hand phase ps reads writes) (post_view hand' phase ps reads writes) conflict
+  stopped_post : IsStoppedWriting stamp rid v hand'.view conflict → IsStoppedPost rid clock (post_of hand phase ps sets) (post_of hand' phase ps sets) conflict
   stopped_post stops =
       let w = hand'.view in
       let holds = loaded_since stamp rid stops.words v stops.loaded stops.loads in
@@ -308,5 +306,5 @@ module _ (hand hand' : Seated) (phase : Phase) (ps : ℕ) (reads writes : List (
         loaded = loaded_drawn (inr stops);
       }
 
-  pub fails_post : FailsAt stamp rid v hand'.view conflict → IsStoppedPost rid clock (post_view hand phase ps reads writes) (post_view hand' phase ps reads writes) conflict
+  pub fails_post : FailsAt stamp rid v hand'.view conflict → IsStoppedPost rid clock (post_of hand phase ps sets) (post_of hand' phase ps sets) conflict
   fails_post fails = ⊎_elim (λ (met : MeetsPending stamp rid v hand'.view conflict). met_post met) (λ (stops : IsStoppedWriting stamp rid v hand'.view conflict). stopped_post stops) fails

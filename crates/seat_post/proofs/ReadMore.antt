@@ -1,15 +1,15 @@
 -- What a post keeps through a read.
-use Rattle.std.proofs.Common.{◌≡◌, ◌≢◌, ℕ, ◌<◌, List, [], ◌∷◌, ◌++◌, Option, None, Some, cond, refl, sym, ap, ◌∙◌, subst, inl, inr, ◌⊎◌, ◌≤◌, map, length, arith, Bool, true, false, ◌+◌}
+use Rattle.std.proofs.Common.{◌≡◌, ◌≢◌, ℕ, ◌<◌, List, [], ◌∷◌, ◌++◌, Option, None, Some, cond, refl, sym, ap, ◌∙◌, subst, inl, inr, ◌⊎◌, map, arith, true, false, ◌+◌}
 use Rattle.std.specs.Prelude.{is_some}
 use Rattle.word_layout.specs.Size.{Size, places}
-use Rattle.core_rule.specs.View.{reads as for_reads, stands, shown, View, Read, Search, still, Seen, writing}
+use Rattle.core_rule.specs.View.{reads as for_reads, stands, shown, View, Read, Write, Search, still, Seen, writing}
 use Rattle.core_rule.specs.Views.{Among, IsAlone}
 use Rattle.core_rule.specs.Hands.{Shared, Seated, IsReady}
-use Rattle.core_rule.specs.Searching.{Rests, IsWhole, IsFinal, limit_of}
+use Rattle.core_rule.specs.Searching.{Rests, IsWhole, IsFinal}
 use Rattle.core_rule.specs.Deciding.{AreReads, read_values, entry_of}
 use Rattle.core_rule.specs.Versions.{read_version, state_of}
 use Rattle.record_store.specs.Meaning.{value_at}
-use Rattle.validate_core.specs.Sets.{SetsView, MayInstall}
+use Rattle.validate_core.specs.Sets.{SetsView, MayInstall, Once}
 use Rattle.validate_core.specs.Installing.{IsBegun}
 use Rattle.version_search.specs.Finding as finding
 use Rattle.version_search.proofs.Grown.{grows_loads}
@@ -17,17 +17,17 @@ use Rattle.validate_core.proofs.Staging.{met_now}
 use Rattle.seat_post.specs.Searched.{Finds, Stops}
 use Rattle.seat_post.specs.Conflicts.{IsOfAnother}
 use Rattle.seat_post.specs.Reading.{FindsValue, value_loaded}
-use Rattle.seat_post.specs.Post.{PostView, IsPost, post_view, observed_in}
+use Rattle.seat_post.specs.Post.{PostView, IsPost, post_of, observed_in}
 use Rattle.seat_post.specs.declared.phase.Phase.{Phase}
 use Rattle.seat_post.specs.declared.phase.Phase.TheVariants.{Open}
-use Rattle.seat_post.proofs.AloneSeats.{alone_told}
+use Rattle.seat_post.proofs.AloneSeats.{others_of, alone_told}
 use Rattle.seat_post.proofs.Posts.{own_ready}
 use Rattle.std.proofs.lemmas.List.Elements.{All-push}
 use Rattle.seat_post.specs.Leaves.{LeavesValue, AreLeft}
 use Rattle.seat_post.specs.Logs.{IsAbove}
 use Rattle.seat_post.specs.Seats.{IsAloneAt, Observed}
 use Rattle.seat_post.specs.Conflicts.{WasFound}
-use Rattle.seat_post.proofs.Observed.{met_alone, found_after, found_met, were_found}
+use Rattle.seat_post.proofs.Observed.{met_alone, found_met, were_found}
 use Rattle.seat_post.proofs.Leaving.{post_left, limit_is}
 use Rattle.validate_core.specs.Validating.{Met, no_more}
 use Rattle.seat_post.proofs.Listed.{unread, read_values-append, read_value-version}
@@ -95,8 +95,8 @@ begun_stopped z s v search seen is rests = record {
   inside = is.inside;
 }
 
-pub begun_sets : (z : Size) (s s' : SetsView) (v : View) → IsBegun z s v → s'.reads ≡ s.reads → s'.writes ≡ s.writes → IsBegun z s' v
-begun_sets z s s' v is reads writes = record {
+begun_written : (z : Size) (s s' : SetsView) (v : View) → IsBegun z s v → s'.reads ≡ s.reads → ((u : Write) → Among u s'.writes → u.record_number < z.records) → Once (λ (u : Write). u.record_number) s'.writes → IsBegun z s' v
+begun_written z s s' v is reads within once = record {
   in_flight = is.in_flight;
   stamp = is.stamp;
   rests = is.rests;
@@ -107,37 +107,43 @@ begun_sets z s s' v is reads writes = record {
   passed = is.passed;
   undecided = is.undecided;
   collected = is.collected;
-  inside = record { reads = rw reads is.inside.reads; writes = rw writes is.inside.writes; once = rw writes is.inside.once };
+  inside = record { reads = rw reads is.inside.reads; writes = within; once = once };
 }
 
 -- ---- the post
 
 -- the post where the phase is known
-pub open_at : (phase : Phase) (hand : Seated) (stamp : ℕ) (reads writes : List (ℕ × Option (List ℕ))) (sets : SetsView) → phase ≡ Open → IsPost hand Open stamp reads writes sets → IsPost hand phase stamp reads writes sets
-open_at phase hand stamp reads writes sets same is = subst (λ (p : Phase). IsPost hand p stamp reads writes sets) (sym same) is
+pub open_at : (phase : Phase) (hand : Seated) (stamp : ℕ) (sets : SetsView) → phase ≡ Open → IsPost hand Open stamp sets → IsPost hand phase stamp sets
+open_at phase hand stamp sets same is = subst (λ (p : Phase). IsPost hand p stamp sets) (sym same) is
 
-pub is_open : (phase : Phase) (hand : Seated) (stamp : ℕ) (reads writes : List (ℕ × Option (List ℕ))) (sets : SetsView) → phase ≡ Open → IsPost hand phase stamp reads writes sets → IsPost hand Open stamp reads writes sets
-is_open phase hand stamp reads writes sets same is = subst (λ (p : Phase). IsPost hand p stamp reads writes sets) same is
+pub is_open : (phase : Phase) (hand : Seated) (stamp : ℕ) (sets : SetsView) → phase ≡ Open → IsPost hand phase stamp sets → IsPost hand Open stamp sets
+is_open phase hand stamp sets same is = subst (λ (p : Phase). IsPost hand p stamp sets) same is
 
--- more room for reads alone
-pub post_room : (hand : Seated) (stamp : ℕ) (reads reads' writes : List (ℕ × Option (List ℕ))) (sets sets' : SetsView) → IsPost hand Open stamp reads writes sets → reads' ≡ reads → sets'.reads ≡ sets.reads → sets'.writes ≡ sets.writes → sets.write_room ≤ sets'.write_room → IsPost hand Open stamp reads' writes sets'
-post_room hand stamp reads reads' writes sets sets' is same_reads set_reads set_writes room = record {
+-- other writes
+pub post_written : (hand : Seated) (stamp : ℕ) (sets sets' : SetsView) → IsPost hand Open stamp sets → sets'.reads ≡ sets.reads → ((u : Write) → Among u sets'.writes → u.record_number < hand.view.size.records) → Once (λ (u : Write). u.record_number) sets'.writes → IsPost hand Open stamp sets'
+post_written hand stamp sets sets' is reads within once = record {
   ready = is.ready;
   size = is.size;
   holds_none = is.holds_none;
   keeps_none = is.keeps_none;
   at = record {
-    begun = begun_sets hand.view.size sets sets' hand.view is.at.begun set_reads set_writes;
+    begun = begun_written hand.view.size sets sets' hand.view is.at.begun reads within once;
     at = is.at.at;
-    as_read = rw (set_reads, same_reads) is.at.as_read;
-    none_written = set_writes ∙ is.at.none_written;
-    in_range = is.at.in_range;
-    room = let h : length writes ≤ sets.write_room = is.at.room in omega arith;
     above = is.at.above;
-    left = λ alone. rw same_reads (is.at.left alone);
-    found = rw set_reads is.at.found;
+    left = rw reads is.at.left;
+    found = rw reads is.at.found;
   };
 }
+
+-- more room alone
+pub post_room : (hand : Seated) (stamp : ℕ) (sets sets' : SetsView) → IsPost hand Open stamp sets → sets'.reads ≡ sets.reads → sets'.writes ≡ sets.writes → IsPost hand Open stamp sets'
+post_room hand stamp sets sets' is reads writes =
+    let inside = is.at.begun.inside in
+    post_written hand stamp sets sets' is reads (rw writes inside.writes) (rw writes inside.once)
+
+-- what it shows is the same
+pub view_room : (hand : Seated) (phase : Phase) (stamp : ℕ) (sets sets' : SetsView) → sets'.reads ≡ sets.reads → sets'.writes ≡ sets.writes → post_of hand phase stamp sets' ≡ post_of hand phase stamp sets
+view_room hand phase stamp sets sets' reads writes = rw (reads, writes) refl
 
 -- a search that met a pending version
 pub stops_at : (stamp rid place wts : ℕ) (v w : View) → finding.Finds for_reads (cond false (stamp + 1) stamp) rid place wts 2 v w → Stops stamp rid wts v w
@@ -158,8 +164,8 @@ stops_at stamp rid place wts v w found =
     }
 
 -- what it says of the transaction of a post
-pub met_at : (hand hand' : Seated) (phase : Phase) (stamp rid wts : ℕ) (reads writes : List (ℕ × Option (List ℕ))) → Stops stamp rid wts hand.view hand'.view → hand.view.number < hand.view.size.seats → (wts < stamp) × IsOfAnother hand.view.size hand.view.number (post_view hand phase stamp reads writes).others wts
-met_at hand hand' phase stamp rid wts reads writes stops inside =
+pub met_at : (hand hand' : Seated) (stamp rid wts : ℕ) → Stops stamp rid wts hand.view hand'.view → hand.view.number < hand.view.size.seats → (wts < stamp) × IsOfAnother hand.view.size hand.view.number (others_of hand.view) wts
+met_at hand hand' stamp rid wts stops inside =
     let within = stops.within in
     let apart = stops.another in
     (stops.before, record { another = apart; within = within; more = omega arith; not_alone = λ alone. stops.not_alone (alone_told hand.view alone) })
@@ -174,14 +180,18 @@ found_at v w stamp rid place wts value finds flight =
     found_met stamp rid wts (state_of value) (value_loaded value) v.seen.loads w.seen.loads (final_state value)
     (subst (λ (n : ℕ). Met n rid wts (state_of value) (value_loaded value) v.seen.loads w.seen.loads) (limit_is v stamp flight) finds.met)
 
+-- the values read, with one more
+pub read_more : (rid place wts : ℕ) (value : Option (List ℕ)) (ds ds' : List Read) → ds' ≡ ds ++ read_version rid place wts value ∷ [] → read_values ds' ≡ read_values ds ++ (rid, value) ∷ []
+read_more rid place wts value ds ds' more =
+    ap read_values more ∙ read_values-append ds (read_version rid place wts value) ∙ ap (λ v. read_values ds ++ (rid, v) ∷ []) (read_value-version rid place wts value)
+
 -- a read was noted
-pub post_read : (core : Shared) (hand hand' : Seated) (stamp rid place wts : ℕ) (value : Option (List ℕ)) (reads reads' writes : List (ℕ × Option (List ℕ))) (sets sets' : SetsView) → IsPost hand Open stamp reads writes sets → IsReady core hand' → Finds rid place wts value hand.view hand'.view → rid < hand.view.size.records → value_at reads rid ≡ None → reads' ≡ reads ++ (rid, value) ∷ [] → sets'.reads ≡ sets.reads ++ read_version rid place wts value ∷ [] → sets'.writes ≡ sets.writes → sets.write_room ≤ sets'.write_room → IsPost hand' Open stamp reads' writes sets'
-post_read core hand hand' stamp rid place wts value reads reads' writes sets sets' is ready finds within first more set_reads set_writes room =
+pub post_read : (core : Shared) (hand hand' : Seated) (stamp rid place wts : ℕ) (value : Option (List ℕ)) (sets sets' : SetsView) → IsPost hand Open stamp sets → IsReady core hand' → Finds rid place wts value hand.view hand'.view → rid < hand.view.size.records → value_at (read_values sets.reads) rid ≡ None → sets'.reads ≡ sets.reads ++ read_version rid place wts value ∷ [] → sets'.writes ≡ sets.writes → IsPost hand' Open stamp sets'
+post_read core hand hand' stamp rid place wts value sets sets' is ready finds within first reads writes =
     let d = read_version rid place wts value in
-    let may = may_install_more hand.view.size sets sets' d is.at.begun.inside set_reads set_writes within finds.inside in
+    let may = may_install_more hand.view.size sets sets' d is.at.begun.inside reads writes within finds.inside in
     let found = found_more sets.reads hand.view.work.reads d is.at.begun.reads in
-    let apart = unread sets.reads rid (ap (λ vs. value_at vs rid) is.at.as_read ∙ first) in
-    let are : AreReads sets'.reads (d ∷ hand.view.work.reads) = rw set_reads (are_more sets.reads hand.view.work.reads d found finds.whole apart) in
+    let are : AreReads sets'.reads (d ∷ hand.view.work.reads) = rw reads (are_more sets.reads hand.view.work.reads d found finds.whole (unread sets.reads rid first)) in
     record {
       ready = own_ready core hand' ready;
       size = rw finds.view is.size;
@@ -190,16 +200,12 @@ post_read core hand hand' stamp rid place wts value reads reads' writes sets set
       at = record {
         begun = rw finds.view (begun_found hand.view.size sets sets' hand.view still d hand'.view.seen is.at.begun tt are may);
         at = rw finds.view is.at.at;
-        as_read = ap read_values set_reads ∙ read_values-append sets.reads d ∙ ap (λ v. read_values sets.reads ++ (rid, v) ∷ []) (read_value-version rid place wts value) ∙ ap (λ vs. vs ++ (rid, value) ∷ []) is.at.as_read ∙ sym more;
-        none_written = set_writes ∙ is.at.none_written;
-        in_range = rw finds.view is.at.in_range;
-        room = let h : length writes ≤ sets.write_room = is.at.room in omega arith;
         above = rw finds.view is.at.above;
         left = λ alone.
             let before : IsAlone hand.view = rw finds.view at alone in
             let here = post_left hand hand' stamp rid place wts value finds is.at.begun.in_flight is.at.at before in
-            rw (finds.view, more) (All-push (λ read. LeavesValue (map entry_of hand.view.log) read.0 stamp read.1) reads (rid, value) (is.at.left before) here);
-        found = λ e among. elim (among_append sets.reads d e (subst (λ (ds : List Read). Among e ds) set_reads among)) as (λ _. WasFound stamp e.record_number e.version hand'.view.seen.loads) [
+            rw (finds.view, read_more rid place wts value sets.reads sets'.reads reads) (All-push (λ read. LeavesValue (map entry_of hand.view.log) read.0 stamp read.1) (read_values sets.reads) (rid, value) (is.at.left before) here);
+        found = λ e among. elim (among_append sets.reads d e (subst (λ (ds : List Read). Among e ds) reads among)) as (λ _. WasFound stamp e.record_number e.version hand'.view.seen.loads) [
           | inl earlier ↦ were_found stamp sets.reads hand.view hand'.view finds.grows is.at.found e earlier
           | inr same ↦ subst (λ (x : Read). WasFound stamp x.record_number x.version hand'.view.seen.loads) same (found_at hand.view hand'.view stamp rid place wts value finds (is.at.begun.in_flight ∙ ap writing (sym is.at.at)))
         ];
@@ -207,8 +213,8 @@ post_read core hand hand' stamp rid place wts value reads reads' writes sets set
     }
 
 -- a pending version was met
-pub post_stopped : (core : Shared) (hand hand' : Seated) (stamp rid wts : ℕ) (reads writes : List (ℕ × Option (List ℕ))) (sets : SetsView) → IsPost hand Open stamp reads writes sets → IsReady core hand' → Stops stamp rid wts hand.view hand'.view → IsPost hand' Open stamp reads writes sets
-post_stopped core hand hand' stamp rid wts reads writes sets is ready stops = record {
+pub post_stopped : (core : Shared) (hand hand' : Seated) (stamp rid wts : ℕ) (sets : SetsView) → IsPost hand Open stamp sets → IsReady core hand' → Stops stamp rid wts hand.view hand'.view → IsPost hand' Open stamp sets
+post_stopped core hand hand' stamp rid wts sets is ready stops = record {
   ready = own_ready core hand' ready;
   size = rw stops.view is.size;
   holds_none = rw stops.view is.holds_none;
@@ -216,10 +222,6 @@ post_stopped core hand hand' stamp rid wts reads writes sets is ready stops = re
   at = record {
     begun = rw stops.view (begun_stopped hand.view.size sets hand.view stops.search hand'.view.seen is.at.begun stops.rests);
     at = rw stops.view is.at.at;
-    as_read = is.at.as_read;
-    none_written = is.at.none_written;
-    in_range = rw stops.view is.at.in_range;
-    room = is.at.room;
     above = rw stops.view is.at.above;
     left = rw stops.view is.at.left;
     found = were_found stamp sets.reads hand.view hand'.view stops.grows is.at.found;
@@ -232,8 +234,8 @@ not_read None r none = none
 not_read (Some x) r none = cc
 
 -- a version was found that is not noted
-pub post_passed : (core : Shared) (hand hand' : Seated) (stamp rid place wts : ℕ) (value : Option (List ℕ)) (reads writes : List (ℕ × Option (List ℕ))) (sets : SetsView) → IsPost hand Open stamp reads writes sets → IsReady core hand' → Finds rid place wts value hand.view hand'.view → IsPost hand' Open stamp reads writes sets
-post_passed core hand hand' stamp rid place wts value reads writes sets is ready finds =
+pub post_passed : (core : Shared) (hand hand' : Seated) (stamp rid place wts : ℕ) (value : Option (List ℕ)) (sets : SetsView) → IsPost hand Open stamp sets → IsReady core hand' → Finds rid place wts value hand.view hand'.view → IsPost hand' Open stamp sets
+post_passed core hand hand' stamp rid place wts value sets is ready finds =
     let d = read_version rid place wts value in
     let found = found_more sets.reads hand.view.work.reads d is.at.begun.reads in
     record {
@@ -244,10 +246,6 @@ post_passed core hand hand' stamp rid place wts value reads writes sets is ready
       at = record {
         begun = rw finds.view (begun_found hand.view.size sets sets hand.view still d hand'.view.seen is.at.begun tt found is.at.begun.inside);
         at = rw finds.view is.at.at;
-        as_read = is.at.as_read;
-        none_written = is.at.none_written;
-        in_range = rw finds.view is.at.in_range;
-        room = is.at.room;
         above = rw finds.view is.at.above;
         left = rw finds.view is.at.left;
         found = were_found stamp sets.reads hand.view hand'.view finds.grows is.at.found;
@@ -255,9 +253,9 @@ post_passed core hand hand' stamp rid place wts value reads writes sets is ready
     }
 
 -- it was met, with its value
-pub found_value : (hand hand' : Seated) (phase : Phase) (stamp rid place wts : ℕ) (value : Option (List ℕ)) (reads writes : List (ℕ × Option (List ℕ))) (sets : SetsView) (p : PostView) → IsPost hand phase stamp reads writes sets → post_view hand phase stamp reads writes ≡ p → p.phase ≡ Open → Finds rid place wts value hand.view hand'.view → FindsValue p.stamp rid p.observed (observed_in hand') value
-found_value hand hand' phase stamp rid place wts value reads writes sets p is same flying finds =
-    let now = is_open phase hand stamp reads writes sets (ap (λ (q : PostView). q.phase) same ∙ flying) is in
+pub found_value : (hand hand' : Seated) (phase : Phase) (stamp rid place wts : ℕ) (value : Option (List ℕ)) (sets : SetsView) (p : PostView) → IsPost hand phase stamp sets → post_of hand phase stamp sets ≡ p → p.phase ≡ Open → Finds rid place wts value hand.view hand'.view → FindsValue p.stamp rid p.observed (observed_in hand') value
+found_value hand hand' phase stamp rid place wts value sets p is same flying finds =
+    let now = is_open phase hand stamp sets (ap (λ (q : PostView). q.phase) same ∙ flying) is in
     subst (λ (q : PostView). FindsValue q.stamp rid q.observed (observed_in hand') value) same (record {
       wts = wts;
       met = subst (λ (n : ℕ). Met n rid wts (state_of value) (value_loaded value) hand.view.seen.loads hand'.view.seen.loads)
@@ -271,20 +269,20 @@ present_met stamp rid before after' (Some words) found some = (found.wts, met_al
 
 -- ---- what a log leaves
 
-pub alone_at : (hand : Seated) (phase : Phase) (stamp : ℕ) (reads writes : List (ℕ × Option (List ℕ))) (p : PostView) → post_view hand phase stamp reads writes ≡ p → IsAloneAt p.shared.size p.seat p.others → IsAlone hand.view
-alone_at hand phase stamp reads writes p same on = alone_told hand.view (subst (λ (q : PostView). IsAloneAt q.shared.size q.seat q.others) (sym same) on)
+pub alone_at : (hand : Seated) (phase : Phase) (stamp : ℕ) (sets : SetsView) (p : PostView) → post_of hand phase stamp sets ≡ p → IsAloneAt p.shared.size p.seat p.others → IsAlone hand.view
+alone_at hand phase stamp sets p same on = alone_told hand.view (subst (λ (q : PostView). IsAloneAt q.shared.size q.seat q.others) (sym same) on)
 
-pub open_left : (hand : Seated) (phase : Phase) (stamp : ℕ) (reads writes : List (ℕ × Option (List ℕ))) (sets : SetsView) (p : PostView) → IsPost hand phase stamp reads writes sets → post_view hand phase stamp reads writes ≡ p → p.phase ≡ Open → IsAloneAt p.shared.size p.seat p.others → AreLeft p.log p.stamp p.reads
-open_left hand phase stamp reads writes sets p is same flying on =
-    let now = is_open phase hand stamp reads writes sets (ap (λ (q : PostView). q.phase) same ∙ flying) is in
-    subst (λ (q : PostView). AreLeft q.log q.stamp q.reads) same (now.at.left (alone_at hand phase stamp reads writes p same on))
+pub open_left : (hand : Seated) (phase : Phase) (stamp : ℕ) (sets : SetsView) (p : PostView) → IsPost hand phase stamp sets → post_of hand phase stamp sets ≡ p → p.phase ≡ Open → IsAloneAt p.shared.size p.seat p.others → AreLeft p.log p.stamp p.reads
+open_left hand phase stamp sets p is same flying on =
+    let now = is_open phase hand stamp sets (ap (λ (q : PostView). q.phase) same ∙ flying) is in
+    subst (λ (q : PostView). AreLeft q.log q.stamp q.reads) same (now.at.left (alone_at hand phase stamp sets p same on))
 
-pub open_above : (hand : Seated) (phase : Phase) (stamp : ℕ) (reads writes : List (ℕ × Option (List ℕ))) (sets : SetsView) (p : PostView) → IsPost hand phase stamp reads writes sets → post_view hand phase stamp reads writes ≡ p → p.phase ≡ Open → IsAbove p.log p.stamp
-open_above hand phase stamp reads writes sets p is same flying =
-    let now = is_open phase hand stamp reads writes sets (ap (λ (q : PostView). q.phase) same ∙ flying) is in
+pub open_above : (hand : Seated) (phase : Phase) (stamp : ℕ) (sets : SetsView) (p : PostView) → IsPost hand phase stamp sets → post_of hand phase stamp sets ≡ p → p.phase ≡ Open → IsAbove p.log p.stamp
+open_above hand phase stamp sets p is same flying =
+    let now = is_open phase hand stamp sets (ap (λ (q : PostView). q.phase) same ∙ flying) is in
     subst (λ (q : PostView). IsAbove q.log q.stamp) same now.at.above
 
-pub found_left : (hand hand' : Seated) (phase : Phase) (stamp rid place wts : ℕ) (value : Option (List ℕ)) (reads writes : List (ℕ × Option (List ℕ))) (sets : SetsView) (p : PostView) → IsPost hand phase stamp reads writes sets → post_view hand phase stamp reads writes ≡ p → p.phase ≡ Open → Finds rid place wts value hand.view hand'.view → IsAloneAt p.shared.size p.seat p.others → LeavesValue p.log rid p.stamp value
-found_left hand hand' phase stamp rid place wts value reads writes sets p is same flying finds on =
-    let now = is_open phase hand stamp reads writes sets (ap (λ (q : PostView). q.phase) same ∙ flying) is in
-    subst (λ (q : PostView). LeavesValue q.log rid q.stamp value) same (post_left hand hand' stamp rid place wts value finds now.at.begun.in_flight now.at.at (alone_at hand phase stamp reads writes p same on))
+pub found_left : (hand hand' : Seated) (phase : Phase) (stamp rid place wts : ℕ) (value : Option (List ℕ)) (sets : SetsView) (p : PostView) → IsPost hand phase stamp sets → post_of hand phase stamp sets ≡ p → p.phase ≡ Open → Finds rid place wts value hand.view hand'.view → IsAloneAt p.shared.size p.seat p.others → LeavesValue p.log rid p.stamp value
+found_left hand hand' phase stamp rid place wts value sets p is same flying finds on =
+    let now = is_open phase hand stamp sets (ap (λ (q : PostView). q.phase) same ∙ flying) is in
+    subst (λ (q : PostView). LeavesValue q.log rid q.stamp value) same (post_left hand hand' stamp rid place wts value finds now.at.begun.in_flight now.at.at (alone_at hand phase stamp sets p same on))

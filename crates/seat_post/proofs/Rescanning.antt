@@ -1,5 +1,5 @@
 -- What a post keeps where it looks for the absent records, and that they are those that the log leaves.
-use Rattle.std.proofs.Common.{◌≡◌, ℕ, zero, suc, ◌<◌, ◌≤◌, ◌+◌, ◌-◌, Bool, true, false, ◌||◌, List, [], ◌∷◌, ◌++◌, Option, None, map, refl, sym, ap, subst, ◌∙◌, arith, inl, inr, ◌⊎◌, eqb, eq-eqb}
+use Rattle.std.proofs.Common.{◌≡◌, ℕ, zero, suc, ◌<◌, ◌≤◌, ◌+◌, ◌-◌, Bool, true, false, ◌||◌, List, [], ◌∷◌, ◌++◌, None, map, refl, sym, ap, subst, ◌∙◌, arith, inl, inr, ◌⊎◌, eqb, eq-eqb}
 use Rattle.std.specs.Prelude.{slice_index}
 use Rattle.std.specs.List.Sorted.{IsStrictlyIncreasing}
 use Rattle.std.proofs.lemmas.Bool.Decides.{eqb_tells}
@@ -11,10 +11,11 @@ use Rattle.core_rule.specs.Hands.{Seated}
 use Rattle.core_rule.specs.Views.{IsAlone}
 use Rattle.core_rule.specs.Searching.{Rests, Ends}
 use Rattle.version_search.specs.Finding.{Reads, new_read}
+use Rattle.validate_core.specs.Sets.{SetsView}
 use Rattle.seat_post.specs.Leaves.{LeavesAs, AreAbsent}
 use Rattle.seat_post.specs.Rescan.{Looks, looked_over}
 use Rattle.seat_post.specs.declared.phase.Phase.{Phase}
-use Rattle.seat_post.specs.Post.{post_view, observing, observed_in}
+use Rattle.seat_post.specs.Post.{post_of, observing, observed_in}
 use Rattle.seat_post.specs.Spare.{NumbersView, is_on, added}
 use Rattle.seat_post.proofs.Announcing.{word, Announces}
 use Rattle.version_search.proofs.Grown.{grows_none, grows_both}
@@ -183,8 +184,8 @@ overlooked v z w stamp last is view met below =
           ∙ ap (λ (n : ℕ). overlooked_at v n (word v) is.raises w.seen) less;
     }
 
-pub overlooked_view : (hand hand' : Seated) (phase : Phase) (stamp : ℕ) (reads writes : List (ℕ × Option (List ℕ))) → hand'.table ≡ hand.table → Overlooked hand.view hand'.view → post_view hand' phase stamp reads writes ≡ observing (looked_over (post_view hand phase stamp reads writes)) (observed_in hand')
-overlooked_view hand hand' phase stamp reads writes table is = rw (table, is.only) refl
+pub overlooked_view : (hand hand' : Seated) (phase : Phase) (stamp : ℕ) (sets : SetsView) → hand'.table ≡ hand.table → Overlooked hand.view hand'.view → post_of hand' phase stamp sets ≡ observing (looked_over (post_of hand phase stamp sets)) (observed_in hand')
+overlooked_view hand hand' phase stamp sets table is = rw (table, is.only) refl
 
 -- what is absent is so below what is published
 pub absent_below : (v y z w : View) (stamp fixed records : ℕ) (rids : List ℕ) → Overlooks v z stamp → Overlooked v w → y.log ≡ v.log → AreAbsent (map entry_of y.log) (stamp + 1) fixed records rids → AreAbsent (map entry_of v.log) w.published.write fixed records rids

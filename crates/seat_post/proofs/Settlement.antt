@@ -4,7 +4,6 @@ use Rattle.std.specs.Prelude.{nat_lt}
 use Rattle.std.proofs.lemmas.Bool.{cases_lt}
 use Rattle.plain_data.specs.State.{State}
 use Rattle.stamp_base.specs.Stamp.{bound_of_clock}
-use Rattle.word_layout.specs.Size.{Size}
 use Rattle.core_rule.specs.View.{View, Logged, Bound, Counted, Gone}
 use Rattle.core_rule.specs.Views.{Among, IsAlone}
 use Rattle.core_rule.specs.Searching.{known_of}
@@ -16,13 +15,14 @@ use Rattle.clock_stamps.specs.Minima.{bounded}
 use Rattle.version_search.specs.Finding.{Reads}
 use Rattle.version_search.proofs.Grown.{grows_both}
 use Rattle.rapid_gc.specs.Bounds.{IsOneLeft}
+use Rattle.validate_core.specs.Sets.{SetsView}
 use Rattle.seat_post.specs.declared.phase.Phase.{Phase}
 use Rattle.seat_post.specs.Glance.{first_glance}
-use Rattle.seat_post.specs.Post.{post_view}
+use Rattle.seat_post.specs.Post.{post_of}
 use Rattle.seat_post.specs.Rewriting.{Rewritings}
 use Rattle.seat_post.specs.declared.settled.Settled.{Settled}
 use Rattle.seat_post.specs.Seats.{Removed, observed_of}
-use Rattle.seat_post.specs.Collecting.{trail_in, trail_of}
+use Rattle.seat_post.specs.Collecting.{trail_in}
 use Rattle.seat_post.specs.Settling.{entries_of, IsSettling, Settles, AreSettled, AreLater, KeepsOthers, Draws, RunsOut, SettlesPost, SettlesFirst, SettlesAll, StopsSome, StopsPost, with_met}
 use Rattle.seat_post.proofs.Observed.{observed_grows, bounded_grows}
 
@@ -72,8 +72,8 @@ stays_both core a b c first second = record {
 -- ---- a post
 
 -- the post after settling, with its read stamp published once more
-pub settles_post : (kept : State → Type 0) (hand hand' last : Seated) (phase : Phase) (stamp bound : ℕ) (reads writes : List (ℕ × Option (List ℕ))) → hand'.table ≡ hand.table → last.table ≡ hand'.table → Settles kept hand.view hand'.view → IsSettling hand'.view → last.view ≡ bounded hand'.view bound → hand'.view.clock.met ≤ bound + 1 → SettlesPost kept (post_view hand phase stamp reads writes) (post_view last phase stamp reads writes)
-settles_post kept hand hand' last phase stamp bound reads writes table table' settles settling view low =
+pub settles_post : (kept : State → Type 0) (hand hand' last : Seated) (phase : Phase) (stamp bound : ℕ) (sets : SetsView) → hand'.table ≡ hand.table → last.table ≡ hand'.table → Settles kept hand.view hand'.view → IsSettling hand'.view → last.view ≡ bounded hand'.view bound → hand'.view.clock.met ≤ bound + 1 → SettlesPost kept (post_of hand phase stamp sets) (post_of last phase stamp sets)
+settles_post kept hand hand' last phase stamp bound sets table table' settles settling view low =
     let number : last.view.number ≡ hand.view.number = ap (λ (v : View). v.number) view ∙ settles.number in
     let size : last.view.size ≡ hand.view.size = ap (λ (v : View). v.size) view ∙ settles.size in
     let splitting : last.view.splitting ≡ hand.view.splitting = ap (λ (v : View). v.splitting) view ∙ settles.splitting in
@@ -83,8 +83,8 @@ settles_post kept hand hand' last phase stamp bound reads writes table table' se
     let log : last.view.log ≡ hand'.view.log = ap (λ (v : View). v.log) view in
     let later = settles.later in
     let reached = settles.met in
-    let before = post_view hand phase stamp reads writes in
-    let after' = post_view last phase stamp reads writes in
+    let before = post_of hand phase stamp sets in
+    let after' = post_of last phase stamp sets in
     let linked : last.view.work.linked ≡ [] = ap (λ (v : View). v.work.linked) view in
     let is : bound ≡ bound + 1 - 1 = omega arith in
     let glance : after'.glance ≡ first_glance (last.view.clock.met - 1) = rw view (ap first_glance is) in
@@ -101,16 +101,16 @@ settles_post kept hand hand' last phase stamp bound reads writes table table' se
 
 -- ---- what the call shows
 
-module _ (hand hand' last : Seated) (phase : Phase) (stamp bound : ℕ) (reads writes : List (ℕ × Option (List ℕ))) (view : last.view ≡ bounded hand'.view bound) where
+module _ (hand hand' last : Seated) (phase : Phase) (stamp bound : ℕ) (sets : SetsView) (view : last.view ≡ bounded hand'.view bound) where
   last_trail : trail_in last.view ≡ with_met (trail_in hand'.view) last.view.clock.met
   last_trail =
       let met : last.view.clock.met ≡ bound + 1 = ap (λ (v : View). v.clock.met) view in
       ap (λ (v : View). trail_in v) view ∙ ap (λ (n : ℕ). with_met (trail_in hand'.view) n) (sym met)
 
-  pub settles_all : (all : Settled) → SettlesFirst hand.view.size hand.view.size.records all (trail_in hand.view) (trail_in hand'.view) → SettlesAll (post_view hand phase stamp reads writes) (post_view last phase stamp reads writes) all
+  pub settles_all : (all : Settled) → SettlesFirst hand.view.size hand.view.size.records all (trail_in hand.view) (trail_in hand'.view) → SettlesAll (post_of hand phase stamp sets) (post_of last phase stamp sets) all
   settles_all all first = record { reached = trail_in hand'.view; first = first; last = last_trail }
 
-  pub stops_post : StopsSome hand.view.size hand.view hand'.view → StopsPost (post_view hand phase stamp reads writes) (post_view last phase stamp reads writes)
+  pub stops_post : StopsSome hand.view.size hand.view hand'.view → StopsPost (post_of hand phase stamp sets) (post_of last phase stamp sets)
   stops_post s =
       let z = hand.view.size in
       let b = s.between in let w = hand'.view in

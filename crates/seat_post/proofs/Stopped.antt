@@ -1,20 +1,21 @@
 -- What a read leaves of a post where it met a pending version.
-use Rattle.std.proofs.Common.{◌≡◌, ℕ, List, Option, subst, ap, ◌∙◌}
+use Rattle.std.proofs.Common.{◌≡◌, ℕ, subst, ap, ◌∙◌}
 use Rattle.core_rule.specs.View.{writing}
 use Rattle.core_rule.specs.Hands.{Seated}
 use Rattle.validate_core.specs.Validating.{Met, no_more}
+use Rattle.validate_core.specs.Sets.{SetsView}
 use Rattle.seat_post.specs.Searched.{Stops}
-use Rattle.seat_post.specs.Post.{PostView, post_view, observing, observed_in}
+use Rattle.seat_post.specs.Post.{PostView, post_of, observing, observed_in}
 use Rattle.seat_post.specs.declared.phase.Phase.{Phase}
+use Rattle.seat_post.proofs.ReadMore.{view_room}
 use Rattle.seat_post.proofs.Over.{view_stopped}
 
-module _ (hand hand' : Seated) (phase : Phase) (stamp bound rid wts : ℕ) (reads writes : List (ℕ × Option (List ℕ))) (p : PostView) (is : post_view hand phase stamp reads writes ≡ p) (stops : Stops bound rid wts hand.view hand'.view) where
+module _ (hand hand' : Seated) (phase : Phase) (stamp bound rid wts : ℕ) (sets : SetsView) (p : PostView) (is : post_of hand phase stamp sets ≡ p) (stops : Stops bound rid wts hand.view hand'.view) where
   -- the same transaction, where there may be more room for its reads
-  pub stopped_post : (t : ℕ) (reads' : List (ℕ × Option (List ℕ))) → reads' ≡ reads → hand'.table ≡ hand.table → hand.view.flight ≡ writing t → post_view hand' phase stamp reads' writes ≡ observing p (observed_in hand')
-  stopped_post t reads' same table flight =
-      view_stopped hand hand' phase stamp t bound rid wts reads' writes table stops flight
-      ∙ ap (λ es. observing (post_view hand phase stamp es writes) (observed_in hand')) same
-      ∙ ap (λ (q : PostView). observing q (observed_in hand')) is
+  pub stopped_post : (t : ℕ) (sets' : SetsView) → sets'.reads ≡ sets.reads → sets'.writes ≡ sets.writes → hand'.table ≡ hand.table → hand.view.flight ≡ writing t → post_of hand' phase stamp sets' ≡ observing p (observed_in hand')
+  stopped_post t sets' reads writes table flight =
+      view_stopped hand hand' phase stamp t bound rid wts sets' table stops flight
+      ∙ ap (λ (q : PostView). observing q (observed_in hand')) (view_room hand phase stamp sets sets' reads writes ∙ is)
 
   -- the status of that version was loaded
   pub loaded_post : bound ≡ stamp → Met p.stamp rid wts 2 no_more p.observed.loads hand'.view.seen.loads

@@ -6,7 +6,6 @@ pub mod Conflicts
 pub mod Logs
 pub mod Leaves
 pub mod Marks
-pub mod Noted
 pub mod Spare
 pub mod Ends
 pub mod Reading

@@ -1,5 +1,5 @@
 -- What a post shows: the hand of a seat, and what the transaction in flight there has read and written. And what it keeps of both.
-use Rattle.std.specs.Prelude.{◌≡◌, ℕ, ◌+◌, ◌-◌, ◌<◌, ◌≤◌, max, true, false, is_some, if◌then◌else◌, List, [], ◌∷◌, ◌++◌, Option, option_map, None, length, map, IsSome}
+use Rattle.std.specs.Prelude.{◌≡◌, ℕ, ◌+◌, ◌-◌, max, true, false, is_some, if◌then◌else◌, List, [], ◌∷◌, ◌++◌, Option, option_map, None, length, map}
 use Rattle.record_store.specs.Meaning.{value_at, with_value}
 use Rattle.plain_data.specs.declared.entry.Entry.{Entry}
 use Rattle.stamp_base.specs.Stamp.{stamp_of, bound_of_clock}
@@ -82,36 +82,27 @@ post_view hand phase stamp reads writes = record {
   writes = writes;
 }
 
+-- what it shows of these sets
+abbrev pub post_of : Seated → Phase → ℕ → SetsView → PostView
+post_of hand phase stamp sets = post_view hand phase stamp (read_values sets.reads) (written_values sets.writes)
+
 -- ---- what a post keeps, by how far its transaction is
 
-pub record IsIdleAt (hand : Seated) (stamp : ℕ) (reads writes : List (ℕ × Option (List ℕ))) (sets : SetsView) : Type 0 where
+pub record IsIdleAt (hand : Seated) (stamp : ℕ) (sets : SetsView) : Type 0 where
   pub ends : Ends hand.view.work
   pub whole : hand.view.flight ≡ resting → AreAllWhole hand.view.work.reads
   pub no_stamp : stamp ≡ 0
-  pub no_reads : reads ≡ []
-  pub no_writes : writes ≡ []
   pub none_read : sets.reads ≡ []
   pub none_written : sets.writes ≡ []
 
--- what is read stands in the sets; what is written will be put there, in room that is taken
-pub record IsOpenAt (hand : Seated) (stamp : ℕ) (reads writes : List (ℕ × Option (List ℕ))) (sets : SetsView) : Type 0 where
+pub record IsOpenAt (hand : Seated) (stamp : ℕ) (sets : SetsView) : Type 0 where
   pub begun : IsBegun hand.view.size sets hand.view
   pub at : stamp ≡ hand.view.published.write
-  pub as_read : read_values sets.reads ≡ reads
-  pub none_written : sets.writes ≡ []
-  pub in_range : (rid : ℕ) → IsSome (value_at writes rid) → rid < hand.view.size.records
-  pub room : length writes ≤ sets.write_room
   -- the commit entries of the log are stamped below; and while the seat is alone, each value read is what they leave
   pub above : IsAbove (map deciding.entry_of hand.view.log) stamp
-  pub left : IsAlone hand.view → AreLeft (map deciding.entry_of hand.view.log) stamp reads
+  pub left : IsAlone hand.view → AreLeft (map deciding.entry_of hand.view.log) stamp (read_values sets.reads)
   -- loads led to each version that was read
   pub found : WereFound stamp sets.reads hand.view.seen.loads
-
--- the sets are those of the transaction
-pub record AreSets (hand : Seated) (reads writes : List (ℕ × Option (List ℕ))) (sets : SetsView) : Type 0 where
-  pub as_read : read_values sets.reads ≡ reads
-  pub as_written : written_values sets.writes ≡ writes
-  pub inside : IsInside hand.view.size sets
 
 -- each stands in the inline place of its record, or in a usable pool place
 abbrev pub AllFit : Seated → List Write → Type 0
@@ -124,32 +115,32 @@ ArePlaced hand us =
     → count_below hand.view.size.records us + count_raised (known_before (length us) (known_in hand)) (known_in hand) (written_values us)
     ≡ length us
 
-pub record IsInstalledAt (hand : Seated) (stamp : ℕ) (reads writes : List (ℕ × Option (List ℕ))) (sets : SetsView) : Type 0 where
+pub record IsInstalledAt (hand : Seated) (stamp : ℕ) (sets : SetsView) : Type 0 where
   pub installed : validating.IsInstalled stamp sets hand.view
-  pub are_sets : AreSets hand reads writes sets
+  pub inside : IsInside hand.view.size sets
   pub placed : ArePlaced hand sets.writes
   pub fit : AllFit hand sets.writes
   pub found : WereFound stamp sets.reads hand.view.seen.loads
 
-pub record IsDecidedAt (hand : Seated) (stamp : ℕ) (reads writes : List (ℕ × Option (List ℕ))) (sets : SetsView) : Type 0 where
+pub record IsDecidedAt (hand : Seated) (stamp : ℕ) (sets : SetsView) : Type 0 where
   pub decided : validating.IsDecidedAt stamp sets hand.view
-  pub are_sets : AreSets hand reads writes sets
+  pub inside : IsInside hand.view.size sets
   pub placed : ArePlaced hand sets.writes
   pub fit : AllFit hand sets.writes
 
-abbrev pub IsAt : Phase → Seated → ℕ → (reads writes : List (ℕ × Option (List ℕ))) → SetsView → Type 0
+abbrev pub IsAt : Phase → Seated → ℕ → SetsView → Type 0
 IsAt Idle = IsIdleAt
 IsAt Open = IsOpenAt
 IsAt Installed = IsInstalledAt
 IsAt Decided = IsDecidedAt
 
 -- the hand may make its calls, holds no place, and has nothing in the kept one
-pub record IsPost (hand : Seated) (phase : Phase) (stamp : ℕ) (reads writes : List (ℕ × Option (List ℕ))) (sets : SetsView) : Type 0 where
+pub record IsPost (hand : Seated) (phase : Phase) (stamp : ℕ) (sets : SetsView) : Type 0 where
   pub ready : IsReady (shared_of hand) hand
   pub size : IsSize hand.view.size
   pub holds_none : hand.view.places.held ≡ []
   pub keeps_none : hand.view.counts.in_kept ≡ nothing_kept
-  pub at : IsAt phase hand stamp reads writes sets
+  pub at : IsAt phase hand stamp sets
 
 -- ---- what its calls make of it
 

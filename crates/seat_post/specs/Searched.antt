@@ -1,7 +1,7 @@
 -- What a read of a record from the table comes to.
-use Rattle.std.specs.Prelude.{◌≡◌, ℕ, ◌<◌, List, ◌∷◌, map, Option}
+use Rattle.std.specs.Prelude.{◌≡◌, ℕ, ◌<◌, List, [], ◌∷◌, ◌++◌, map, Option}
 use Rattle.word_layout.specs.Size.{places}
-use Rattle.core_rule.specs.View.{View, still, Search}
+use Rattle.core_rule.specs.View.{View, still, Search, Read}
 use Rattle.core_rule.specs.Views.{IsAlone}
 use Rattle.core_rule.specs.Searching.{Rests, IsWhole, limit_of}
 use Rattle.core_rule.specs.Deciding.{entry_of}
@@ -22,6 +22,14 @@ pub record Finds (rid place wts : ℕ) (value : Option (List ℕ)) (v w : View) 
   pub grows : Grows v.seen w.seen
   -- a seat that is alone finds what its log leaves
   pub left : IsAlone v → LeavesValue (map entry_of v.log) rid (limit_of v.flight v.published.read) value
+
+-- one was found, and stands behind what was read before
+pub record FindsOne (rid : ℕ) (before after' : List Read) (v w : View) : Type 0 where
+  pub place : ℕ
+  pub wts : ℕ
+  pub value : Option (List ℕ)
+  pub finds : Finds rid place wts value v w
+  pub reads : after' ≡ before ++ read_version rid place wts value ∷ []
 
 -- a pending version of another seat was met in the list of record rid, and no version was found
 pub record Stops (stamp rid wts : ℕ) (v w : View) : Type 0 where

@@ -13,7 +13,6 @@ ghost use Rattle.seat_post.specs.Post.{knowing, placing, in_phase, closed, enter
 
 use crate::phase::Phase;
 use crate::post::Post;
-use crate::writing::{clear, fill};
 use core_rule::{Core, Keeps};
 use stamp_base::Stamp;
 use validate_core::{Conflict, Decided, Installed, install};
@@ -37,14 +36,13 @@ impl<J: Keeps> Post<J> {
         ensures linked { OnOk result (AreLinked self.old.writes self.old.stamp self.old.known self.new.known) }
         ensures full { OnErr result (IsAloneAt self.old.shared.size self.old.seat self.old.others → IsFullAt self.old.shared.size self.old.known (length self.old.writes)) }
     {
-        fill(&mut self.sets, &self.writes);
         match install(core, &mut self.hand, &mut self.sets) {
             Ok(installed) => {
                 self.phase = Phase::Installed;
                 Ok(installed)
             }
             Err(places_out) => {
-                clear(&mut self.reads, &mut self.writes, &mut self.sets);
+                self.sets.clear();
                 self.phase = Phase::Idle;
                 self.stamp = Stamp::make(0, 0);
                 Err(places_out)
@@ -60,7 +58,7 @@ impl<J: Keeps> Post<J> {
         ensures { self.new ≡ closed self.old }
     {
         installed.abort(core, &mut self.hand, &self.sets);
-        clear(&mut self.reads, &mut self.writes, &mut self.sets);
+        self.sets.clear();
         self.phase = Phase::Idle;
         self.stamp = Stamp::make(0, 0);
     }
@@ -86,7 +84,7 @@ impl<J: Keeps> Post<J> {
                 Ok(decided)
             }
             Err(conflict) => {
-                clear(&mut self.reads, &mut self.writes, &mut self.sets);
+                self.sets.clear();
                 self.phase = Phase::Idle;
                 self.stamp = Stamp::make(0, 0);
                 Err(conflict)
@@ -106,7 +104,7 @@ impl<J: Keeps> Post<J> {
     {
         let inlined = self.sets.count_below(core.layout().records());
         decided.publish(core, &mut self.hand, &self.sets);
-        clear(&mut self.reads, &mut self.writes, &mut self.sets);
+        self.sets.clear();
         self.phase = Phase::Idle;
         self.stamp = Stamp::make(0, 0);
         inlined

@@ -23,8 +23,6 @@ impl<J: Keeps> Post<J> {
             mut hand,
             phase: _,
             stamp: _,
-            reads: _,
-            writes: _,
             sets: _,
             room: _,
         } = self;

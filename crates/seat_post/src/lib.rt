@@ -8,7 +8,6 @@ mod ending;
 mod glancing;
 mod joining;
 mod marks;
-mod noted;
 mod numbers;
 mod phase;
 mod post;
@@ -22,10 +21,8 @@ mod settled;
 mod settling;
 mod sharing;
 mod telling;
-mod values;
 mod writing;
 
-pub use noted::Noted;
 pub use numbers::Numbers;
 pub use phase::Phase;
 pub use post::Post;

@@ -1,15 +1,16 @@
 //! The spare record numbers of a pass.
 ghost use Rattle.std.specs.Prelude.{◌≡◌, ◌≢◌, ◌<◌, ◌≤◌, ◌-◌, ◌++◌, ◌∷◌, [], false, ℕ, IsSome, IfOk, IfSome, length, nat_eq, nat_le, ◌&&◌, if◌then◌else◌, slice_get, slice_index_or, remove, Some};
 ghost use Rattle.std.specs.List.{range_with_len, IsDistinct};
+ghost use Rattle.core_rule.specs.Deciding.{written_values};
 ghost use Rattle.record_store.specs.Meaning.{value_at};
 ghost use Rattle.seat_post.specs.Spare.{no_numbers, with_all, every, is_on, NumbersView, spare_after, unused, added, holds, is_deletion};
 
 use crate::marks::Marks;
-use crate::noted::Noted;
 use plain_data::{Cells, NoMemory};
 use std::alloc::Global;
 use std::collections::VecDeque;
 use std::marker::Model;
+use validate_core::Sets;
 
 /// Numbers for new records, each once. Those that are given out to the transaction in flight stand in front.
 #[derive(Drop)]
@@ -188,12 +189,12 @@ impl Numbers {
     }
 
     // Puts back the numbers given out that hold no value.
-    fn put_back_unused(&mut self, writes: &Noted)
-        ensures { self.new ≡ record self.old { spare = unused writes.now.entries self.old.given ++ self.old.spare; given = [] } }
+    fn put_back_unused(&mut self, sets: &Sets)
+        ensures { self.new ≡ record self.old { spare = unused (written_values sets.now.writes) self.old.given ++ self.old.spare; given = [] } }
     {
         while self.count_given() > 0 {
             let rid = self.put_back_last();
-            if holds_value(writes, rid) {
+            if holds_value(sets, rid) {
                 self.strike(0);
             }
         }
@@ -282,24 +283,22 @@ impl Numbers {
     }
 
     /// The list after a commit: the numbers given out that hold no value are back, and deleted records are on it.
-    pub fn settle(&mut self, writes: &Noted)
-        requires { (rid : ℕ) → IsSome (value_at writes.now.entries rid) → rid < self.old.records }
-        ensures { self.new ≡ record self.old { spare = spare_after self.old.fixed writes.now.entries self.old.given self.old.spare; given = [] } }
+    pub fn settle(&mut self, sets: &Sets)
+        requires { (rid : ℕ) → IsSome (value_at (written_values sets.now.writes) rid) → rid < self.old.records }
+        ensures { self.new ≡ record self.old { spare = spare_after self.old.fixed (written_values sets.now.writes) self.old.given self.old.spare; given = [] } }
     {
-        self.put_back_unused(writes);
-        for i in 0..writes.len() {
-            let Some((rid, value)) = writes.at(i) else {
-                unreachable!();
-            };
-            self.note(*rid, value);
+        self.put_back_unused(sets);
+        for i in 0..sets.count_writes() {
+            let write = sets.write_at(i);
+            self.note(write.rid(), write.value());
         }
     }
 }
 
-fn holds_value(writes: &Noted, rid: u32) -> bool
-    ensures { result ≡ holds (value_at writes.now.entries rid) }
+fn holds_value(sets: &Sets, rid: u32) -> bool
+    ensures { result ≡ holds (value_at (written_values sets.now.writes) rid) }
 {
-    match writes.get(rid) {
+    match sets.value_written(rid) {
         None => false,
         Some(value) => value.is_some(),
     }

@@ -7,6 +7,7 @@ ghost use Rattle.record_store.specs.Limits.{record_limit};
 ghost use Rattle.record_store.specs.Meaning.{value_at};
 ghost use Rattle.core_rule.specs.View.{resting, nothing_kept};
 ghost use Rattle.core_rule.specs.Snapshots.{AreAllWhole};
+ghost use Rattle.core_rule.specs.Deciding.{written_values};
 ghost use Rattle.core_rule.specs.Hands.{IsReady};
 ghost use Rattle.core_rule.specs.Searching.{Ends};
 ghost use Rattle.core_rule.specs.Stamps.{adopted};
@@ -18,7 +19,6 @@ ghost use Rattle.core_rule.specs.Paths.{load};
 ghost use Rattle.seat_post.specs.Observing.{Grows, with_load};
 ghost use Rattle.seat_post.specs.Post.{PostView, shared_of, post_view, opened, drawn_at, with_clock, observing};
 
-use crate::noted::Noted;
 use crate::phase::Phase;
 use crate::rewriting::Room;
 use clock_stamps::{ClockOut, draw, hear, sync};
@@ -31,27 +31,24 @@ use validate_core::Sets;
 
 /// The hand of a seat, how far its transaction is, and what that has read and written.
 ///
-/// The two maps find a record; the sets are what validation is given. The room is that of a promotion.
+/// The room is that of a promotion.
 #[derive(Drop)]
 pub struct Post<J> {
     pub(crate) hand: Hand<J>,
     pub(crate) phase: Phase,
     pub(crate) stamp: Stamp,
-    pub(crate) reads: Noted,
-    pub(crate) writes: Noted,
     pub(crate) sets: Sets,
     pub(crate) room: Room,
 }
 
 impl<J> Model for Post<J> {
-    ghost use Rattle.seat_post.specs.Logs.{IsAbove};
-    ghost use Rattle.seat_post.specs.Post.{PostView, post_view, IsPost};
+    ghost use Rattle.seat_post.specs.Post.{PostView, post_of, IsPost};
 
     ghost Value = { PostView };
 
-    ghost view = { λ p. post_view p.hand p.phase p.stamp p.reads.entries p.writes.entries };
+    ghost view = { λ p. post_of p.hand p.phase p.stamp p.sets };
 
-    ghost invariant = { λ p. IsPost p.hand p.phase p.stamp p.reads.entries p.writes.entries p.sets };
+    ghost invariant = { λ p. IsPost p.hand p.phase p.stamp p.sets };
 }
 
 impl<J> Post<J> {
@@ -69,8 +66,6 @@ impl<J> Post<J> {
             hand,
             phase: Phase::Idle,
             stamp: Stamp::make(0, 0),
-            reads: Noted::new(alloc),
-            writes: Noted::new(alloc),
             sets: Sets::new(alloc),
             room,
         }
@@ -111,18 +106,20 @@ impl<J> Post<J> {
     pub fn first_read(&self) -> Option<u32>
         ensures { result ≡ first_record self.now.reads }
     {
-        let (rid, _value) = self.reads.at(0)?;
-        Some(*rid)
+        if self.sets.count_reads() == 0 {
+            return None;
+        }
+        Some(self.sets.read_at(0).rid())
     }
 
     /// What is written.
-    pub fn writes(&self) -> &Noted
-        ensures value { result.now.entries ≡ self.now.writes }
-        ensures within { (rid : ℕ) → IsSome (value_at result.now.entries rid) → rid < self.now.shared.size.records }
-        ensures few { length result.now.entries ≤ record_limit }
+    pub fn sets(&self) -> &Sets
+        ensures value { written_values result.now.writes ≡ self.now.writes }
+        ensures within { (rid : ℕ) → IsSome (value_at self.now.writes rid) → rid < self.now.shared.size.records }
+        ensures count { length result.now.writes ≡ length self.now.writes }
+        ensures few { length self.now.writes ≤ record_limit }
     {
-        self.writes.len();
-        &self.writes
+        &self.sets
     }
 }
 

@@ -1,7 +1,9 @@
 //! Reading and writing at a post.
-ghost use Rattle.std.specs.Prelude.{ℕ, ◌≡◌, ◌+◌, ◌<◌, ◌≤◌, ◌++◌, ◌∷◌, [], None, Some, true, false, is_some, IfOk, IfErr, IfSome, OnOk, OnErr, length, if◌then◌else◌};
-ghost use Rattle.core_rule.specs.Deciding.{read_values};
-ghost use Rattle.core_rule.specs.Versions.{read_version};
+ghost use Rattle.std.specs.Prelude.{ℕ, ◌≡◌, ◌≢◌, ◌<◌, None, true, false, is_some, IfOk, IfErr, IfSome, OnOk, OnErr, length, if◌then◌else◌};
+ghost use Rattle.core_rule.specs.View.{Read, writing};
+ghost use Rattle.core_rule.specs.Views.{Among};
+ghost use Rattle.core_rule.specs.Hands.{IsReady, StaysReady};
+ghost use Rattle.core_rule.specs.Searching.{Rests};
 ghost use Rattle.record_store.specs.Meaning.{value_at};
 ghost use Rattle.validate_core.specs.Validating.{Met, no_more};
 ghost use Rattle.validate_core.specs.declared.conflict.Conflict.TheVariants as conflict;
@@ -12,15 +14,15 @@ ghost use Rattle.seat_post.specs.Logs.{IsAbove};
 ghost use Rattle.seat_post.specs.Leaves.{LeavesValue, LeavesSome};
 ghost use Rattle.seat_post.specs.Conflicts.{IsOfAnother, IsLoaded};
 ghost use Rattle.seat_post.specs.Reading.{IfPending, FindsValue};
+ghost use Rattle.seat_post.specs.Searched.{FindsOne, Stops};
 
-use crate::noted::Noted;
 use crate::phase::Phase;
 use crate::post::Post;
-use crate::search::{Read, search};
-use crate::values::copy;
-use core_rule::{Core, Keeps};
+use crate::search::{MetPending, search};
+use core_rule::{Core, Hand, Keeps};
 use plain_data::{Cells, NoMemory};
 use validate_core::Sets;
+use version_search::{Found, find};
 
 /// Why a read has no answer.
 #[derive(Clone, Copy, Drop)]
@@ -42,32 +44,45 @@ impl From<NoMemory> for ReadFault {
     }
 }
 
-// Makes room for one more read.
-fn make_room(reads: &mut Noted, sets: &mut Sets) -> Result<(), NoMemory>
-    ensures entries { reads.new.entries ≡ reads.old.entries }
-    ensures reads { sets.new.reads ≡ sets.old.reads }
-    ensures writes { sets.new.writes ≡ sets.old.writes }
-    ensures not_less { sets.old.write_room ≤ sets.new.write_room }
-    ensures map_room { OnOk result (0 < reads.new.spare) }
-    ensures room { OnOk result (length sets.new.reads < sets.new.read_room) }
-{
-    reads.reserve()?;
-    sets.reserve(1, 0)
-}
-
-// Notes a read in the map and in the sets, where there is room.
-fn note(reads: &mut Noted, sets: &mut Sets, rid: u32, read: &Read)
-    requires map_room { 0 < reads.old.spare }
+// Searches for the version that is visible below the stamp in flight, and notes it with its value, where there is room.
+fn note<J: Keeps>(
+    core: &Core<J>,
+    hand: &mut Hand<J>,
+    sets: &mut Sets,
+    rid: u32,
+    stamp: u64,
+) -> Result<(), MetPending>
+    requires ready { IsReady core.now hand.old }
+    requires rid { rid < core.now.size.records }
+    requires rests { Rests hand.old.view.work.search }
+    requires in_flight { hand.old.view.flight ≡ writing stamp }
     requires room { length sets.old.reads < sets.old.read_room }
-    requires first { value_at reads.old.entries rid ≡ None }
-    requires same { read_values sets.old.reads ≡ reads.old.entries }
-    ensures entries { reads.new.entries ≡ reads.old.entries ++ (rid, read.now.value) ∷ [] }
-    ensures reads { sets.new.reads ≡ sets.old.reads ++ read_version rid read.now.place read.now.wts read.now.value ∷ [] }
+    requires first { (d : Read) → Among d sets.old.reads → d.record_number ≢ rid }
+    ensures ok { OnOk result (FindsOne rid sets.old.reads sets.new.reads hand.old.view hand.new.view) }
+    ensures err { IfErr result (λ met. Stops stamp rid met.wts hand.old.view hand.new.view) }
+    ensures unread { OnErr result (sets.new.reads ≡ sets.old.reads) }
     ensures writes { sets.new.writes ≡ sets.old.writes }
-    ensures not_less { sets.old.write_room ≤ sets.new.write_room }
+    ensures stays { StaysReady core.now hand.old hand.new }
 {
-    sets.read(rid, read.place, read.wts, copy(&read.value));
-    reads.push(rid, &read.value);
+    match find(core, hand, rid, stamp, false) {
+        Found::Pending { wts } => Err(MetPending { wts }),
+        Found::Version {
+            place,
+            wts,
+            absent: true,
+        } => {
+            sets.read(rid, place, wts, None);
+            Ok(())
+        }
+        Found::Version {
+            place,
+            wts,
+            absent: false,
+        } => {
+            sets.load(core, hand, rid, place, wts);
+            Ok(())
+        }
+    }
 }
 
 impl<J: Keeps> Post<J> {
@@ -77,9 +92,12 @@ impl<J: Keeps> Post<J> {
         ensures above { self.now.phase ≡ Phase.Open → IsAbove self.now.log self.now.stamp }
         ensures left { self.now.phase ≡ Phase.Open → IsAloneAt self.now.shared.size self.now.seat self.now.others → value_at self.now.writes rid ≡ None → IfSome result (LeavesValue self.now.log rid self.now.stamp) }
     {
-        match self.writes.get(rid) {
-            Some(value) => Some(*value),
-            None => self.reads.get(rid).copied(),
+        if let Some(value) = self.sets.value_written(rid) {
+            return Some(*value);
+        }
+        match self.sets.read_of(rid) {
+            Some(read) => Some(read.value()),
+            None => None,
         }
     }
 
@@ -87,7 +105,7 @@ impl<J: Keeps> Post<J> {
     pub fn is_written(&self, rid: u32) -> bool
         ensures { result ≡ is_some (value_at self.now.writes rid) }
     {
-        self.writes.contains(rid)
+        self.sets.value_written(rid).is_some()
     }
 
     /// Reads a record of which nothing is known. Room is taken first.
@@ -105,14 +123,18 @@ impl<J: Keeps> Post<J> {
         ensures loaded { IfErr result (λ fault. IfPending fault (λ wts. IsLoaded self.old.stamp (conflict.Pending rid wts) self.old.observed self.new.observed)) }
         ensures met { IfErr result (λ fault. IfPending fault (λ wts. (wts < self.old.stamp) × IsOfAnother self.old.shared.size self.old.seat self.old.others wts)) }
     {
-        make_room(&mut self.reads, &mut self.sets)?;
-        match search(core, &mut self.hand, rid, self.stamp.number()) {
-            Err(met) => Err(ReadFault::Pending { wts: met.wts }),
-            Ok(read) => {
-                note(&mut self.reads, &mut self.sets, rid, &read);
-                Ok(read.value)
-            }
+        self.sets.reserve(1, 0)?;
+        match note(
+            core,
+            &mut self.hand,
+            &mut self.sets,
+            rid,
+            self.stamp.number(),
+        ) {
+            Err(met) => return Err(ReadFault::Pending { wts: met.wts }),
+            Ok(()) => {}
         }
+        Ok(self.sets.last_read())
     }
 
     /// Reads such a record, and notes it only where it is absent. Room is taken first.
@@ -131,14 +153,14 @@ impl<J: Keeps> Post<J> {
         ensures loaded { IfErr result (λ fault. IfPending fault (λ wts. IsLoaded self.old.stamp (conflict.Pending rid wts) self.old.observed self.new.observed)) }
         ensures met { IfErr result (λ fault. IfPending fault (λ wts. (wts < self.old.stamp) × IsOfAnother self.old.shared.size self.old.seat self.old.others wts)) }
     {
-        make_room(&mut self.reads, &mut self.sets)?;
+        self.sets.reserve(1, 0)?;
         match search(core, &mut self.hand, rid, self.stamp.number()) {
             Err(met) => Err(ReadFault::Pending { wts: met.wts }),
             Ok(read) => {
                 if read.value.is_some() {
                     return Ok(false);
                 }
-                note(&mut self.reads, &mut self.sets, rid, &read);
+                self.sets.read(rid, read.place, read.wts, None);
                 Ok(true)
             }
         }

@@ -16,7 +16,6 @@ ghost use Rattle.seat_post.specs.Settling.{CutsOf};
 ghost use Rattle.seat_post.specs.Rewriting.{IsRoom, HasFound, Rewrites, IsStopped};
 
 use crate::search::Read;
-use crate::values::copy;
 use core_rule::{Core, Hand, Keeps};
 use plain_data::NoMemory;
 use rapid_gc::{Queue, collect};
@@ -132,6 +131,6 @@ fn stage(sets: &mut Sets, rid: u32, read: &Read)
     ensures read_room { 0 < sets.new.read_room }
     ensures write_room { 0 < sets.new.write_room }
 {
-    sets.read(rid, read.place, read.wts, copy(&read.value));
-    sets.write(rid, copy(&read.value));
+    sets.read(rid, read.place, read.wts, read.value);
+    sets.write(rid, read.value);
 }

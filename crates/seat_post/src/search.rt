@@ -18,8 +18,8 @@ pub(crate) struct Read {
 }
 
 /// A pending version of this stamp was met.
-#[derive(Drop)]
-pub(crate) struct Met {
+#[derive(Clone, Copy)]
+pub(crate) struct MetPending {
     pub(crate) wts: u64,
 }
 
@@ -29,7 +29,7 @@ pub(crate) fn search<J: Keeps>(
     hand: &mut Hand<J>,
     rid: u32,
     stamp: u64,
-) -> Result<Read, Met>
+) -> Result<Read, MetPending>
     requires ready { IsReady core.now hand.old }
     requires rid { rid < core.now.size.records }
     requires rests { Rests hand.old.view.work.search }
@@ -40,7 +40,7 @@ pub(crate) fn search<J: Keeps>(
     ensures stays { StaysReady core.now hand.old hand.new }
 {
     match find(core, hand, rid, stamp, false) {
-        Found::Pending { wts } => Err(Met { wts }),
+        Found::Pending { wts } => Err(MetPending { wts }),
         Found::Version {
             place,
             wts,

@@ -7,13 +7,10 @@ ghost use Rattle.seat_post.specs.Leaves.{AreLeft};
 ghost use Rattle.seat_post.specs.Seats.{IsAloneAt};
 ghost use Rattle.seat_post.specs.Post.{written, unwritten, closed};
 
-use crate::noted::Noted;
 use crate::phase::Phase;
 use crate::post::Post;
-use crate::values::copy;
 use plain_data::{Cells, NoMemory};
 use stamp_base::Stamp;
-use validate_core::Sets;
 
 impl<J> Post<J> {
     /// Writes a value, or deletes the record. Room is taken first, for its version too.
@@ -23,9 +20,8 @@ impl<J> Post<J> {
         ensures ok { OnOk result (self.new ≡ written self.old rid value.now) }
         ensures err { OnErr result (self.new ≡ self.old) }
     {
-        let count = self.writes.len() as u32 + 1;
-        self.sets.reserve(0, count)?;
-        self.writes.insert(rid, value)?;
+        self.sets.reserve(0, 1)?;
+        self.sets.put(rid, value);
         Ok(())
     }
 
@@ -34,7 +30,7 @@ impl<J> Post<J> {
         requires { self.old.phase ≡ Phase.Open }
         ensures { self.new ≡ unwritten self.old }
     {
-        self.writes.clear();
+        self.sets.drop_writes();
     }
 
     /// Ends a transaction that has linked nothing.
@@ -43,36 +39,8 @@ impl<J> Post<J> {
         ensures closed { self.new ≡ closed self.old }
         ensures read_left { IsAloneAt self.old.shared.size self.old.seat self.old.others → AreLeft self.old.log self.old.stamp self.old.reads }
     {
-        clear(&mut self.reads, &mut self.writes, &mut self.sets);
+        self.sets.clear();
         self.phase = Phase::Idle;
         self.stamp = Stamp::make(0, 0);
-    }
-}
-
-/// Forgets what was read and written.
-pub(crate) fn clear(reads: &mut Noted, writes: &mut Noted, sets: &mut Sets)
-    ensures no_reads { reads.new.entries ≡ [] }
-    ensures no_writes { writes.new.entries ≡ [] }
-    ensures none_read { sets.new.reads ≡ [] }
-    ensures none_written { sets.new.writes ≡ [] }
-{
-    reads.clear();
-    writes.clear();
-    sets.clear();
-}
-
-/// Puts what is written into the sets, where there is room.
-pub(crate) fn fill(sets: &mut Sets, writes: &Noted)
-    requires none { sets.old.writes ≡ [] }
-    requires room { length writes.now.entries ≤ sets.old.write_room }
-    ensures reads { sets.new.reads ≡ sets.old.reads }
-    ensures written { written_values sets.new.writes ≡ writes.now.entries }
-    ensures once { Once (λ (u : Write). u.record_number) sets.new.writes }
-{
-    for i in 0..writes.len() {
-        let Some((rid, value)) = writes.at(i) else {
-            unreachable!();
-        };
-        sets.write(*rid, copy(value));
     }
 }

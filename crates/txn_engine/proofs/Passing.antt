@@ -71,10 +71,10 @@ stays_passed p q i rid h at written = record {
   list = h.list ∙ passed_one h.numbers q.spare i rid at;
 }
 
-pub leaves_passed : (p q r : PassView) (i rid : ℕ) → HasPassed i p q → slice_get q.spare i ≡ Some rid → r.spare ≡ remove q.spare i → Grows q.observed r.observed → IsMetPresent p rid q.observed r.observed → HasPassed i p r
-leaves_passed p q r i rid h at less later met = record {
+pub leaves_passed : (p q r : PassView) (i rid : ℕ) → HasPassed i p q → slice_get q.spare i ≡ Some rid → r.spare ≡ remove q.spare i → value_at p.writes rid ≡ None → Grows q.observed r.observed → IsMetPresent p rid q.observed r.observed → HasPassed i p r
+leaves_passed p q r i rid h at less unwritten later met = record {
   numbers = h.numbers ++ rid ∷ [];
-  over = subst (λ (xs : List ℕ). PassesOver p (h.numbers ++ rid ∷ []) xs p.observed r.observed) (sym (ap (take i) less ∙ take_removed q.spare i)) (one_leaves h.numbers (take i q.spare) rid p.observed q.observed r.observed h.over later met);
+  over = subst (λ (xs : List ℕ). PassesOver p (h.numbers ++ rid ∷ []) xs p.observed r.observed) (sym (ap (take i) less ∙ take_removed q.spare i)) (one_leaves h.numbers (take i q.spare) rid p.observed q.observed r.observed h.over unwritten later met);
   list = h.list ∙ passed_one h.numbers q.spare i rid at ∙ ap (λ (ys : List ℕ). (h.numbers ++ rid ∷ []) ++ ys) (sym (ap (drop i) less ∙ drop_removed q.spare i));
 }
 
@@ -118,7 +118,7 @@ none_struck p r same later = some_passed p p r 0 (none_passed p) same later
 pub asks_passed : (p q r : PassView) (i rid next : ℕ) (told : Asked) → q ≡ observing (record p { spare = q.spare }) q.observed → HasPassed i p q → slice_get q.spare i ≡ Some rid → told ≡ Next next → Grows q.observed r.observed → Asks i rid q r told → HasPassed next p r
 asks_passed p q r i rid next told same h at is later asks = elim (subst (λ (a : Asked). Asks i rid q r a) is asks) as (λ _. HasPassed next p r) [
   | inl s ↦ (let at_next : suc i ≡ next = let is_next = s.2 in omega arith in subst (λ (n : ℕ). HasPassed n p r) at_next (subst (λ (x : PassView). HasPassed (suc i) p x) (sym s.0) (stays_passed p q i rid h at (subst (λ (x : PassView). IsSome (value_at x.writes rid)) same s.1))))
-  | inr s ↦ subst (λ (n : ℕ). HasPassed n p r) (sym s.1) (leaves_passed p q r i rid h at (ap (λ (x : PassView). x.spare) s.0) later (subst (λ (x : PassView). IsMetPresent x rid q.observed r.observed) same s.2))
+  | inr s ↦ subst (λ (n : ℕ). HasPassed n p r) (sym s.1) (leaves_passed p q r i rid h at (ap (λ (x : PassView). x.spare) s.0) (subst (λ (x : PassView). value_at x.writes rid ≡ None) same s.2) later (subst (λ (x : PassView). IsMetPresent x rid q.observed r.observed) same s.3))
 ]
 
 pub asks_given : (p q r : PassView) (i rid : ℕ) (told : Asked) → q ≡ observing (record p { spare = q.spare }) q.observed → HasPassed i p q → slice_get q.spare i ≡ Some rid → told ≡ Given → Grows q.observed r.observed → Asks i rid q r told → GivesFirst p r rid

@@ -30,12 +30,12 @@ IsMetAbsent p rid before after' = (known_at p.post rid ≡ Some None) ⊎ FindsV
 abbrev pub IsMetPresent : PassView → ℕ → (before after' : Observed) → Type 0
 IsMetPresent p rid before after' = ((words : List ℕ) × (known_at p.post rid ≡ Some (Some words))) ⊎ ((wts : ℕ) × Met p.stamp rid wts 3 no_more before.loads after'.loads)
 
--- Numbers of the list were passed, in turn: one that is written stayed there, and one that was met present was struck off.
+-- Numbers of the list were passed, in turn: one that is written stayed there, and one that is not and was met present was struck off.
 pub data PassesOver (p : PassView) : (numbers stayed : List ℕ) → Observed → Observed → Type 0 where
   none_yet : (o : Observed) → PassesOver p [] [] o o
   one_stays : (numbers stayed : List ℕ) (rid : ℕ) (o t : Observed) → PassesOver p numbers stayed o t → IsSome (value_at p.writes rid)
       → PassesOver p (numbers ++ rid ∷ []) (stayed ++ rid ∷ []) o t
-  one_leaves : (numbers stayed : List ℕ) (rid : ℕ) (o t u : Observed) → PassesOver p numbers stayed o t → Grows t u → IsMetPresent p rid t u
+  one_leaves : (numbers stayed : List ℕ) (rid : ℕ) (o t u : Observed) → PassesOver p numbers stayed o t → value_at p.writes rid ≡ None → Grows t u → IsMetPresent p rid t u
       → PassesOver p (numbers ++ rid ∷ []) stayed o u
 
 -- The first number of the list that is met absent and not written is given out: those before it were passed.
@@ -70,9 +70,9 @@ PassesAll before after' = PassesOver before before.spare after'.spare before.obs
 abbrev pub Passes : (i rid : ℕ) (before after' : PassView) (next : ℕ) → Type 0
 Passes i rid before after' next = (after' ≡ before) × IsSome (value_at before.writes rid) × (next ≡ i + 1)
 
--- it is struck off, since it was met present, and the next one is at its place
+-- it is struck off, since it is not written and was met present, and the next one is at its place
 abbrev pub Strikes : (i rid : ℕ) (before after' : PassView) (next : ℕ) → Type 0
-Strikes i rid before after' next = (after' ≡ observing (record before { spare = remove before.spare i }) after'.observed) × (next ≡ i) × IsMetPresent before rid before.observed after'.observed
+Strikes i rid before after' next = (after' ≡ observing (record before { spare = remove before.spare i }) after'.observed) × (next ≡ i) × (value_at before.writes rid ≡ None) × IsMetPresent before rid before.observed after'.observed
 
 -- what asking for the number at this place makes of the pass: it is given out, or the next one is to be asked for
 abbrev pub Asks : (i rid : ℕ) (before after' : PassView) → Asked → Type 0

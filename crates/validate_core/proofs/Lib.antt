@@ -1,6 +1,7 @@
 pub mod Bounds
 pub mod Checks
 pub mod LastCheck
+pub mod Noting
 pub mod Placing
 pub mod Settling
 pub mod Staging

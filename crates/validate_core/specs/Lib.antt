@@ -1,3 +1,4 @@
 pub mod Installing
+pub mod Noted
 pub mod Sets
 pub mod Validating

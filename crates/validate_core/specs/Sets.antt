@@ -1,8 +1,10 @@
 -- What a transaction has read and what it writes.
-use Rattle.std.specs.Prelude.{◌≡◌, ◌≢◌, ℕ, suc, ◌<◌, List, [], ◌∷◌, ◌++◌, take, drop, nat_lt, count_by}
+use Rattle.std.specs.Prelude.{◌≡◌, ◌≢◌, ℕ, suc, ◌<◌, List, [], ◌∷◌, ◌++◌, Some, take, drop, length, nat_lt, count_by}
 use Rattle.word_layout.specs.Size.{Size, places}
-use Rattle.core_rule.specs.View.{Read, Write}
+use Rattle.core_rule.specs.View.{View, Read, Write}
 use Rattle.core_rule.specs.Views.{Among}
+use Rattle.core_rule.specs.Versions.{read_version}
+use Rattle.version_search.specs.Loading.{with_value, IsLeftIn, cells_loaded}
 
 -- the reads and the writes in the order of adding, and room for so many
 pub record SetsView : Type 0 where
@@ -43,3 +45,12 @@ pub record MayInstall (z : Size) (s : SetsView) : Type 0 where
   pub reads : (d : Read) → Among d s.reads → (d.record_number < z.records) × (d.place < places z)
   pub writes : (u : Write) → Among u s.writes → u.record_number < z.records
   pub once : Once (λ (u : Write). u.record_number) s.writes
+
+-- one more read, of a version whose value these steps loaded
+pub record LoadsOne (rid place wts : ℕ) (before after' : SetsView) (v w : View) : Type 0 where
+  pub cells : List ℕ
+  pub whole : length cells ≡ 32
+  pub reads : after'.reads ≡ before.reads ++ read_version rid place wts (Some cells) ∷ []
+  pub view : w ≡ with_value v cells w.seen
+  pub left : IsLeftIn w cells
+  pub loads : w.seen.loads ≡ v.seen.loads ++ cells_loaded place 0 cells

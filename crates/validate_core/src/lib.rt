@@ -8,6 +8,7 @@ mod checking;
 mod conflict;
 mod deciding;
 mod installing;
+mod noted;
 mod sets;
 mod statuses;
 

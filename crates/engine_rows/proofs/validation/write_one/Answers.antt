@@ -7,7 +7,7 @@ pub run-requires-clause-begun : goal.run-requires-clause-begun
 run-requires-clause-begun c =
     let size = c.args.core.now.size in let v = c.args.hand.now.view in let room = c.reserve.new.self in
     let begun = roomy_begun size c.args.sets room v c.requires.begun c.reserve.ensures.reads c.reserve.ensures.writes in
-    write_begun size room c.write.new.self v _ begun c.requires.record c.write.ensures.writes c.write.ensures.reads (c.write.ensures.once begun.inside.once)
+    write_begun size room c.write.new.self v _ begun c.requires.record c.write.ensures.writes c.write.ensures.reads c.write.ensures.once
 
 pub returns-clause-entered : goal.returns-clause-entered
 returns-clause-entered c =

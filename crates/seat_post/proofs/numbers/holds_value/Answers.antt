@@ -5,7 +5,7 @@ use Rattle.seat_post.proofs.Listed.{held}
 use Rattle.seat_post.proofs.numbers.holds_value.Goals as goal
 
 pub returns-in-None : goal.returns-in-None
-returns-in-None c = sym (ap holds (sym c.get.ensures.value ∙ ap option_copied c.in-None.is))
+returns-in-None c = sym (ap holds (sym c.value_written.ensures ∙ ap option_copied c.in-None.is))
 
 pub returns-in-Some : goal.returns-in-Some
-returns-in-Some c = c.is_some.ensures ∙ held c.in-Some.value.now ∙ sym (ap holds (sym c.get.ensures.value ∙ ap option_copied c.in-Some.is))
+returns-in-Some c = c.is_some.ensures ∙ held c.in-Some.value.now ∙ sym (ap holds (sym c.value_written.ensures ∙ ap option_copied c.in-Some.is))

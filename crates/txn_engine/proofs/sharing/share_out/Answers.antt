@@ -1,9 +1,11 @@
-use Rattle.std.proofs.Common.{◌≡◌, ◌≤◌, [], ◌∷◌, List, length, map, length-append, ap, ◌∙◌, sym, subst, refl, arith}
+use Rattle.std.proofs.Common.{◌≡◌, ◌≤◌, ◌-◌, ℕ, [], ◌∷◌, List, length, map, length-append, ap, ◌∙◌, sym, subst, refl, arith}
 use Rattle.core_rule.specs.Views.{Among}
 use Rattle.txn_engine.specs.Alone.{PartsView}
-use Rattle.txn_engine.specs.Pass.{EngineView, bare, engine_of}
+use Rattle.txn_engine.specs.Pass.{PassView, EngineView, bare, engine_of}
+use Rattle.txn_engine.specs.Sharing.{with_made, share_at, first_share}
 use Rattle.seat_post.specs.Seats.{Others}
-use Rattle.seat_post.specs.Spare.{NumbersView, no_numbers}
+use Rattle.seat_post.specs.Spare.{NumbersView, no_numbers, every}
+use Rattle.std.specs.List.{range_with_len}
 use Rattle.txn_engine.proofs.Making.{next_share, next_made, pushed_share, count_shares}
 use Rattle.core_rule.proofs.Among.{Among-last, Among-left}
 use Rattle.txn_engine.proofs.sharing.share_out.Goals as goal
@@ -83,3 +85,24 @@ returns-clause-count g c =
     let some = c.seats.ensures.in_range.has_seat in
     let last = c.loop-seat.auto._seat-end in
     omega arith
+
+pub returns-clause-passes : goal.returns-clause-passes
+returns-clause-passes g c =
+    let i = c.loop-seat.invariant in
+    let p = c.args.pass in
+    let x = c.loop-seat.pass in
+    let seats : c.args.engine.now.size.seats ≡ p.shared.size.seats = sym (ap (λ (e : EngineView). e.size.seats) c.requires.engine) in
+    let over : c.loop-seat._seat ≡ c.args.engine.now.size.seats =
+    let test = c.loop-seat-test.false in
+    let end = c.seats-seat-end.ensures.value in
+    let some = c.seats.ensures.in_range.has_seat in
+    let last = c.loop-seat.auto._seat-end in
+    omega arith in
+    let at : c.loop-seat._seat ≡ p.shared.size.seats = over ∙ seats in
+    let first : bare c.keep_share.new.self ≡ first_share p =
+    ap bare c.keep_share.ensures
+    ∙ ap (λ (n : ℕ). bare (record x { spare = every n 0 x.spare })) (c.seats.ensures.value ∙ seats)
+    ∙ ap (λ (y : PassView). bare (record y { spare = every p.shared.size.seats 0 y.spare })) i.pass
+    ∙ ap (λ (n : ℕ). bare (record (with_made n p) { spare = every p.shared.size.seats 0 p.spare })) at in
+    let others : map bare c.loop-seat.passes.items ≡ map (share_at p) (range_with_len 1 (p.shared.size.seats - 1)) = i.passes ∙ ap (λ (n : ℕ). map (share_at p) (range_with_len 1 (n - 1))) at in
+    ap (map bare) c.in-Ok-insert.ensures.items ∙ (λ k. first k ∷ others k)

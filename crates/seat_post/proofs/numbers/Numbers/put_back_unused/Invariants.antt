@@ -1,4 +1,5 @@
 use Rattle.std.proofs.Common.{◌≡◌, ◌++◌, length}
+use Rattle.core_rule.specs.Deciding.{written_values}
 use Rattle.seat_post.specs.Spare.{unused}
 use Rattle.seat_post.proofs.numbers.Numbers.put_back_unused.Given as goal
 
@@ -6,7 +7,7 @@ abbrev pub invariant-loop-self : goal.invariant-loop-self
 invariant-loop-self l = record {
   fixed : l.self.fixed ≡ l.fn.self.fixed;
   records : l.self.records ≡ l.fn.self.records;
-  spare : unused l.writes.entries l.self.given ++ l.self.spare ≡ unused l.writes.entries l.fn.self.given ++ l.fn.self.spare;
+  spare : unused (written_values l.sets.writes) l.self.given ++ l.self.spare ≡ unused (written_values l.sets.writes) l.fn.self.given ++ l.fn.self.spare;
 }
 
 abbrev pub decreases-loop-self : goal.decreases-loop-self

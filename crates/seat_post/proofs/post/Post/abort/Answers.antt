@@ -10,26 +10,26 @@ use Rattle.seat_post.proofs.post.Post.abort.Goals as goal
 
 pub abort-requires-clause-inside : goal.abort-requires-clause-inside
 abort-requires-clause-inside g c =
-    let is = at_known _ _ _ _ _ _ _ (ap (λ (p : PostView). p.phase) c.self.view_is ∙ c.requires.phase) c.self.invariant in
-    subst (λ (x : Shared). IsInside x.size c.self.inside.sets) (ap (λ (p : PostView). p.shared) c.self.view_is ∙ c.requires.core) is.at.are_sets.inside
+    let is = at_known _ _ _ _ _ (ap (λ (p : PostView). p.phase) c.self.view_is ∙ c.requires.phase) c.self.invariant in
+    subst (λ (x : Shared). IsInside x.size c.self.inside.sets) (ap (λ (p : PostView). p.shared) c.self.view_is ∙ c.requires.core) is.at.inside
 
 pub abort-requires-clause-installed : goal.abort-requires-clause-installed
 abort-requires-clause-installed g c =
-    let is = at_known _ _ _ _ _ _ _ (ap (λ (p : PostView). p.phase) c.self.view_is ∙ c.requires.phase) c.self.invariant in
+    let is = at_known _ _ _ _ _ (ap (λ (p : PostView). p.phase) c.self.view_is ∙ c.requires.phase) c.self.invariant in
     subst (λ (n : ℕ). IsInstalled n c.self.inside.sets c.self.inside.hand.view) (ap (λ (p : PostView). p.stamp) c.self.view_is ∙ sym c.requires.stamp) is.at.installed
 
 pub invariant_of-self : goal.invariant_of-self
 invariant_of-self g c =
-    let is = at_known _ _ _ _ _ _ _ (ap (λ (p : PostView). p.phase) c.self.view_is ∙ c.requires.phase) c.self.invariant in
+    let is = at_known _ _ _ _ _ (ap (λ (p : PostView). p.phase) c.self.view_is ∙ c.requires.phase) c.self.invariant in
     let a = c.abort.ensures in
     let e = c.clear.ensures in
-    post_over c.args.core.now _ _ _ _ _ _ _ _ _ _ _ _ is a.stands (ap (λ (v : View). v.counts.in_kept) a.as_before.only) is.at.installed.in_flight a.stays.ready a.aborted.ends c.make-self-inside.ensures.number e.no_reads e.no_writes e.none_read e.none_written
+    post_over c.args.core.now _ _ _ _ _ _ _ _ is a.stands (ap (λ (v : View). v.counts.in_kept) a.as_before.only) is.at.installed.in_flight a.stays.ready a.aborted.ends c.make-self-inside.ensures.number e.reads e.writes
 
 pub returns : goal.returns
 returns g c =
     let i = c.self.inside in
-    let is = at_known _ _ _ _ _ _ _ (ap (λ (p : PostView). p.phase) c.self.view_is ∙ c.requires.phase) c.self.invariant in
+    let is = at_known _ _ _ _ _ (ap (λ (p : PostView). p.phase) c.self.view_is ∙ c.requires.phase) c.self.invariant in
     let a = c.abort.ensures in
     let e = c.clear.ensures in
-    view_over_same i.hand c.abort.new.hand i.phase i.stamp _ _ i.reads.entries _ i.writes.entries _ a.stays.seat.same_table a.stands a.as_before (a.linked ∙ sym is.at.installed.linked) a.seen is.at.installed.in_flight a.log c.make-self-inside.ensures.number e.no_reads e.no_writes
+    view_over_same i.hand c.abort.new.hand i.phase i.stamp _ _ i.sets c.clear.new.self a.stays.seat.same_table a.stands a.as_before (a.linked ∙ sym is.at.installed.linked) a.seen is.at.installed.in_flight a.log c.make-self-inside.ensures.number e.reads e.writes
     ∙ ap closed c.self.view_is

@@ -11,14 +11,14 @@ use Rattle.seat_post.proofs.Observed.{post_grows, raises_grow, bounded_grows}
 use Rattle.seat_post.proofs.post.Post.begin_snapshot.Goals as goal
 
 pub begin_glances-requires-clause-ends : goal.begin_glances-requires-clause-ends
-begin_glances-requires-clause-ends g c = (at_phase _ Idle _ _ _ _ _ c.self.invariant (ap (λ (p : PostView). p.phase) c.self.view_is ∙ c.requires.idle)).ends
+begin_glances-requires-clause-ends g c = (at_phase _ Idle _ _ _ c.self.invariant (ap (λ (p : PostView). p.phase) c.self.view_is ∙ c.requires.idle)).ends
 
 pub invariant_of-self : goal.invariant_of-self
 invariant_of-self g c =
     let phase = ap (λ (p : PostView). p.phase) c.self.view_is ∙ c.requires.idle in
-    let idle = at_phase _ Idle _ _ _ _ _ c.self.invariant phase in
+    let idle = at_phase _ Idle _ _ _ c.self.invariant phase in
     let e = c.begin_glances.ensures in
-    post_glancing c.args.core.now _ _ _ _ _ _ _ c.self.invariant idle phase e.stays.ready (opened_size _ _ _ e.opens) (opened_held _ _ _ e.opens) (opened_kept _ _ _ e.opens) e.glancing
+    post_glancing c.args.core.now _ _ _ _ _ c.self.invariant idle phase e.stays.ready (opened_size _ _ _ e.opens) (opened_held _ _ _ e.opens) (opened_kept _ _ _ e.opens) e.glancing
 
 pub returns-clause-snapshots : goal.returns-clause-snapshots
 returns-clause-snapshots g c = subst (λ (p : PostView). AreBelow p.log (c.begin_glances.result + 1)) c.self.view_is (below_logged c.self.inside.hand.view.log c.begin_glances.result c.begin_glances.ensures.snapshots)
@@ -33,7 +33,7 @@ returns-clause-grows g c =
     let i = c.self.inside in
     let w = c.begin_glances.new.hand.view in
     let o = c.begin_glances.ensures.opens in
-    post_grows i.hand c.begin_glances.new.hand i.phase i.stamp i.reads.entries i.writes.entries c.args.self.now c.self.view_is
+    post_grows i.hand c.begin_glances.new.hand i.phase i.stamp i.sets c.args.self.now c.self.view_is
     (grows_both i.hand.view.seen o.between.seen w.seen (raises_grow _ _ _ i.hand.view o.met o.between o.raises) (bounded_grows o.between w c.begin_glances.result o.bound))
 
 pub returns-clause-minimum : goal.returns-clause-minimum

@@ -9,7 +9,7 @@ use Rattle.rapid_gc.specs.Bounds.{AreKept, LeavesOne}
 use Rattle.rapid_gc.specs.Queues.{AreCommitted, AllBelow}
 use Rattle.seat_post.specs.declared.phase.Phase.TheVariants.{Idle}
 use Rattle.seat_post.specs.Collecting.{AreQueued, CollectsPost}
-use Rattle.seat_post.specs.Post.{PostView, IsAlonePost, post_view}
+use Rattle.seat_post.specs.Post.{PostView, IsAlonePost, post_of}
 use Rattle.seat_post.proofs.AloneSeats.{alone_told}
 use Rattle.seat_post.proofs.Queued.{are_committed, collects_post, nothing_left}
 use Rattle.seat_post.proofs.Posts.{at_phase, post_idle}
@@ -17,7 +17,7 @@ use Rattle.seat_post.proofs.Observed.{post_grows}
 use Rattle.seat_post.proofs.post.Post.collect.Goals as goal
 
 pub collect-requires-clause-ends : goal.collect-requires-clause-ends
-collect-requires-clause-ends g c = (at_phase _ Idle _ _ _ _ _ c.self.invariant (ap (λ (p : PostView). p.phase) c.self.view_is ∙ c.requires.idle)).ends
+collect-requires-clause-ends g c = (at_phase _ Idle _ _ _ c.self.invariant (ap (λ (p : PostView). p.phase) c.self.view_is ∙ c.requires.idle)).ends
 
 pub collect-requires-clause-committed : goal.collect-requires-clause-committed
 collect-requires-clause-committed g c =
@@ -29,16 +29,14 @@ collect-requires-clause-committed g c =
 pub invariant_of-self : goal.invariant_of-self
 invariant_of-self g c =
     let phase = ap (λ (p : PostView). p.phase) c.self.view_is ∙ c.requires.idle in
-    let idle = at_phase _ Idle _ _ _ _ _ c.self.invariant phase in
+    let idle = at_phase _ Idle _ _ _ c.self.invariant phase in
     let e = c.collect.ensures in
     let size : c.collect.new.hand.view.size ≡ c.self.inside.hand.view.size = ap (λ (v : View). v.size) e.view in
     let held : c.collect.new.hand.view.places.held ≡ c.self.inside.hand.view.places.held = ap (λ (v : View). v.places.held) e.view in
-    post_idle c.args.core.now _ _ _ _ _ _ phase e.stays.ready (rw size c.self.invariant.size) (held ∙ c.self.invariant.holds_none) (nothing_left _ _ _ e.in_kept c.self.invariant.keeps_none) (record {
+    post_idle c.args.core.now _ _ _ _ phase e.stays.ready (rw size c.self.invariant.size) (held ∙ c.self.invariant.holds_none) (nothing_left _ _ _ e.in_kept c.self.invariant.keeps_none) (record {
       ends = e.ends;
       whole = λ at. λ d among. absurd (subst (λ (ds : List Read). Among d ds) (ap (λ (v : View). v.work.reads) e.view) among);
       no_stamp = idle.no_stamp;
-      no_reads = idle.no_reads;
-      no_writes = idle.no_writes;
       none_read = idle.none_read;
       none_written = idle.none_written;
     })
@@ -67,11 +65,11 @@ pub returns-clause-grows : goal.returns-clause-grows
 returns-clause-grows g c =
     let i = c.self.inside in
     let e = c.collect.ensures in
-    post_grows i.hand c.collect.new.hand i.phase i.stamp i.reads.entries i.writes.entries c.args.self.now c.self.view_is (record { loaded = e.loads.0; missed = e.lost.0; loads = e.loads.1; lost = e.lost.1 })
+    post_grows i.hand c.collect.new.hand i.phase i.stamp i.sets c.args.self.now c.self.view_is (record { loaded = e.loads.0; missed = e.lost.0; loads = e.loads.1; lost = e.lost.1 })
 
 pub returns-clause-collects : goal.returns-clause-collects
 returns-clause-collects g c =
     let i = c.self.inside in
     let hand' = c.collect.new.hand in
-    subst (λ (p : PostView). CollectsPost p (post_view hand' i.phase i.stamp i.reads.entries i.writes.entries) c.args.queue.now.items c.collect.new.queue.items c.collect.result) c.self.view_is
-    (collects_post i.hand hand' i.phase i.stamp i.reads.entries i.writes.entries _ _ _ c.collect.ensures.collects)
+    subst (λ (p : PostView). CollectsPost p (post_of hand' i.phase i.stamp i.sets) c.args.queue.now.items c.collect.new.queue.items c.collect.result) c.self.view_is
+    (collects_post i.hand hand' i.phase i.stamp i.sets _ _ _ c.collect.ensures.collects)

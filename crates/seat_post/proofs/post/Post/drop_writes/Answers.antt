@@ -7,4 +7,4 @@ use Rattle.seat_post.proofs.post.Post.drop_writes.Goals as goal
 pub invariant_of-self : goal.invariant_of-self
 invariant_of-self g c =
     let phase = ap (λ (p : PostView). p.phase) c.self.view_is ∙ c.requires in
-    open_at _ _ _ _ _ _ phase (post_dropped _ _ _ _ _ _ (is_open _ _ _ _ _ _ phase c.self.invariant) c.clear.ensures.empty)
+    open_at _ _ _ _ phase (post_dropped _ _ _ _ (is_open _ _ _ _ phase c.self.invariant) c.drop_writes.ensures.reads c.drop_writes.ensures.writes)

@@ -14,25 +14,25 @@ use Rattle.seat_post.proofs.post.Post.end_snapshot.Goals as goal
 
 pub end_glances-requires-clause-glancing : goal.end_glances-requires-clause-glancing
 end_glances-requires-clause-glancing g c =
-    let idle = at_phase _ Idle _ _ _ _ _ c.self.invariant (ap (λ (p : PostView). p.phase) c.self.view_is ∙ c.requires.idle) in
-    glancing_of _ _ _ _ _ idle (subst (λ (p : PostView). IsSome p.glance) (sym c.self.view_is) c.requires.looks)
+    let idle = at_phase _ Idle _ _ _ c.self.invariant (ap (λ (p : PostView). p.phase) c.self.view_is ∙ c.requires.idle) in
+    glancing_of _ _ _ idle (subst (λ (p : PostView). IsSome p.glance) (sym c.self.view_is) c.requires.looks)
 
 pub invariant_of-self : goal.invariant_of-self
 invariant_of-self g c =
     let phase = ap (λ (p : PostView). p.phase) c.self.view_is ∙ c.requires.idle in
-    let idle = at_phase _ Idle _ _ _ _ _ c.self.invariant phase in
+    let idle = at_phase _ Idle _ _ _ c.self.invariant phase in
     let e = c.end_glances.ensures in
-    post_ended c.args.core.now _ _ _ _ _ _ _ c.self.invariant idle phase e.stays.ready e.view
+    post_ended c.args.core.now _ _ _ _ _ c.self.invariant idle phase e.stays.ready e.view
 
 pub returns-clause-stood : goal.returns-clause-stood
 returns-clause-stood g c =
     let v = c.self.inside.hand.view in
-    let idle = at_phase _ Idle _ _ _ _ _ c.self.invariant (ap (λ (p : PostView). p.phase) c.self.view_is ∙ c.requires.idle) in
-    let rests = (glancing_of _ _ _ _ _ idle (subst (λ (p : PostView). IsSome p.glance) (sym c.self.view_is) c.requires.looks)).rests in
+    let idle = at_phase _ Idle _ _ _ c.self.invariant (ap (λ (p : PostView). p.phase) c.self.view_is ∙ c.requires.idle) in
+    let rests = (glancing_of _ _ _ idle (subst (λ (p : PostView). IsSome p.glance) (sym c.self.view_is) c.requires.looks)).rests in
     let core = ap (λ (p : PostView). p.shared) c.self.view_is ∙ c.requires.core in
     let stood = subst (λ (x : Shared). StoodAt g.J.Keeps.kept x.size.records v.log (entry_of_glances v)) (sym core) c.end_glances.ensures.stood in
     let told = stood_glance g.J.Keeps.kept v.size.records v rests stood in
     subst (λ (p : PostView). IfSome p.glance (λ o. Stood g.J.Keeps.kept p.shared.size.records p.log (entry_of_glance o))) c.self.view_is told
 
 pub returns-clause-grows : goal.returns-clause-grows
-returns-clause-grows g c = let i = c.self.inside in post_grows i.hand c.end_glances.new.hand i.phase i.stamp i.reads.entries i.writes.entries c.args.self.now c.self.view_is c.end_glances.ensures.grows
+returns-clause-grows g c = let i = c.self.inside in post_grows i.hand c.end_glances.new.hand i.phase i.stamp i.sets c.args.self.now c.self.view_is c.end_glances.ensures.grows

@@ -5,7 +5,7 @@ use Rattle.core_rule.specs.Hands.{Seated}
 use Rattle.clock_stamps.specs.Clocks.{drawn_clock}
 use Rattle.word_layout.specs.Size.{Size, kept_place}
 use Rattle.core_rule.specs.View.{View, Seen}
-use Rattle.seat_post.specs.Post.{PostView, post_view, observed_in}
+use Rattle.seat_post.specs.Post.{PostView, post_of, observed_in}
 use Rattle.seat_post.specs.Promoting.{CameUpon, IsStoppedPost}
 use Rattle.seat_post.specs.declared.promoting.PromoteFault.TheVariants as fault
 use Rattle.seat_post.specs.declared.phase.Phase.TheVariants.{Idle}
@@ -17,7 +17,7 @@ use Rattle.version_search.proofs.Grown.{grows_both}
 use Rattle.seat_post.proofs.post.Post.promote.Goals as goal
 
 pub draw-requires-clause-ends : goal.draw-requires-clause-ends
-draw-requires-clause-ends g c = (at_phase c.self.inside.phase Idle c.self.inside.hand c.self.inside.stamp c.self.inside.reads.entries c.self.inside.writes.entries c.self.inside.sets c.self.invariant (ap (λ (p : PostView). p.phase) c.self.view_is ∙ c.requires.idle)).ends
+draw-requires-clause-ends g c = (at_phase c.self.inside.phase Idle c.self.inside.hand c.self.inside.stamp c.self.inside.sets c.self.invariant (ap (λ (p : PostView). p.phase) c.self.view_is ∙ c.requires.idle)).ends
 
 pub invariant_of-self-in_err-told : goal.invariant_of-self-in_err-told
 invariant_of-self-in_err-told g c =
@@ -28,7 +28,7 @@ invariant_of-self-in_err-told g c =
     let lt : c.args.rid < i.hand.view.size.records = subst (λ (p : PostView). c.args.rid < p.shared.size.records) (sym c.self.view_is) c.requires.rid in
     let apart : c.args.rid ≢ kept_place c.draw.new.hand.view.size = subst (λ (z : Size). c.args.rid ≢ kept_place z) (sym (ap (λ (v : View). v.size) e.view)) (inline_apart i.hand.view.size c.args.rid c.self.invariant.size lt) in
     let rested = fails_rested c.in_ok-stamp.stamp c.args.rid c.draw.new.hand.view c.promote_at.new.hand.view c.in_err-told.field-0.0 apart drew c.in_err-told.ensures.err in
-    post_rested c.args.core.now i.phase i.hand c.promote_at.new.hand c.draw.new.hand.view _ i.stamp i.reads.entries i.writes.entries i.sets phase c.self.invariant e.view rested c.promote_at.ensures.stays.ready
+    post_rested c.args.core.now i.phase i.hand c.promote_at.new.hand c.draw.new.hand.view _ i.stamp i.sets phase c.self.invariant e.view rested c.promote_at.ensures.stays.ready
 
 pub invariant_of-self-2 : goal.invariant_of-self-2
 invariant_of-self-2 g c =
@@ -39,19 +39,19 @@ invariant_of-self-2 g c =
     let lt : c.args.rid < i.hand.view.size.records = subst (λ (p : PostView). c.args.rid < p.shared.size.records) (sym c.self.view_is) c.requires.rid in
     let apart : c.args.rid ≢ kept_place c.draw.new.hand.view.size = subst (λ (z : Size). c.args.rid ≢ kept_place z) (sym (ap (λ (v : View). v.size) e.view)) (inline_apart i.hand.view.size c.args.rid c.self.invariant.size lt) in
     let rested = promotes_rested g.J.Keeps.kept c.args.core.now.size.records c.in_ok-stamp.stamp c.args.rid c.draw.new.hand.view c.promote_at.new.hand.view c.in_ok-told.told apart drew c.in_ok-told.ensures.ok in
-    post_rested c.args.core.now i.phase i.hand c.promote_at.new.hand c.draw.new.hand.view _ i.stamp i.reads.entries i.writes.entries i.sets phase c.self.invariant e.view rested c.promote_at.ensures.stays.ready
+    post_rested c.args.core.now i.phase i.hand c.promote_at.new.hand c.draw.new.hand.view _ i.stamp i.sets phase c.self.invariant e.view rested c.promote_at.ensures.stays.ready
 
 pub returns-in_err-stamp-clause-grows : goal.returns-in_err-stamp-clause-grows
 returns-in_err-stamp-clause-grows g c =
     let i = c.self.inside in
-    post_grows i.hand c.draw.new.hand i.phase i.stamp i.reads.entries i.writes.entries c.args.self.now c.self.view_is
+    post_grows i.hand c.draw.new.hand i.phase i.stamp i.sets c.args.self.now c.self.view_is
     (seen_grows i.hand.view.seen c.draw.new.hand.view.seen (ap (λ (h : Seated). h.view.seen) c.in_err-stamp.ensures.unchanged))
 
 pub returns-in_err-told-clause-grows : goal.returns-in_err-told-clause-grows
 returns-in_err-told-clause-grows g c =
     let i = c.self.inside in
     let v = c.draw.new.hand.view in let w = c.promote_at.new.hand.view in
-    post_grows i.hand c.promote_at.new.hand i.phase i.stamp i.reads.entries i.writes.entries c.args.self.now c.self.view_is
+    post_grows i.hand c.promote_at.new.hand i.phase i.stamp i.sets c.args.self.now c.self.view_is
     (grows_both i.hand.view.seen v.seen w.seen (drawn_grows i.hand.view v _ c.in_ok-stamp.ensures.view)
     (fails_grow c.in_ok-stamp.stamp c.args.rid v w c.in_err-told.field-0.0 c.in_err-told.ensures.err))
 
@@ -59,7 +59,7 @@ pub returns-clause-grows : goal.returns-clause-grows
 returns-clause-grows g c =
     let i = c.self.inside in
     let v = c.draw.new.hand.view in let w = c.promote_at.new.hand.view in
-    post_grows i.hand c.promote_at.new.hand i.phase i.stamp i.reads.entries i.writes.entries c.args.self.now c.self.view_is
+    post_grows i.hand c.promote_at.new.hand i.phase i.stamp i.sets c.args.self.now c.self.view_is
     (grows_both i.hand.view.seen v.seen w.seen (drawn_grows i.hand.view v _ c.in_ok-stamp.ensures.view)
     (promotes_grow g.J.Keeps.kept c.args.core.now.size.records c.in_ok-stamp.stamp c.args.rid v w c.in_ok-told.told c.in_ok-told.ensures.ok))
 
@@ -81,6 +81,6 @@ returns-in_err-told-clause-err g c =
     let clock = drawn_clock i.hand.view.clock.clock c.args.reading in
     let told : IsErrAnd c.from_residual-in_err-told.result (λ x. x ≡ fault.Conflict c.in_err-told.field-0.0) = c.from_residual-in_err-told.ensures.1 in
     let table = c.promote_at.ensures.stays.seat.same_table ∙ c.draw.ensures.ready.seat.same_table in
-    let stopped = fails_post i.hand c.promote_at.new.hand i.phase i.stamp i.reads.entries i.writes.entries c.draw.new.hand.view clock c.in_ok-stamp.stamp c.args.rid c.in_err-told.field-0.0 table c.in_ok-stamp.ensures.view c.in_ok-stamp.ensures.stamp c.in_err-told.ensures.err in
+    let stopped = fails_post i.hand c.promote_at.new.hand i.phase i.stamp i.sets c.draw.new.hand.view clock c.in_ok-stamp.stamp c.args.rid c.in_err-told.field-0.0 table c.in_ok-stamp.ensures.view c.in_ok-stamp.ensures.stamp c.in_err-told.ensures.err in
     err_told c.from_residual-in_err-told.result (fault.Conflict c.in_err-told.field-0.0) _ told
-    (subst (λ (p : PostView). IsStoppedPost c.args.rid (drawn_clock p.clock c.args.reading) p (post_view c.promote_at.new.hand i.phase i.stamp i.reads.entries i.writes.entries) c.in_err-told.field-0.0) c.self.view_is stopped)
+    (subst (λ (p : PostView). IsStoppedPost c.args.rid (drawn_clock p.clock c.args.reading) p (post_of c.promote_at.new.hand i.phase i.stamp i.sets) c.in_err-told.field-0.0) c.self.view_is stopped)

@@ -12,14 +12,14 @@ use Rattle.seat_post.proofs.post.Post.sync.Goals as goal
 
 pub invariant_of-self : goal.invariant_of-self
 invariant_of-self g c =
-    post_turned c.args.core.now c.self.inside.phase c.self.inside.hand c.sync.new.hand c.self.inside.stamp c.self.inside.reads.entries c.self.inside.writes.entries c.self.inside.sets _ _ c.self.invariant c.sync.ensures.ready.ready c.sync.ensures.adopted.1 (grows_loads _ _ _ (ap (λ (v : View). v.seen.loads) c.sync.ensures.adopted.1) (ap (λ (v : View). v.seen.lost) c.sync.ensures.adopted.1)) refl
+    post_turned c.args.core.now c.self.inside.phase c.self.inside.hand c.sync.new.hand c.self.inside.stamp c.self.inside.sets _ _ c.self.invariant c.sync.ensures.ready.ready c.sync.ensures.adopted.1 (grows_loads _ _ _ (ap (λ (v : View). v.seen.loads) c.sync.ensures.adopted.1) (ap (λ (v : View). v.seen.lost) c.sync.ensures.adopted.1)) refl
 
 pub returns-clause-value : goal.returns-clause-value
 returns-clause-value g c =
     let i = c.self.inside in
     let e = c.sync.ensures.adopted in (
       e.0,
-      seen_turned i.hand c.sync.new.hand i.phase i.stamp i.reads.entries i.writes.entries _ _ c.sync.ensures.ready.seat.same_table e.1 refl refl
+      seen_turned i.hand c.sync.new.hand i.phase i.stamp i.sets _ _ c.sync.ensures.ready.seat.same_table e.1 refl refl
           ∙ ap (λ (p : PostView). observing (with_clock p (adopted p.clock e.0)) (with_load p.observed (load (published_write c.args.other) e.0))) c.self.view_is,
     )
 
@@ -27,4 +27,4 @@ pub returns-clause-grows : goal.returns-clause-grows
 returns-clause-grows g c =
     let i = c.self.inside in
     let e = c.sync.ensures.adopted.1 in
-    post_grows i.hand c.sync.new.hand i.phase i.stamp i.reads.entries i.writes.entries c.args.self.now c.self.view_is (grows_loads _ _ _ (ap (λ (v : View). v.seen.loads) e) (ap (λ (v : View). v.seen.lost) e))
+    post_grows i.hand c.sync.new.hand i.phase i.stamp i.sets c.args.self.now c.self.view_is (grows_loads _ _ _ (ap (λ (v : View). v.seen.loads) e) (ap (λ (v : View). v.seen.lost) e))

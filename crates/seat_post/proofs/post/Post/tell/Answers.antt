@@ -20,10 +20,10 @@ pub invariant_of-self : goal.invariant_of-self
 invariant_of-self g c =
     let i = c.self.inside in
     let phase = ap (λ (p : PostView). p.phase) c.self.view_is ∙ c.requires.idle in
-    let at = at_phase _ Idle i.hand i.stamp i.reads.entries i.writes.entries i.sets c.self.invariant phase in
+    let at = at_phase _ Idle i.hand i.stamp i.sets c.self.invariant phase in
     let view = c.load_min_write.ensures.view in
     let ready = ready_same (shared_of i.hand) i.hand c.load_min_write.new.hand c.self.invariant.ready c.load_min_write.ensures.seat.same_table (ap (λ (v : View). v.size) view) (ap (λ (v : View). v.number) view) (ap (λ (v : View). v.published) view) in
-    post_ended (shared_of i.hand) i.phase i.hand c.load_min_write.new.hand i.stamp i.reads.entries i.writes.entries i.sets phase c.self.invariant ready (ap (λ (v : View). v.size) view) (ap (λ (v : View). v.places.held) view) (ap (λ (v : View). v.counts.in_kept) view) (subst (λ (w : Work). Ends w) (sym (ap (λ (v : View). v.work) view)) at.ends) (λ rests. subst (λ (w : Work). AreAllWhole w.reads) (sym (ap (λ (v : View). v.work) view)) (at.whole (sym (ap (λ (v : View). v.flight) view) ∙ rests)))
+    post_ended (shared_of i.hand) i.phase i.hand c.load_min_write.new.hand i.stamp i.sets phase c.self.invariant ready (ap (λ (v : View). v.size) view) (ap (λ (v : View). v.places.held) view) (ap (λ (v : View). v.counts.in_kept) view) (subst (λ (w : Work). Ends w) (sym (ap (λ (v : View). v.work) view)) at.ends) (λ rests. subst (λ (w : Work). AreAllWhole w.reads) (sym (ap (λ (v : View). v.work) view)) (at.whole (sym (ap (λ (v : View). v.flight) view) ∙ rests)))
 
 pub returns-clause-lawful : goal.returns-clause-lawful
 returns-clause-lawful g c = λ on.
@@ -43,4 +43,4 @@ pub returns-clause-grows : goal.returns-clause-grows
 returns-clause-grows g c =
     let i = c.self.inside in
     let e = c.load_min_write.ensures.view in
-    post_grows i.hand c.load_min_write.new.hand i.phase i.stamp i.reads.entries i.writes.entries c.args.self.now c.self.view_is (grows_loads _ _ _ (ap (λ (v : View). v.seen.loads) e) (ap (λ (v : View). v.seen.lost) e))
+    post_grows i.hand c.load_min_write.new.hand i.phase i.stamp i.sets c.args.self.now c.self.view_is (grows_loads _ _ _ (ap (λ (v : View). v.seen.loads) e) (ap (λ (v : View). v.seen.lost) e))

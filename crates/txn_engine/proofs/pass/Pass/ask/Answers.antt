@@ -1,4 +1,4 @@
-use Rattle.std.proofs.Common.{◌≡◌, ◌<◌, ◌++◌, ◌∷◌, [], ap, ◌∙◌, sym, subst, refl, length, remove, inl, inr}
+use Rattle.std.proofs.Common.{◌≡◌, ◌<◌, ◌++◌, ◌∷◌, [], false, Option, None, Some, ap, ◌∙◌, sym, subst, refl, length, remove, inl, inr}
 use Rattle.std.specs.Prelude.{IsSome, is_some}
 use Rattle.std.proofs.lemmas.Option.{slice_get_within}
 use Rattle.record_store.specs.Meaning.{value_at}
@@ -11,6 +11,10 @@ use Rattle.txn_engine.specs.Accounts.{accounted}
 use Rattle.txn_engine.proofs.Accounting.{accounted_given, accounted_struck}
 use Rattle.txn_engine.proofs.Growing.{observing_own, grows_none}
 use Rattle.txn_engine.proofs.pass.Pass.ask.Goals as goal
+
+none_there : {A : Type 0} (value : Option A) → is_some value ≡ false → value ≡ None
+none_there None off = refl
+none_there (Some value) off = cc
 
 pub returns-then-is_written-clause-ok : goal.returns-then-is_written-clause-ok
 returns-then-is_written-clause-ok g c =
@@ -36,7 +40,8 @@ returns-else-branch-clause-ok g c =
     let kept : c.is_absent.new.self ≡ observing c.args.self.now o = rw c.if-branch.false at c.in_ok-is_absent.ensures.ok in
     let is : pass_view i.post i.boost i.queue c.strike.new.self i.refusals i.commits i.dead i.counted ≡ observing (record c.args.self.now { spare = remove c.args.self.now.spare c.args.i }) o =
     ap (λ (n : NumbersView). pass_view i.post i.boost i.queue n i.refusals i.commits i.dead i.counted) c.strike.ensures ∙ ap (λ (x : PassView). record x { spare = remove x.spare c.args.i }) (c.self-2.view_is ∙ kept) in
-    inr (observing_own (pass_view i.post i.boost i.queue c.strike.new.self i.refusals i.commits i.dead i.counted) (record c.args.self.now { spare = remove c.args.self.now.spare c.args.i }) o is, refl, subst (λ (x : Observed). IsMetPresent c.args.self.now c.args.rid c.args.self.now.observed x) (sym (ap (λ (x : PassView). x.observed) c.self-2.view_is)) (c.in_ok-is_absent.ensures.met_present c.if-branch.false))
+    let unwritten = none_there (value_at c.args.self.now.writes c.args.rid) (ap (λ (x : PassView). is_some (value_at x.writes c.args.rid)) (sym c.self.view_is) ∙ sym c.is_written.ensures ∙ c.if-is_written.false) in
+    inr (observing_own (pass_view i.post i.boost i.queue c.strike.new.self i.refusals i.commits i.dead i.counted) (record c.args.self.now { spare = remove c.args.self.now.spare c.args.i }) o is, refl, unwritten, subst (λ (x : Observed). IsMetPresent c.args.self.now c.args.rid c.args.self.now.observed x) (sym (ap (λ (x : PassView). x.observed) c.self-2.view_is)) (c.in_ok-is_absent.ensures.met_present c.if-branch.false))
 
 pub returns-then-branch-clause-accounts : goal.returns-then-branch-clause-accounts
 returns-then-branch-clause-accounts g c =

@@ -1,4 +1,4 @@
-use Rattle.std.proofs.Common.{rules, ◌≡◌, None, Some, ap, ◌∙◌, sym, subst}
+use Rattle.std.proofs.Common.{rules, ◌≡◌, None, Some, refl, ap, ◌∙◌, sym, subst}
 use Rattle.record_store.specs.Meaning.{value_at}
 use Rattle.txn_engine.specs.Pass.{PassView, IsAlone}
 use Rattle.seat_post.specs.Leaves.{LeavesValue}
@@ -33,6 +33,7 @@ returns-in_err-stopped g c =
         never = search rules;
         left = search rules;
         found = search rules;
+        again = search rules;
       };
     }
 
@@ -56,6 +57,7 @@ returns-in-Some g c =
             let still = ap (λ (x : PassView). value_at x.writes c.args.rid) same ∙ unwritten in
             subst (λ (x : PassView). LeavesValue x.log c.args.rid x.stamp c.in-Some.value) same (c.in-Some.ensures.left flying (subst (λ (x : PassView). IsAlone x) (sym same) alone) still);
         found = λ none. (cc);
+        again = λ alive. rw (there ∙ some) (refl, c.in_ok-stopped.ensures.ok.0);
       };
     }
 
@@ -76,5 +78,6 @@ returns-in-Ok g c =
         never = search rules;
         left = λ alone unwritten. subst (λ (x : PassView). LeavesValue x.log c.args.rid x.stamp c.in-Ok.value) same (c.in-Ok.ensures.left (subst (λ (x : PassView). IsAlone x) (sym same) alone));
         found = λ none. subst (λ (x : PassView). FindsValue x.stamp c.args.rid x.observed c.read.new.self.observed c.in-Ok.value) same c.in-Ok.ensures.found;
+        again = λ alive. rw (sym (ap (λ (x : PassView). known_at x.post c.args.rid) same) ∙ unknown) tt;
       };
     }

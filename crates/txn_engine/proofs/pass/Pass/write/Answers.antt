@@ -21,7 +21,7 @@ invariant_of-self-2 g c =
     let phase = ap (λ (x : PassView). x.phase) c.self.view_is ∙ ap (λ (x : PassView). x.phase) c.in_ok-stopped.ensures.ok.0 ∙ c.requires.open in
     let room = pass_room _ c.self.inside.queue c.reserve.new.self _ _ _ _ c.self.invariant c.reserve.ensures.items c.reserve.ensures.not_less in
     let enough : length c.reserve.new.self.items + length (with_value p.writes c.args.rid c.args.value.now) ≤ c.reserve.new.self.room =
-    let r = c.in_ok-reserve.ensures.room in let i = ap length c.reserve.ensures.items in let w = ap length c.writes.ensures.value in let l = c.len.ensures.len in let m = longer p.writes c.args.rid c.args.value.now in omega arith in
+    let r = c.in_ok-reserve.ensures.room in let i = ap length c.reserve.ensures.items in let w = c.sets.ensures.count in let l = c.count_writes.ensures.count in let m = longer p.writes c.args.rid c.args.value.now in omega arith in
     rw c.in_ok-write.ensures.ok (pass_written p _ c.reserve.new.self _ _ _ _ room phase enough)
 
 pub returns-in_err-stopped : goal.returns-in_err-stopped

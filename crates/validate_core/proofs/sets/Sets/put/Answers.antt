@@ -1,0 +1,67 @@
+use Rattle.std.proofs.Common.{◌≡◌, ◌∙◌, ◌++◌, ◌∷◌, [], ℕ, List, Option, ap, sym, subst, length, refl, arith}
+use Rattle.std.specs.Prelude.{IfSome}
+use Rattle.std.specs.Vec.{with_item}
+use Rattle.std.proofs.lemmas.List.{take-set}
+use Rattle.std.proofs.lemmas.Option.{slice_get_within}
+use Rattle.core_rule.specs.View.{Write}
+use Rattle.core_rule.specs.Views.{Among}
+use Rattle.core_rule.specs.Deciding.{written_values}
+use Rattle.core_rule.specs.Versions.{written_version}
+use Rattle.record_store.specs.Meaning.{with_value}
+use Rattle.validate_core.specs.Noted.{noted}
+use Rattle.validate_core.specs.Sets.{SetsView}
+use Rattle.validate_core.proofs.Noting.{of_here, of_set, set_noted, noted_set, noted_more, turn_of, get_set, length_noted, value_of-cells, with_value-found, with_value-new, write_entry, writes_map}
+use Rattle.validate_core.proofs.sets.Sets.put.Goals as goal
+
+-- the entry of what is written
+entry_of : (rid : ℕ) (value : Option (List ℕ)) (u : Write) → u ≡ written_version rid 0 0 value → IfSome value (λ words. length words ≡ 32) → write_entry u ≡ (rid, value)
+entry_of rid value u is whole = ap write_entry is ∙ ap (λ (v : Option (List ℕ)). (rid, v)) (value_of-cells value whole)
+
+pub invariant_of-self : goal.invariant_of-self
+invariant_of-self c =
+    let n = c.self.inside.writes in let old = c.index_mut.result.now in let is = c.self.invariant.writes_are in
+    let here = of_here (λ (u : Write). u.record_number) n c.args.rid c.in-Some.i old is c.in-Some.ensures.found c.index_mut.ensures.value in
+    record {
+      reads_are = c.self.invariant.reads_are;
+      writes_are = set_noted (λ (u : Write). u.record_number) n _ c.in-Some.i c.set.new.self old is here.0 (ap (λ (u : Write). u.record_number) c.set.ensures ∙ sym here.1) refl refl refl;
+    }
+
+pub enter-requires-clause-item : goal.enter-requires-clause-item
+enter-requires-clause-item c =
+    let n = c.make_item.new.self in
+    of_set (λ (u : Write). u.record_number) c.args.rid n.count n.items.items c.set-in-None.new.self c.make_item.ensures.item (ap (λ (u : Write). u.record_number) c.set-in-None.ensures)
+
+pub enter-requires-clause-first : goal.enter-requires-clause-first
+enter-requires-clause-first c =
+    let n = c.make_item.new.self in
+    λ x among. c.in-None.ensures.none x (subst (Among x) (take-set n.items.items n.count c.set-in-None.new.self ∙ c.make_item.ensures.same) among)
+
+pub returns-in-Some-clause-values : goal.returns-in-Some-clause-values
+returns-in-Some-clause-values c =
+    let n = c.self.inside.writes in let old = c.index_mut.result.now in let is = c.self.invariant.writes_are in let i = c.in-Some.i in
+    let rid = c.args.rid in let value = c.args.value.now in let new = c.set.new.self in
+    let here = of_here (λ (u : Write). u.record_number) n rid i old is c.in-Some.ensures.found c.index_mut.ensures.value in
+    let below = slice_get_within (noted n) i old here.0 in let long = length_noted n is.within in
+    ap written_values (noted_set n (record n { items = with_item n.items i new }) i new (omega arith) refl refl) ∙ sym (writes_map _)
+    ∙ with_value-found write_entry (noted n) i rid old new value is.apart here.0 here.1 (entry_of rid value new c.set.ensures c.tell_whole.ensures)
+    ∙ ap (λ (es : List (ℕ × Option (List ℕ))). with_value es rid value) (writes_map (noted n))
+    ∙ ap (λ (s : SetsView). with_value (written_values s.writes) rid value) c.self.view_is
+
+pub returns-in-Some-clause-once : goal.returns-in-Some-clause-once
+returns-in-Some-clause-once c =
+    let n = c.self.inside.writes in let old = c.index_mut.result.now in let is = c.self.invariant.writes_are in
+    let here = of_here (λ (u : Write). u.record_number) n c.args.rid c.in-Some.i old is c.in-Some.ensures.found c.index_mut.ensures.value in
+    let noted_still = set_noted (λ (u : Write). u.record_number) n (record n { items = with_item n.items c.in-Some.i c.set.new.self }) c.in-Some.i c.set.new.self old is here.0 (ap (λ (u : Write). u.record_number) c.set.ensures ∙ sym here.1) refl refl refl in
+    noted_still.apart
+
+pub returns-in-None-clause-values : goal.returns-in-None-clause-values
+returns-in-None-clause-values c =
+    let n = c.self.inside.writes in let m = c.make_item.new.self in let new = c.set-in-None.new.self in
+    let rid = c.args.rid in let value = c.args.value.now in
+    let more = noted_more (record m { items = with_item m.items m.count new }) c.enter.new.self new
+    (turn_of m.count _ new (get_set m.count m.items.items new c.make_item.ensures.item)) c.enter.ensures.items c.enter.ensures.count in
+    ap written_values (more ∙ ap (λ (us : List Write). us ++ new ∷ []) (take-set m.items.items m.count new ∙ c.make_item.ensures.same))
+    ∙ sym (writes_map (noted n ++ new ∷ []))
+    ∙ with_value-new write_entry (noted n) rid new value c.in-None.ensures.none (entry_of rid value new c.set-in-None.ensures c.tell_whole.ensures)
+    ∙ ap (λ (es : List (ℕ × Option (List ℕ))). with_value es rid value) (writes_map (noted n))
+    ∙ ap (λ (s : SetsView). with_value (written_values s.writes) rid value) c.self.view_is

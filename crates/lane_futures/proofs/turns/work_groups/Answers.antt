@@ -1,7 +1,7 @@
-use Rattle.std.proofs.Common.{◌≡◌, List, ◌++◌, length, vec_len, refl, sym, ap, subst, ◌∙◌, arith}
+use Rattle.std.proofs.Common.{rules, ◌≡◌, ◌<◌, List, ◌++◌, length, vec_len, refl, sym, ap, subst, ◌∙◌, arith}
 use Rattle.std.proofs.lemmas.Bool.{eqb-true}
 use Rattle.lane_queue.specs.declared.lane.Lane.{Lane}
-use Rattle.lane_queue.specs.Passes.{Taker}
+use Rattle.lane_queue.specs.Passes.{Taker, HasEnded}
 use Rattle.lane_queue.specs.Subsequences.{IsSubsequence}
 use Rattle.lane_runner.specs.declared.done.LaneDone.{LaneDone}
 use Rattle.lane_runner.specs.Room.{HasRoom}
@@ -67,4 +67,14 @@ returns-clause-does g c = elim c.match-next.branch [
       let none : length w.in-Ok.group.sessions.items ≡ 0 = omega (arith, w.in-Ok.group.sessions.ok.0, eqb-true (vec_len w.in-Ok.group.sessions) 0 (sym w.if-is_empty.ensures)) in
       let took : w.take_group.new.taker.took ≡ c.loop.taker.took = none_taken c.loop.taker.took t.lanes w.take_group.new.taker.took c.args.tries w.in-Ok.group.sessions.items t.took t.sessions_are none in
       subst (λ (xs : List Lane). DoesLanes c.args.tries c.args.seat.pass c.loop.seat.pass xs c.loop.done.items) (sym took ∙ sym (ap (λ (x : Taker). x.took) w.taker-is)) c.loop.invariant.does
+]
+
+pub returns-clause-ended : goal.returns-clause-ended
+returns-clause-ended g c = elim c.match-next.branch [
+  | in-None w ↦ search rules
+  | in-Some+in-Ok+then-is_empty w ↦
+      let none : length w.in-Ok.group.sessions.items ≡ 0 = omega (arith, w.in-Ok.group.sessions.ok.0, eqb-true (vec_len w.in-Ok.group.sessions) 0 (sym w.if-is_empty.ensures)) in
+      let some = c.requires.some in
+      let few : length w.in-Ok.group.sessions.items < c.args.most = omega arith in
+      ap (λ (x : Taker). x.ended) w.taker-is ∙ w.in-Ok.ensures.ended few
 ]

@@ -10,7 +10,7 @@ ghost use Rattle.stored_tables.specs.Places.{fixed_records};
 ghost use Rattle.txn_engine.specs.Pass.{engine_of};
 ghost use Rattle.lane_runner.specs.Rows.{stands};
 ghost use Rattle.lane_runner.specs.Adds.{Adds};
-ghost use Rattle.lane_runner.specs.Blocks.{IsPlaceOf, Commits};
+ghost use Rattle.lane_runner.specs.Blocks.{RunsBlock};
 ghost use Rattle.lane_runner.specs.Finishing.{MayFinish};
 ghost use Rattle.lane_runner.specs.Holding.{Holds, Awaits, Enters, HasPlaces, HasRecords, LeavesAfter, CommitsAt, IsBehind, KeepsShared};
 ghost use Rattle.lane_runner.specs.Room.{HasRoom, clock_after};
@@ -200,8 +200,7 @@ pub(crate) fn run_block(
     requires records { HasRecords alone.old.pass (all_add block.now.commands) }
     requires room { HasRoom alone.old.pass.clock 1 }
     ensures holds { OnOk result (Holds alone.new.pass) }
-    ensures committed { IfOk result (λ done. Commits block.now.commands alone.old.pass alone.new.pass done.0 done.1) }
-    ensures placed { IfOk result (λ done. IsPlaceOf block.now done.0) }
+    ensures ran { IfOk result (λ done. RunsBlock block.now alone.old.pass alone.new.pass done.0 done.1) }
     ensures behind { IfOk result (λ done. done.0.snap ≡ true → IsBehind alone.old.pass.log done.0.stamp) }
     ensures leaves { OnOk result (LeavesAfter block.now.commands alone.old.pass alone.new.pass) }
     ensures clock { OnOk result (alone.new.pass.clock ≤ clock_after alone.old.pass.clock 1) }

@@ -22,7 +22,7 @@ pub trait LaneRun<C: Clock, G: Gate> {
     ghost use Rattle.std.specs.Prelude.{◌≡◌, ℕ, ◌+◌, ◌-◌, ◌≤◌, List, [], OnOk, length};
     ghost use Rattle.replay_model.specs.TableMap.{TableMap};
     ghost use Rattle.stored_tables.specs.Places.{fixed_records};
-    ghost use Rattle.txn_engine.specs.Pass.{IsIdle, engine_of};
+    ghost use Rattle.lane_runner.specs.Using.{MayUse};
     ghost use Rattle.lane_runner.specs.Room.{HasRoom};
     ghost use Rattle.lane_threads.specs.Seen.{ReadsAll};
     ghost use Rattle.lane_threads.specs.Workers.{MayBegin, WorksAndReads, draws_of};
@@ -78,9 +78,7 @@ pub trait LaneRun<C: Clock, G: Gate> {
         alone: &mut Alone<RowsLawful>,
         reader: Self::Reader,
     ) -> Result<(), NoMemory>
-        requires engine { engine_of alone.old.pass ≡ engine.now }
-        requires idle { IsIdle alone.old.pass }
-        requires fixed { fixed_records ≤ engine.now.fixed }
+        requires pass { MayUse engine.now alone.old.pass }
         requires few { length (has_read reader) ≤ due self.old }
         requires room { HasRoom alone.old.pass.clock (due self.old - length (has_read reader)) }
         ensures due { due self.new ≡ due self.old }

@@ -22,7 +22,7 @@ sight c =
     let f = c.finish.new.self.0 in
     sought p c.tick.new.self.pass c.snapshot-snapshot.result.alone.now.pass s1.pass f.pass c.tell.new.self.pass (next_clock p 0) c.snapshot-snapshot.ensures.begins
     (ap (λ (a : AloneView). a.pass) c.in-Ok.ensures.ok) (ap (λ (x : AloneGlanceRest). x.of_pass) c.list_tables-told.ensures.rest) c.finish.ensures.finishes.after
-    (told_of f _ c.tell.new.self c.tell.ensures.value c.tell.ensures.grows c.tell.ensures.not_back (search rules)) c.requires.idle c.shared.ensures.alone
+    (told_of f _ c.tell.new.self c.tell.ensures.value c.tell.ensures.grows c.tell.ensures.not_back (search rules)) c.requires.pass.1 c.shared.ensures.alone
     (subst (λ (n : ℕ). IsAbove p.log n) (c.in-Ok.ensures.stamp ∙ sym (ap (λ (a : AloneView). a.pass.published) c.in-Ok.ensures.ok)) c.in-Ok.ensures.above) (clock_later p 0) (clock_drawn p 0)
 
 pub untorn-requires : goal.untorn-requires

@@ -54,14 +54,8 @@ returns-in_err-push-clause-adds g c =
 pub take-requires : goal.take-requires
 take-requires g c = c.loop.invariant.queue_is
 
-pub run_lane-requires-clause-engine : goal.run_lane-requires-clause-engine
-run_lane-requires-clause-engine g c = c.loop.invariant.engine_is
-
-pub run_lane-requires-clause-idle : goal.run_lane-requires-clause-idle
-run_lane-requires-clause-idle g c = c.loop.invariant.does.adds.idle
-
-pub run_lane-requires-clause-fixed : goal.run_lane-requires-clause-fixed
-run_lane-requires-clause-fixed g c = c.requires.fixed
+pub run_lane-requires-clause-pass : goal.run_lane-requires-clause-pass
+run_lane-requires-clause-pass g c = record { same = c.loop.invariant.engine_is; idle = c.loop.invariant.does.adds.idle; fixed = c.requires.fixed }
 
 pub returns-in_err-ran-clause-ended : goal.returns-in_err-ran-clause-ended
 returns-in_err-ran-clause-ended g c = not_ok c.from_residual.result _ c.from_residual.ensures.0

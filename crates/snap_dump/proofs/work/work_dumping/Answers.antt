@@ -24,19 +24,13 @@ loop-init g c = record {
 pub take-requires : goal.take-requires
 take-requires g c = c.loop.invariant.queue_is
 
-pub run_lane_dumping-requires-clause-engine : goal.run_lane_dumping-requires-clause-engine
-run_lane_dumping-requires-clause-engine g c = c.loop.invariant.engine_is
-
-pub run_lane_dumping-requires-clause-idle : goal.run_lane_dumping-requires-clause-idle
-run_lane_dumping-requires-clause-idle g c = c.loop.invariant.does.adds.idle
+pub run_lane_dumping-requires-clause-pass : goal.run_lane_dumping-requires-clause-pass
+run_lane_dumping-requires-clause-pass g c = record { same = c.loop.invariant.engine_is; idle = c.loop.invariant.does.adds.idle; fixed = c.requires.fixed }
 
 pub run_lane_dumping-requires-clause-blocks : goal.run_lane_dumping-requires-clause-blocks
 run_lane_dumping-requires-clause-blocks g c =
     let t = c.in-Some-take.ensures in
     taken_may c.args.taker.now.lanes c.take.new.pass.lanes c.loop.taker.took c.take.new.pass.took c.in-Some-take.lane t.some.0 (t.pass.same_lanes ∙ c.loop.invariant.same.same_lanes) t.in_order c.requires.may_work.lanes
-
-pub run_lane_dumping-requires-clause-fixed : goal.run_lane_dumping-requires-clause-fixed
-run_lane_dumping-requires-clause-fixed g c = c.requires.fixed
 
 pub run_lane_dumping-requires-clause-within : goal.run_lane_dumping-requires-clause-within
 run_lane_dumping-requires-clause-within g c = c.loop.invariant.within

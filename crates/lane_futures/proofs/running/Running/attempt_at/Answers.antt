@@ -11,14 +11,8 @@ overflow_add-self g c = omega (arith, place_within _ c.args.self.now c.args.plac
 pub index_mut-requires : goal.index_mut-requires
 index_mut-requires g c = omega (arith, place_within _ c.args.self.now c.args.place c.self.view_is c.requires.in_turn, c.self.inside.sessions.ok.0)
 
-pub attempt-requires-clause-engine : goal.attempt-requires-clause-engine
-attempt-requires-clause-engine g c = c.self.invariant.0
-
-pub attempt-requires-clause-idle : goal.attempt-requires-clause-idle
-attempt-requires-clause-idle g c = c.self.invariant.1
-
-pub attempt-requires-clause-fixed : goal.attempt-requires-clause-fixed
-attempt-requires-clause-fixed g c = subst (λ (e : EngineView). fixed_records ≤ e.fixed) c.self.invariant.0 c.self.invariant.2
+pub attempt-requires-clause-pass : goal.attempt-requires-clause-pass
+attempt-requires-clause-pass g c = record { same = c.self.invariant.0; idle = c.self.invariant.1; fixed = subst (λ (e : EngineView). fixed_records ≤ e.fixed) c.self.invariant.0 c.self.invariant.2 }
 
 pub attempt-requires-clause-room : goal.attempt-requires-clause-room
 attempt-requires-clause-room g c = room_in_turn _ c.args.self.now c.args.place c.index_mut.result.now c.self.view_is c.requires.in_turn c.index_mut.ensures.value c.self.invariant.1 c.requires.room

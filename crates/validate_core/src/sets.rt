@@ -121,9 +121,22 @@ impl Sets {
         ensures read_room { self.old.read_room ≤ self.new.read_room }
         ensures write_room { self.old.write_room ≤ self.new.write_room }
     {
+        self.add_write(rid, &value);
+    }
+
+    // Adds such a write.
+    fn add_write(&mut self, rid: u32, value: &Option<Cells>)
+        requires room { length self.old.writes < self.old.write_room }
+        requires first { (u : Write) → Among u self.old.writes → u.record_number ≢ rid }
+        ensures writes { self.new.writes ≡ self.old.writes ++ written_version rid 0 0 value.now ∷ [] }
+        ensures reads { self.new.reads ≡ self.old.reads }
+        ensures once { Once (λ (u : Write). u.record_number) self.new.writes }
+        ensures read_room { self.old.read_room ≤ self.new.read_room }
+        ensures write_room { self.old.write_room ≤ self.new.write_room }
+    {
         self.writes.make_item();
         let i = self.writes.count;
-        self.writes.items[i].set(rid, &value);
+        self.writes.items[i].set(rid, value);
         self.writes.enter(rid);
     }
 
@@ -139,12 +152,7 @@ impl Sets {
         tell_whole(value);
         match self.writes.position(rid) {
             Some(i) => self.writes.items[i].set(rid, value),
-            None => {
-                self.writes.make_item();
-                let i = self.writes.count;
-                self.writes.items[i].set(rid, value);
-                self.writes.enter(rid);
-            }
+            None => self.add_write(rid, value),
         }
     }
 

@@ -1,4 +1,4 @@
-use Rattle.std.proofs.Common.{◌≡◌, ◌∙◌, ◌++◌, ◌∷◌, [], ℕ, List, Option, ap, sym, subst, length, refl, arith}
+use Rattle.std.proofs.Common.{◌≡◌, ◌≢◌, ◌∙◌, ◌++◌, ◌∷◌, [], ℕ, List, Option, ap, sym, subst, length, refl, arith}
 use Rattle.std.specs.Prelude.{IfSome}
 use Rattle.std.specs.Vec.{with_item}
 use Rattle.std.proofs.lemmas.List.{take-set}
@@ -26,15 +26,9 @@ invariant_of-self c =
       writes_are = set_noted (λ (u : Write). u.record_number) n _ c.in-Some.i c.set.new.self old is here.0 (ap (λ (u : Write). u.record_number) c.set.ensures ∙ sym here.1) refl refl refl;
     }
 
-pub enter-requires-clause-item : goal.enter-requires-clause-item
-enter-requires-clause-item c =
-    let n = c.make_item.new.self in
-    of_set (λ (u : Write). u.record_number) c.args.rid n.count n.items.items c.set-in-None.new.self c.make_item.ensures.item (ap (λ (u : Write). u.record_number) c.set-in-None.ensures)
-
-pub enter-requires-clause-first : goal.enter-requires-clause-first
-enter-requires-clause-first c =
-    let n = c.make_item.new.self in
-    λ x among. c.in-None.ensures.none x (subst (Among x) (take-set n.items.items n.count c.set-in-None.new.self ∙ c.make_item.ensures.same) among)
+pub add_write-requires-clause-first : goal.add_write-requires-clause-first
+add_write-requires-clause-first c =
+    λ x among. c.in-None.ensures.none x (subst (Among x) (sym (ap (λ (s : SetsView). s.writes) c.self.view_is)) among)
 
 pub returns-in-Some-clause-values : goal.returns-in-Some-clause-values
 returns-in-Some-clause-values c =
@@ -56,12 +50,9 @@ returns-in-Some-clause-once c =
 
 pub returns-in-None-clause-values : goal.returns-in-None-clause-values
 returns-in-None-clause-values c =
-    let n = c.self.inside.writes in let m = c.make_item.new.self in let new = c.set-in-None.new.self in
-    let rid = c.args.rid in let value = c.args.value.now in
-    let more = noted_more (record m { items = with_item m.items m.count new }) c.enter.new.self new
-    (turn_of m.count _ new (get_set m.count m.items.items new c.make_item.ensures.item)) c.enter.ensures.items c.enter.ensures.count in
-    ap written_values (more ∙ ap (λ (us : List Write). us ++ new ∷ []) (take-set m.items.items m.count new ∙ c.make_item.ensures.same))
-    ∙ sym (writes_map (noted n ++ new ∷ []))
-    ∙ with_value-new write_entry (noted n) rid new value c.in-None.ensures.none (entry_of rid value new c.set-in-None.ensures c.tell_whole.ensures)
-    ∙ ap (λ (es : List (ℕ × Option (List ℕ))). with_value es rid value) (writes_map (noted n))
-    ∙ ap (λ (s : SetsView). with_value (written_values s.writes) rid value) c.self.view_is
+    let us = c.args.self.now.writes in let rid = c.args.rid in let value = c.args.value.now in
+    let none : (x : Write) → Among x us → x.record_number ≢ rid = λ x among. c.in-None.ensures.none x (subst (Among x) (sym (ap (λ (s : SetsView). s.writes) c.self.view_is)) among) in
+    let new = written_version rid 0 0 value in
+    ap written_values c.add_write.ensures.writes ∙ sym (writes_map (us ++ new ∷ []))
+    ∙ with_value-new write_entry us rid new value none (entry_of rid value new refl c.tell_whole.ensures)
+    ∙ ap (λ (es : List (ℕ × Option (List ℕ))). with_value es rid value) (writes_map us)

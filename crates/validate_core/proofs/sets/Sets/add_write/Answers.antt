@@ -4,7 +4,7 @@ use Rattle.core_rule.specs.View.{Write}
 use Rattle.core_rule.specs.Views.{Among}
 use Rattle.validate_core.specs.Sets.{SetsView}
 use Rattle.validate_core.proofs.Noting.{of_set}
-use Rattle.validate_core.proofs.sets.Sets.write.Goals as goal
+use Rattle.validate_core.proofs.sets.Sets.add_write.Goals as goal
 
 pub enter-requires-clause-item : goal.enter-requires-clause-item
 enter-requires-clause-item c =

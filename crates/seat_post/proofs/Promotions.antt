@@ -23,6 +23,7 @@ use Rattle.seat_post.specs.Searched.{Stops}
 use Rattle.seat_post.specs.Promoting.{IsDrawn, MeetsPending, IsStoppedWriting, FindsElsewhere, LoadsElsewhere, FindsOccupied, WritesInline, PromotesAt, FailsAt, MeetsElsewhere, CameUpon, IsStoppedPost}
 use Rattle.seat_post.specs.Rewriting.{HasFound, Rewrites, IsStopped, LinksOne, IsLoadedIn, others_in}
 use Rattle.seat_post.specs.Observing.{WasLost}
+use Rattle.seat_post.specs.Seats.{placed_of}
 use Rattle.seat_post.specs.declared.promoting.Promotion.{Promotion}
 use Rattle.seat_post.specs.declared.promoting.Promotion.TheVariants.{Promoted, Inline, Absent, Occupied}
 use Rattle.seat_post.specs.Conflicts.{ShowsOf, WasFound}
@@ -46,9 +47,11 @@ ends_none work rests linked item = record {
 pub pending_at : (hand hand' : Seated) (stamp rid wts : ℕ) → Stops stamp rid wts hand.view hand'.view → hand.view.number < hand.view.size.seats → IsDrawn stamp hand.view → MeetsPending stamp rid hand.view hand'.view (Pending rid wts)
 pending_at hand hand' stamp rid wts stops inside drawn =
     let met = met_at hand hand' stamp rid wts stops inside in
+    let none : hand'.view.work.linked ≡ [] = ap (λ (y : View). y.work.linked) stops.view ∙ ap (λ (w : Work). w.linked) drawn.work in
     record {
       only = subst (λ (y : View). y ≡ worked hand.view y.work y.seen) (sym stops.view) refl;
-      ends = ends_none hand'.view.work (rw stops.view stops.rests) (ap (λ (y : View). y.work.linked) stops.view ∙ ap (λ (w : Work). w.linked) drawn.work) (ap (λ (y : View). y.work.item) stops.view ∙ ap (λ (w : Work). w.item) drawn.work);
+      none_linked = none;
+      ends = ends_none hand'.view.work (rw stops.view stops.rests) none (ap (λ (y : View). y.work.item) stops.view ∙ ap (λ (w : Work). w.item) drawn.work);
       grows = stops.grows;
       shown = (refl, met.0, met.1);
       loaded = stops.met;
@@ -287,7 +290,7 @@ module _ (hand hand' : Seated) (phase : Phase) (ps : ℕ) (sets : SetsView) (v :
   met_post met =
       let is : hand'.view ≡ worked (drawn hand.view clock) hand'.view.work hand'.view.seen = met.only ∙ ap (λ (y : View). worked y hand'.view.work hand'.view.seen) drew in record {
         after = rw (table, is) refl;
-        linked = inl (rw is refl);
+        linked = inl (record { known = rw is refl; placed = ap placed_of met.none_linked });
         shown = shown_drawn met.shown;
         loaded = loaded_drawn (inl met);
       }
@@ -301,7 +304,7 @@ module _ (hand hand' : Seated) (phase : Phase) (ps : ℕ) (sets : SetsView) (v :
       ∙ ap (λ (y : View). record y { places = w.places; work = w.work; counts = counted_more y.size rid stamp rid y.counts; tops = record { record_number = rid; stamp = stamp } ∷ y.tops; front = w.front; seen = w.seen }) drew in
       record {
         after = rw (table, is) refl;
-        linked = inr (rw (is, at) refl);
+        linked = inr (record { known = rw (is, at) refl; placed = stops.stops.links.placed });
         shown = shown_drawn (subst (λ (y : View). ShowsOf rid y.size y.number (others_in y) stamp conflict) holds.only stops.stops.shown);
         loaded = loaded_drawn (inr stops);
       }

@@ -1,7 +1,8 @@
 -- What settling comes to: of a record, of all of them, and of a post.
-use Rattle.std.proofs.Common.{◌≡◌, ℕ, true, false, ◌+◌, ◌-◌, ◌<◌, ◌≤◌, ◌⊎◌, List, [], ◌∷◌, Option, refl, sym, ap, ◌∙◌, subst, inl, inr, map, arith}
+use Rattle.std.proofs.Common.{◌≡◌, ℕ, true, false, ◌+◌, ◌-◌, ◌<◌, ◌≤◌, ◌⊎◌, List, [], ◌∷◌, Option, refl, sym, ap, ◌∙◌, subst, inl, inr, map, length, arith}
 use Rattle.std.specs.Prelude.{nat_lt}
 use Rattle.std.proofs.lemmas.Bool.{cases_lt}
+use Rattle.std.proofs.lemmas.List.{length-map}
 use Rattle.plain_data.specs.State.{State}
 use Rattle.stamp_base.specs.Stamp.{bound_of_clock}
 use Rattle.core_rule.specs.View.{View, Logged, Bound, Counted, Gone}
@@ -126,7 +127,13 @@ module _ (hand hand' last : Seated) (phase : Phase) (stamp bound : ℕ) (sets : 
         reached = trail_in w;
         due = s.due;
         runs_out = subst (λ (n : ℕ). RunsOut z s.rid (hand.view.clock.clock + s.all.rewritten) n (observed_of b) (observed_of w)) (sym clock)
-            (subst (λ (n : ℕ). RunsOut z s.rid n w.clock.clock (observed_of b) (observed_of w)) s.drawn s.runs_out);
+            (subst (λ (n : ℕ). RunsOut z s.rid n w.clock.clock (observed_of b) (observed_of w)) s.drawn.clock s.runs_out);
+        entries =
+            let same = ap (λ (es : List Logged). length (map deciding.entry_of es)) (ap (λ (v : View). v.log) view ∙ s.log) in
+            let before = length-map hand.view.log deciding.entry_of in
+            let behind = length-map b.log deciding.entry_of in
+            let drawn = s.drawn.entries in
+            omega arith;
         gone = ap (λ (g : Gone). removed_in g) s.gone;
         last = last_trail;
       } where

@@ -63,9 +63,18 @@ pub record IsRewritten (kept : State → Type 0) (rid place clock : ℕ) (before
   pub after : after' ≡ observing (rewritten_at before clock rid place (Some words)) after'.observed
   pub stood : Stood kept before.shared.size.records before.log (rewriting stamp rid (Some words))
 
+-- no version was linked; one was, in the inline place of the record
+pub record LinksNone (before after' : PostView) : Type 0 where
+  pub known : after'.known ≡ before.known
+  pub placed : after'.placed ≡ []
+
+pub record LinksInline (rid stamp : ℕ) (before after' : PostView) : Type 0 where
+  pub known : after'.known ≡ linked_in before.shared.size rid rid stamp before.known
+  pub placed : after'.placed ≡ record { rid = rid; place = rid } ∷ []
+
 pub record IsStoppedPost (rid clock : ℕ) (before after' : PostView) (conflict : Conflict) : Type 0 where
   pub after : after' ≡ observing (placing (stopped_at before clock after'.known) after'.placed) after'.observed
-  pub linked : (after'.known ≡ before.known) ⊎ (after'.known ≡ linked_in before.shared.size rid rid (stamp_of clock before.seat) before.known)
+  pub linked : LinksNone before after' ⊎ LinksInline rid (stamp_of clock before.seat) before after'
   pub shown : ShowsOf rid before.shared.size before.seat before.others (stamp_of clock before.seat) conflict
   pub loaded : IsLoaded (stamp_of clock before.seat) conflict before.observed after'.observed
 
@@ -137,6 +146,7 @@ PromotesAt kept records stamp rid v w Occupied = FindsOccupied stamp rid v w
 -- a pending version was met
 pub record MeetsPending (stamp rid : ℕ) (v w : View) (conflict : Conflict) : Type 0 where
   pub only : w ≡ worked v w.work w.seen
+  pub none_linked : w.work.linked ≡ []
   pub ends : Ends w.work
   pub grows : growing.Grows v.seen w.seen
   pub shown : ShowsOf rid v.size v.number (others_in v) stamp conflict

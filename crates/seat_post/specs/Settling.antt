@@ -227,9 +227,10 @@ pub record StopsSome (size : Size) (v w : View) : Type 0 where
   pub between : View
   pub first : SettlesFirst size rid all (trail_in v) (trail_in between)
   pub due : IsDue rid between.seen.loads w.seen.loads
-  pub drawn : between.clock.clock ≡ v.clock.clock + all.rewritten
+  pub drawn : Draws all.rewritten v between
   pub runs_out : RunsOut size rid between.clock.clock w.clock.clock (observed_of between) (observed_of w)
   pub gone : w.gone ≡ between.gone
+  pub log : w.log ≡ between.log
 
 -- ---- what the call shows
 
@@ -243,8 +244,8 @@ pub record SettlesAll (before after' : PostView) (all : Settled) : Type 0 where
   pub first : SettlesFirst before.shared.size before.shared.size.records all (trail_of before) reached
   pub last : trail_of after' ≡ with_met reached after'.met
 
--- The clock came to its end. The records below one were settled, and in all this was done for them; of that record a writing again was
--- due, for which there was no clock.
+-- The clock came to its end. The records below one were settled, and in all this was done for them, with an entry for each writing again;
+-- of that record a writing again was due, for which there was no clock.
 pub record StopsPost (before after' : PostView) : Type 0 where
   pub rid : ℕ
   pub within : rid < before.shared.size.records
@@ -256,4 +257,5 @@ pub record StopsPost (before after' : PostView) : Type 0 where
   pub due : IsDue rid between.observed.loads reached.observed.loads
   pub runs_out : RunsOut before.shared.size rid (before.clock + all.rewritten) after'.clock between.observed reached.observed
   pub gone : reached.gone ≡ between.gone
+  pub entries : length after'.log ≡ length before.log + all.rewritten
   pub last : trail_of after' ≡ with_met reached after'.met

@@ -52,6 +52,7 @@ pub(crate) fn renew<J: Keeps>(
     // Where the only version stands in the kept place, the inline place is free.
     ensures inline { StandsKept rid hand.old.view.counts → hand.old.view.clock.clock < greatest_clock → IsOkAnd result (λ renewed. renewed.kept ≡ false) }
     ensures gone { hand.new.view.gone ≡ hand.old.view.gone }
+    ensures log { OnErr result (hand.new.view.log ≡ hand.old.view.log) }
     ensures clock_out { OnErr result (hand.new.view.clock.clock ≡ greatest_clock) }
     ensures wants { IfOk result (λ renewed. renewed.kept ≡ true → MeetsNoPlace core.now.size rid (observed_of hand.old.view) (observed_of hand.new.view)) }
     ensures runs_out { OnErr result (RunsOut core.now.size rid hand.old.view.clock.clock hand.new.view.clock.clock (observed_of hand.old.view) (observed_of hand.new.view)) }

@@ -103,6 +103,7 @@ fn settle_record<J: Keeps>(
     ensures due { OnErr result (IsDue rid hand.old.view.seen.loads hand.new.view.seen.loads) }
     ensures runs_out { OnErr result (RunsOut core.now.size rid hand.old.view.clock.clock hand.new.view.clock.clock (observed_of hand.old.view) (observed_of hand.new.view)) }
     ensures gone { OnErr result (hand.new.view.gone ≡ hand.old.view.gone) }
+    ensures log { OnErr result (hand.new.view.log ≡ hand.old.view.log) }
     ensures clock_out { OnErr result (hand.new.view.clock.clock ≡ greatest_clock) }
     ensures within { OnErr result (hand.new.view.clock.clock ≤ hand.old.view.clock.clock + 1) }
     ensures stays { StaysReady core.now hand.old hand.new }

@@ -50,6 +50,9 @@ returns-in_err-taken-clause-clock_out g c = on_err c.from_residual-in_err-taken.
 pub returns-in_err-taken-clause-none : goal.returns-in_err-taken-clause-none
 returns-in_err-taken-clause-none g c = on_err c.from_residual-in_err-taken.result (ap (λ (y : View). y.counts) c.in_err-taken.ensures.none.view ∙ ap (λ (y : View). y.counts) c.in-Ok.ensures.ok.view ∙ ap (λ (y : View). y.counts) c.in_ok-stamp.ensures.view)
 
+pub returns-in_err-taken-clause-log : goal.returns-in_err-taken-clause-log
+returns-in_err-taken-clause-log g c = on_err c.from_residual-in_err-taken.result (ap (λ (y : View). y.log) c.in_err-taken.ensures.none.view ∙ ap (λ (y : View). y.log) c.in-Ok.ensures.ok.view ∙ ap (λ (y : View). y.log) c.in_ok-stamp.ensures.view)
+
 pub returns-in_err-taken-clause-runs_out : goal.returns-in_err-taken-clause-runs_out
 returns-in_err-taken-clause-runs_out g c =
     let v = c.args.hand.now.view in

@@ -199,3 +199,6 @@ returns-in_err-once-clause-runs_out g c =
 
 pub returns-in_err-once-clause-gone : goal.returns-in_err-once-clause-gone
 returns-in_err-once-clause-gone g c = on_err c.from_residual.result (c.renew.ensures.gone ∙ c.is_visible.ensures.searches.gone ∙ ap (λ (x : View). x.gone) c.first-found.ensures.view)
+
+pub returns-in_err-once-clause-log : goal.returns-in_err-once-clause-log
+returns-in_err-once-clause-log g c = on_err c.from_residual.result (c.in_err-once.ensures.log ∙ c.is_visible.ensures.searches.log ∙ ap (λ (x : View). x.log) c.first-found.ensures.view)

@@ -1,5 +1,5 @@
 -- What a log leaves of a record, as a seat that is alone finds it.
-use Rattle.std.proofs.Common.{◌≡◌, cond, Bool, eqb, eqb-true, ℕ, ◌<◌, true, false, List, [], ◌∷◌, ◌++◌, append-nil, Option, None, Some, refl, sym, ap, ◌∙◌, subst, inl, inr, ◌⊎◌, ⊎_elim, arith, length, map, Contains, suc, ◌+◌}
+use Rattle.std.proofs.Common.{◌≡◌, cond, Bool, eqb, eqb-true, ℕ, ◌<◌, true, false, List, [], ◌∷◌, ◌++◌, append-nil, Option, None, Some, Bor, refl, sym, ap, ◌∙◌, subst, inl, inr, ◌⊎◌, ⊎_elim, arith, length, map, Contains, suc, ◌+◌}
 use Rattle.std.specs.Prelude.{IfSome, is_some}
 use Rattle.std.specs.List.{Any}
 use Rattle.plain_data.specs.declared.entry.Entry.{Entry}
@@ -7,11 +7,11 @@ use Rattle.plain_data.specs.State.{State}
 use Rattle.histories.specs.History.{Lawful, Writes, IsValue}
 use Rattle.histories.proofs.Lists.{Contains-nil, Contains-cases}
 use Rattle.word_layout.specs.Size.{places}
-use Rattle.core_rule.specs.View.{resting, View, Flight, writing, still, Seen, Write, Logged}
+use Rattle.core_rule.specs.View.{resting, View, Flight, writing, still, Seen, Read, Write, Logged}
 use Rattle.core_rule.specs.Views.{Among, IsAlone}
 use Rattle.core_rule.specs.Searching.{limit_of, shown_at}
 use Rattle.core_rule.specs.Collecting.{HasEntry}
-use Rattle.core_rule.specs.Deciding.{value_of, written_values, entry_of}
+use Rattle.core_rule.specs.Deciding.{read_value, value_of, written_values, entry_of}
 use Rattle.core_rule.specs.Left.{NoneAbove, NoneBelow, IsLeft, LeavesCells}
 use Rattle.core_rule.specs.Hands.{Seated}
 use Rattle.core_rule.proofs.Standing.{contains, from_contains, written_contains, written_from}
@@ -130,9 +130,9 @@ read_leaves log limit (d ∷ ds) r value are at =
       | inr h ↦ read_leaves log limit ds r value (All-tail P d ds are) h.1
     ]
 
-pub known_leaves : (log : List Entry) (limit : ℕ) (reads : List (ℕ × Option (List ℕ))) (r : ℕ) (found : Option (Option (List ℕ))) → AreLeft log limit reads → found ≡ value_at reads r → IfSome found (LeavesValue log r limit)
-known_leaves log limit reads r None are is = tt
-known_leaves log limit reads r (Some value) are is = read_leaves log limit reads r value are (sym is)
+pub version_leaves : (log : List Entry) (limit : ℕ) (reads : List (ℕ × Option (List ℕ))) (r : ℕ) (found : Option (Bor Read)) → AreLeft log limit reads → IfSome found (λ d. value_at reads r ≡ Some (read_value d.now)) → IfSome found (λ d. LeavesValue log r limit (read_value d.now))
+version_leaves log limit reads r None are is = tt
+version_leaves log limit reads r (Some d) are is = read_leaves log limit reads r (read_value d.now) are is
 
 -- where all commit entries are below the limit
 pub among_of : {A : Type 0} (xs : List A) (x : A) → Contains xs x → Among x xs

@@ -37,6 +37,22 @@ pub read_value-version : (rid place wts : ℕ) (value : Option (List ℕ)) → r
 read_value-version rid place wts None = refl
 read_value-version rid place wts (Some words) = refl
 
+-- the last of some reads, by their values
+last_alone : (d : Read) (ds : List Read) (rid : ℕ) (value : Option (List ℕ)) → read_values (d ∷ ds) ≡ (rid, value) ∷ [] → (before : List Read) × (last : Read) × (d ∷ ds ≡ before ++ last ∷ []) × (read_value last ≡ value)
+last_alone d [] rid value is =
+    let same : (d.record_number, read_value d) ≡ (rid, value) = cc in
+    ([], d, refl, ap (λ (x : ℕ × Option (List ℕ)). x.1) same)
+last_alone d (e ∷ ds) rid value is = cc
+
+pub last_of : (ds : List Read) (values : List (ℕ × Option (List ℕ))) (rid : ℕ) (value : Option (List ℕ)) → read_values ds ≡ values ++ (rid, value) ∷ [] → (before : List Read) × (last : Read) × (ds ≡ before ++ last ∷ []) × (read_value last ≡ value)
+last_of [] [] rid value is = cc
+last_of [] (v ∷ vs) rid value is = cc
+last_of (d ∷ ds) [] rid value is = last_alone d ds rid value is
+last_of (d ∷ ds) (v ∷ vs) rid value is =
+    let rest : read_values ds ≡ vs ++ (rid, value) ∷ [] = cc in
+    let l = last_of ds vs rid value rest in
+    (d ∷ l.0, l.1, ap (λ xs. d ∷ xs) l.2, l.3)
+
 -- ---- writes
 
 -- the records of a list, by its keys

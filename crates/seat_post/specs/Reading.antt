@@ -1,10 +1,12 @@
 -- What a read answers, and why it has no answer.
-use Rattle.std.specs.Prelude.{ℕ, ⊤, List, [], Option, None, Some}
+use Rattle.std.specs.Prelude.{◌≡◌, ℕ, ⊤, List, [], Option, None, Some}
 use Rattle.core_rule.specs.View.{Load}
 use Rattle.core_rule.specs.Versions.{state_of}
 use Rattle.version_search.specs.Loading.{cells_loaded}
 use Rattle.validate_core.specs.Validating.{Met}
-use Rattle.seat_post.specs.Seats.{Observed}
+use Rattle.seat_post.specs.Seats.{Observed, IsAloneAt}
+use Rattle.seat_post.specs.Leaves.{LeavesValue}
+use Rattle.seat_post.specs.Post.{PostView, noted, observing}
 use Rattle.seat_post.specs.declared.reading.ReadFault.{ReadFault}
 use Rattle.seat_post.specs.declared.reading.ReadFault.TheVariants.{Pending, NoMemory}
 
@@ -22,3 +24,10 @@ value_loaded (Some words) place = cells_loaded place 0 words
 pub record FindsValue (stamp rid : ℕ) (before after' : Observed) (value : Option (List ℕ)) : Type 0 where
   pub wts : ℕ
   pub met : Met stamp rid wts (state_of value) (value_loaded value) before.loads after'.loads
+
+-- A record is read, and one value is noted: that of the version that the search found, which is what the log of a seat that is alone leaves.
+pub record ReadsOne (rid : ℕ) (before after' : PostView) : Type 0 where
+  pub value : Option (List ℕ)
+  pub after : after' ≡ observing (noted before rid value) after'.observed
+  pub found : FindsValue before.stamp rid before.observed after'.observed value
+  pub left : IsAloneAt before.shared.size before.seat before.others → LeavesValue before.log rid before.stamp value

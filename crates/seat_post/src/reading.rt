@@ -1,6 +1,7 @@
 //! Reading and writing at a post.
-ghost use Rattle.std.specs.Prelude.{ℕ, ◌≡◌, ◌≢◌, ◌<◌, None, true, false, is_some, IfOk, IfErr, IfSome, OnOk, OnErr, length, if◌then◌else◌};
+ghost use Rattle.std.specs.Prelude.{ℕ, ◌≡◌, ◌≢◌, ◌<◌, List, [], ◌∷◌, ◌++◌, Option, None, Some, true, false, is_some, option_copied, IfOk, IfErr, IfSome, IfNone, OnOk, OnErr, length, if◌then◌else◌};
 ghost use Rattle.core_rule.specs.View.{Read, writing};
+ghost use Rattle.core_rule.specs.Deciding.{read_value};
 ghost use Rattle.core_rule.specs.Views.{Among};
 ghost use Rattle.core_rule.specs.Hands.{IsReady, StaysReady};
 ghost use Rattle.core_rule.specs.Searching.{Rests};
@@ -13,13 +14,13 @@ ghost use Rattle.seat_post.specs.Seats.{IsAloneAt};
 ghost use Rattle.seat_post.specs.Logs.{IsAbove};
 ghost use Rattle.seat_post.specs.Leaves.{LeavesValue, LeavesSome};
 ghost use Rattle.seat_post.specs.Conflicts.{IsOfAnother, IsLoaded};
-ghost use Rattle.seat_post.specs.Reading.{IfPending, FindsValue};
+ghost use Rattle.seat_post.specs.Reading.{IfPending, FindsValue, ReadsOne};
 ghost use Rattle.seat_post.specs.Searched.{FindsOne, Stops};
 
 use crate::phase::Phase;
 use crate::post::Post;
 use crate::search::{MetPending, search};
-use core_rule::{Core, Hand, Keeps};
+use core_rule::{Core, Hand, Keeps, ReadVersion};
 use plain_data::{Cells, NoMemory};
 use validate_core::Sets;
 use version_search::{Found, find};
@@ -86,19 +87,29 @@ fn note<J: Keeps>(
 }
 
 impl<J: Keeps> Post<J> {
-    /// What is known of a record: the value written, else the value read.
-    pub fn known(&self, rid: u32) -> Option<Option<Cells>>
-        ensures value { result ≡ known_at self.now rid }
-        ensures above { self.now.phase ≡ Phase.Open → IsAbove self.now.log self.now.stamp }
-        ensures left { self.now.phase ≡ Phase.Open → IsAloneAt self.now.shared.size self.now.seat self.now.others → value_at self.now.writes rid ≡ None → IfSome result (LeavesValue self.now.log rid self.now.stamp) }
+    /// The value that the transaction writes to a record.
+    pub fn written(&self, rid: u32) -> Option<&Option<Cells>>
+        ensures { option_copied result ≡ value_at self.now.writes rid }
     {
-        if let Some(value) = self.sets.value_written(rid) {
-            return Some(*value);
-        }
-        match self.sets.read_of(rid) {
-            Some(read) => Some(read.value()),
-            None => None,
-        }
+        self.sets.value_written(rid)
+    }
+
+    /// The version that was read of a record.
+    pub fn version_read(&self, rid: u32) -> Option<&ReadVersion>
+        ensures found { IfSome result (λ d. value_at self.now.reads rid ≡ Some (read_value d.now)) }
+        ensures none { IfNone result (value_at self.now.reads rid ≡ None) }
+        ensures above { self.now.phase ≡ Phase.Open → IsAbove self.now.log self.now.stamp }
+        ensures left { self.now.phase ≡ Phase.Open → IsAloneAt self.now.shared.size self.now.seat self.now.others → IfSome result (λ d. LeavesValue self.now.log rid self.now.stamp (read_value d.now)) }
+    {
+        self.sets.read_of(rid)
+    }
+
+    /// The value that was read last.
+    pub fn last_read(&self) -> Option<Cells>
+        requires { self.now.reads ≢ [] }
+        ensures { (before : List (ℕ × Option (List ℕ))) → (rid : ℕ) → (value : Option (List ℕ)) → self.now.reads ≡ before ++ (rid, value) ∷ [] → result ≡ value }
+    {
+        self.sets.last_read()
     }
 
     /// Whether the transaction writes the record.
@@ -108,17 +119,14 @@ impl<J: Keeps> Post<J> {
         self.sets.value_written(rid).is_some()
     }
 
-    /// Reads a record of which nothing is known. Room is taken first.
-    pub fn read(&mut self, core: &Core<J>, rid: u32) -> Result<Option<Cells>, ReadFault>
+    /// Reads a record of which nothing is known, and notes its value, which is the one read last. Room is taken first.
+    pub fn read(&mut self, core: &Core<J>, rid: u32) -> Result<(), ReadFault>
         requires core { self.old.shared ≡ core.now }
         requires open { self.old.phase ≡ Phase.Open }
         requires rid { rid < self.old.shared.size.records }
         requires first { known_at self.old rid ≡ None }
-        ensures ok { IfOk result (λ value. self.new ≡ observing (noted self.old rid value) self.new.observed) }
+        ensures ok { OnOk result (ReadsOne rid self.old self.new) }
         ensures grows { Grows self.old.observed self.new.observed }
-        // It is the value of the version that the search found.
-        ensures found { IfOk result (FindsValue self.old.stamp rid self.old.observed self.new.observed) }
-        ensures left { IsAloneAt self.old.shared.size self.old.seat self.old.others → IfOk result (LeavesValue self.old.log rid self.old.stamp) }
         ensures err { OnErr result (self.new ≡ observing self.old self.new.observed) }
         ensures loaded { IfErr result (λ fault. IfPending fault (λ wts. IsLoaded self.old.stamp (conflict.Pending rid wts) self.old.observed self.new.observed)) }
         ensures met { IfErr result (λ fault. IfPending fault (λ wts. (wts < self.old.stamp) × IsOfAnother self.old.shared.size self.old.seat self.old.others wts)) }
@@ -134,7 +142,7 @@ impl<J: Keeps> Post<J> {
             Err(met) => return Err(ReadFault::Pending { wts: met.wts }),
             Ok(()) => {}
         }
-        Ok(self.sets.last_read())
+        Ok(())
     }
 
     /// Reads such a record, and notes it only where it is absent. Room is taken first.

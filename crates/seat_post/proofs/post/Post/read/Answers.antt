@@ -1,12 +1,10 @@
-use Rattle.std.proofs.Common.{◌≡◌, ◌<◌, subst, sym, ap, ◌∙◌, Option, List, ℕ}
+use Rattle.std.proofs.Common.{◌<◌, subst, sym, ap, ◌∙◌}
 use Rattle.core_rule.specs.View.{writing}
 use Rattle.core_rule.specs.Deciding.{read_values}
 use Rattle.record_store.specs.Meaning.{value_at}
 use Rattle.seat_post.specs.Conflicts.{IsOfAnother}
-use Rattle.seat_post.specs.Leaves.{LeavesValue}
-use Rattle.seat_post.specs.Reading.{FindsValue}
 use Rattle.seat_post.specs.Post.{PostView, noted, observing, observed_in}
-use Rattle.seat_post.proofs.Listed.{unread, read_value-version}
+use Rattle.seat_post.proofs.Listed.{unread}
 use Rattle.seat_post.proofs.ReadMore.{met_at, is_open, open_at, post_room, view_room, post_read, post_stopped, not_read, found_left, found_value}
 use Rattle.seat_post.proofs.Over.{view_noted}
 use Rattle.seat_post.proofs.Stopped.{stopped_post, loaded_post}
@@ -67,26 +65,14 @@ returns-clause-ok g c =
     let after = observed_in c.note.new.hand in
     let phase = ap (λ (p : PostView). p.phase) c.self.view_is ∙ c.requires.open in
     let flight = (is_open _ _ _ _ phase c.self.invariant).at.begun.in_flight in
-    let same : c.last_read.result ≡ l.value = c.last_read.ensures c.reserve.new.self.reads _ l.reads ∙ read_value-version c.args.rid l.place l.wts l.value in
-    view_noted i.hand c.note.new.hand i.phase i.stamp _ c.args.rid l.place l.wts l.value c.reserve.new.self c.note.new.sets c.note.ensures.stays.seat.same_table l.finds flight l.reads c.note.ensures.writes
-    ∙ ap (λ (p : PostView). observing (noted p c.args.rid l.value) after) (view_room i.hand i.phase i.stamp i.sets c.reserve.new.self r.reads r.writes ∙ c.self.view_is)
-    ∙ ap (λ (x : Option (List ℕ)). observing (noted c.args.self.now c.args.rid x) after) (sym same)
-
-pub returns-clause-left : goal.returns-clause-left
-returns-clause-left g c = λ on.
-    let i = c.self.inside in
-    let l = c.in-Ok.ensures.ok in
-    let same : c.last_read.result ≡ l.value = c.last_read.ensures c.reserve.new.self.reads _ l.reads ∙ read_value-version c.args.rid l.place l.wts l.value in
-    subst (λ (x : Option (List ℕ)). LeavesValue c.args.self.now.log c.args.rid c.args.self.now.stamp x) (sym same)
-    (found_left i.hand c.note.new.hand i.phase i.stamp c.args.rid l.place l.wts l.value i.sets c.args.self.now c.self.invariant c.self.view_is c.requires.open l.finds on)
-
-pub returns-clause-found : goal.returns-clause-found
-returns-clause-found g c =
-    let i = c.self.inside in
-    let l = c.in-Ok.ensures.ok in
-    let same : c.last_read.result ≡ l.value = c.last_read.ensures c.reserve.new.self.reads _ l.reads ∙ read_value-version c.args.rid l.place l.wts l.value in
-    subst (λ (x : Option (List ℕ)). FindsValue c.args.self.now.stamp c.args.rid c.args.self.now.observed (observed_in c.note.new.hand) x) (sym same)
-    (found_value i.hand c.note.new.hand i.phase i.stamp c.args.rid l.place l.wts l.value i.sets c.args.self.now c.self.invariant c.self.view_is c.requires.open l.finds)
+    record {
+      value = l.value;
+      after =
+          view_noted i.hand c.note.new.hand i.phase i.stamp _ c.args.rid l.place l.wts l.value c.reserve.new.self c.note.new.sets c.note.ensures.stays.seat.same_table l.finds flight l.reads c.note.ensures.writes
+          ∙ ap (λ (p : PostView). observing (noted p c.args.rid l.value) after) (view_room i.hand i.phase i.stamp i.sets c.reserve.new.self r.reads r.writes ∙ c.self.view_is);
+      found = found_value i.hand c.note.new.hand i.phase i.stamp c.args.rid l.place l.wts l.value i.sets c.args.self.now c.self.invariant c.self.view_is c.requires.open l.finds;
+      left = found_left i.hand c.note.new.hand i.phase i.stamp c.args.rid l.place l.wts l.value i.sets c.args.self.now c.self.invariant c.self.view_is c.requires.open l.finds;
+    }
 
 pub returns-in-Err-clause-grows : goal.returns-in-Err-clause-grows
 returns-in-Err-clause-grows g c = let i = c.self.inside in post_grows i.hand c.note.new.hand i.phase i.stamp i.sets c.args.self.now c.self.view_is c.in-Err.ensures.err.grows

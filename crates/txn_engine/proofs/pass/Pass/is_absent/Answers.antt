@@ -8,7 +8,7 @@ use Rattle.seat_post.specs.Post.{known_at}
 use Rattle.seat_post.specs.Reading.{FindsValue}
 use Rattle.seat_post.proofs.Leaving.{some_words, present_all}
 use Rattle.txn_engine.proofs.Asking.{pass_asked}
-use Rattle.txn_engine.proofs.Passes.{pass_observing}
+use Rattle.txn_engine.proofs.Passes.{pass_observing, known_unwritten}
 use Rattle.txn_engine.proofs.Growing.{grows_none}
 use Rattle.txn_engine.proofs.pass.Pass.is_absent.Goals as goal
 
@@ -20,19 +20,18 @@ invariant_of-self g c =
 pub returns-in-Some-clause-present : goal.returns-in-Some-clause-present
 returns-in-Some-clause-present g c = λ alone off.
     let flying = ap (λ (x : PassView). x.phase) c.self.view_is ∙ c.requires.open in
-    let unwritten = ap (λ (x : PassView). value_at x.writes c.args.rid) c.self.view_is ∙ c.requires.unwritten in
-    let left = c.in-Some.ensures.left flying (subst (λ (x : PassView). IsAlone x) (sym c.self.view_is) alone) unwritten in
-    let w = some_words c.in-Some.value (c.is_none.ensures ∙ ap not off) in
+    let left = c.in-Some.ensures.left flying (subst (λ (x : PassView). IsAlone x) (sym c.self.view_is) alone) in
+    let w = some_words c.value.result (c.is_none.ensures ∙ ap not off) in
     let p = c.self.inside.post in
-    let some : LeavesSome p.log c.args.rid p.stamp = (w.0, subst (λ (v : Option (List ℕ)). LeavesValue p.log c.args.rid p.stamp v) w.1 left) in
-    subst (λ (x : PassView). IsPresent x.log c.args.rid) c.self.view_is (present_all p.log c.args.rid p.stamp (c.known.ensures.above flying) some)
+    let some : LeavesSome p.log c.args.rid p.stamp = (w.0, subst (λ (v : Option (List ℕ)). LeavesValue p.log c.args.rid p.stamp v) (sym c.value.ensures.value ∙ w.1) left) in
+    subst (λ (x : PassView). IsPresent x.log c.args.rid) c.self.view_is (present_all p.log c.args.rid p.stamp (c.version_read.ensures.above flying) some)
 
 pub returns-in-Ok-clause-present : goal.returns-in-Ok-clause-present
 returns-in-Ok-clause-present g c = λ alone off.
     let flying = ap (λ (x : PassView). x.phase) c.self.view_is ∙ c.requires.open in
     let some = c.in-Ok.ensures.left (subst (λ (x : PassView). IsAlone x) (sym c.self.view_is) alone) off in
     let p = c.self.inside.post in
-    subst (λ (x : PassView). IsPresent x.log c.args.rid) c.self.view_is (present_all p.log c.args.rid p.stamp (c.known.ensures.above flying) some)
+    subst (λ (x : PassView). IsPresent x.log c.args.rid) c.self.view_is (present_all p.log c.args.rid p.stamp (c.version_read.ensures.above flying) some)
 
 pub invariant_of-self-in-Err-Pending : goal.invariant_of-self-in-Err-Pending
 invariant_of-self-in-Err-Pending g c = rw c.in-Err-Pending.ensures.err (pass_observing _ _ _ _ _ _ _ c.self.invariant)
@@ -49,13 +48,15 @@ no_words (Some words) off = cc
 
 pub returns-in-Some-clause-met_absent : goal.returns-in-Some-clause-met_absent
 returns-in-Some-clause-met_absent g c = λ on.
-    let known : known_at c.self.inside.post c.args.rid ≡ Some c.in-Some.value = sym c.known.ensures.value ∙ c.in-Some.is in
-    inl (subst (λ (x : PassView). known_at x.post c.args.rid ≡ Some None) c.self.view_is (known ∙ ap Some (no_words c.in-Some.value (c.is_none.ensures ∙ ap not on))))
+    let unwritten = ap (λ (x : PassView). value_at x.writes c.args.rid) c.self.view_is ∙ c.requires.unwritten in
+    let known : known_at c.self.inside.post c.args.rid ≡ Some c.value.result = known_unwritten c.self.inside.post c.args.rid unwritten ∙ c.in-Some.ensures.found ∙ ap Some (sym c.value.ensures.value) in
+    inl (subst (λ (x : PassView). known_at x.post c.args.rid ≡ Some None) c.self.view_is (known ∙ ap Some (no_words c.value.result (c.is_none.ensures ∙ ap not on))))
 
 pub returns-in-Some-clause-met_present : goal.returns-in-Some-clause-met_present
 returns-in-Some-clause-met_present g c = λ off.
-    let known : known_at c.self.inside.post c.args.rid ≡ Some c.in-Some.value = sym c.known.ensures.value ∙ c.in-Some.is in
-    let w = some_words c.in-Some.value (c.is_none.ensures ∙ ap not off) in
+    let unwritten = ap (λ (x : PassView). value_at x.writes c.args.rid) c.self.view_is ∙ c.requires.unwritten in
+    let known : known_at c.self.inside.post c.args.rid ≡ Some c.value.result = known_unwritten c.self.inside.post c.args.rid unwritten ∙ c.in-Some.ensures.found ∙ ap Some (sym c.value.ensures.value) in
+    let w = some_words c.value.result (c.is_none.ensures ∙ ap not off) in
     inl (w.0, subst (λ (x : PassView). known_at x.post c.args.rid ≡ Some (Some w.0)) c.self.view_is (known ∙ ap Some w.1))
 
 pub returns-in-Ok-clause-met_absent : goal.returns-in-Ok-clause-met_absent

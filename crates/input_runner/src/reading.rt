@@ -7,7 +7,7 @@ ghost use Rattle.record_store.specs.Walks.{IfTorn};
 ghost use Rattle.replay_model.specs.TableMap.{TableMap};
 ghost use Rattle.stamp_base.specs.Limits.{greatest_clock};
 ghost use Rattle.stored_tables.specs.Places.{fixed_records};
-ghost use Rattle.txn_engine.specs.Pass.{IsIdle, engine_of};
+ghost use Rattle.txn_engine.specs.Pass.{IsIdleOf};
 ghost use Rattle.typed_tables.specs.Listing.{AreRows};
 ghost use Rattle.input_runner.specs.Reading.{AddsSnapshot, clock_read};
 ghost use Rattle.lane_runner.specs.Rows.{stands};
@@ -16,7 +16,7 @@ use histories::lawful_has_states;
 use replay_model::{NoMemory, Pairs};
 use std::alloc::Global;
 use stored_tables::{RowsLawful, Walk, fits_records, keeps_tables};
-use txn_engine::{Alone, Engine, NoFault};
+use txn_engine::{Alone, Engine, NoFault, Seat};
 use typed_tables::list_tables;
 
 /// Reads the rows of the first tables, so many of them, as the log leaves them: by one snapshot behind all transactions. The log is
@@ -27,8 +27,7 @@ pub fn read_tables(
     alone: &mut Alone<RowsLawful>,
     count: u32,
 ) -> Result<Vec<Pairs>, NoMemory>
-    requires engine { engine_of alone.old.pass ≡ engine.now }
-    requires idle { IsIdle alone.old.pass }
+    requires pass { IsIdleOf engine.now alone.old.pass }
     requires count { count ≤ 8 }
     requires size { fixed_records ≤ engine.now.size.records }
     requires room { clock_read alone.old.pass ≤ greatest_clock }

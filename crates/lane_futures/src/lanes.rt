@@ -2,8 +2,7 @@
 
 ghost use Rattle.std.specs.Prelude.{◌≡◌, ◌<◌, ◌≤◌, true, false, Some, IsSome, IfOk, OnOk, IfSome, [], length, map};
 ghost use Rattle.std.specs.Option.{IsSomeAnd};
-ghost use Rattle.stored_tables.specs.Places.{fixed_records};
-ghost use Rattle.txn_engine.specs.Pass.{IsIdle, engine_of};
+ghost use Rattle.lane_runner.specs.Using.{MayUse};
 ghost use Rattle.lane_runner.specs.Room.{HasRoom};
 ghost use Rattle.lane_runner.specs.Session.{done_of};
 ghost use Rattle.lane_runner.specs.Lanes.{AddsSome};
@@ -46,9 +45,7 @@ impl<'a, C: Reads + Drop, G: Meets> Lanes<'a, C, G> {
         clock: C,
         gate: &'a G,
     ) -> Result<Lanes<'a, C, G>, NoMemory>
-        requires engine { engine_of pass ≡ engine.now }
-        requires idle { IsIdle pass }
-        requires fixed { fixed_records ≤ engine.now.fixed }
+        requires pass { MayUse engine.now pass }
         requires room { HasRoom pass.clock (all_draws_left sessions.items) }
         ensures made { IfOk result (λ lanes. lanes ≡ Some (record { pass = pass; sessions = sessions.items; next = 0 })) }
 

@@ -29,15 +29,14 @@ pub(crate) struct Running<'a, C, G> {
 impl<'a, C, G> Model for Running<'a, C, G> {
     ghost use Rattle.std.specs.Prelude.{◌≡◌, ◌≤◌, [], length};
     ghost use Rattle.std.specs.Vec.{vec_capacity};
-    ghost use Rattle.stored_tables.specs.Places.{fixed_records};
-    ghost use Rattle.txn_engine.specs.Pass.{IsIdle, engine_of};
+    ghost use Rattle.lane_runner.specs.Using.{MayUse};
     ghost use Rattle.lane_futures.specs.Lanes.{LanesView};
 
     ghost Value = { LanesView };
 
     ghost view = { λ r. record { pass = r.seat.pass; sessions = r.sessions.items; next = r.next } };
 
-    ghost invariant = { λ r. (engine_of r.seat.pass ≡ r.engine.now) × IsIdle r.seat.pass × (fixed_records ≤ r.seat.pass.fixed) × (r.next ≤ length r.sessions.items) × (r.done.items ≡ []) × (length r.sessions.items ≤ vec_capacity r.done) };
+    ghost invariant = { λ r. MayUse r.engine.now r.seat.pass × (r.next ≤ length r.sessions.items) × (r.done.items ≡ []) × (length r.sessions.items ≤ vec_capacity r.done) };
 }
 
 impl<'a, C: Reads + Drop, G: Meets> Running<'a, C, G> {

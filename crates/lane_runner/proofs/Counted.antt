@@ -1,9 +1,7 @@
 -- How often a try counts among the refusals: once at most.
-use Rattle.std.proofs.Common.{◌≡◌, ℕ, ◌+◌, ◌≤◌, Bool, true, false, Option, Some, None, Result, Ok, Err, ap, ◌∙◌, lit≤, arith}
-use Rattle.std.specs.Prelude.{IfOk, IfSome}
+use Rattle.std.proofs.Common.{◌≡◌, ℕ, ◌+◌, ◌≤◌, Bool, true, false, ap, ◌∙◌, lit≤, arith}
 use Rattle.seat_post.specs.Seats.{Known}
 use Rattle.txn_engine.specs.Pass.{PassView, frame, begun, committed, knowing, one_if, observing, placing}
-use Rattle.lane_runner.specs.declared.done.BlockDone.{BlockDone}
 use Rattle.lane_runner.specs.Blocks.{IsRefused, CountsOnce}
 
 one_at_most : (counted : Bool) → one_if counted ≤ 1
@@ -24,11 +22,5 @@ counted_once p q r r' clock known kept ends same = record {
 pub once_then : (p q r : PassView) → CountsOnce p q → IsRefused 0 q r → CountsOnce p r
 once_then p q r once none = record { once = omega (arith, once.once, none.refusals) }
 
-pub some_once : (answer : Option BlockDone) (p q r : PassView) → IfSome answer (λ (done : BlockDone). CountsOnce p q) → IsRefused 0 q r → IfSome answer (λ (done : BlockDone). CountsOnce p r)
-some_once None p q r once none = tt
-some_once (Some done) p q r once none = once_then p q r once none
-
-pub once_behind : {E : Type 0} (answer : Result (Option BlockDone) E) (p q r : PassView) → IsRefused 0 p q → IfOk answer (λ tried. IfSome tried (λ (done : BlockDone). CountsOnce q r)) → IfOk answer (λ tried. IfSome tried (λ (done : BlockDone). CountsOnce p r))
-once_behind (Ok None) p q r none once = tt
-once_behind (Ok (Some done)) p q r none once = record { once = omega (arith, none.refusals, once.once) }
-once_behind (Err fault) p q r none once = tt
+pub once_after : (p q r : PassView) → IsRefused 0 p q → CountsOnce q r → CountsOnce p r
+once_after p q r none once = record { once = omega (arith, none.refusals, once.once) }

@@ -23,3 +23,4 @@ pub mod Attempted
 mod NextBlock
 pub mod Weighing
 pub mod Granted
+mod Ended

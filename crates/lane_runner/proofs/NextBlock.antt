@@ -13,7 +13,7 @@ use Rattle.replay_model.specs.declared.outcome.Placed.{Placed}
 use Rattle.txn_engine.specs.Pass.{EngineView, PassView}
 use Rattle.lane_runner.specs.declared.done.BlockDone.{BlockDone}
 use Rattle.lane_runner.specs.Adds.{Adds}
-use Rattle.lane_runner.specs.Blocks.{IsPlaceOf, Commits, IsRefused, AddsOthers}
+use Rattle.lane_runner.specs.Blocks.{RunsBlock, AddsOthers}
 use Rattle.lane_runner.specs.Lanes.{MayRun, AreEntries}
 use Rattle.lane_runner.specs.Lanes.AreEntries.{result}
 use Rattle.lane_runner.specs.Weighs.{LeavesTables}
@@ -22,7 +22,6 @@ use Rattle.lane_runner.specs.Session.{SessionView, to_try, GivesOutcome}
 use Rattle.core_rule.specs.Views.{Among}
 use Rattle.lane_runner.proofs.Adding.{Adds-trans}
 use Rattle.lane_runner.proofs.Run.{AreEntries-others}
-use Rattle.lane_runner.proofs.Tried.{Commits-behind}
 use Rattle.lane_runner.proofs.Attempted.{to_try_all, tried_below}
 
 -- ---- the last of a list is the first of its reverse
@@ -67,13 +66,6 @@ left_may items block more left may back is = subst (All MayRun) (sym is) (All-ta
 
 -- ---- a try of it
 
--- behind a synchronisation
-pub committed_behind : {E : Type 0} (commands : List Command) (p q r : PassView) (answer : Result (Option BlockDone) E) → IsRefused 0 p q
-    → IfOk answer (λ tried. IfSome tried (λ done. Commits commands q r done.placed done.outcome)) → IfOk answer (λ tried. IfSome tried (λ done. Commits commands p r done.placed done.outcome))
-committed_behind commands p q r (Ok None) first is = tt
-committed_behind commands p q r (Ok (Some done)) first is = Commits-behind 0 commands done.placed done.outcome p q r first is
-committed_behind commands p q r (Err fault) first is = tt
-
 -- what a pass refuses none of begins with it
 pub ample_left : (s : SessionView) (p : PassView) (block : Block) (more others : List Block) → s.refused ≡ 0 → 0 < s.tries → to_try s ≡ block ∷ more → IsAmple p (s.left ++ others) → IsAmple p (block ∷ (more ++ others))
 ample_left s p block more others none tried next ample =
@@ -87,15 +79,15 @@ session_given s t pushed r more same is =
     (ap (λ (rs : List (Placed × Outcome)). record t { results = rs; left = more; refused = 0 }) is)
 
 pub gives_outcome : (s s' : SessionView) (p q r : PassView) (block : Block) (more : List Block) (placed : Placed) (outcome : Outcome) → to_try s ≡ block ∷ more
-    → s' ≡ record s { results = s.results ++ (placed, outcome) ∷ []; left = more; refused = 0 } → Commits block.commands p q placed outcome → IsPlaceOf block placed → AddsOthers q r → r.refusals ≤ p.refusals + 1 → GivesOutcome s s' p r
-gives_outcome s s' p q r block more placed outcome next is commits place others once = record {
+    → s' ≡ record s { results = s.results ++ (placed, outcome) ∷ []; left = more; refused = 0 } → RunsBlock block p q placed outcome → AddsOthers q r → r.refusals ≤ p.refusals + 1 → GivesOutcome s s' p r
+gives_outcome s s' p q r block more placed outcome next is ran others once = let commits = ran.commits in record {
   block = block;
   more = more;
   result = (placed, outcome);
   next_is = next;
   session_is = is;
   entries = commits.entry ∷ others.entries;
-  are_entries = result commits.entry others.entries block [] (placed, outcome) [] (record { place = place; is_entry = commits.is_entry; weighs = commits.weighs })
+  are_entries = result commits.entry others.entries block [] (placed, outcome) [] (record { place = ran.place; is_entry = commits.is_entry; weighs = commits.weighs })
       (AreEntries-others p.shared.size.records others.entries (subst (λ (e : EngineView). (entry : _) → Among entry others.entries → LeavesTables e.size.records entry) commits.adds.engine others.keep));
   adds = Adds-trans p q r (commits.entry ∷ []) others.entries commits.adds others.adds;
   once = once;

@@ -16,7 +16,7 @@ use Rattle.stored_tables.specs.Weight.{all_add}
 use Rattle.stored_tables.specs.Weights.{AddsAfter}
 use Rattle.txn_engine.specs.Pass.{EngineView, PassView, engine_of}
 use Rattle.lane_runner.specs.declared.done.LaneDone.{LaneDone}
-use Rattle.lane_runner.specs.Blocks.{IsPlaceOf, Commits}
+use Rattle.lane_runner.specs.Blocks.{RunsBlock}
 use Rattle.lane_runner.specs.Holding.{Holds, HasRecords, LeavesAfter, IsBehind}
 use Rattle.lane_runner.specs.Finishing.{MayFinish, RunsRests, results_of, rests_of}
 use Rattle.lane_runner.specs.Weighs.{blocks_add}
@@ -68,13 +68,13 @@ RunsRests-new p results holds = record {
 }
 
 pub RunsRests-more : (first p q : PassView) (blocks : List Block) (earlier results results' : List (Placed × Outcome)) (block : Block) (done : Placed × Outcome)
-    → RunsRests blocks earlier first results p → Commits block.commands p q done.0 done.1 → IsPlaceOf block done.0 → (done.0.snap ≡ true → IsBehind p.log done.0.stamp) → Holds q → results' ≡ results ++ done ∷ []
+    → RunsRests blocks earlier first results p → RunsBlock block p q done.0 done.1 → (done.0.snap ≡ true → IsBehind p.log done.0.stamp) → Holds q → results' ≡ results ++ done ∷ []
     → RunsRests (blocks ++ block ∷ []) earlier first results' q
-RunsRests-more first p q blocks earlier results results' block done so_far commits place behind holds pushed = record {
+RunsRests-more first p q blocks earlier results results' block done so_far ran behind holds pushed = record {
   holds = holds;
   rests = so_far.rests ++ done ∷ [];
   all = pushed ∙ ap (λ (rs : List (Placed × Outcome)). rs ++ done ∷ []) so_far.all ∙ append_assoc earlier so_far.rests (done ∷ []);
-  runs = Runs-result blocks so_far.rests [] first p q block done.0 done.1 (so_far.rests ++ done ∷ []) so_far.runs refl commits place refl;
+  runs = Runs-result blocks so_far.rests [] first p q block done.0 done.1 (so_far.rests ++ done ∷ []) so_far.runs refl ran.commits ran.place refl;
   behind = All-push (λ (result : Placed × Outcome). result.0.snap ≡ true → IsBehind first.log result.0.stamp) so_far.rests done so_far.behind
       (λ snap e among. behind snap e (subst (λ (log : List Entry). Among e log) (sym so_far.runs.adds.log) (Among-left e first.log so_far.runs.entries among)));
 }

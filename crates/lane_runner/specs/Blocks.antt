@@ -1,5 +1,5 @@
 -- What the run of a block leaves of a pass.
-use Rattle.std.specs.Prelude.{◌≡◌, ℕ, ◌+◌, ◌≤◌, false, List, [], ◌∷◌}
+use Rattle.std.specs.Prelude.{◌≡◌, ℕ, ◌+◌, ◌<◌, ◌≤◌, false, List, [], ◌∷◌, Option, Some, None, IfSome}
 use Rattle.plain_data.specs.declared.entry.Entry.{Entry}
 use Rattle.core_rule.specs.Views.{Among}
 use Rattle.replay_model.specs.declared.command.Command.{Command}
@@ -8,6 +8,7 @@ use Rattle.replay_model.specs.declared.outcome.Outcome.{Outcome}
 use Rattle.replay_model.specs.declared.outcome.Placed.{Placed}
 use Rattle.history_replay.specs.Results.{IsEntryOf}
 use Rattle.txn_engine.specs.Pass.{PassView}
+use Rattle.lane_runner.specs.declared.done.BlockDone.{BlockDone}
 use Rattle.lane_runner.specs.Rows.{stands}
 use Rattle.lane_runner.specs.Adds.{Adds}
 use Rattle.lane_runner.specs.Weighs.{WeighsAtMost, LeavesTables}
@@ -33,6 +34,22 @@ pub record IsRefused (times : ℕ) (before after' : PassView) : Type 0 where
 -- one refusal was counted at most
 pub record CountsOnce (before after' : PassView) : Type 0 where
   pub once : after'.refusals ≤ before.refusals + 1
+
+-- A block has run: exactly its entry was added, with this place of it and this outcome.
+pub record RunsBlock (block : Block) (before after' : PassView) (placed : Placed) (outcome : Outcome) : Type 0 where
+  pub commits : Commits block.commands before after' placed outcome
+  pub place : IsPlaceOf block placed
+
+-- It has run at a pass, which counted one refusal at most; the record that its transaction read first is one of the engine's.
+pub record IsDone (block : Block) (before after' : PassView) (done : BlockDone) : Type 0 where
+  pub ran : RunsBlock block before after' done.placed done.outcome
+  pub once : CountsOnce before after'
+  pub first : IfSome done.first_read (λ rid. rid < before.shared.size.records)
+
+-- what a try of a block came to: it has run, or it was refused once and nothing was added
+abbrev pub IsTried : Block → (before after' : PassView) → Option BlockDone → Type 0
+IsTried block before after' None = IsRefused 1 before after'
+IsTried block before after' (Some done) = IsDone block before after' done
 
 -- some entries were added, and each leaves the tables and their weight as they were
 pub record AddsOthers (before after' : PassView) : Type 0 where

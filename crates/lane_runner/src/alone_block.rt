@@ -8,9 +8,10 @@ ghost use Rattle.stored_tables.specs.Answers.{IsShort, ReadsAlone};
 ghost use Rattle.stored_tables.specs.Weight.{all_add};
 ghost use Rattle.stored_tables.specs.Places.{fixed_records};
 ghost use Rattle.txn_engine.specs.Pass.{engine_of};
+ghost use Rattle.lane_runner.specs.Using.{MayUse};
 ghost use Rattle.lane_runner.specs.Rows.{stands};
 ghost use Rattle.lane_runner.specs.Adds.{Adds};
-ghost use Rattle.lane_runner.specs.Blocks.{IsPlaceOf, Commits};
+ghost use Rattle.lane_runner.specs.Blocks.{RunsBlock};
 ghost use Rattle.lane_runner.specs.Finishing.{MayFinish};
 ghost use Rattle.lane_runner.specs.Holding.{Holds, Awaits, Enters, HasPlaces, HasRecords, LeavesAfter, CommitsAt, IsBehind, KeepsShared};
 ghost use Rattle.lane_runner.specs.Room.{HasRoom, clock_after};
@@ -23,7 +24,7 @@ use std::alloc::Global;
 use stored_tables::{
     RowsLawful, exec_snap, exec_txn, fits_more, fits_records, keeps_tables, record_left, run_adds,
 };
-use txn_engine::{Alone, AloneFault, BeginFault, Engine};
+use txn_engine::{Alone, AloneFault, BeginFault, Engine, Seat};
 
 /// Tells that the log is lawful, and collects.
 pub(crate) fn close(engine: &Engine<RowsLawful>, alone: &mut Alone<RowsLawful>)
@@ -48,12 +49,11 @@ fn commit_commands(
     alone: &mut Alone<RowsLawful>,
     commands: &Commands,
 ) -> Result<(u64, Outcome), NoMemory>
-    requires engine { engine_of alone.old.pass ≡ engine.now }
+    requires pass { MayUse engine.now alone.old.pass }
     requires holds { Holds alone.old.pass }
     requires commands { AreCommands 8 commands.now }
     requires short { All IsShort commands.now }
     requires few { length commands.now ≤ 64 }
-    requires fixed { fixed_records ≤ engine.now.fixed }
     requires places { HasPlaces engine.now }
     requires records { HasRecords alone.old.pass (all_add commands.now) }
     requires room { HasRoom alone.old.pass.clock 1 }
@@ -107,12 +107,11 @@ pub(crate) fn run_commands(
     alone: &mut Alone<RowsLawful>,
     commands: &Commands,
 ) -> Result<(u64, Outcome), NoMemory>
-    requires engine { engine_of alone.old.pass ≡ engine.now }
+    requires pass { MayUse engine.now alone.old.pass }
     requires holds { Holds alone.old.pass }
     requires commands { AreCommands 8 commands.now }
     requires short { All IsShort commands.now }
     requires few { length commands.now ≤ 64 }
-    requires fixed { fixed_records ≤ engine.now.fixed }
     requires places { HasPlaces engine.now }
     requires records { HasRecords alone.old.pass (all_add commands.now) }
     requires room { HasRoom alone.old.pass.clock 1 }
@@ -192,16 +191,14 @@ pub(crate) fn run_block(
     alone: &mut Alone<RowsLawful>,
     block: &Block,
 ) -> Result<(Placed, Outcome), NoMemory>
-    requires engine { engine_of alone.old.pass ≡ engine.now }
+    requires pass { MayUse engine.now alone.old.pass }
     requires holds { Holds alone.old.pass }
     requires block { MayFinish block.now }
-    requires fixed { fixed_records ≤ engine.now.fixed }
     requires places { HasPlaces engine.now }
     requires records { HasRecords alone.old.pass (all_add block.now.commands) }
     requires room { HasRoom alone.old.pass.clock 1 }
     ensures holds { OnOk result (Holds alone.new.pass) }
-    ensures committed { IfOk result (λ done. Commits block.now.commands alone.old.pass alone.new.pass done.0 done.1) }
-    ensures placed { IfOk result (λ done. IsPlaceOf block.now done.0) }
+    ensures ran { IfOk result (λ done. RunsBlock block.now alone.old.pass alone.new.pass done.0 done.1) }
     ensures behind { IfOk result (λ done. done.0.snap ≡ true → IsBehind alone.old.pass.log done.0.stamp) }
     ensures leaves { OnOk result (LeavesAfter block.now.commands alone.old.pass alone.new.pass) }
     ensures clock { OnOk result (alone.new.pass.clock ≤ clock_after alone.old.pass.clock 1) }

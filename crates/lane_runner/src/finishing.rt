@@ -3,9 +3,8 @@
 ghost use Rattle.std.specs.Prelude.{◌≡◌, ◌+◌, ◌*◌, ◌≤◌, All, IfOk, OnOk, length};
 ghost use Rattle.histories.specs.History.{Lawful};
 ghost use Rattle.history_replay.specs.Results.{StandsForSome};
-ghost use Rattle.stored_tables.specs.Places.{fixed_records};
 ghost use Rattle.txn_engine.specs.Lists.{IsRoomy};
-ghost use Rattle.txn_engine.specs.Pass.{IsIdle, engine_of};
+ghost use Rattle.lane_runner.specs.Using.{MayUse};
 ghost use Rattle.lane_runner.specs.Finishing.{MayFinish, Finishes, AreBehind, results_of, MayFinishAll, rests_of, rests_add, how_many_remain, RunsRests};
 ghost use Rattle.lane_runner.specs.Weighs.{blocks_add};
 ghost use Rattle.lane_runner.specs.Holding.{Holds, HasPlaces, HasRecords};
@@ -45,10 +44,9 @@ fn run_rests(
     blocks: Vec<Block>,
     results: &mut Vec<(Placed, Outcome)>,
 ) -> Result<(), NoMemory>
-    requires engine { engine_of alone.old.pass ≡ engine.now }
+    requires pass { MayUse engine.now alone.old.pass }
     requires holds { Holds alone.old.pass }
     requires blocks { All MayFinish blocks.items }
-    requires fixed { fixed_records ≤ engine.now.fixed }
     requires places { HasPlaces engine.now }
     requires records { HasRecords alone.old.pass (blocks_add blocks.items) }
     requires room { HasRoom alone.old.pass.clock (length blocks.items) }
@@ -70,11 +68,9 @@ fn finish_settled(
     alone: &mut Alone<RowsLawful>,
     done: Vec<LaneDone>,
 ) -> Result<Vec<(Placed, Outcome)>, NoMemory>
-    requires engine { engine_of alone.old.pass ≡ engine.now }
-    requires idle { IsIdle alone.old.pass }
+    requires pass { MayUse engine.now alone.old.pass }
     requires roomy { IsRoomy alone.old.pass }
     requires blocks { MayFinishAll done.items }
-    requires fixed { fixed_records ≤ engine.now.fixed }
     requires places { HasPlaces engine.now }
     requires records { Lawful (StandsForSome stands) alone.old.pass.shared.size.records alone.old.pass.log → HasRecords alone.old.pass (rests_add done.items) }
     requires room { HasRoom alone.old.pass.clock (how_many_remain done.items) }
@@ -100,10 +96,8 @@ pub fn finish_alone(
     alone: &mut Alone<RowsLawful>,
     done: Vec<LaneDone>,
 ) -> Result<Vec<(Placed, Outcome)>, NoMemory>
-    requires engine { engine_of alone.old.pass ≡ engine.now }
-    requires idle { IsIdle alone.old.pass }
+    requires pass { MayUse engine.now alone.old.pass }
     requires blocks { MayFinishAll done.items }
-    requires fixed { fixed_records ≤ engine.now.fixed }
     requires places { HasPlaces engine.now }
     requires records { HasRecords alone.old.pass (rests_add done.items) }
     requires room { HasRoom alone.old.pass.clock (2 * engine.now.size.records + how_many_remain done.items) }

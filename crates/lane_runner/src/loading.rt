@@ -3,8 +3,7 @@
 ghost use Rattle.std.specs.Prelude.{◌≡◌, ◌+◌, ◌<◌, ◌≤◌, [], All, AllPairs, None, OnOk, length};
 ghost use Rattle.replay_model.specs.Input.{IsWellFormed, IsColumn, IsIndex, RowsDiffer, AreIndexes};
 ghost use Rattle.replay_model.specs.TableMap.{loaded, index_of};
-ghost use Rattle.stored_tables.specs.Places.{fixed_records};
-ghost use Rattle.txn_engine.specs.Pass.{engine_of};
+ghost use Rattle.lane_runner.specs.Using.{MayUse};
 ghost use Rattle.lane_runner.specs.Holding.{Holds, Awaits, HasPlaces, HasRecords, KeepsShared};
 ghost use Rattle.lane_runner.specs.Loading.{Loads, HasLoaded, PutsRow, DeclaresIndex, EntersIndex, LacksRows, IsBlank, AreRowsOf, AreIndexesOf, rows_add, row_more};
 ghost use Rattle.lane_runner.specs.Room.{HasRoom, clock_after};
@@ -18,7 +17,7 @@ use stored_tables::{
     RowsLawful, declare_index, empty_stands, empty_weighs_nothing, fits_more, fits_records,
     keeps_tables,
 };
-use txn_engine::{Alone, AloneFault, BeginFault, Engine};
+use txn_engine::{Alone, AloneFault, BeginFault, Engine, Seat};
 
 /// Puts a row, as a transaction of its own.
 fn put_row(
@@ -29,10 +28,9 @@ fn put_row(
     key: u64,
     values: Columns,
 ) -> Result<(), NoMemory>
-    requires engine { engine_of alone.old.pass ≡ engine.now }
+    requires pass { MayUse engine.now alone.old.pass }
     requires holds { Holds alone.old.pass }
     requires table { table < 8 }
-    requires fixed { fixed_records ≤ engine.now.fixed }
     requires places { HasPlaces engine.now }
     requires records { HasRecords alone.old.pass (row_more table) }
     requires room { HasRoom alone.old.pass.clock 1 }
@@ -54,11 +52,10 @@ fn put_rows(
     rows: &[(u32, u64, Columns)],
     indexes: &[(u32, u32)],
 ) -> Result<(), NoMemory>
-    requires engine { engine_of alone.old.pass ≡ engine.now }
+    requires pass { MayUse engine.now alone.old.pass }
     requires loaded { HasLoaded (loaded [] indexes.now) 0 alone.old.pass alone.old.pass }
     requires rows { AreRowsOf rows.now }
     requires differ { RowsDiffer rows.now }
-    requires fixed { fixed_records ≤ engine.now.fixed }
     requires places { HasPlaces engine.now }
     requires records { engine.now.fixed + rows_add rows.now indexes.now ≤ engine.now.size.records }
     requires room { HasRoom alone.old.pass.clock (length rows.now) }
@@ -80,11 +77,10 @@ fn commit_index(
     table: u32,
     column: u32,
 ) -> Result<(), NoMemory>
-    requires engine { engine_of alone.old.pass ≡ engine.now }
+    requires pass { MayUse engine.now alone.old.pass }
     requires lacks { LacksRows table alone.old.pass }
     requires table { table < 8 }
     requires column { IsColumn column }
-    requires fixed { fixed_records ≤ engine.now.fixed }
     requires places { HasPlaces engine.now }
     requires room { HasRoom alone.old.pass.clock 1 }
     ensures enters { OnOk result (EntersIndex table column alone.old alone.new) }
@@ -136,11 +132,10 @@ fn declare(
     table: u32,
     column: u32,
 ) -> Result<(), NoMemory>
-    requires engine { engine_of alone.old.pass ≡ engine.now }
+    requires pass { MayUse engine.now alone.old.pass }
     requires lacks { LacksRows table alone.old.pass }
     requires table { table < 8 }
     requires column { IsColumn column }
-    requires fixed { fixed_records ≤ engine.now.fixed }
     requires places { HasPlaces engine.now }
     requires room { HasRoom alone.old.pass.clock 1 }
     ensures declares { OnOk result (DeclaresIndex table column alone.old.pass alone.new.pass) }
@@ -159,10 +154,9 @@ fn declare_indexes(
     alone: &mut Alone<RowsLawful>,
     indexes: &[(u32, u32)],
 ) -> Result<(), NoMemory>
-    requires engine { engine_of alone.old.pass ≡ engine.now }
+    requires pass { MayUse engine.now alone.old.pass }
     requires blank { IsBlank alone.old.pass }
     requires indexes { AreIndexesOf indexes.now }
-    requires fixed { fixed_records ≤ engine.now.fixed }
     requires places { HasPlaces engine.now }
     requires room { HasRoom alone.old.pass.clock (length indexes.now) }
     ensures loaded { OnOk result (HasLoaded (loaded [] indexes.now) 0 alone.old.pass alone.new.pass) }
@@ -186,11 +180,10 @@ pub fn load_rows(
     alone: &mut Alone<RowsLawful>,
     input: &Input,
 ) -> Result<(), NoMemory>
-    requires engine { engine_of alone.old.pass ≡ engine.now }
+    requires pass { MayUse engine.now alone.old.pass }
     requires blank { IsBlank alone.old.pass }
     requires input { IsWellFormed input.now }
     requires rows { AreRowsOf input.now.rows }
-    requires fixed { fixed_records ≤ engine.now.fixed }
     requires places { HasPlaces engine.now }
     requires records { engine.now.fixed + rows_add input.now.rows input.now.indexes ≤ engine.now.size.records }
     requires room { HasRoom alone.old.pass.clock (length input.now.rows + length input.now.indexes) }

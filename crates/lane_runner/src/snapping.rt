@@ -4,10 +4,10 @@ ghost use Rattle.std.specs.Prelude.{◌≡◌, ◌+◌, ◌≤◌, [], true, Non
 ghost use Rattle.record_store.specs.Walks.{IfTorn};
 ghost use Rattle.replay_model.specs.Input.{AreCommands};
 ghost use Rattle.stored_tables.specs.Answers.{IsShort, ReadsAlone};
-ghost use Rattle.stored_tables.specs.Places.{fixed_records};
-ghost use Rattle.txn_engine.specs.Pass.{IsIdle, IsAlone, engine_of};
+ghost use Rattle.txn_engine.specs.Pass.{IsAlone};
+ghost use Rattle.lane_runner.specs.Using.{MayUse};
 ghost use Rattle.lane_runner.specs.Room.{HasRoom, clock_after};
-ghost use Rattle.lane_runner.specs.Blocks.{IsPlaceOf, Commits, CountsOnce};
+ghost use Rattle.lane_runner.specs.Blocks.{IsDone};
 ghost use Rattle.lane_runner.specs.Lanes.{AddsSome};
 ghost use Rattle.lane_runner.specs.Ready.{IsReady, IsReadyOnceCollected};
 
@@ -17,7 +17,7 @@ use outside_io::Meets;
 use replay_model::{Block, NoMemory, Outcome, Placed};
 use std::alloc::Global;
 use stored_tables::{RowsLawful, Walk, exec_snap, fits_more, fits_records, keeps_tables};
-use txn_engine::{Engine, NoFault, Pass};
+use txn_engine::{Engine, NoFault, Pass, Seat};
 
 /// What commands came to that met no torn tables: want of memory is their only fault.
 pub(crate) fn untorn(told: Result<Outcome, Walk<NoFault>>) -> Result<Outcome, NoMemory>
@@ -41,18 +41,14 @@ fn read_block(
     block: &Block,
     reading: u64,
 ) -> Result<BlockDone, NoMemory>
-    requires engine { engine_of pass.old ≡ engine.now }
-    requires idle { IsIdle pass.old }
+    requires pass { MayUse engine.now pass.old }
     requires kind { block.now.snap ≡ true }
     requires commands { AreCommands 8 block.now.commands }
     requires short { All IsShort block.now.commands }
     requires reads { All ReadsAlone block.now.commands }
-    requires fixed { fixed_records ≤ engine.now.fixed }
     requires room { HasRoom pass.old.clock 1 }
-    ensures committed { IfOk result (λ done. Commits block.now.commands pass.old pass.new done.placed done.outcome) }
-    ensures placed { IfOk result (λ done. IsPlaceOf block.now done.placed) }
+    ensures done { IfOk result (λ done. IsDone block.now pass.old pass.new done) }
     ensures first { IfOk result (λ done. done.first_read ≡ None) }
-    ensures once { IfOk result (λ _. CountsOnce pass.old pass.new) }
     ensures fault { OnErr result (AddsSome pass.old pass.new) }
     ensures clock { pass.new.clock ≤ clock_after pass.old.clock 1 }
     ensures ready { OnOk result (IsReady pass.old → IsReadyOnceCollected pass.new) }
@@ -93,18 +89,14 @@ pub(crate) fn run_snap<G: Meets>(
     reading: u64,
     gate: &G,
 ) -> Result<BlockDone, NoMemory>
-    requires engine { engine_of pass.old ≡ engine.now }
-    requires idle { IsIdle pass.old }
+    requires pass { MayUse engine.now pass.old }
     requires kind { block.now.snap ≡ true }
     requires commands { AreCommands 8 block.now.commands }
     requires short { All IsShort block.now.commands }
     requires reads { All ReadsAlone block.now.commands }
-    requires fixed { fixed_records ≤ engine.now.fixed }
     requires room { HasRoom pass.old.clock 1 }
-    ensures committed { IfOk result (λ done. Commits block.now.commands pass.old pass.new done.placed done.outcome) }
-    ensures placed { IfOk result (λ done. IsPlaceOf block.now done.placed) }
+    ensures done { IfOk result (λ done. IsDone block.now pass.old pass.new done) }
     ensures first { IfOk result (λ done. done.first_read ≡ None) }
-    ensures once { IfOk result (λ _. CountsOnce pass.old pass.new) }
     ensures fault { OnErr result (AddsSome pass.old pass.new) }
     ensures clock { pass.new.clock ≤ clock_after pass.old.clock 1 }
     ensures queue { OnOk result (IsAlone pass.old → pass.new.queue ≡ []) }

@@ -1,11 +1,11 @@
 //! A try of a block of either kind.
 
-ghost use Rattle.std.specs.Prelude.{◌≡◌, ◌<◌, ◌≤◌, List, [], ◌∷◌, IfOk, IfSome, IfNone, IsSome, OnOk, OnErr};
+ghost use Rattle.std.specs.Prelude.{◌≡◌, ◌≤◌, List, [], ◌∷◌, IfOk, IsSome, OnOk, OnErr};
 ghost use Rattle.replay_model.specs.declared.input.Block.{Block};
-ghost use Rattle.stored_tables.specs.Places.{fixed_records};
-ghost use Rattle.txn_engine.specs.Pass.{IsIdle, IsAlone, engine_of};
+ghost use Rattle.txn_engine.specs.Pass.{IsIdleOf, IsAlone};
+ghost use Rattle.lane_runner.specs.Using.{MayUse};
 ghost use Rattle.lane_runner.specs.Room.{HasRoom, clock_after};
-ghost use Rattle.lane_runner.specs.Blocks.{IsPlaceOf, Commits, IsRefused, CountsOnce};
+ghost use Rattle.lane_runner.specs.Blocks.{IsRefused, IsTried};
 ghost use Rattle.lane_runner.specs.Lanes.{MayRun, AddsSome};
 ghost use Rattle.lane_runner.specs.Ready.{IsAmple, IsReady};
 
@@ -30,8 +30,7 @@ fn give_way(refused: u32) {
 /// Synchronises the pass before a further try: behind the first refusal with the seat behind its own, then with the next one, and so on,
 /// round and without its own. Other threads may run first. With one seat there is none.
 fn sync_in_turn(engine: &Engine<RowsLawful>, pass: &mut Pass<RowsLawful>, refused: u32)
-    requires engine { engine_of pass.old ≡ engine.now }
-    requires idle { IsIdle pass.old }
+    requires pass { IsIdleOf engine.now pass.old }
     ensures first { refused ≡ 0 → pass.new ≡ pass.old }
     ensures none { IsRefused 0 pass.old pass.new }
     ensures queue { pass.new.queue ≡ pass.old.queue }
@@ -57,16 +56,10 @@ pub(crate) fn try_block<C: Reads, G: Meets>(
     gate: &G,
     refused: u32,
 ) -> Result<Option<BlockDone>, NoMemory>
-    requires engine { engine_of pass.old ≡ engine.now }
-    requires idle { IsIdle pass.old }
+    requires pass { MayUse engine.now pass.old }
     requires block { MayRun block.now }
-    requires fixed { fixed_records ≤ engine.now.fixed }
     requires room { HasRoom pass.old.clock 1 }
-    ensures committed { IfOk result (λ answer. IfSome answer (λ done. Commits block.now.commands pass.old pass.new done.placed done.outcome)) }
-    ensures placed { IfOk result (λ answer. IfSome answer (λ done. IsPlaceOf block.now done.placed)) }
-    ensures first { IfOk result (λ answer. IfSome answer (λ done. IfSome done.first_read (λ rid. rid < engine.now.size.records))) }
-    ensures refused { IfOk result (λ answer. IfNone answer (IsRefused 1 pass.old pass.new)) }
-    ensures once { IfOk result (λ answer. IfSome answer (λ _. CountsOnce pass.old pass.new)) }
+    ensures tried { IfOk result (λ answer. IsTried block.now pass.old pass.new answer) }
     ensures fault { OnErr result (AddsSome pass.old pass.new) }
     ensures queue { OnOk result (IsAlone pass.old → pass.new.queue ≡ []) }
     ensures clock { pass.new.clock ≤ clock_after pass.old.clock 1 }

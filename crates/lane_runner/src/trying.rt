@@ -1,17 +1,20 @@
 //! One try of a transaction block.
 
-ghost use Rattle.std.specs.Prelude.{◌≡◌, ◌+◌, ◌<◌, ◌≤◌, List, [], ◌∷◌, false, All, IfOk, IfSome, IfNone, IsSome, OnOk, OnErr};
+ghost use Rattle.std.specs.Prelude.{◌≡◌, ◌+◌, ◌<◌, ◌≤◌, List, [], ◌∷◌, false, All, IfOk, IfSome, IsSome, OnOk, OnErr};
 ghost use Rattle.histories.specs.History.{Lawful};
 ghost use Rattle.history_replay.specs.Results.{StandsForSome};
+ghost use Rattle.plain_data.specs.State.{Fits};
 ghost use Rattle.replay_model.specs.declared.input.Block.{Block};
 ghost use Rattle.replay_model.specs.Input.{AreCommands};
 ghost use Rattle.stored_tables.specs.Answers.{IsShort};
-ghost use Rattle.stored_tables.specs.Places.{fixed_records};
-ghost use Rattle.txn_engine.specs.Pass.{IsIdle, IsAlone, engine_of};
+ghost use Rattle.seat_post.specs.declared.phase.Phase.TheVariants.{Open};
+ghost use Rattle.txn_engine.specs.Pass.{IsAlone, entry_of};
+ghost use Rattle.lane_runner.specs.Using.{MayUse};
 ghost use Rattle.lane_runner.specs.Rows.{stands};
 ghost use Rattle.lane_runner.specs.Room.{HasRoom, clock_after};
 ghost use Rattle.lane_runner.specs.Adds.{Adds};
-ghost use Rattle.lane_runner.specs.Blocks.{IsPlaceOf, Commits, IsRefused, CountsOnce};
+ghost use Rattle.lane_runner.specs.Blocks.{IsTried};
+ghost use Rattle.lane_runner.specs.Ending.{EndsBlock};
 ghost use Rattle.lane_runner.specs.Ready.{IsAmple, IsReady, IsReadyOnceCollected};
 
 use crate::collecting::collect;
@@ -21,7 +24,7 @@ use record_store::RecordStore;
 use replay_model::{Block, NoMemory, Outcome, Placed};
 use std::alloc::Global;
 use stored_tables::{RowsLawful, Walk, exec_txn, fits_more, fits_records, keeps_tables};
-use txn_engine::{BeginFault, Engine, Pass, TxnFault};
+use txn_engine::{BeginFault, Engine, Pass, Seat, Txn, TxnFault};
 
 /// Tries a transaction block once. `None`: it is to be tried again, since another transaction was in the way, or no place or no
 /// record number was left; one refusal more is counted then.
@@ -36,18 +39,12 @@ fn try_txn<G: Meets>(
     reading: u64,
     gate: &G,
 ) -> Result<Option<BlockDone>, NoMemory>
-    requires engine { engine_of pass.old ≡ engine.now }
-    requires idle { IsIdle pass.old }
+    requires pass { MayUse engine.now pass.old }
     requires kind { block.now.snap ≡ false }
     requires commands { AreCommands 8 block.now.commands }
     requires short { All IsShort block.now.commands }
-    requires fixed { fixed_records ≤ engine.now.fixed }
     requires room { HasRoom pass.old.clock 1 }
-    ensures committed { IfOk result (λ answer. IfSome answer (λ done. Commits block.now.commands pass.old pass.new done.placed done.outcome)) }
-    ensures placed { IfOk result (λ answer. IfSome answer (λ done. IsPlaceOf block.now done.placed)) }
-    ensures first { IfOk result (λ answer. IfSome answer (λ done. IfSome done.first_read (λ rid. rid < engine.now.size.records))) }
-    ensures refused { IfOk result (λ answer. IfNone answer (IsRefused 1 pass.old pass.new)) }
-    ensures once { IfOk result (λ answer. IfSome answer (λ _. CountsOnce pass.old pass.new)) }
+    ensures tried { IfOk result (λ answer. IsTried block.now pass.old pass.new answer) }
     ensures fault { OnErr result (Adds pass.old pass.new []) }
     ensures clock { pass.new.clock ≤ clock_after pass.old.clock 1 }
     ensures granted { Lawful (StandsForSome stands) pass.old.shared.size.records pass.old.log → (more : List Block) → IsAmple pass.old (block.now ∷ more) → IfOk result IsSome }
@@ -87,11 +84,26 @@ fn try_txn<G: Meets>(
             return Err(NoMemory);
         }
     };
+    Ok(commit_block(txn, block, outcome, gate))
+}
+
+/// Commits the transaction of a block that has this outcome, and gives what the block came to. `None`: another transaction was in the way, or
+/// no place was left.
+fn commit_block<G: Meets>(
+    txn: Txn<'_, RowsLawful>,
+    block: &Block,
+    outcome: Outcome,
+    gate: &G,
+) -> Option<BlockDone>
+    requires open { txn.seat.now.phase ≡ Open }
+    requires fits { Fits (StandsForSome stands) txn.seat.now.shared.size.records (entry_of txn.seat.now) }
+    ensures ends { EndsBlock block.now outcome txn.entry.seat.now txn.exit.0.now result }
+{
     gate.before(block.lane, block.number);
     let first_read = txn.first_read();
     let committed = match txn.commit() {
         Ok(committed) => committed,
-        Err(_) => return Ok(None),
+        Err(_) => return None,
     };
     gate.after(block.lane, block.number);
     let placed = Placed {
@@ -100,11 +112,11 @@ fn try_txn<G: Meets>(
         lane: block.lane,
         number: block.number,
     };
-    Ok(Some(BlockDone {
+    Some(BlockDone {
         placed,
         outcome,
         first_read,
-    }))
+    })
 }
 
 /// Tries a transaction block once, and collects.
@@ -116,18 +128,12 @@ pub(crate) fn try_once<G: Meets>(
     reading: u64,
     gate: &G,
 ) -> Result<Option<BlockDone>, NoMemory>
-    requires engine { engine_of pass.old ≡ engine.now }
-    requires idle { IsIdle pass.old }
+    requires pass { MayUse engine.now pass.old }
     requires kind { block.now.snap ≡ false }
     requires commands { AreCommands 8 block.now.commands }
     requires short { All IsShort block.now.commands }
-    requires fixed { fixed_records ≤ engine.now.fixed }
     requires room { HasRoom pass.old.clock 1 }
-    ensures committed { IfOk result (λ answer. IfSome answer (λ done. Commits block.now.commands pass.old pass.new done.placed done.outcome)) }
-    ensures placed { IfOk result (λ answer. IfSome answer (λ done. IsPlaceOf block.now done.placed)) }
-    ensures first { IfOk result (λ answer. IfSome answer (λ done. IfSome done.first_read (λ rid. rid < engine.now.size.records))) }
-    ensures refused { IfOk result (λ answer. IfNone answer (IsRefused 1 pass.old pass.new)) }
-    ensures once { IfOk result (λ answer. IfSome answer (λ _. CountsOnce pass.old pass.new)) }
+    ensures tried { IfOk result (λ answer. IsTried block.now pass.old pass.new answer) }
     ensures fault { OnErr result (Adds pass.old pass.new []) }
     ensures clock { pass.new.clock ≤ clock_after pass.old.clock 1 }
     ensures queue { OnOk result (IsAlone pass.old → pass.new.queue ≡ []) }

@@ -127,7 +127,7 @@ module _ (engine : EngineView) (queue : TableId) (tries : ℕ) where
   gathers_one : (due : ℕ) (p q : PassView) (t u : Taker) (done : List LaneDone) (readings : List (ℕ × TableMap)) → MayWork engine queue tries p t → IsSamePass t u → HasEnded u → DoesAndReads tries due p q u.took done readings
       → Gathers engine tries due (p ∷ []) (t ∷ []) q [] (u ∷ []) done readings
   gathers_one due p q t u done readings may same ended works = let does = works.does in record {
-    engine_is = does.adds.engine ∙ may.engine_is;
+    engine_is = does.adds.engine ∙ may.uses.same;
     idle = does.adds.idle;
     of_engine = tt;
     seats = ap (λ (seat : ℕ). seat ∷ []) does.adds.seat;
@@ -147,7 +147,7 @@ module _ (engine : EngineView) (queue : TableId) (tries : ℕ) where
     in_order = works.in_order;
   } where
     here : AreOfLanes engine.size.records works.does.entries u.took done
-    here = subst (λ (e : EngineView). AreOfLanes e.size.records works.does.entries u.took done) may.engine_is works.does.are_of_lanes
+    here = subst (λ (e : EngineView). AreOfLanes e.size.records works.does.entries u.took done) may.uses.same works.does.are_of_lanes
 
   -- one more, whose pass has retired
   gathers_more : (due : ℕ) (passes : List PassView) (takers : List Taker) (first : PassView) (others : List RetiredView) (ended : List Taker) (done : List LaneDone) (readings : List (ℕ × TableMap))
@@ -157,7 +157,7 @@ module _ (engine : EngineView) (queue : TableId) (tries : ℕ) where
   gathers_more due passes takers first others ended done readings so_far p q t u more may same is_end does = let here : Grown = record { pass = p; added = does.entries } in record {
     engine_is = so_far.engine_is;
     idle = so_far.idle;
-    of_engine = of_engine_push engine others (retired q) so_far.of_engine (does.adds.engine ∙ may.engine_is);
+    of_engine = of_engine_push engine others (retired q) so_far.of_engine (does.adds.engine ∙ may.uses.same);
     seats = ap (λ (seats : List ℕ). first.seat ∷ seats) (map-append (λ (r : RetiredView). r.seat) others (retired q ∷ [])) ∙ (λ i. so_far.seats i ++ does.adds.seat i ∷ []) ∙ sym (map-append (λ (x : PassView). x.seat) passes (p ∷ []));
     takers_are = map-append fresh_again ended (u ∷ []) ∙ (λ i. so_far.takers_are i ++ fresh_same t u may.fresh same i ∷ []);
     have_ended = each_push HasEnded ended u so_far.have_ended is_end;
@@ -176,7 +176,7 @@ module _ (engine : EngineView) (queue : TableId) (tries : ℕ) where
   } where
     both : AreOfLanes engine.size.records (all_added so_far.grown ++ does.entries) (taken_by ended ++ u.took) (done ++ more)
     both = AreOfLanes-append engine.size.records (all_added so_far.grown) does.entries (taken_by ended) u.took done more so_far.are_of_lanes
-        (subst (λ (e : EngineView). AreOfLanes e.size.records does.entries u.took more) may.engine_is does.are_of_lanes)
+        (subst (λ (e : EngineView). AreOfLanes e.size.records does.entries u.took more) may.uses.same does.are_of_lanes)
 
   -- what is gathered of the first one
   gathers_start : (due : ℕ) (p : PassView) (t : Taker) (worked : Worked) (readings : List (ℕ × TableMap)) (g : Gathered) → MayWork engine queue tries p t → WorksAndReads due tries p t worked readings → Starts worked g → GathersIn engine tries due (p ∷ []) (t ∷ []) g readings

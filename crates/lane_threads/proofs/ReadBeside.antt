@@ -11,7 +11,7 @@ use Rattle.history_replay.specs.Results.{StandsForSome}
 use Rattle.replay_model.specs.declared.input.Block.{Block}
 use Rattle.replay_model.specs.TableMap.{TableMap}
 use Rattle.txn_engine.specs.Pass.{EngineView, PassView, observing, with_met}
-use Rattle.txn_engine.specs.Alone.{AloneView, with_pass}
+use Rattle.txn_engine.specs.Alone.{AloneView, Beside, with_pass}
 use Rattle.lane_runner.specs.declared.done.LaneDone.{LaneDone}
 use Rattle.lane_runner.specs.Rows.{stands}
 use Rattle.lane_runner.specs.Room.{HasRoom}
@@ -144,7 +144,7 @@ module _ (engine : EngineView) (passes : List PassView) (lanes : List (List Bloc
     read_behind : RunsAll engine passes lanes tries due alone' done
     read_behind = record {
       together = record {
-        shared = reads.shared ∙ runs.together.shared;
+        shared = ap (λ (b : Beside). b.shared) reads.beside ∙ runs.together.shared;
         engine_is = reads.others.adds.engine ∙ runs.together.engine_is;
         first = reads.others.adds.seat ∙ runs.together.first;
         is_alone = alone_stays alone.pass alone'.pass more reads.others.adds runs.together.is_alone;
@@ -161,7 +161,7 @@ module _ (engine : EngineView) (passes : List PassView) (lanes : List (List Bloc
       each_grown = grown_last alone.pass (g ∷ gs) more (subst (AllByRecursion IsGrown) are runs.each_grown) from reads.others.adds.each reads.others.adds.in_order;
       are_of_lanes = of_lanes;
       in_log = subst (AllIn (all_added (behind_last (g ∷ gs) more))) (sym log_after) (added_in_logs (behind_last (g ∷ gs) more));
-      refusals = omega (arith, runs.refusals, reads.others.adds.refusals);
+      refusals = omega (arith, runs.refusals, reads.others.adds.refusals, ap (λ (b : Beside). b.earlier) reads.beside);
       clock_from = omega (arith, runs.clock_from, reads.others.adds.clock);
       clock_to = omega (arith, runs.clock_to, reads.clock, draws_are);
       met = omega (arith, runs.met, reads.others.adds.met);

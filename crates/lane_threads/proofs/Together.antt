@@ -13,12 +13,13 @@ use Rattle.core_rule.proofs.Among.{Among-left, Among-right, Among-split}
 use Rattle.replay_model.specs.declared.input.Block.{Block}
 use Rattle.replay_model.specs.TableMap.{TableMap}
 use Rattle.lane_queue.specs.declared.lane.Lane.{Lane}
+use Rattle.stored_tables.specs.Places.{fixed_records}
 use Rattle.lane_queue.specs.Passes.{Taker, IsFresh, AreAll, AreOf, numbered, taken_by}
 use Rattle.txn_engine.specs.Pass.{EngineView, PassView, IsIdle, IsAlone, with_glance, engine_of, desk_of}
 use Rattle.seat_post.specs.Glance.{GlanceView}
 use Rattle.txn_engine.specs.Retired.{RetiredView}
 use Rattle.txn_engine.specs.Alone.{AloneView}
-use Rattle.txn_engine.specs.Joining.{AreOthers, come_together, greatest_clock_of, greatest_met_of, logs_of}
+use Rattle.txn_engine.specs.Joining.{AreOthers, come_together, greatest_clock_of, greatest_met_of, logs_of, refusals_of}
 use Rattle.lane_runner.specs.declared.done.LaneDone.{LaneDone}
 use Rattle.lane_threads.specs.declared.workers.Worker.{Worker}
 use Rattle.lane_runner.specs.Room.{HasRoom}
@@ -36,14 +37,13 @@ use Rattle.lane_threads.proofs.Readings.{read_later}
 pub count_passes : (engine : EngineView) (passes : List PassView) → AreAllPasses engine passes → length passes ≡ engine.size.seats
 count_passes engine passes are = sym (length-map passes (λ (p : PassView). p.seat)) ∙ ap length are.seats ∙ length-range_with_len 0 engine.size.seats
 
-module _ {C : Type 0} (engine : EngineView) (queue : TableId) (tries : ℕ) (lanes : List (List Block)) where
+module _ {C : Type 0} (engine : EngineView) (queue : TableId) (tries : ℕ) (lanes : List (List Block)) (fixed : fixed_records ≤ engine.fixed) where
   begin_each : (ws : List (Worker C)) → AllByRecursion (λ p. engine_of p ≡ engine) (passes_of ws) → AllByRecursion IsIdle (passes_of ws) → AllByRecursion (λ t. t.queue ≡ queue) (takers_of ws) → AllByRecursion IsFresh (takers_of ws)
       → AreOf (numbered 1 lanes) (takers_of ws) → All (All MayRun) lanes → AllByRecursion (λ p. HasRoom p.clock (all_draws lanes tries)) (passes_of ws) → AllByRecursion (MayBegin engine queue tries) ws
   begin_each [] engines idle queues fresh of may room = tt
   begin_each (w ∷ ws) engines idle queues fresh of may room = (
     record {
-      engine_is = engines.0;
-      idle = idle.0;
+      uses = record { same = engines.0; idle = idle.0; fixed = fixed };
       queue_is = queues.0;
       fresh = fresh.0;
       lanes = subst (All MayRunLane) (sym of.0) (may_numbered 1 lanes may);
@@ -130,7 +130,7 @@ met_grows met (r ∷ rs) = let more : max met r.met ≤ greatest_met_of (max met
 
 module _ (engine : EngineView) (passes : List PassView) (takers : List Taker) (lanes : List (List Block)) (tries due : ℕ) (first : PassView) (others : List RetiredView) (ended : List Taker) (done : List LaneDone) (readings : List (ℕ × TableMap))
     (alone : AloneView) (glance : Option GlanceView) (gathers : Gathers engine tries due passes takers first others ended done readings)
-    (first_seat : first.seat ≡ 0) (each_once : IsPermutation (numbered 1 lanes) (taken_by ended)) (is : alone.pass ≡ with_glance (come_together first others) glance) (shared : alone.shared ≡ true) (is_alone : IsAlone alone.pass) where
+    (first_seat : first.seat ≡ 0) (each_once : IsPermutation (numbered 1 lanes) (taken_by ended)) (is : alone.pass ≡ with_glance (come_together first others) glance) (shared : alone.shared ≡ true) (earlier : alone.earlier ≡ refusals_of others) (is_alone : IsAlone alone.pass) where
   log_is : alone.pass.log ≡ grown_logs gathers.grown
   log_is = ap (λ (p : PassView). p.log) is ∙ gathers.logs
 
@@ -158,7 +158,7 @@ module _ (engine : EngineView) (passes : List PassView) (takers : List Taker) (l
       each_grown = gathers.each_grown;
       are_of_lanes = gathers.are_of_lanes;
       in_log = subst (AllIn (all_added gathers.grown)) (sym log_is) (added_in_logs gathers.grown);
-      refusals = omega (arith, gathers.refusals, ap (λ (p : PassView). p.refusals) is);
+      refusals = omega (arith, gathers.refusals, earlier, ap (λ (p : PassView). p.refusals) is);
       clock_from = omega (arith, gathers.clock_from, ap (λ (p : PassView). p.clock) is);
       clock_to = omega (arith, gathers.clock_to, ap (λ (p : PassView). p.clock) is, draws);
       met = omega (arith, gathers.met, ap (λ (p : PassView). p.met) is);
@@ -173,7 +173,7 @@ module _ (engine : EngineView) (passes : List PassView) (takers : List Taker) (l
 -- the same of passes that are these
 pub runs_all_on : (engine : EngineView) (passes passes' : List PassView) (takers : List Taker) (lanes : List (List Block)) (tries due : ℕ) (first : PassView) (others : List RetiredView) (ended : List Taker) (done : List LaneDone) (readings : List (ℕ × TableMap))
     (alone : AloneView) (glance : Option GlanceView) → Gathers engine tries due passes takers first others ended done readings → first.seat ≡ 0 → IsPermutation (numbered 1 lanes) (taken_by ended)
-    → alone.pass ≡ with_glance (come_together first others) glance → alone.shared ≡ true → IsAlone alone.pass → passes ≡ passes' → RunsAndReads engine passes' lanes tries due alone done readings
-runs_all_on engine passes passes' takers lanes tries due first others ended done readings alone glance gathers first_seat each_once is shared is_alone same =
+    → alone.pass ≡ with_glance (come_together first others) glance → alone.shared ≡ true → alone.earlier ≡ refusals_of others → IsAlone alone.pass → passes ≡ passes' → RunsAndReads engine passes' lanes tries due alone done readings
+runs_all_on engine passes passes' takers lanes tries due first others ended done readings alone glance gathers first_seat each_once is shared earlier is_alone same =
     subst (λ (ps : List PassView). RunsAndReads engine ps lanes tries due alone done readings) same
-    (runs_all engine passes takers lanes tries due first others ended done readings alone glance gathers first_seat each_once is shared is_alone)
+    (runs_all engine passes takers lanes tries due first others ended done readings alone glance gathers first_seat each_once is shared earlier is_alone)

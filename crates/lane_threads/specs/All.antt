@@ -117,7 +117,7 @@ pub record RunsAll (engine : EngineView) (passes : List PassView) (lanes : List 
   pub are_of_lanes : AreOfLanes engine.size.records (all_added grown) taken done
   pub in_log : AllIn (all_added grown) alone.pass.log
   -- a lane has a rest only where a block of it was refused so often
-  pub refusals : all_refusals passes + tries_of_rests tries done ≤ alone.pass.refusals
+  pub refusals : all_refusals passes + tries_of_rests tries done ≤ alone.pass.refusals + alone.earlier
   pub clock_from : latest_clock passes ≤ alone.pass.clock
   pub clock_to : alone.pass.clock ≤ clock_after (latest_clock passes) (all_draws lanes tries + due)
   pub met : greatest_met passes ≤ alone.pass.met

@@ -6,13 +6,14 @@ use Rattle.plain_data.specs.declared.entry.Entry.{Entry}
 use Rattle.replay_model.specs.TableMap.{TableMap}
 use Rattle.lane_queue.specs.declared.lane.Lane.{Lane}
 use Rattle.lane_queue.specs.Passes.{Taker, IsFresh, IsSamePass, HasEnded}
-use Rattle.txn_engine.specs.Pass.{EngineView, PassView, IsIdle, engine_of}
+use Rattle.txn_engine.specs.Pass.{EngineView, PassView}
 use Rattle.txn_engine.specs.Retired.{retired}
 use Rattle.lane_runner.specs.declared.done.LaneDone.{LaneDone}
 use Rattle.lane_threads.specs.declared.workers.Worker.{Worker}
 use Rattle.lane_threads.specs.declared.workers.Worked.{Worked}
 use Rattle.lane_threads.specs.declared.workers.Left.{Left}
 use Rattle.lane_runner.specs.Room.{HasRoom, clock_after}
+use Rattle.lane_runner.specs.Using.{MayUse}
 use Rattle.lane_runner.specs.Adds.{Adds}
 use Rattle.lane_runner.specs.Lanes.{MayRun, AddsSome, lane_draws}
 use Rattle.lane_threads.specs.All.{AreOfLanes, tries_of_rests}
@@ -26,10 +27,9 @@ MayRunLane lane = All MayRun lane.blocks
 abbrev pub draws_of : List Lane → (tries : ℕ) → ℕ
 draws_of lanes tries = sum_by (λ lane. lane_draws lane.blocks tries) lanes
 
--- a pass of this engine, and a right to take lanes of this queue that has taken none yet, which may run any of its lanes
+-- a pass that this engine may be used with, and a right to take lanes of this queue that has taken none yet, which may run any of its lanes
 pub record MayWork (engine : EngineView) (queue : TableId) (tries : ℕ) (pass : PassView) (taker : Taker) : Type 0 where
-  pub engine_is : engine_of pass ≡ engine
-  pub idle : IsIdle pass
+  pub uses : MayUse engine pass
   pub queue_is : taker.queue ≡ queue
   pub fresh : IsFresh taker
   pub lanes : All MayRunLane taker.lanes

@@ -37,11 +37,10 @@ fn run_others<R: Threads + Wait + Sync, C: Clock, G: Gate, W: Work<C, G>>(
     tries: u32,
 ) -> Result<Vec<Left>, NoMemory>
     requires begin { All (MayBegin engine.now queue.now tries) workers.items }
-    requires fixed { fixed_records ≤ engine.now.fixed }
     ensures { IfOk result (λ left. EachRetires tries workers.items left.items) }
 {
     let work = move |worker: Worker<C>| -> Left
-        requires { MayBegin engine.now queue.now tries worker × (fixed_records ≤ engine.now.fixed) }
+        requires { MayBegin engine.now queue.now tries worker }
         ensures { WorksAndRetires tries worker.pass worker.taker result }
     { work_and_retire(rt, alloc, engine, queue, way, worker, gate, tries) };
     Ok(thread::map_vec(rt, workers, &work)?)
@@ -68,7 +67,6 @@ fn run_beside<
 ) -> (Result<Vec<Left>, NoMemory>, (Worked, L::Reader))
     requires first { MayBegin engine.now queue.now tries first }
     requires others { All (MayBegin engine.now queue.now tries) others.items }
-    requires fixed { fixed_records ≤ engine.now.fixed }
     requires room { HasRoomBeside (L.may_read reader) tries first }
     requires none { L.has_read reader ≡ [] }
     ensures others { IfOk result.0 (λ left. EachRetires tries others.items left.items) }
@@ -77,11 +75,11 @@ fn run_beside<
     thread::join(
         rt,
         move || -> Result<Vec<Left>, NoMemory>
-            requires { All (MayBegin engine.now queue.now tries) others.items × (fixed_records ≤ engine.now.fixed) }
+            requires { All (MayBegin engine.now queue.now tries) others.items }
             ensures { IfOk result (λ left. EachRetires tries others.items left.items) }
         { run_others(rt, alloc, engine, queue, way, gate, others, tries) },
         move || -> (Worked, L::Reader)
-            requires { MayBegin engine.now queue.now tries first × (fixed_records ≤ engine.now.fixed) × HasRoomBeside (L.may_read reader) tries first × (L.has_read reader ≡ []) }
+            requires { MayBegin engine.now queue.now tries first × HasRoomBeside (L.may_read reader) tries first × (L.has_read reader ≡ []) }
             ensures { WorksAndReads (L.may_read reader) tries first.pass first.taker result.0 (L.has_read result.1) }
         { L::first(rt, alloc, engine, queue, way, reader, first, gate, tries) },
     )
@@ -107,7 +105,6 @@ fn run_workers<
 ) -> Result<(Gathered, L::Reader), NoMemory>
     requires some { 0 < length workers.items }
     requires begin { AllByRecursion (MayBegin engine.now queue.now tries) workers.items }
-    requires fixed { fixed_records ≤ engine.now.fixed }
     requires room { AllByRecursion (HasRoomBeside (L.may_read reader) tries) workers.items }
     requires none { L.has_read reader ≡ [] }
     ensures { IfOk result (λ run. GathersIn engine.now tries (L.may_read reader) (map (λ w. w.pass) workers.items) (map (λ w. w.taker) workers.items) run.0 (L.has_read run.1)) }

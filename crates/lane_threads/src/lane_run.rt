@@ -1,7 +1,6 @@
 //! Ways to run all lanes on the passes of an engine.
 
 ghost use Rattle.std.specs.Prelude.{◌≡◌, ◌+◌, ◌≤◌, []};
-ghost use Rattle.stored_tables.specs.Places.{fixed_records};
 ghost use Rattle.lane_runner.specs.Room.{HasRoom};
 ghost use Rattle.lane_threads.specs.Workers.{MayBegin, WorksAndReads, draws_of};
 
@@ -21,8 +20,7 @@ use txn_engine::{Alone, Engine};
 pub trait LaneRun<C: Clock, G: Gate> {
     ghost use Rattle.std.specs.Prelude.{◌≡◌, ℕ, ◌+◌, ◌-◌, ◌≤◌, List, [], OnOk, length};
     ghost use Rattle.replay_model.specs.TableMap.{TableMap};
-    ghost use Rattle.stored_tables.specs.Places.{fixed_records};
-    ghost use Rattle.txn_engine.specs.Pass.{IsIdle, engine_of};
+    ghost use Rattle.lane_runner.specs.Using.{MayUse};
     ghost use Rattle.lane_runner.specs.Room.{HasRoom};
     ghost use Rattle.lane_threads.specs.Seen.{ReadsAll};
     ghost use Rattle.lane_threads.specs.Workers.{MayBegin, WorksAndReads, draws_of};
@@ -65,7 +63,6 @@ pub trait LaneRun<C: Clock, G: Gate> {
         tries: u32,
     ) -> (Worked, Self::Reader)
         requires begin { MayBegin engine.now queue.now tries worker }
-        requires fixed { fixed_records ≤ engine.now.fixed }
         requires room { HasRoom worker.pass.clock (draws_of worker.taker.lanes tries + may_read reader) }
         requires none { has_read reader ≡ [] }
         ensures { WorksAndReads (may_read reader) tries worker.pass worker.taker result.0 (has_read result.1) };
@@ -78,9 +75,7 @@ pub trait LaneRun<C: Clock, G: Gate> {
         alone: &mut Alone<RowsLawful>,
         reader: Self::Reader,
     ) -> Result<(), NoMemory>
-        requires engine { engine_of alone.old.pass ≡ engine.now }
-        requires idle { IsIdle alone.old.pass }
-        requires fixed { fixed_records ≤ engine.now.fixed }
+        requires pass { MayUse engine.now alone.old.pass }
         requires few { length (has_read reader) ≤ due self.old }
         requires room { HasRoom alone.old.pass.clock (due self.old - length (has_read reader)) }
         ensures due { due self.new ≡ due self.old }
@@ -128,7 +123,6 @@ impl<C: Clock, G: Gate> LaneRun<C, G> for Workers {
         tries: u32,
     ) -> (Worked, ())
         requires begin { MayBegin engine.now queue.now tries worker }
-        requires fixed { fixed_records ≤ engine.now.fixed }
         requires room { HasRoom worker.pass.clock (draws_of worker.taker.lanes tries + 0) }
         ensures { WorksAndReads 0 tries worker.pass worker.taker result.0 [] }
     {

@@ -1,7 +1,6 @@
 //! The work of one worker: what it begins with and leaves, and how it runs the lanes that it takes.
 
-ghost use Rattle.std.specs.Prelude.{◌≡◌, ◌≤◌, IfOk, All};
-ghost use Rattle.stored_tables.specs.Places.{fixed_records};
+ghost use Rattle.std.specs.Prelude.{◌≡◌, IfOk, All};
 ghost use Rattle.lane_queue.specs.Passes.{IsSamePass, HasEnded};
 ghost use Rattle.lane_runner.specs.Lanes.{AddsSome};
 ghost use Rattle.lane_threads.specs.Workers.{MayWork, MayBegin, DoesLanes, Works, WorksAndRetires, NothingIsRead};
@@ -33,8 +32,6 @@ pub struct Worked {
 
 /// How a worker runs the lanes that it takes.
 pub trait Work<C: Clock, G: Gate>: Sync + Drop {
-    ghost use Rattle.std.specs.Prelude.{◌≤◌};
-    ghost use Rattle.stored_tables.specs.Places.{fixed_records};
     ghost use Rattle.lane_threads.specs.Workers.{MayBegin, Works};
 
     /// Takes lanes until none is left, and runs them. After want of memory the pass has no transaction in flight, so that it can retire.
@@ -49,7 +46,6 @@ pub trait Work<C: Clock, G: Gate>: Sync + Drop {
         tries: u32,
     ) -> Worked
         requires begin { MayBegin engine.now queue.now tries worker }
-        requires fixed { fixed_records ≤ engine.now.fixed }
         ensures { Works tries worker.pass worker.taker result };
 }
 
@@ -74,7 +70,6 @@ fn work_lanes<R: Wait, C: Reads, G: Meets>(
     tries: u32,
 ) -> Result<Vec<LaneDone>, NoMemory>
     requires may_work { MayWork engine.now queue.now tries pass.old taker.old }
-    requires fixed { fixed_records ≤ engine.now.fixed }
     ensures adds { AddsSome pass.old pass.new }
     ensures same { IsSamePass taker.old taker.new }
     ensures ended { IfOk result (λ done. HasEnded taker.new) }
@@ -102,7 +97,6 @@ pub(crate) fn work_lane_by_lane<R: Wait, C: Reads + Drop, G: Meets>(
     tries: u32,
 ) -> Worked
     requires begin { MayBegin engine.now queue.now tries worker }
-    requires fixed { fixed_records ≤ engine.now.fixed }
     ensures { Works tries worker.pass worker.taker result }
 {
     let Worker {
@@ -137,7 +131,6 @@ impl<C: Clock, G: Gate> Work<C, G> for LaneByLane {
         tries: u32,
     ) -> Worked
         requires begin { MayBegin engine.now queue.now tries worker }
-        requires fixed { fixed_records ≤ engine.now.fixed }
         ensures { Works tries worker.pass worker.taker result }
     {
         work_lane_by_lane(rt, alloc, engine, queue, worker, gate, tries)
@@ -156,7 +149,6 @@ pub(crate) fn work_and_retire<R: Wait, C: Clock, G: Gate, W: Work<C, G>>(
     tries: u32,
 ) -> Left
     requires begin { MayBegin engine.now queue.now tries worker }
-    requires fixed { fixed_records ≤ engine.now.fixed }
     ensures { WorksAndRetires tries worker.pass worker.taker result }
 {
     let Worked { pass, taker, done } = way.work(rt, alloc, engine, queue, worker, gate, tries);

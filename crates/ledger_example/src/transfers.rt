@@ -8,7 +8,7 @@ use crate::{ACCOUNTS, FIRST};
 use histories::AnyState;
 use std::alloc::Global;
 use std::thread::{Threads, for_each_mut};
-use txn_engine::{Alone, Engine, Pass};
+use txn_engine::{Alone, Engine, Pass, Seat};
 
 // How many transfers a thread makes, and how often it tries each at most.
 const TRANSFERS: u32 = 200;

@@ -13,7 +13,7 @@ use stamp_base::{Stamp, is_clock};
 use std::process::Abort;
 use txn_engine::{
     BeginFault, ClockOut, Collected, CommitFault, Committed, Conflict, Engine, Pass, PromoteFault,
-    Promotion, TxnFault,
+    Promotion, Seat, TxnFault,
 };
 
 /// A call. A transaction is one call, from its begin at a reading to its end.

@@ -15,7 +15,7 @@ use std::alloc::{AllocError, Global};
 use std::process;
 use std::test::Fail;
 use std::thread::{Threads, for_each_mut};
-use txn_engine::{Alone, AloneFault, Engine, Pass};
+use txn_engine::{Alone, AloneFault, Engine, Pass, Seat};
 
 /// The greatest number of places beside those of the records.
 const MOST_SPARE: u32 = 262_144;

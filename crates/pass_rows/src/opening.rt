@@ -10,8 +10,7 @@ ghost use Rattle.pass_rows.specs.Seats.{IsOpen};
 
 use histories::AnyState;
 use txn_engine::{
-    Alone, AloneOver, AloneTxn, BeginFault, CommitFault, Committed, Engine, Lent, Pass, Txn,
-    TxnOver,
+    Alone, AloneTxn, BeginFault, CommitFault, Committed, Engine, Lent, Pass, Seat, Txn, TxnOver,
 };
 
 /// Begins a transaction.
@@ -21,26 +20,26 @@ pub fn open<'a>(
     reading: u64,
 ) -> Result<Txn<'a, AnyState>, BeginFault>
     requires { IsIdleOf engine.now pass.old }
-    ensures* rests { sem 𝓛 (RestsIfErr (the_row any_state) pass.entry (λ t. t.pass.ghost_name) result (λ p. IsIdleOf engine.now p)) }
-    ensures same_reference { IfOk result (λ t. t.pass.ghost_name ≡ pass.entry.ghost_name) }
-    ensures open { IfOk result (λ t. IsOpen t.pass.now) }
-    ensures of_engine { IfOk result (λ t. engine_of t.pass.now ≡ engine.now) }
+    ensures* rests { sem 𝓛 (RestsIfErr (the_row any_state) pass.entry (λ t. t.seat.ghost_name) result (λ p. IsIdleOf engine.now p)) }
+    ensures same_reference { IfOk result (λ t. t.seat.ghost_name ≡ pass.entry.ghost_name) }
+    ensures open { IfOk result (λ t. IsOpen t.seat.now) }
+    ensures of_engine { IfOk result (λ t. engine_of t.seat.now ≡ engine.now) }
 {
     pass.begin(engine, reading)
 }
 
 /// Ends a transaction without an entry.
-pub fn stop<E: Lent<AnyState>>(txn: TxnOver<'_, AnyState, E>)
-    requires { IsOpen txn.pass.now }
-    ensures { IsIdleOf (engine_of txn.entry.pass.now) txn.exit.0.now }
+pub fn stop<E: Lent<AnyState>>(txn: TxnOver<'_, Pass<AnyState>, E>)
+    requires { IsOpen txn.seat.now }
+    ensures { IsIdleOf (engine_of txn.entry.seat.now) txn.exit.0.now }
 {
     txn.abort();
 }
 
 /// Commits a transaction.
-pub fn end<E: Lent<AnyState>>(txn: TxnOver<'_, AnyState, E>) -> Result<Committed, CommitFault>
-    requires { IsOpen txn.pass.now }
-    ensures { IsIdleOf (engine_of txn.entry.pass.now) txn.exit.0.now }
+pub fn end<E: Lent<AnyState>>(txn: TxnOver<'_, Pass<AnyState>, E>) -> Result<Committed, CommitFault>
+    requires { IsOpen txn.seat.now }
+    ensures { IsIdleOf (engine_of txn.entry.seat.now) txn.exit.0.now }
 {
     txn.commit()
 }
@@ -52,30 +51,30 @@ pub fn open_alone<'a>(
     reading: u64,
 ) -> Result<AloneTxn<'a, AnyState>, BeginFault>
     requires { IsIdleOf engine.now alone.old.pass }
-    ensures* rests { sem 𝓛 (RestsIfErr (alone_row any_state) alone.entry (λ t. t.alone.ghost_name) result (λ a. IsIdleOf engine.now a.pass × (a.shared ≡ alone.old.shared))) }
-    ensures same_reference { IfOk result (λ t. t.alone.ghost_name ≡ alone.entry.ghost_name) }
-    ensures open { IfOk result (λ t. IsOpen t.alone.now.pass) }
-    ensures of_engine { IfOk result (λ t. engine_of t.alone.now.pass ≡ engine.now) }
-    ensures shared { IfOk result (λ t. t.alone.now.shared ≡ alone.old.shared) }
+    ensures* rests { sem 𝓛 (RestsIfErr (alone_row any_state) alone.entry (λ t. t.seat.ghost_name) result (λ a. IsIdleOf engine.now a.pass × (a.shared ≡ alone.old.shared))) }
+    ensures same_reference { IfOk result (λ t. t.seat.ghost_name ≡ alone.entry.ghost_name) }
+    ensures open { IfOk result (λ t. IsOpen t.seat.now.pass) }
+    ensures of_engine { IfOk result (λ t. engine_of t.seat.now.pass ≡ engine.now) }
+    ensures shared { IfOk result (λ t. t.seat.now.shared ≡ alone.old.shared) }
 {
     alone.begin(engine, reading)
 }
 
 /// Ends a transaction of the seat that is alone without an entry.
-pub fn stop_alone<E: Lent<AnyState>>(txn: AloneOver<'_, AnyState, E>)
-    requires { IsOpen txn.alone.now.pass }
-    ensures seat { IsIdleOf (engine_of txn.entry.alone.now.pass) txn.exit.0.now.pass }
-    ensures shared { txn.exit.0.now.shared ≡ txn.entry.alone.now.shared }
+pub fn stop_alone<E: Lent<AnyState>>(txn: TxnOver<'_, Alone<AnyState>, E>)
+    requires { IsOpen txn.seat.now.pass }
+    ensures seat { IsIdleOf (engine_of txn.entry.seat.now.pass) txn.exit.0.now.pass }
+    ensures shared { txn.exit.0.now.shared ≡ txn.entry.seat.now.shared }
 {
     txn.abort();
 }
 
 /// Commits a transaction of the seat that is alone; how many versions took an inline place, and how many a place of the pool, if it
 /// committed.
-pub fn end_alone<E: Lent<AnyState>>(txn: AloneOver<'_, AnyState, E>) -> Option<(u32, u32)>
-    requires { IsOpen txn.alone.now.pass }
-    ensures seat { IsIdleOf (engine_of txn.entry.alone.now.pass) txn.exit.0.now.pass }
-    ensures shared { txn.exit.0.now.shared ≡ txn.entry.alone.now.shared }
+pub fn end_alone<E: Lent<AnyState>>(txn: TxnOver<'_, Alone<AnyState>, E>) -> Option<(u32, u32)>
+    requires { IsOpen txn.seat.now.pass }
+    ensures seat { IsIdleOf (engine_of txn.entry.seat.now.pass) txn.exit.0.now.pass }
+    ensures shared { txn.exit.0.now.shared ≡ txn.entry.seat.now.shared }
 {
     match txn.commit() {
         Ok(told) => Some((told.inlined, told.pooled)),

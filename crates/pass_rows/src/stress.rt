@@ -14,7 +14,7 @@ use std::process::Abort;
 use std::sync::{Mutex, Wait};
 use std::test::Fail;
 use std::thread::{Threads, for_each_mut};
-use txn_engine::{Alone, Engine, Pass};
+use txn_engine::{Alone, Engine, Pass, Seat};
 
 /// How many rounds each thread makes.
 const ROUNDS: u64 = 20_000;

@@ -235,11 +235,11 @@ does_lane_dumping lane tries p q s dumps steps =
 -- ---- at the seat that is alone
 
 pub keeps_none : (a : AloneView) → KeepsOthers a a
-keeps_none a = record { shared = refl; given = refl; queue = refl; boost = refl }
+keeps_none a = record { beside = refl; given = refl; queue = refl; boost = refl }
 
 pub keeps_then : (a b c : AloneView) → KeepsOthers a b → KeepsOthers b c → KeepsOthers a c
 keeps_then a b c first second = record {
-  shared = second.shared ∙ first.shared;
+  beside = second.beside ∙ first.beside;
   given = second.given ∙ first.given;
   queue = second.queue ∙ first.queue;
   boost = second.boost ∙ first.boost;

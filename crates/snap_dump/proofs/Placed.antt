@@ -26,7 +26,7 @@ pub reads_all : (a b : AloneView) (due : ℕ) (old new : List Dump) → AddsOthe
     → ReadsAll due (seen_in old) a b (seen_in new)
 reads_all a b due old new others keeps made count clock = record {
   others = others;
-  shared = keeps.shared;
+  beside = keeps.beside;
   given = keeps.given;
   queue = keeps.queue;
   boost = keeps.boost;

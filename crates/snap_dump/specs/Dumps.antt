@@ -37,9 +37,10 @@ pub record DumpsMade (before now : PassView) (old new : List Dump) : Type 0 wher
 abbrev pub how_many : List Dump → List Dump → ℕ
 how_many old new = length new - length old
 
--- What the seat that is alone keeps where it makes dumps: whether it was shared, its spare numbers that are given out, its queue and its boost.
+-- What the seat that is alone keeps where it makes dumps: what it has beside its pass, its spare numbers that are given out, its queue and
+-- its boost.
 pub record KeepsOthers (before after' : AloneView) : Type 0 where
-  pub shared : after'.shared ≡ before.shared
+  pub beside : after'.beside ≡ before.beside
   pub given : after'.pass.given ≡ before.pass.given
   pub queue : after'.pass.queue ≡ before.pass.queue
   pub boost : after'.pass.boost ≡ before.pass.boost

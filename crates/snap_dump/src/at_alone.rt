@@ -1,8 +1,7 @@
 //! Dumps that are left when the lanes have run, made by the seat that is alone.
 
 ghost use Rattle.std.specs.Prelude.{◌≡◌, ◌+◌, ◌-◌, ◌≤◌, IfOk, OnOk, OnErr, length};
-ghost use Rattle.stored_tables.specs.Places.{fixed_records};
-ghost use Rattle.txn_engine.specs.Pass.{IsIdle, engine_of};
+ghost use Rattle.lane_runner.specs.Using.{MayUse};
 ghost use Rattle.lane_runner.specs.Blocks.{AddsOthers};
 ghost use Rattle.lane_runner.specs.Room.{HasRoom, clock_after};
 ghost use Rattle.snap_dump.specs.Dumps.{Dumps, DumpsMade, KeepsOthers, how_many};
@@ -12,7 +11,7 @@ use crate::dump::{Dump, rows_of};
 use replay_model::NoMemory;
 use std::alloc::Global;
 use stored_tables::{RowsLawful, fits_more, fits_records, keeps_tables};
-use txn_engine::{Alone, Engine};
+use txn_engine::{Alone, Engine, Seat};
 use typed_tables::list_tables;
 
 /// Dumps the eight tables at the seat that is alone, after a tick with the reading 0.
@@ -21,9 +20,7 @@ fn dump_at_alone(
     engine: &Engine<RowsLawful>,
     alone: &mut Alone<RowsLawful>,
 ) -> Result<Dump, NoMemory>
-    requires engine { engine_of alone.old.pass ≡ engine.now }
-    requires idle { IsIdle alone.old.pass }
-    requires fixed { fixed_records ≤ engine.now.fixed }
+    requires pass { MayUse engine.now alone.old.pass }
     requires room { HasRoom alone.old.pass.clock 1 }
     ensures dumps { IfOk result (Dumps alone.old.pass alone.new.pass) }
     ensures keeps { OnOk result (KeepsOthers alone.old alone.new) }
@@ -55,9 +52,7 @@ pub(crate) fn dump_rest(
     due: u32,
     made: &mut Vec<Dump>,
 ) -> Result<(), NoMemory>
-    requires engine { engine_of alone.old.pass ≡ engine.now }
-    requires idle { IsIdle alone.old.pass }
-    requires fixed { fixed_records ≤ engine.now.fixed }
+    requires pass { MayUse engine.now alone.old.pass }
     requires within { length made.old.items ≤ due }
     requires room { HasRoom alone.old.pass.clock (due - length made.old.items) }
     ensures others { OnOk result (AddsOthers alone.old.pass alone.new.pass) }

@@ -2,8 +2,7 @@
 
 ghost use Rattle.std.specs.Prelude.{◌≡◌, ◌+◌, ◌≤◌, Ok, IfOk, OnErr};
 ghost use Rattle.record_store.specs.Walks.{IfTorn};
-ghost use Rattle.stored_tables.specs.Places.{fixed_records};
-ghost use Rattle.txn_engine.specs.Pass.{IsIdle, engine_of};
+ghost use Rattle.lane_runner.specs.Using.{MayUse};
 ghost use Rattle.lane_runner.specs.Lanes.{AddsSome};
 ghost use Rattle.lane_runner.specs.Room.{HasRoom, clock_after};
 ghost use Rattle.snap_dump.specs.Dumps.{Dumps};
@@ -12,7 +11,7 @@ use crate::dump::{Dump, rows_of};
 use replay_model::{NoMemory, Pairs};
 use std::alloc::Global;
 use stored_tables::{RowsLawful, fits_more, fits_records, keeps_tables};
-use txn_engine::{Engine, NoFault, Pass};
+use txn_engine::{Engine, NoFault, Pass, Seat};
 use typed_tables::{Walk, list_tables};
 
 /// What a reading of tables that are not torn came to: want of memory is its only fault.
@@ -36,9 +35,7 @@ pub fn dump_at_pass(
     pass: &mut Pass<RowsLawful>,
     reading: u64,
 ) -> Result<Dump, NoMemory>
-    requires engine { engine_of pass.old ≡ engine.now }
-    requires idle { IsIdle pass.old }
-    requires fixed { fixed_records ≤ engine.now.fixed }
+    requires pass { MayUse engine.now pass.old }
     requires room { HasRoom pass.old.clock 1 }
     ensures dumps { IfOk result (Dumps pass.old pass.new) }
     ensures fault { OnErr result (AddsSome pass.old pass.new) }

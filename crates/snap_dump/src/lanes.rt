@@ -1,8 +1,7 @@
 //! The run of one lane, with a dump behind the outcome of each block while dumps are due.
 
 ghost use Rattle.std.specs.Prelude.{◌≡◌, ◌≢◌, ◌+◌, ◌-◌, ◌<◌, ◌≤◌, [], All, IfOk, OnOk, length};
-ghost use Rattle.stored_tables.specs.Places.{fixed_records};
-ghost use Rattle.txn_engine.specs.Pass.{IsIdle, engine_of};
+ghost use Rattle.lane_runner.specs.Using.{MayUse};
 ghost use Rattle.lane_runner.specs.Blocks.{AddsOthers};
 ghost use Rattle.lane_runner.specs.Done.{DoesLane};
 ghost use Rattle.lane_runner.specs.Lanes.{AddsSome, MayRun, lane_draws};
@@ -29,9 +28,7 @@ fn dump_behind<C: Reads>(
     due: u32,
     made: &mut Vec<Dump>,
 ) -> Result<(), NoMemory>
-    requires engine { engine_of pass.old ≡ engine.now }
-    requires idle { IsIdle pass.old }
-    requires fixed { fixed_records ≤ engine.now.fixed }
+    requires pass { MayUse engine.now pass.old }
     requires within { length made.old.items ≤ due }
     requires room { HasRoom pass.old.clock (due - length made.old.items) }
     ensures others { OnOk result (AddsOthers pass.old pass.new) }
@@ -66,10 +63,8 @@ pub(crate) fn run_lane_dumping<C: Reads, G: Meets>(
     due: u32,
     made: &mut Vec<Dump>,
 ) -> Result<LaneDone, NoMemory>
-    requires engine { engine_of pass.old ≡ engine.now }
-    requires idle { IsIdle pass.old }
+    requires pass { MayUse engine.now pass.old }
     requires blocks { All MayRun lane.blocks }
-    requires fixed { fixed_records ≤ engine.now.fixed }
     requires within { length made.old.items ≤ due }
     requires room { HasRoom pass.old.clock (lane_draws lane.blocks tries + (due - length made.old.items)) }
     ensures does { IfOk result (λ done. DoesLane lane done pass.old pass.new) }

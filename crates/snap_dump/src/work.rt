@@ -1,7 +1,6 @@
 //! The work of a worker that dumps between its blocks.
 
 ghost use Rattle.std.specs.Prelude.{◌≡◌, ◌+◌, ◌≤◌, [], IfOk};
-ghost use Rattle.stored_tables.specs.Places.{fixed_records};
 ghost use Rattle.lane_queue.specs.Passes.{IsSamePass, HasEnded};
 ghost use Rattle.lane_runner.specs.Lanes.{AddsSome};
 ghost use Rattle.lane_runner.specs.Room.{HasRoom};
@@ -34,7 +33,6 @@ pub(crate) fn work_dumping<R: Wait, C: Reads, G: Meets>(
     made: &mut Vec<Dump>,
 ) -> Result<Vec<LaneDone>, NoMemory>
     requires may_work { MayWork engine.now queue.now tries pass.old taker.old }
-    requires fixed { fixed_records ≤ engine.now.fixed }
     requires room { HasRoom pass.old.clock (draws_of taker.old.lanes tries + due) }
     requires none { made.old.items ≡ [] }
     ensures adds { AddsSome pass.old pass.new }

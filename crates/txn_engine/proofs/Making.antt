@@ -1,5 +1,4 @@
 -- The seats that are made, and their passes.
-use Rattle.txn_engine.specs.Alone.{counting}
 use Rattle.std.proofs.Common.{◌≡◌, ℕ, ◌+◌, ◌-◌, ◌≤◌, Bool, true, false, cond, ltb, ltb-false, lt-ltb, List, [], ◌∷◌, ◌++◌, refl, sym, ap, subst, ◌∙◌, arith, length, map, inl, inr, All}
 use Rattle.std.specs.List.{range_with_len}
 use mathlib.Core.List.{map-append}
@@ -87,10 +86,6 @@ next_made p q r made some plain are is =
 
 pub count_shares : (p : PassView) (passes : List PassView) (seat : ℕ) → map bare passes ≡ map (share_at p) (range_with_len 1 (seat - 1)) → length passes ≡ seat - 1
 count_shares p passes seat are = sym (length-map passes bare) ∙ ap length are ∙ length-map-range_with_len (share_at p) 1 (seat - 1)
-
--- where no other seat counted, the count is its own
-pub counting_none : (p : PassView) (n : ℕ) → n ≡ 0 → counting p n ≡ p
-counting_none p n none = let same : p.refusals + n ≡ p.refusals = omega arith in ap (λ r. record p { refusals = r }) same
 
 others_are_idle : (p : PassView) (xs : List PassView) (seats : List ℕ) → map bare xs ≡ map (share_at p) seats → All (IsIdleOf (engine_of p)) xs
 others_are_idle p [] seats is = All-nil (IsIdleOf (engine_of p))

@@ -1,5 +1,5 @@
 -- Which answers refuse a transaction, and what a conflict says.
-use Rattle.std.specs.Prelude.{◌≡◌, ℕ, List, true, ⊤}
+use Rattle.std.specs.Prelude.{◌≡◌, ℕ, List, true, Result, Ok, Err, ⊤}
 use Rattle.validate_core.specs.declared.conflict.Conflict.{Conflict}
 use Rattle.validate_core.specs.declared.conflict.Conflict.TheVariants.{Pending, ReadLater, Overtaken}
 use Rattle.txn_engine.specs.declared.faults.TxnFault.{TxnFault}
@@ -27,6 +27,11 @@ IfConflict txn.NoMemory P = ⊤
 abbrev pub MatchStopped : CommitFault → (Conflict → Type 0) → Type 0 → Type 0
 MatchStopped (commit.Conflict conflict) P Q = P conflict
 MatchStopped commit.PlacesOut P Q = Q
+
+-- an answer of a seat with what a pass answers in place of its fault
+abbrev pub told_by : {A F G : Type 0} → (F → G) → Result A F → Result A G
+told_by told (Ok value) = Ok value
+told_by told (Err fault) = Err (told fault)
 
 -- what a conflict says of the transaction of a pass; and what one says that a read met
 abbrev pub IsShown : PassView → Conflict → Type 0

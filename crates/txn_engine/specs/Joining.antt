@@ -84,5 +84,4 @@ come_together p rs = record p {
   queue = [];
   spare = spare_of (p.given ++ p.spare) rs;
   given = [];
-  refusals = p.refusals + refusals_of rs;
 }

@@ -64,10 +64,11 @@ glance_store p (Some g) = record { size = p.shared.size.records; fixed = p.fixed
 abbrev pub meaning_of_glance : PassView → Meaning
 meaning_of_glance p = glance_store p p.glance
 
--- what no read changes: at which pass it is, and all of that but what was read and what its steps came upon
-pub record GlanceRest : Type 0 where
+-- what no read changes: at which seat it is, all of its pass but what was read and what its steps came upon, and what the seat has beside
+pub record GlanceRest (B : Type 0) : Type 0 where
   pub name : GName
   pub of_pass : PassView
+  pub beside : B
 
 abbrev pub unread : PassView → PassView
 unread p = record p { post = record p.post { observed = nothing_observed; glance = option_map (λ (g : GlanceView). record g { reads = [] }) p.glance } }

@@ -47,7 +47,7 @@ impl<J: Keeps> Engine<J> {
         ensures in_range { OnOk result (IsSize (size_of seats records spare) × (fixed ≤ records)) }
         ensures size { IfOk result (λ made. made.0.size ≡ size_of seats records spare) }
         ensures fixed { IfOk result (λ made. made.0.fixed ≡ fixed) }
-        ensures alone { IfOk result (λ made. made.1 ≡ record { pass = first_pass made.0; shared = false }) }
+        ensures alone { IfOk result (λ made. made.1 ≡ record { pass = first_pass made.0; beside = record { shared = false; earlier = 0 } }) }
         ensures absent { IfOk result (λ made. HoldsAbsent made.1.pass) }
         ensures tidy { IfOk result (λ made. IsTidy made.1.pass) }
         ensures roomy { IfOk result (λ made. IsRoomy made.1.pass) }

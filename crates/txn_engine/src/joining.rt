@@ -1,7 +1,7 @@
 //! Coming together: a pass takes in the seats that have retired, and is alone.
 ghost use Rattle.std.specs.Prelude.{◌≡◌, ◌≤◌, ◌+◌, ◌++◌, [], true};
 ghost use Rattle.stamp_base.specs.Limits.{greatest_clock};
-ghost use Rattle.txn_engine.specs.Joining.{AreOfEngine, AreOthers, joined, come_together};
+ghost use Rattle.txn_engine.specs.Joining.{AreOfEngine, AreOthers, refusals_of, joined, come_together};
 ghost use Rattle.txn_engine.specs.Pass.{IsIdle, IsAlone, with_glance, engine_of};
 
 use crate::alone::Alone;
@@ -47,7 +47,8 @@ impl<J: Keeps> Pass<J> {
 impl<J: Keeps> Engine<J> {
     /// The seat that is alone again, after all other seats have retired. Its log is that of the pass with the logs of the others
     /// behind it, as they are handed in; its clock and the greatest `min_wts` that it has met are the greatest of all; it has
-    /// no boost and nothing queued, all spare numbers, each once, and the sum of the refusals. Its commits are those of the pass.
+    /// no boost and nothing queued, and all spare numbers, each once. The refusals of the others are counted beside those of the pass;
+    /// its commits are those of the pass.
     pub fn alone(&self, pass: Pass<J>, others: Vec<Retired<J>>) -> Alone<J>
         requires engine { engine_of pass ≡ self.now }
         requires idle { IsIdle pass }
@@ -56,6 +57,7 @@ impl<J: Keeps> Engine<J> {
         requires each_once { AreOthers self.now.size others.items }
         ensures pass { result.pass ≡ with_glance (come_together pass others.items) result.pass.glance }
         ensures shared { result.shared ≡ true }
+        ensures earlier { result.earlier ≡ refusals_of others.items }
         ensures alone { IsAlone result.pass }
     {
         // The seats are at most 64.

@@ -2,9 +2,8 @@
 #![tactic(auto)]
 
 mod alone;
-mod alone_snapshot;
-mod alone_transacting;
-mod alone_txn;
+mod at_alone;
+mod at_pass;
 mod collecting;
 mod engine;
 mod faults;
@@ -16,6 +15,8 @@ mod pass;
 mod promoting;
 mod rescan;
 mod retired;
+mod seat;
+mod seat_calls;
 mod settling;
 mod sharing;
 mod snapshot;
@@ -25,18 +26,17 @@ mod transacting;
 mod txn;
 
 pub use alone::Alone;
-pub use alone_snapshot::AloneSnapshot;
-pub use alone_txn::{AloneOver, AloneTxn};
 pub use clock_stamps::ClockOut;
 pub use engine::{Engine, Lent};
 pub use faults::{AloneFault, BeginFault, CommitFault, StartFault, TxnFault};
 pub use pass::Pass;
 pub use rapid_gc::Collected;
 pub use retired::Retired;
+pub use seat::Seat;
 pub use seat_post::{PromoteFault, Promotion, Settled};
-pub use snapshot::{NoFault, Snapshot};
+pub use snapshot::{AloneSnapshot, NoFault, Snapshot, SnapshotOver};
 pub use staged::{DecidedOver, DecidedTxn, InstalledOver, InstalledTxn};
 pub use transacting::Committed;
-pub use txn::{Txn, TxnOver};
+pub use txn::{AloneTxn, Txn, TxnOver};
 pub use validate_core::Conflict;
 pub use version_pool::PlacesOut;

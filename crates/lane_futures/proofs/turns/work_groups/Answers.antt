@@ -17,12 +17,12 @@ use Rattle.lane_futures.proofs.turns.work_groups.Goals as goal
 pub loop-init : goal.loop-init
 loop-init g c = record {
   queue_is = c.requires.may_work.queue_is;
-  engine_is = c.requires.may_work.engine_is;
+  engine_is = c.requires.may_work.uses.same;
   same = record { same_queue = refl; same_lanes = refl; same_share = refl };
   part = subst (λ (took : List Lane). IsSubsequence took c.args.taker.now.lanes) (sym c.requires.may_work.fresh.took_none) tt;
   does =
       subst (λ (y : List Lane × List LaneDone). DoesLanes c.args.tries c.args.seat.pass c.args.seat.pass y.0 y.1) (λ i. (sym c.requires.may_work.fresh.took_none i, sym c.new-done.ensures.items i))
-      (DoesLanes-none c.args.tries c.args.seat.pass c.requires.may_work.idle);
+      (DoesLanes-none c.args.tries c.args.seat.pass c.requires.may_work.uses.idle);
 }
 
 pub run_group-next-requires-clause-room : goal.run_group-next-requires-clause-room

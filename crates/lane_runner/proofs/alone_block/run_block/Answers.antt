@@ -16,12 +16,14 @@ returns-clause-holds c = elim c.if-block.branch as (λ _. Holds c.if-block.alone
   | else-block+in_ok-stamp w ↦ rw w.alone-is w.in_ok-stamp.ensures.holds
 ]
 
-pub returns-clause-committed : goal.returns-clause-committed
-returns-clause-committed c =
-    elim c.if-block.branch as (λ _. Commits c.args.block.now.commands c.args.alone.now.pass c.if-block.alone.pass (record { stamp = c.if-block.stamp.0; snap = c.args.block.now.snap; lane = c.args.block.now.lane; number = c.args.block.now.number }) c.if-block.stamp.1) [
-      | then-block+in_ok-look_up w ↦ rw (w.alone-is, w.stamp-is) (w.in_ok-look_up.ensures.committed _ refl w.if-block.true)
-      | else-block+in_ok-stamp w ↦ rw (w.alone-is, w.stamp-is) (w.in_ok-stamp.ensures.committed _ refl w.if-block.false)
-    ]
+pub returns-clause-ran : goal.returns-clause-ran
+returns-clause-ran c = record {
+  commits = elim c.if-block.branch as (λ _. Commits c.args.block.now.commands c.args.alone.now.pass c.if-block.alone.pass (record { stamp = c.if-block.stamp.0; snap = c.args.block.now.snap; lane = c.args.block.now.lane; number = c.args.block.now.number }) c.if-block.stamp.1) [
+    | then-block+in_ok-look_up w ↦ rw (w.alone-is, w.stamp-is) (w.in_ok-look_up.ensures.committed _ refl w.if-block.true)
+    | else-block+in_ok-stamp w ↦ rw (w.alone-is, w.stamp-is) (w.in_ok-stamp.ensures.committed _ refl w.if-block.false)
+  ];
+  place = record { snap = refl; lane = refl; number = refl };
+}
 
 pub returns-clause-behind : goal.returns-clause-behind
 returns-clause-behind c = elim c.if-block.branch as (λ _. c.args.block.now.snap ≡ true → IsBehind c.args.alone.now.pass.log c.if-block.stamp.0) [
@@ -42,19 +44,16 @@ returns-clause-clock c = elim c.if-block.branch as (λ _. c.if-block.alone.pass.
 ]
 
 pub look_up-requires-clause-engine : goal.look_up-requires-clause-engine
-look_up-requires-clause-engine c = c.requires.engine
+look_up-requires-clause-engine c = c.requires.pass.same
 
-pub run_commands-requires-clause-engine : goal.run_commands-requires-clause-engine
-run_commands-requires-clause-engine c = c.requires.engine
+pub run_commands-requires-clause-pass : goal.run_commands-requires-clause-pass
+run_commands-requires-clause-pass c = c.requires.pass
 
 pub look_up-requires-clause-holds : goal.look_up-requires-clause-holds
 look_up-requires-clause-holds c = c.requires.holds
 
 pub run_commands-requires-clause-holds : goal.run_commands-requires-clause-holds
 run_commands-requires-clause-holds c = c.requires.holds
-
-pub run_commands-requires-clause-fixed : goal.run_commands-requires-clause-fixed
-run_commands-requires-clause-fixed c = c.requires.fixed
 
 pub run_commands-requires-clause-places : goal.run_commands-requires-clause-places
 run_commands-requires-clause-places c = c.requires.places
@@ -85,12 +84,9 @@ run_commands-requires-clause-few c = c.requires.block.few
 
 pub look_up-requires-clause-size : goal.look_up-requires-clause-size
 look_up-requires-clause-size c =
-    let fixed = ap (λ (e : EngineView). e.fixed) c.requires.engine in
-    let records = ap (λ (e : EngineView). e.size.records) c.requires.engine in
-    omega (arith, c.requires.fixed, c.requires.records.room, fixed, records)
-
-pub returns-clause-placed : goal.returns-clause-placed
-returns-clause-placed c = record { snap = refl; lane = refl; number = refl }
+    let fixed = ap (λ (e : EngineView). e.fixed) c.requires.pass.same in
+    let records = ap (λ (e : EngineView). e.size.records) c.requires.pass.same in
+    omega (arith, c.requires.pass.fixed, c.requires.records.room, fixed, records)
 
 pub returns-in_err-look_up-clause-holds : goal.returns-in_err-look_up-clause-holds
 returns-in_err-look_up-clause-holds c = no_value c.from_residual.result _ c.from_residual.ensures.0
@@ -101,11 +97,8 @@ returns-in_err-look_up-clause-leaves c = no_value c.from_residual.result _ c.fro
 pub returns-in_err-look_up-clause-clock : goal.returns-in_err-look_up-clause-clock
 returns-in_err-look_up-clause-clock c = no_value c.from_residual.result _ c.from_residual.ensures.0
 
-pub returns-in_err-look_up-clause-committed : goal.returns-in_err-look_up-clause-committed
-returns-in_err-look_up-clause-committed c = not_ok c.from_residual.result _ c.from_residual.ensures.0
-
-pub returns-in_err-look_up-clause-placed : goal.returns-in_err-look_up-clause-placed
-returns-in_err-look_up-clause-placed c = not_ok c.from_residual.result _ c.from_residual.ensures.0
+pub returns-in_err-look_up-clause-ran : goal.returns-in_err-look_up-clause-ran
+returns-in_err-look_up-clause-ran c = not_ok c.from_residual.result _ c.from_residual.ensures.0
 
 pub returns-in_err-look_up-clause-behind : goal.returns-in_err-look_up-clause-behind
 returns-in_err-look_up-clause-behind c = not_ok c.from_residual.result _ c.from_residual.ensures.0
@@ -119,11 +112,8 @@ returns-in_err-stamp-clause-leaves c = no_value c.from_residual-in_err-stamp.res
 pub returns-in_err-stamp-clause-clock : goal.returns-in_err-stamp-clause-clock
 returns-in_err-stamp-clause-clock c = no_value c.from_residual-in_err-stamp.result _ c.from_residual-in_err-stamp.ensures.0
 
-pub returns-in_err-stamp-clause-committed : goal.returns-in_err-stamp-clause-committed
-returns-in_err-stamp-clause-committed c = not_ok c.from_residual-in_err-stamp.result _ c.from_residual-in_err-stamp.ensures.0
-
-pub returns-in_err-stamp-clause-placed : goal.returns-in_err-stamp-clause-placed
-returns-in_err-stamp-clause-placed c = not_ok c.from_residual-in_err-stamp.result _ c.from_residual-in_err-stamp.ensures.0
+pub returns-in_err-stamp-clause-ran : goal.returns-in_err-stamp-clause-ran
+returns-in_err-stamp-clause-ran c = not_ok c.from_residual-in_err-stamp.result _ c.from_residual-in_err-stamp.ensures.0
 
 pub returns-in_err-stamp-clause-behind : goal.returns-in_err-stamp-clause-behind
 returns-in_err-stamp-clause-behind c = not_ok c.from_residual-in_err-stamp.result _ c.from_residual-in_err-stamp.ensures.0

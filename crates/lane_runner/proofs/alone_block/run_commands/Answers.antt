@@ -5,7 +5,7 @@ use Rattle.lane_runner.proofs.Ran.{leaves_closed}
 use Rattle.lane_runner.proofs.alone_block.run_commands.Goals as goal
 
 pub close-requires-clause-engine : goal.close-requires-clause-engine
-close-requires-clause-engine c = (c.in_ok-done.ensures.enters.committed (record { stamp = c.in_ok-done.done.0; snap = false; lane = 0; number = 0 }) refl refl).adds.engine ∙ c.requires.engine
+close-requires-clause-engine c = (c.in_ok-done.ensures.enters.committed (record { stamp = c.in_ok-done.done.0; snap = false; lane = 0; number = 0 }) refl refl).adds.engine ∙ c.requires.pass.same
 
 pub close-requires-clause-awaits : goal.close-requires-clause-awaits
 close-requires-clause-awaits c = c.in_ok-done.ensures.awaits
@@ -24,8 +24,8 @@ returns-clause-leaves c = λ tables most within.
 pub returns-clause-clock : goal.returns-clause-clock
 returns-clause-clock c = subst (λ (n : ℕ). n ≤ clock_after c.args.alone.now.pass.clock 1) (sym c.close.ensures.clock) c.in_ok-done.ensures.enters.clock
 
-pub commit_commands-requires-clause-engine : goal.commit_commands-requires-clause-engine
-commit_commands-requires-clause-engine c = c.requires.engine
+pub commit_commands-requires-clause-pass : goal.commit_commands-requires-clause-pass
+commit_commands-requires-clause-pass c = c.requires.pass
 
 pub commit_commands-requires-clause-holds : goal.commit_commands-requires-clause-holds
 commit_commands-requires-clause-holds c = c.requires.holds
@@ -38,9 +38,6 @@ commit_commands-requires-clause-short c = c.requires.short
 
 pub commit_commands-requires-clause-few : goal.commit_commands-requires-clause-few
 commit_commands-requires-clause-few c = c.requires.few
-
-pub commit_commands-requires-clause-fixed : goal.commit_commands-requires-clause-fixed
-commit_commands-requires-clause-fixed c = c.requires.fixed
 
 pub commit_commands-requires-clause-places : goal.commit_commands-requires-clause-places
 commit_commands-requires-clause-places c = c.requires.places

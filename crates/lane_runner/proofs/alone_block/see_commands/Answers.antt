@@ -1,6 +1,7 @@
 use Rattle.std.proofs.Common.{rules, ◌≡◌, ℕ, ◌≤◌, true, Option, IfSome, sym, ap, subst, ◌∙◌}
 use Rattle.history_replay.specs.Results.{StandsForSome}
-use Rattle.txn_engine.specs.Alone.{AloneView, AloneGlanceRest}
+use Rattle.txn_engine.specs.Alone.{AloneView, Beside}
+use Rattle.txn_engine.specs.Snapshot.{GlanceRest}
 use Rattle.seat_post.specs.Ends.{Stood}
 use Rattle.seat_post.specs.Glance.{GlanceView}
 use Rattle.txn_engine.specs.Pass.{PassView, next_clock}
@@ -18,25 +19,25 @@ use Rattle.lane_runner.proofs.Ran.{enters_as, awaits_as}
 use Rattle.lane_runner.proofs.alone_block.see_commands.Goals as goal
 use Rattle.lane_runner.proofs.alone_block.see_commands.Goals.{After-finish-stamp, In_ok-outcome}
 
-sight : (c : After-finish-stamp) → Sought c.args.alone.now.pass c.exec_snap-told.new.store.alone.now.pass c.finish-stamp.new.self.0.pass c.finish-stamp.result
+sight : (c : After-finish-stamp) → Sought c.args.alone.now.pass c.exec_snap-told.new.store.seat.now.pass c.finish-stamp.new.self.0.pass c.finish-stamp.result
 sight c =
     let p = c.args.alone.now.pass in
-    let s1 = c.exec_snap-told.new.store.alone.now.pass in
+    let s1 = c.exec_snap-told.new.store.seat.now.pass in
     let f = c.finish-stamp.new.self.0 in
-    sought p c.tick.new.self.pass c.snapshot-snapshot.result.alone.now.pass s1 f.pass (next_clock p 0) c.finish-stamp.result c.snapshot-snapshot.ensures.begins (clock_later p 0) (clock_drawn p 0) c.requires.holds.idle
-    (ap (λ (a : AloneView). a.pass) c.in-Ok.ensures.ok) (ap (λ (x : AloneGlanceRest). x.of_pass) c.exec_snap-told.ensures.rest) c.finish-stamp.ensures.finishes.after c.finish-stamp.ensures.finishes.stamp c.shared.ensures.alone
+    sought p c.tick.new.self.pass c.snapshot-snapshot.result.seat.now.pass s1 f.pass (next_clock p 0) c.finish-stamp.result c.snapshot-snapshot.ensures.begins (clock_later p 0) (clock_drawn p 0) c.requires.holds.idle
+    (ap (λ (a : AloneView). a.pass) c.in-Ok.ensures.ok) (ap (λ (x : GlanceRest Beside). x.of_pass) c.exec_snap-told.ensures.rest) c.finish-stamp.ensures.finishes.after c.finish-stamp.ensures.finishes.stamp c.shared.ensures.alone
     (subst (λ (n : ℕ). IsAbove p.log n) (c.in-Ok.ensures.stamp ∙ sym (ap (λ (a : AloneView). a.pass.published) c.in-Ok.ensures.ok)) c.in-Ok.ensures.above)
 
 pub untorn-requires : goal.untorn-requires
 untorn-requires c =
     let p = c.args.alone.now.pass in
-    let s0 = c.snapshot-snapshot.result.alone.now.pass in
-    let s1 = c.exec_snap-told.new.store.alone.now.pass in
+    let s0 = c.snapshot-snapshot.result.seat.now.pass in
+    let s1 = c.exec_snap-told.new.store.seat.now.pass in
     let t = c.tick.new.self.pass in
     let begins = c.snapshot-snapshot.ensures.begins in
     let tick = ap (λ (a : AloneView). a.pass) c.in-Ok.ensures.ok in
     let o = sight (goal.at.untorn-requires c).After-finish-stamp in
-    let records : s1.shared.size.records ≡ p.shared.size.records = ap (λ (x : AloneGlanceRest). x.of_pass.shared.size.records) c.exec_snap-told.ensures.rest ∙ ap (λ (x : PassView). x.shared.size.records) begins.pass ∙ ap (λ (x : PassView). x.shared.size.records) tick in
+    let records : s1.shared.size.records ≡ p.shared.size.records = ap (λ (x : GlanceRest Beside). x.of_pass.shared.size.records) c.exec_snap-told.ensures.rest ∙ ap (λ (x : PassView). x.shared.size.records) begins.pass ∙ ap (λ (x : PassView). x.shared.size.records) tick in
     let stood = subst (λ (g : Option GlanceView). IfSome g (λ g. Stood (StandsForSome stands) s1.shared.size.records s1.log (entry_of_glance g))) o.seen c.finish-stamp.ensures.finishes.stood in
     not_torn c.exec_snap-told.result _ c.exec_snap-told.ensures.torn
     (λ torn. never_stood (StandsForSome stands) s1.shared.size.records s1.log (entry_of_glance o.glance) c.keeps_tables.ensures stood
@@ -45,8 +46,8 @@ untorn-requires c =
 enters : (c : In_ok-outcome) → Enters c.args.commands.now c.args.alone.now c.finish-stamp.new.self.0 c.finish-stamp.result true c.in_ok-outcome.outcome
 enters c =
     let p = c.args.alone.now.pass in
-    let s0 = c.snapshot-snapshot.result.alone.now.pass in
-    let s1 = c.exec_snap-told.new.store.alone.now.pass in
+    let s0 = c.snapshot-snapshot.result.seat.now.pass in
+    let s1 = c.exec_snap-told.new.store.seat.now.pass in
     let t = c.tick.new.self.pass in
     let begins = c.snapshot-snapshot.ensures.begins in
     let tick = ap (λ (a : AloneView). a.pass) c.in-Ok.ensures.ok in

@@ -6,7 +6,7 @@ use Rattle.lane_runner.proofs.Granted.{none_collected, ready_collected}
 use Rattle.lane_runner.proofs.collecting.collect.Goals as goal
 
 pub returns-clause-none : goal.returns-clause-none
-returns-clause-none c = none_collected c.args.pass.now c.tell.new.self c.collect.new.self _ _ _ c.tell.ensures.value c.collect.ensures.collects.after c.requires.idle c.tell.ensures.not_back c.collect.ensures.collects.met
+returns-clause-none c = none_collected c.args.pass.now c.tell.new.self c.collect.new.self _ _ _ c.tell.ensures.value c.collect.ensures.collects.after c.requires.pass.1 c.tell.ensures.not_back c.collect.ensures.collects.met
 
 pub returns-clause-clock : goal.returns-clause-clock
 returns-clause-clock c = ap (λ (x : PassView). x.clock) c.collect.ensures.collects.after ∙ ap (λ (x : PassView). x.clock) c.tell.ensures.value

@@ -10,20 +10,21 @@ drawn : (c : In-Ok) → c.settle.new.self.pass.clock ≤ c.args.alone.now.pass.c
 drawn c =
     let p = c.args.alone.now.pass in
     let q = c.settle.new.self.pass in
-    subst (λ (e : EngineView). q.clock ≤ p.clock + 2 * e.size.records) c.requires.engine
+    subst (λ (e : EngineView). q.clock ≤ p.clock + 2 * e.size.records) c.requires.pass.same
     (drawn_most p.clock q.clock _ _ p.shared.size.records c.in-Ok.ensures.settles.draws.drawn c.in-Ok.ensures.settles.counts.0 c.in-Ok.ensures.settles.counts.1)
 
 pub unreachable-requires : goal.unreachable-requires
 unreachable-requires c =
     let p = c.args.alone.now.pass in
     let q = c.settle.new.self.pass in
-    never_out p.clock q.clock c.args.engine.now.size.records (how_many_remain c.args.done.items) c.requires.room (subst (λ (e : EngineView). q.clock < p.clock + 2 * e.size.records) c.requires.engine c.in_default.ensures.settles.within) c.in_default.ensures.settles.clock_out
+    never_out p.clock q.clock c.args.engine.now.size.records (how_many_remain c.args.done.items) c.requires.room (subst (λ (e : EngineView). q.clock < p.clock + 2 * e.size.records) c.requires.pass.same c.in_default.ensures.settles.within) c.in_default.ensures.settles.clock_out
 
-pub finish_settled-requires-clause-engine : goal.finish_settled-requires-clause-engine
-finish_settled-requires-clause-engine c = engine_settled c.args.alone.now.pass c.settle.new.self.pass _ c.settle.ensures.settles ∙ c.requires.engine
-
-pub finish_settled-requires-clause-idle : goal.finish_settled-requires-clause-idle
-finish_settled-requires-clause-idle c = idle_settled c.args.alone.now.pass c.settle.new.self.pass _ c.settle.ensures.settles c.requires.idle
+pub finish_settled-requires-clause-pass : goal.finish_settled-requires-clause-pass
+finish_settled-requires-clause-pass c = record {
+  same = engine_settled c.args.alone.now.pass c.settle.new.self.pass _ c.settle.ensures.settles ∙ c.requires.pass.same;
+  idle = idle_settled c.args.alone.now.pass c.settle.new.self.pass _ c.settle.ensures.settles c.requires.pass.idle;
+  fixed = c.requires.pass.fixed;
+}
 
 pub finish_settled-requires-clause-records : goal.finish_settled-requires-clause-records
 finish_settled-requires-clause-records c = λ lawful. records_again c.args.alone.now.pass c.settle.new.self.pass _ c.settle.ensures.settles c.next_state_is_overlay.ensures lawful (rests_add c.args.done.items) c.requires.records
@@ -34,7 +35,7 @@ finish_settled-requires-clause-room c =
 
 pub returns-clause-finishes : goal.returns-clause-finishes
 returns-clause-finishes c =
-    if_ok c.finish_settled.result _ _ (λ results finishes. Finishes-again c.args.alone.now.pass c.settle.new.self.pass _ c.settle.ensures.settles c.finish_settled.new.alone.pass c.args.done.items results.items finishes c.requires.idle) c.finish_settled.ensures.finishes
+    if_ok c.finish_settled.result _ _ (λ results finishes. Finishes-again c.args.alone.now.pass c.settle.new.self.pass _ c.settle.ensures.settles c.finish_settled.new.alone.pass c.args.done.items results.items finishes c.requires.pass.idle) c.finish_settled.ensures.finishes
 
 pub returns-clause-clock : goal.returns-clause-clock
 returns-clause-clock c =

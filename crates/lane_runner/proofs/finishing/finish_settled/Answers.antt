@@ -24,7 +24,7 @@ adds c =
     let here = c.collect.new.self.pass in
     let d = c.rescan.new.self.pass in
     let t = c.tell.new.self.pass in
-    Adds-settled p here d t here.met t.met here.known d.spare (collected_alone p here c.collect.ensures.collects.after (c.collect.ensures.collects.alone c.collect.ensures.alone)) (ap (λ (a : AloneView). a.pass) c.rescan.ensures.after) (ap (λ (a : AloneView). a.pass) c.tell.ensures.value) c.requires.idle
+    Adds-settled p here d t here.met t.met here.known d.spare (collected_alone p here c.collect.ensures.collects.after (c.collect.ensures.collects.alone c.collect.ensures.alone)) (ap (λ (a : AloneView). a.pass) c.rescan.ensures.after) (ap (λ (a : AloneView). a.pass) c.tell.ensures.value) c.requires.pass.idle
     c.collect.ensures.collects.met (c.collect.ensures.collects.seen c.collect.ensures.alone) c.tell.ensures.not_back
 
 -- the log that was told to be lawful is that of before
@@ -42,7 +42,12 @@ same_clock c =
     let here = c.collect.new.self.pass in
     let d = c.rescan.new.self.pass in
     let t = c.tell.new.self.pass in
-    clock_settled p here d t here.met t.met here.known d.spare (collected_alone p here c.collect.ensures.collects.after (c.collect.ensures.collects.alone c.collect.ensures.alone)) (ap (λ (a : AloneView). a.pass) c.rescan.ensures.after) (ap (λ (a : AloneView). a.pass) c.tell.ensures.value) c.requires.idle
+    clock_settled p here d t here.met t.met here.known d.spare (collected_alone p here c.collect.ensures.collects.after (c.collect.ensures.collects.alone c.collect.ensures.alone)) (ap (λ (a : AloneView). a.pass) c.rescan.ensures.after) (ap (λ (a : AloneView). a.pass) c.tell.ensures.value) c.requires.pass.idle
+
+pub run_rests-requires-clause-pass : goal.run_rests-requires-clause-pass
+run_rests-requires-clause-pass c =
+    let told = adds (goal.at.run_rests-requires-clause-pass c).After-tell in
+    record { same = told.engine ∙ c.requires.pass.same; idle = told.idle; fixed = c.requires.pass.fixed }
 
 pub run_rests-requires-clause-holds : goal.run_rests-requires-clause-holds
 run_rests-requires-clause-holds c =
@@ -50,7 +55,7 @@ run_rests-requires-clause-holds c =
     let here = c.collect.new.self.pass in
     let d = c.rescan.new.self.pass in
     let t = c.tell.new.self.pass in
-    Holds-settled p here d t here.met t.met here.known d.spare (collected_alone p here c.collect.ensures.collects.after (c.collect.ensures.collects.alone c.collect.ensures.alone)) (ap (λ (a : AloneView). a.pass) c.rescan.ensures.after) (ap (λ (a : AloneView). a.pass) c.tell.ensures.value) c.requires.idle
+    Holds-settled p here d t here.met t.met here.known d.spare (collected_alone p here c.collect.ensures.collects.after (c.collect.ensures.collects.alone c.collect.ensures.alone)) (ap (λ (a : AloneView). a.pass) c.rescan.ensures.after) (ap (λ (a : AloneView). a.pass) c.tell.ensures.value) c.requires.pass.idle
     c.tell.ensures.lawful c.collect.ensures.collects.above c.rescan.ensures.absent (c.collect.ensures.collects.roomy c.collect.ensures.alone (roomy_once p c.requires.roomy))
 
 pub run_rests-requires-clause-blocks : goal.run_rests-requires-clause-blocks

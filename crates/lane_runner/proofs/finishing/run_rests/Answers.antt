@@ -16,7 +16,7 @@ pub loop-block-init : goal.loop-block-init
 loop-block-init c =
     let start : into_iter_items c.into_iter-block-iterator.result ≡ c.args.blocks.items = search rules in
     record {
-      engine = c.requires.engine;
+      engine = c.requires.pass.same;
       ran = RunsRests-new c.args.alone.now.pass c.args.results.now.items c.requires.holds;
       blocks = refl;
       remain = search rules;
@@ -45,12 +45,12 @@ loop-block-preserved c =
     let here = subst (λ (xs : List Block). HasRecords c.loop-block.alone.pass (blocks_add xs)) next i.records in
     let ran = c.in_ok-done.ensures in
     record {
-      engine = ran.committed.adds.engine ∙ i.engine;
-      ran = RunsRests-more c.args.alone.now.pass c.loop-block.alone.pass c.run_block.new.alone.pass c.loop-block.yielded c.args.results.now.items c.loop-block.results.items c.push.new.self.items c.in-Some.block c.in_ok-done.done i.ran ran.committed ran.placed ran.behind ran.holds c.in_ok-push.ensures.items;
+      engine = ran.ran.commits.adds.engine ∙ i.engine;
+      ran = RunsRests-more c.args.alone.now.pass c.loop-block.alone.pass c.run_block.new.alone.pass c.loop-block.yielded c.args.results.now.items c.loop-block.results.items c.push.new.self.items c.in-Some.block c.in_ok-done.done i.ran ran.ran ran.behind ran.holds c.in_ok-push.ensures.items;
       blocks = items_more c.loop-block.yielded c.in-Some.block _ _ _ i.blocks next;
       remain = items_remain c.in-Some.block (into_iter_items c.loop-block.block-iterator) (into_iter_items c.next.new.self) (into_iter_len c.loop-block.block-iterator) (into_iter_len c.next.new.self) next c.in-Some.ensures.steps.1 i.remain;
       may = All-tail MayFinish c.in-Some.block (into_iter_items c.next.new.self) (subst (λ (xs : List Block). All MayFinish xs) next i.may);
-      records = room_next c.loop-block.alone.pass c.run_block.new.alone.pass c.in-Some.block (into_iter_items c.next.new.self) c.adds_after.ensures ran.committed.adds.engine ran.leaves here;
+      records = room_next c.loop-block.alone.pass c.run_block.new.alone.pass c.in-Some.block (into_iter_items c.next.new.self) c.adds_after.ensures ran.ran.commits.adds.engine ran.leaves here;
       clock = subst (λ (n : ℕ). c.run_block.new.alone.pass.clock ≤ clock_after c.args.alone.now.pass.clock n) (one_more c.loop-block.yielded c.in-Some.block)
           (drawn_again c.args.alone.now.pass.clock c.loop-block.alone.pass.clock c.run_block.new.alone.pass.clock (length c.loop-block.yielded) i.clock ran.clock);
     }
@@ -69,14 +69,11 @@ returns-clause-clock c =
     let whole : c.loop-block.yielded ≡ c.args.blocks.items = sym (append-nil c.loop-block.yielded) ∙ ap (λ (xs : List Block). c.loop-block.yielded ++ xs) (sym none) ∙ c.loop-block.invariant.blocks ∙ start in
     subst (λ (xs : List Block). c.loop-block.alone.pass.clock ≤ clock_after c.args.alone.now.pass.clock (length xs)) whole c.loop-block.invariant.clock
 
-pub run_block-requires-clause-engine : goal.run_block-requires-clause-engine
-run_block-requires-clause-engine c = c.loop-block.invariant.engine
+pub run_block-requires-clause-pass : goal.run_block-requires-clause-pass
+run_block-requires-clause-pass c = record { same = c.loop-block.invariant.engine; idle = c.loop-block.invariant.ran.holds.idle; fixed = c.requires.pass.fixed }
 
 pub run_block-requires-clause-holds : goal.run_block-requires-clause-holds
 run_block-requires-clause-holds c = c.loop-block.invariant.ran.holds
-
-pub run_block-requires-clause-fixed : goal.run_block-requires-clause-fixed
-run_block-requires-clause-fixed c = c.requires.fixed
 
 pub run_block-requires-clause-places : goal.run_block-requires-clause-places
 run_block-requires-clause-places c = c.requires.places

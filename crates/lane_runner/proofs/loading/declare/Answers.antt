@@ -6,7 +6,7 @@ use Rattle.lane_runner.proofs.Ran.{leaves_closed, some_closed}
 use Rattle.lane_runner.proofs.loading.declare.Goals as goal
 
 pub close-requires-clause-engine : goal.close-requires-clause-engine
-close-requires-clause-engine c = c.in_ok-commit_index.ensures.enters.adds.1.engine ∙ c.requires.engine
+close-requires-clause-engine c = c.in_ok-commit_index.ensures.enters.adds.1.engine ∙ c.requires.pass.same
 
 pub close-requires-clause-awaits : goal.close-requires-clause-awaits
 close-requires-clause-awaits c = c.in_ok-commit_index.ensures.awaits

@@ -9,7 +9,7 @@ use Rattle.lane_runner.proofs.loading.declare_indexes.Goals as goal
 
 pub loop-table-init : goal.loop-table-init
 loop-table-init c = record {
-  engine = c.requires.engine;
+  engine = c.requires.pass.same;
   loaded = HasLoaded-none c.write_before_is_lawful.ensures c.empty_stands.ensures c.empty_weighs_nothing.ensures c.args.alone.now.pass c.requires.blank;
   clock = omega arith;
   shared = refl;
@@ -31,7 +31,7 @@ loop-table-preserved c =
     let indexes = c.args.indexes.now in
     let declared = c.in_ok-declare.ensures.declares (loaded [] (take at indexes)) 0 c.args.alone.now.pass i.loaded in
     record {
-      engine = declared.adds.1.engine ∙ c.requires.engine;
+      engine = declared.adds.1.engine ∙ c.requires.pass.same;
       loaded = HasLoaded-as c.args.alone.now.pass c.declare.new.alone.pass _ _ 0 0 (index_loaded indexes at _ c.requires.indexes.one_each c.loop-table-test.true) refl declared;
       clock = drawn_again _ _ _ _ i.clock c.in_ok-declare.ensures.clock;
       shared = c.declare.ensures.shared ∙ i.shared;
@@ -42,11 +42,8 @@ returns-clause-loaded c =
     subst (λ (indexes : List (ℕ × ℕ)). HasLoaded (loaded [] indexes) 0 c.args.alone.now.pass c.loop-table.alone.pass)
     (take_all c.loop-table.table-index c.args.indexes.now c.loop-table-test.false) c.loop-table.invariant.loaded
 
-pub declare-requires-clause-engine : goal.declare-requires-clause-engine
-declare-requires-clause-engine c = c.loop-table.invariant.engine
-
-pub declare-requires-clause-fixed : goal.declare-requires-clause-fixed
-declare-requires-clause-fixed c = c.requires.fixed
+pub declare-requires-clause-pass : goal.declare-requires-clause-pass
+declare-requires-clause-pass c = record { same = c.loop-table.invariant.engine; idle = c.loop-table.invariant.loaded.holds.idle; fixed = c.requires.pass.fixed }
 
 pub declare-requires-clause-places : goal.declare-requires-clause-places
 declare-requires-clause-places c = c.requires.places

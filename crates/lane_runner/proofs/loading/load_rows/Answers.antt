@@ -43,7 +43,7 @@ returns-clause-loads c =
     subst (λ (xs : List (ℕ × ℕ × Row)). HasLoaded (loaded xs c.as_slice-3.result.now) (rows_add xs c.as_slice-3.result.now) q w) c.as_slice-2.ensures c.in_ok-put_rows.ensures.loaded in
     let so_far : HasLoaded (loaded input.rows input.indexes) (rows_add input.rows input.indexes) q w =
     subst (λ (xs : List (ℕ × ℕ)). HasLoaded (loaded input.rows xs) (rows_add input.rows xs) q w) c.as_slice-3.ensures rows in
-    let engine : engine_of w ≡ c.args.engine.now = so_far.adds.1.engine ∙ before.1.engine ∙ c.requires.engine in
+    let engine : engine_of w ≡ c.args.engine.now = so_far.adds.1.engine ∙ before.1.engine ∙ c.requires.pass.same in
     Loads-whole input p q w c.fits_more.ensures (subst (λ (e : EngineView). e.size.records ≤ record_limit) (sym engine) c.records.ensures.in_range.records_in_range) before so_far
 
 pub returns-clause-clock : goal.returns-clause-clock
@@ -56,14 +56,11 @@ returns-clause-clock c =
     let more : w.clock ≤ clock_after q.clock (length input.rows) = subst (λ (xs : List (ℕ × ℕ × Row)). w.clock ≤ clock_after q.clock (length xs)) c.as_slice-2.ensures c.in_ok-put_rows.ensures.clock in
     subst (λ (n : ℕ). w.clock ≤ clock_after p.clock n) (swapped (length input.indexes) (length input.rows)) (drawn_both p.clock q.clock w.clock (length input.indexes) (length input.rows) drawn more)
 
-pub declare_indexes-requires-clause-engine : goal.declare_indexes-requires-clause-engine
-declare_indexes-requires-clause-engine c = c.requires.engine
+pub declare_indexes-requires-clause-pass : goal.declare_indexes-requires-clause-pass
+declare_indexes-requires-clause-pass c = c.requires.pass
 
 pub declare_indexes-requires-clause-blank : goal.declare_indexes-requires-clause-blank
 declare_indexes-requires-clause-blank c = c.requires.blank
-
-pub declare_indexes-requires-clause-fixed : goal.declare_indexes-requires-clause-fixed
-declare_indexes-requires-clause-fixed c = c.requires.fixed
 
 pub declare_indexes-requires-clause-places : goal.declare_indexes-requires-clause-places
 declare_indexes-requires-clause-places c = c.requires.places
@@ -78,11 +75,8 @@ declare_indexes-requires-clause-room c =
     let input = c.args.input.now in
     subst (λ (xs : List (ℕ × ℕ)). HasRoom c.args.alone.now.pass.clock (length xs)) (sym c.as_slice.ensures) (room_part c.args.alone.now.pass.clock (length input.rows) (length input.indexes) c.requires.room)
 
-pub put_rows-requires-clause-engine : goal.put_rows-requires-clause-engine
-put_rows-requires-clause-engine c = c.in_ok-declare_indexes.ensures.loaded.adds.1.engine ∙ c.requires.engine
-
-pub put_rows-requires-clause-fixed : goal.put_rows-requires-clause-fixed
-put_rows-requires-clause-fixed c = c.requires.fixed
+pub put_rows-requires-clause-pass : goal.put_rows-requires-clause-pass
+put_rows-requires-clause-pass c = let loaded = c.in_ok-declare_indexes.ensures.loaded in record { same = loaded.adds.1.engine ∙ c.requires.pass.same; idle = loaded.holds.idle; fixed = c.requires.pass.fixed }
 
 pub put_rows-requires-clause-places : goal.put_rows-requires-clause-places
 put_rows-requires-clause-places c = c.requires.places

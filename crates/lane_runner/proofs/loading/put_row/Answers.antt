@@ -31,17 +31,14 @@ returns-clause-puts c = λ tables most first so_far.
     HasLoaded-put first c.args.alone.now.pass c.run_commands.new.alone.pass tables most c.args.table c.args.key c.args.values so_far c.in_ok-run_commands.ensures.holds
     (c.in_ok-run_commands.ensures.committed (record { stamp = c.in_ok-run_commands.field-0.0; snap = false; lane = 0; number = 0 }) refl refl).adds leaves
 
-pub run_commands-requires-clause-engine : goal.run_commands-requires-clause-engine
-run_commands-requires-clause-engine c = c.requires.engine
+pub run_commands-requires-clause-pass : goal.run_commands-requires-clause-pass
+run_commands-requires-clause-pass c = c.requires.pass
 
 pub run_commands-requires-clause-holds : goal.run_commands-requires-clause-holds
 run_commands-requires-clause-holds c = c.requires.holds
 
 pub run_commands-requires-clause-few : goal.run_commands-requires-clause-few
 run_commands-requires-clause-few c = subst (λ (xs : List Command). length xs ≤ 64) (sym (commands_are (goal.at.run_commands-requires-clause-few c).In_ok-push)) (omega arith)
-
-pub run_commands-requires-clause-fixed : goal.run_commands-requires-clause-fixed
-run_commands-requires-clause-fixed c = c.requires.fixed
 
 pub run_commands-requires-clause-places : goal.run_commands-requires-clause-places
 run_commands-requires-clause-places c = c.requires.places

@@ -9,7 +9,7 @@ use Rattle.lane_runner.proofs.Loaded.{row_loaded, weight_loaded, room_row, HasLo
 use Rattle.lane_runner.proofs.loading.put_rows.Goals as goal
 
 pub loop-row-init : goal.loop-row-init
-loop-row-init c = record { engine = c.requires.engine; loaded = c.requires.loaded; clock = omega arith; shared = refl }
+loop-row-init c = record { engine = c.requires.pass.same; loaded = c.requires.loaded; clock = omega arith; shared = refl }
 
 pub put_row-requires-clause-holds : goal.put_row-requires-clause-holds
 put_row-requires-clause-holds c = c.loop-row.invariant.loaded.holds
@@ -32,7 +32,7 @@ loop-row-preserved c =
     let indexes = c.args.indexes.now in
     let put = c.in_ok-put_row.ensures.puts (loaded (take at rows) indexes) (rows_add (take at rows) indexes) c.args.alone.now.pass i.loaded in
     record {
-      engine = put.adds.1.engine ∙ c.requires.engine;
+      engine = put.adds.1.engine ∙ c.requires.pass.same;
       loaded = HasLoaded-as c.args.alone.now.pass c.put_row.new.alone.pass _ _ _ _ (row_loaded rows indexes at row c.requires.differ c.row-item.is c.loop-row-test.true) (sym (weight_loaded rows indexes at row c.row-item.is c.loop-row-test.true)) put;
       clock = drawn_again _ _ _ _ i.clock c.in_ok-put_row.ensures.clock;
       shared = c.put_row.ensures.shared ∙ i.shared;
@@ -43,11 +43,8 @@ returns-clause-loaded c =
     subst (λ (rows : List (ℕ × ℕ × Row)). HasLoaded (loaded rows c.args.indexes.now) (rows_add rows c.args.indexes.now) c.args.alone.now.pass c.loop-row.alone.pass)
     (take_all c.loop-row.row-index c.args.rows.now c.loop-row-test.false) c.loop-row.invariant.loaded
 
-pub put_row-requires-clause-engine : goal.put_row-requires-clause-engine
-put_row-requires-clause-engine c = c.loop-row.invariant.engine
-
-pub put_row-requires-clause-fixed : goal.put_row-requires-clause-fixed
-put_row-requires-clause-fixed c = c.requires.fixed
+pub put_row-requires-clause-pass : goal.put_row-requires-clause-pass
+put_row-requires-clause-pass c = record { same = c.loop-row.invariant.engine; idle = c.loop-row.invariant.loaded.holds.idle; fixed = c.requires.pass.fixed }
 
 pub put_row-requires-clause-places : goal.put_row-requires-clause-places
 put_row-requires-clause-places c = c.requires.places

@@ -10,11 +10,11 @@ use Rattle.lane_threads.proofs.workers.work_lanes.Goals as goal
 pub loop-init : goal.loop-init
 loop-init g c = record {
   queue_is = c.requires.may_work.queue_is;
-  engine_is = c.requires.may_work.engine_is;
+  engine_is = c.requires.may_work.uses.same;
   same = record { same_queue = refl; same_lanes = refl; same_share = refl };
   does =
       subst (λ (y : List Lane × List LaneDone). DoesLanes c.args.tries c.args.pass.now c.args.pass.now y.0 y.1) (λ i. (sym c.requires.may_work.fresh.took_none i, sym c.new-done.ensures.items i))
-      (DoesLanes-none c.args.tries c.args.pass.now c.requires.may_work.idle);
+      (DoesLanes-none c.args.tries c.args.pass.now c.requires.may_work.uses.idle);
 }
 
 pub run_lane-requires-clause-blocks : goal.run_lane-requires-clause-blocks
@@ -54,14 +54,8 @@ returns-in_err-push-clause-adds g c =
 pub take-requires : goal.take-requires
 take-requires g c = c.loop.invariant.queue_is
 
-pub run_lane-requires-clause-engine : goal.run_lane-requires-clause-engine
-run_lane-requires-clause-engine g c = c.loop.invariant.engine_is
-
-pub run_lane-requires-clause-idle : goal.run_lane-requires-clause-idle
-run_lane-requires-clause-idle g c = c.loop.invariant.does.adds.idle
-
-pub run_lane-requires-clause-fixed : goal.run_lane-requires-clause-fixed
-run_lane-requires-clause-fixed g c = c.requires.fixed
+pub run_lane-requires-clause-pass : goal.run_lane-requires-clause-pass
+run_lane-requires-clause-pass g c = record { same = c.loop.invariant.engine_is; idle = c.loop.invariant.does.adds.idle; fixed = c.requires.may_work.uses.fixed }
 
 pub returns-in_err-ran-clause-ended : goal.returns-in_err-ran-clause-ended
 returns-in_err-ran-clause-ended g c = not_ok c.from_residual.result _ c.from_residual.ensures.0

@@ -4,19 +4,16 @@ use Rattle.snap_dump.proofs.at_alone.dump_rest.Goals as goal
 
 pub loop-init : goal.loop-init
 loop-init c = record {
-  engine = c.requires.engine;
-  others = none_others c.args.alone.now.pass c.requires.idle;
+  engine = c.requires.pass.same;
+  others = none_others c.args.alone.now.pass c.requires.pass.idle;
   made = made_none c.args.alone.now.pass c.args.alone.now.pass c.args.made.now.items;
   count = omega arith;
   keeps = keeps_none c.args.alone.now;
   clock = omega arith;
 }
 
-pub dump_at_alone-requires-clause-engine : goal.dump_at_alone-requires-clause-engine
-dump_at_alone-requires-clause-engine c = c.loop.invariant.engine
-
-pub dump_at_alone-requires-clause-idle : goal.dump_at_alone-requires-clause-idle
-dump_at_alone-requires-clause-idle c = c.loop.invariant.others.adds.idle
+pub dump_at_alone-requires-clause-pass : goal.dump_at_alone-requires-clause-pass
+dump_at_alone-requires-clause-pass c = record { same = c.loop.invariant.engine; idle = c.loop.invariant.others.adds.idle; fixed = c.requires.pass.fixed }
 
 pub dump_at_alone-requires-clause-room : goal.dump_at_alone-requires-clause-room
 dump_at_alone-requires-clause-room c = omega (arith, c.loop.invariant.clock, c.requires.room, c.loop-test.true)

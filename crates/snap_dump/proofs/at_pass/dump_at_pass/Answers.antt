@@ -11,53 +11,53 @@ use Rattle.snap_dump.proofs.at_pass.dump_at_pass.Goals as goal
 pub list_tables-told-requires-clause-size : goal.list_tables-told-requires-clause-size
 list_tables-told-requires-clause-size c =
     let p = c.args.pass.now in
-    let all = sees_all p c.tick.new.self c.snapshot-snapshot.result.pass.now (next_clock p c.args.reading) c.in-Ok.ensures.ok c.snapshot-snapshot.ensures.begins in
-    let records : p.shared.size.records ≡ c.args.engine.now.size.records = ap (λ (e : EngineView). e.size.records) c.requires.engine in
-    omega (arith, all, records, c.requires.fixed, c.fixed.ensures.value, c.fixed.ensures.within)
+    let all = sees_all p c.tick.new.self c.snapshot-snapshot.result.seat.now (next_clock p c.args.reading) c.in-Ok.ensures.ok c.snapshot-snapshot.ensures.begins in
+    let records : p.shared.size.records ≡ c.args.engine.now.size.records = ap (λ (e : EngineView). e.size.records) c.requires.pass.same in
+    omega (arith, all, records, c.requires.pass.fixed, c.fixed.ensures.value, c.fixed.ensures.within)
 
 pub untorn-requires : goal.untorn-requires
 untorn-requires c =
     let p = c.args.pass.now in
-    let s = c.snapshot-snapshot.result.pass.now in
-    let q = c.list_tables-told.new.store.pass.now in
-    let rest : unread q ≡ unread s = ap (λ (x : GlanceRest). x.of_pass) c.list_tables-told.ensures.rest in
+    let s = c.snapshot-snapshot.result.seat.now in
+    let q = c.list_tables-told.new.store.seat.now in
+    let rest : unread q ≡ unread s = ap (λ (x : GlanceRest (Unit {0})). x.of_pass) c.list_tables-told.ensures.rest in
     not_torn c.list_tables-told.result _ c.list_tables-told.ensures.torn
     (never_torn p c.tick.new.self s q (next_clock p c.args.reading) c.in-Ok.ensures.ok c.snapshot-snapshot.ensures.begins rest _ c.keeps_tables.ensures c.finish-stamp.ensures.finishes.stood)
 
 pub returns-clause-dumps : goal.returns-clause-dumps
 returns-clause-dumps c =
     let p = c.args.pass.now in
-    let s = c.snapshot-snapshot.result.pass.now in
-    let q = c.list_tables-told.new.store.pass.now in
-    let rest : unread q ≡ unread s = ap (λ (x : GlanceRest). x.of_pass) c.list_tables-told.ensures.rest in
-    dumps_seen p c.tick.new.self s q (next_clock p c.args.reading) c.in-Ok.ensures.ok c.snapshot-snapshot.ensures.begins rest c.finish-stamp.new.self.0 _ c.finish-stamp.ensures.finishes.after (search rules) c.requires.idle (omega arith)
+    let s = c.snapshot-snapshot.result.seat.now in
+    let q = c.list_tables-told.new.store.seat.now in
+    let rest : unread q ≡ unread s = ap (λ (x : GlanceRest (Unit {0})). x.of_pass) c.list_tables-told.ensures.rest in
+    dumps_seen p c.tick.new.self s q (next_clock p c.args.reading) c.in-Ok.ensures.ok c.snapshot-snapshot.ensures.begins rest c.finish-stamp.new.self.0 _ c.finish-stamp.ensures.finishes.after (search rules) c.requires.pass.idle (omega arith)
     c.in_ok-lists.lists.items _ c.fits_records.ensures (rw c.in_ok-lists.ensures at c.list_tables-told.ensures.rows) c.finish-stamp.ensures.finishes.stamp
     (c.in_ok-rows.ensures ∙ ap (tagged 0) c.deref.ensures.value)
 
 pub returns-in_err-lists-clause-fault : goal.returns-in_err-lists-clause-fault
 returns-in_err-lists-clause-fault c =
     let p = c.args.pass.now in
-    let s = c.snapshot-snapshot.result.pass.now in
-    let q = c.list_tables-told.new.store.pass.now in
-    let rest : unread q ≡ unread s = ap (λ (x : GlanceRest). x.of_pass) c.list_tables-told.ensures.rest in
+    let s = c.snapshot-snapshot.result.seat.now in
+    let q = c.list_tables-told.new.store.seat.now in
+    let rest : unread q ≡ unread s = ap (λ (x : GlanceRest (Unit {0})). x.of_pass) c.list_tables-told.ensures.rest in
     let seen = has_seen p c.tick.new.self s q (next_clock p c.args.reading) c.in-Ok.ensures.ok c.snapshot-snapshot.ensures.begins rest in
-    on_err c.from_residual.result (entry_of_glance seen.0 ∷ [], Adds-finished p c.tick.new.self s q (next_clock p c.args.reading) c.in-Ok.ensures.ok c.snapshot-snapshot.ensures.begins rest c.finish-stamp.new.self.0 _ c.finish-stamp.ensures.finishes.after (search rules) c.requires.idle (omega arith))
+    on_err c.from_residual.result (entry_of_glance seen.0 ∷ [], Adds-finished p c.tick.new.self s q (next_clock p c.args.reading) c.in-Ok.ensures.ok c.snapshot-snapshot.ensures.begins rest c.finish-stamp.new.self.0 _ c.finish-stamp.ensures.finishes.after (search rules) c.requires.pass.idle (omega arith))
 
 pub returns-in_err-rows-clause-fault : goal.returns-in_err-rows-clause-fault
 returns-in_err-rows-clause-fault c =
     let p = c.args.pass.now in
-    let s = c.snapshot-snapshot.result.pass.now in
-    let q = c.list_tables-told.new.store.pass.now in
-    let rest : unread q ≡ unread s = ap (λ (x : GlanceRest). x.of_pass) c.list_tables-told.ensures.rest in
+    let s = c.snapshot-snapshot.result.seat.now in
+    let q = c.list_tables-told.new.store.seat.now in
+    let rest : unread q ≡ unread s = ap (λ (x : GlanceRest (Unit {0})). x.of_pass) c.list_tables-told.ensures.rest in
     let seen = has_seen p c.tick.new.self s q (next_clock p c.args.reading) c.in-Ok.ensures.ok c.snapshot-snapshot.ensures.begins rest in
-    on_err c.from_residual-in_err-rows.result (entry_of_glance seen.0 ∷ [], Adds-finished p c.tick.new.self s q (next_clock p c.args.reading) c.in-Ok.ensures.ok c.snapshot-snapshot.ensures.begins rest c.finish-stamp.new.self.0 _ c.finish-stamp.ensures.finishes.after (search rules) c.requires.idle (omega arith))
+    on_err c.from_residual-in_err-rows.result (entry_of_glance seen.0 ∷ [], Adds-finished p c.tick.new.self s q (next_clock p c.args.reading) c.in-Ok.ensures.ok c.snapshot-snapshot.ensures.begins rest c.finish-stamp.new.self.0 _ c.finish-stamp.ensures.finishes.after (search rules) c.requires.pass.idle (omega arith))
 
 pub invariant_of-result : goal.invariant_of-result
 invariant_of-result c =
     let p = c.args.pass.now in
-    let s = c.snapshot-snapshot.result.pass.now in
-    let q = c.list_tables-told.new.store.pass.now in
-    let rest : unread q ≡ unread s = ap (λ (x : GlanceRest). x.of_pass) c.list_tables-told.ensures.rest in
+    let s = c.snapshot-snapshot.result.seat.now in
+    let q = c.list_tables-told.new.store.seat.now in
+    let rest : unread q ≡ unread s = ap (λ (x : GlanceRest (Unit {0})). x.of_pass) c.list_tables-told.ensures.rest in
     record {
       in_order = read_in_order p c.tick.new.self s q (next_clock p c.args.reading) c.in-Ok.ensures.ok c.snapshot-snapshot.ensures.begins rest _ c.in_ok-lists.lists.items c.in_ok-rows.rows c.keeps_tables.ensures c.finish-stamp.ensures.finishes.stood
           (rw c.in_ok-lists.ensures at c.list_tables-told.ensures.rows) (c.in_ok-rows.ensures ∙ ap (tagged 0) c.deref.ensures.value);

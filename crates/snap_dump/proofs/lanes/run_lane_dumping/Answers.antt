@@ -10,18 +10,15 @@ use Rattle.snap_dump.proofs.lanes.run_lane_dumping.Goals as goal
 
 pub attempts-init : goal.attempts-init
 attempts-init g c = record {
-  engine = c.requires.engine;
+  engine = c.requires.pass.same;
   steps = subst (StepsDumping c.args.pass.now c.args.pass.now c.new-session.result c.new-session.result) (omega arith)
-      (steps_alone c.args.pass.now c.args.pass.now c.new-session.result c.new-session.result (steps_none c.args.pass.now c.new-session.result c.requires.idle));
+      (steps_alone c.args.pass.now c.args.pass.now c.new-session.result c.new-session.result (steps_none c.args.pass.now c.new-session.result c.requires.pass.idle));
   made = made_none c.args.pass.now c.args.pass.now c.args.made.now.items;
   within = c.requires.within;
 }
 
-pub attempt-requires-clause-engine : goal.attempt-requires-clause-engine
-attempt-requires-clause-engine g c = c.attempts.invariant.engine
-
-pub attempt-requires-clause-idle : goal.attempt-requires-clause-idle
-attempt-requires-clause-idle g c = c.attempts.invariant.steps.adds.idle
+pub attempt-requires-clause-pass : goal.attempt-requires-clause-pass
+attempt-requires-clause-pass g c = record { same = c.attempts.invariant.engine; idle = c.attempts.invariant.steps.adds.idle; fixed = c.requires.pass.fixed }
 
 pub attempt-requires-clause-room : goal.attempt-requires-clause-room
 attempt-requires-clause-room g c =
@@ -32,11 +29,8 @@ attempt-requires-clause-room g c =
     let left = c.args.due - length c.attempts.made.items in
     room_to_try c.attempts.pass c.attempts.session left i.steps.adds.idle (c.has_next.ensures.yes c.attempts-test.true) room
 
-pub dump_behind-requires-clause-engine : goal.dump_behind-requires-clause-engine
-dump_behind-requires-clause-engine g c = c.attempt.ensures.adds.1.engine ∙ c.attempts.invariant.engine
-
-pub dump_behind-requires-clause-idle : goal.dump_behind-requires-clause-idle
-dump_behind-requires-clause-idle g c = c.attempt.ensures.adds.1.idle
+pub dump_behind-requires-clause-pass : goal.dump_behind-requires-clause-pass
+dump_behind-requires-clause-pass g c = record { same = c.attempt.ensures.adds.1.engine ∙ c.attempts.invariant.engine; idle = c.attempt.ensures.adds.1.idle; fixed = c.requires.pass.fixed }
 
 pub dump_behind-requires-clause-room : goal.dump_behind-requires-clause-room
 dump_behind-requires-clause-room g c =

@@ -14,9 +14,9 @@ use Rattle.snap_dump.proofs.work.work_dumping.Goals as goal
 pub loop-init : goal.loop-init
 loop-init g c = record {
   queue_is = c.requires.may_work.queue_is;
-  engine_is = c.requires.may_work.engine_is;
+  engine_is = c.requires.may_work.uses.same;
   same = record { same_queue = refl; same_lanes = refl; same_share = refl };
-  does = runs_none c.args.tries c.args.pass.now c.args.taker.now.took c.new-done.result.items _ c.requires.may_work.idle c.requires.may_work.fresh.took_none c.new-done.ensures.items;
+  does = runs_none c.args.tries c.args.pass.now c.args.taker.now.took c.new-done.result.items _ c.requires.may_work.uses.idle c.requires.may_work.fresh.took_none c.new-done.ensures.items;
   made = made_none c.args.pass.now c.args.pass.now c.args.made.now.items;
   within = (let none = ap (λ (ds : List Dump). length ds) c.requires.none in omega (arith, none));
 }
@@ -24,19 +24,13 @@ loop-init g c = record {
 pub take-requires : goal.take-requires
 take-requires g c = c.loop.invariant.queue_is
 
-pub run_lane_dumping-requires-clause-engine : goal.run_lane_dumping-requires-clause-engine
-run_lane_dumping-requires-clause-engine g c = c.loop.invariant.engine_is
-
-pub run_lane_dumping-requires-clause-idle : goal.run_lane_dumping-requires-clause-idle
-run_lane_dumping-requires-clause-idle g c = c.loop.invariant.does.adds.idle
+pub run_lane_dumping-requires-clause-pass : goal.run_lane_dumping-requires-clause-pass
+run_lane_dumping-requires-clause-pass g c = record { same = c.loop.invariant.engine_is; idle = c.loop.invariant.does.adds.idle; fixed = c.requires.may_work.uses.fixed }
 
 pub run_lane_dumping-requires-clause-blocks : goal.run_lane_dumping-requires-clause-blocks
 run_lane_dumping-requires-clause-blocks g c =
     let t = c.in-Some-take.ensures in
     taken_may c.args.taker.now.lanes c.take.new.pass.lanes c.loop.taker.took c.take.new.pass.took c.in-Some-take.lane t.some.0 (t.pass.same_lanes ∙ c.loop.invariant.same.same_lanes) t.in_order c.requires.may_work.lanes
-
-pub run_lane_dumping-requires-clause-fixed : goal.run_lane_dumping-requires-clause-fixed
-run_lane_dumping-requires-clause-fixed g c = c.requires.fixed
 
 pub run_lane_dumping-requires-clause-within : goal.run_lane_dumping-requires-clause-within
 run_lane_dumping-requires-clause-within g c = c.loop.invariant.within

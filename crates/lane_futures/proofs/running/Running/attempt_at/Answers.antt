@@ -1,7 +1,5 @@
-use Rattle.std.proofs.Common.{◌≤◌, sym, subst, ◌∙◌, refl, arith}
+use Rattle.std.proofs.Common.{◌∙◌, refl, arith}
 use Rattle.std.proofs.lemmas.List.{length-set}
-use Rattle.stored_tables.specs.Places.{fixed_records}
-use Rattle.txn_engine.specs.Pass.{EngineView}
 use Rattle.lane_futures.proofs.Turned.{place_within, room_in_turn, takes_turn, adds_turn}
 use Rattle.lane_futures.proofs.running.Running.attempt_at.Goals as goal
 
@@ -11,17 +9,11 @@ overflow_add-self g c = omega (arith, place_within _ c.args.self.now c.args.plac
 pub index_mut-requires : goal.index_mut-requires
 index_mut-requires g c = omega (arith, place_within _ c.args.self.now c.args.place c.self.view_is c.requires.in_turn, c.self.inside.sessions.ok.0)
 
-pub attempt-requires-clause-engine : goal.attempt-requires-clause-engine
-attempt-requires-clause-engine g c = c.self.invariant.0
-
-pub attempt-requires-clause-idle : goal.attempt-requires-clause-idle
-attempt-requires-clause-idle g c = c.self.invariant.1
-
-pub attempt-requires-clause-fixed : goal.attempt-requires-clause-fixed
-attempt-requires-clause-fixed g c = subst (λ (e : EngineView). fixed_records ≤ e.fixed) c.self.invariant.0 c.self.invariant.2
+pub attempt-requires-clause-pass : goal.attempt-requires-clause-pass
+attempt-requires-clause-pass g c = c.self.invariant.0
 
 pub attempt-requires-clause-room : goal.attempt-requires-clause-room
-attempt-requires-clause-room g c = room_in_turn _ c.args.self.now c.args.place c.index_mut.result.now c.self.view_is c.requires.in_turn c.index_mut.ensures.value c.self.invariant.1 c.requires.room
+attempt-requires-clause-room g c = room_in_turn _ c.args.self.now c.args.place c.index_mut.result.now c.self.view_is c.requires.in_turn c.index_mut.ensures.value c.self.invariant.0.idle c.requires.room
 
 pub returns-clause-takes : goal.returns-clause-takes
 returns-clause-takes g c =
@@ -38,11 +30,11 @@ invariant_of-self g c =
     let adds = c.attempt.ensures.adds.1 in
     let within = place_within _ c.args.self.now c.args.place c.self.view_is c.requires.in_turn in
     let same = length-set c.self.inside.sessions.items c.args.place c.attempt.new.self in
-    (adds.engine ∙ c.self.invariant.0, adds.idle, subst (λ (e : EngineView). fixed_records ≤ e.fixed) (sym adds.engine) c.self.invariant.2, omega (arith, within, same, c.self.invariant.3), c.self.invariant.4, omega (arith, same, c.self.invariant.5))
+    (record { same = adds.engine ∙ c.self.invariant.0.same; idle = adds.idle; fixed = c.self.invariant.0.fixed }, omega (arith, within, same, c.self.invariant.1), c.self.invariant.2, omega (arith, same, c.self.invariant.3))
 
 pub invariant_of-self-2 : goal.invariant_of-self-2
 invariant_of-self-2 g c =
     let adds = c.attempt.ensures.adds.1 in
     let within = place_within _ c.args.self.now c.args.place c.self.view_is c.requires.in_turn in
     let same = length-set c.self.inside.sessions.items c.args.place c.attempt.new.self in
-    (adds.engine ∙ c.self.invariant.0, adds.idle, subst (λ (e : EngineView). fixed_records ≤ e.fixed) (sym adds.engine) c.self.invariant.2, omega (arith, within, same, c.self.invariant.3), c.self.invariant.4, omega (arith, same, c.self.invariant.5))
+    (record { same = adds.engine ∙ c.self.invariant.0.same; idle = adds.idle; fixed = c.self.invariant.0.fixed }, omega (arith, within, same, c.self.invariant.1), c.self.invariant.2, omega (arith, same, c.self.invariant.3))

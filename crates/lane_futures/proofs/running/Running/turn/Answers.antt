@@ -6,13 +6,13 @@ use Rattle.lane_futures.proofs.Turned.{leads_turn, leads_none, fewer_turn}
 use Rattle.lane_futures.proofs.running.Running.turn.Goals as goal
 
 pub returns-in_default-clause-leads : goal.returns-in_default-clause-leads
-returns-in_default-clause-leads g c = leads_none c.args.self.now (subst (λ (l : LanesView). IsIdle l.pass) c.self.view_is c.self.invariant.1)
+returns-in_default-clause-leads g c = leads_none c.args.self.now (subst (λ (l : LanesView). IsIdle l.pass) c.self.view_is c.self.invariant.0.idle)
 
 pub returns-in_default-clause-adds : goal.returns-in_default-clause-adds
-returns-in_default-clause-adds g c = ([], Adds-none c.args.self.now.pass (subst (λ (l : LanesView). IsIdle l.pass) c.self.view_is c.self.invariant.1))
+returns-in_default-clause-adds g c = ([], Adds-none c.args.self.now.pass (subst (λ (l : LanesView). IsIdle l.pass) c.self.view_is c.self.invariant.0.idle))
 
 pub returns-clause-leads : goal.returns-clause-leads
-returns-clause-leads g c = leads_turn c.args.self.now c.attempt_at.new.self (subst (λ (l : LanesView). IsIdle l.pass) c.self.view_is c.self.invariant.1) (inl c.in_ok-attempt_at.ensures.takes)
+returns-clause-leads g c = leads_turn c.args.self.now c.attempt_at.new.self (subst (λ (l : LanesView). IsIdle l.pass) c.self.view_is c.self.invariant.0.idle) (inl c.in_ok-attempt_at.ensures.takes)
 
 pub returns-clause-fewer : goal.returns-clause-fewer
 returns-clause-fewer g c = λ more. fewer_turn c.args.self.now c.attempt_at.new.self c.in_ok-attempt_at.ensures.takes

@@ -1,6 +1,8 @@
-use Rattle.std.proofs.Common.{◌≡◌, List, ◌∷◌, ◌++◌, reverse, refl, sym, ap, ◌∙◌, arith}
+use Rattle.std.proofs.Common.{◌≡◌, ◌<◌, List, ◌∷◌, ◌++◌, reverse, refl, sym, ap, subst, ◌∙◌, arith}
+use Rattle.std.specs.Prelude.{IfSome}
 use Rattle.replay_model.specs.declared.input.Block.{Block}
-use Rattle.lane_runner.specs.Blocks.{IsPlaceOf, Commits, CountsOnce}
+use Rattle.txn_engine.specs.Pass.{EngineView}
+use Rattle.lane_runner.specs.Blocks.{IsDone}
 use Rattle.lane_runner.specs.Session.{SessionView}
 use Rattle.lane_runner.proofs.Granted.{some_is, ample_next}
 use Rattle.lane_runner.proofs.Run.{adds_done}
@@ -25,26 +27,33 @@ returns-clause-attempts g c =
     let next = c.in-Some.ensures.some in
     let back : reverse c.self.inside.blocks.items ≡ c.in-Some.block.now ∷ next.0 = left_is c.args.self.now c.self.inside.blocks.items c.in-Some.block.now next.0 (sym (ap (λ (s : SessionView). s.left) c.self.view_is)) next.1 in
     let behind : reverse c.pop.new.self.items ≡ next.0 = left_behind c.self.inside.blocks.items c.pop.new.self.items _ c.in-Some.block.now next.0 c.self.inside.blocks.ok.0 c.pop.ensures.rest back in
-    let commits : Commits c.in-Some.block.now.commands c.args.pass.now c.try_block.new.pass c.in-Some-2.done.placed c.in-Some-2.done.outcome = rw c.in-Some-2.is at c.in_ok-done.ensures.committed in
-    let place : IsPlaceOf c.in-Some.block.now c.in-Some-2.done.placed = rw c.in-Some-2.is at c.in_ok-done.ensures.placed in
+    let done : IsDone c.in-Some.block.now c.args.pass.now c.try_block.new.pass c.in-Some-2.done = rw c.in-Some-2.is at c.in_ok-done.ensures.tried in
     gives_outcome c.args.self.now _ c.args.pass.now c.try_block.new.pass c.promote_in_turn.new.pass c.in-Some.block.now (reverse c.pop.new.self.items) c.in-Some-2.done.placed c.in-Some-2.done.outcome
     (next.1 ∙ ap (λ (xs : List Block). c.in-Some.block.now ∷ xs) (sym behind))
     (session_given c.args.self.now _ c.push.new.self (c.in-Some-2.done.placed, c.in-Some-2.done.outcome) (reverse c.pop.new.self.items) (sym c.self.view_is) c.in_ok-push.ensures.ok)
-    commits place c.promote_in_turn.ensures.others
-    (let once : CountsOnce c.args.pass.now c.try_block.new.pass = rw c.in-Some-2.is at c.in_ok-done.ensures.once in omega (arith, once.once, c.promote_in_turn.ensures.refusals))
+    done.ran c.promote_in_turn.ensures.others (omega (arith, done.once.once, c.promote_in_turn.ensures.refusals))
 
 pub returns-clause-adds : goal.returns-clause-adds
 returns-clause-adds g c =
-    let commits : Commits c.in-Some.block.now.commands c.args.pass.now c.try_block.new.pass c.in-Some-2.done.placed c.in-Some-2.done.outcome = rw c.in-Some-2.is at c.in_ok-done.ensures.committed in
-    adds_done c.in-Some.block.now.commands c.in-Some-2.done.placed c.in-Some-2.done.outcome c.args.pass.now c.try_block.new.pass c.promote_in_turn.new.pass commits c.promote_in_turn.ensures.others
+    let done : IsDone c.in-Some.block.now c.args.pass.now c.try_block.new.pass c.in-Some-2.done = rw c.in-Some-2.is at c.in_ok-done.ensures.tried in
+    adds_done c.in-Some.block.now.commands c.in-Some-2.done.placed c.in-Some-2.done.outcome c.args.pass.now c.try_block.new.pass c.promote_in_turn.new.pass done.ran.commits c.promote_in_turn.ensures.others
 
 pub returns-clause-granted : goal.returns-clause-granted
 returns-clause-granted g c = λ none tried more ample.
     let next = c.in-Some.ensures.some in
     let back : reverse c.self.inside.blocks.items ≡ c.in-Some.block.now ∷ next.0 = left_is c.args.self.now c.self.inside.blocks.items c.in-Some.block.now next.0 (sym (ap (λ (s : SessionView). s.left) c.self.view_is)) next.1 in
     let behind : reverse c.pop.new.self.items ≡ next.0 = left_behind c.self.inside.blocks.items c.pop.new.self.items _ c.in-Some.block.now next.0 c.self.inside.blocks.ok.0 c.pop.ensures.rest back in
-    let commits : Commits c.in-Some.block.now.commands c.args.pass.now c.try_block.new.pass c.in-Some-2.done.placed c.in-Some-2.done.outcome = rw c.in-Some-2.is at c.in_ok-done.ensures.committed in
-    let place : IsPlaceOf c.in-Some.block.now c.in-Some-2.done.placed = rw c.in-Some-2.is at c.in_ok-done.ensures.placed in
+    let done : IsDone c.in-Some.block.now c.args.pass.now c.try_block.new.pass c.in-Some-2.done = rw c.in-Some-2.is at c.in_ok-done.ensures.tried in
     let here = ample_left c.args.self.now c.args.pass.now c.in-Some.block.now (reverse c.pop.new.self.items) more none tried (next.1 ∙ ap (λ (xs : List Block). c.in-Some.block.now ∷ xs) (sym behind)) ample in
     let granted = c.in_ok-done.ensures.granted (ap (λ (s : SessionView). s.refused) c.self.view_is ∙ none) (reverse c.pop.new.self.items ++ more) here in
-    (refl, ample_next c.args.pass.now c.try_block.new.pass c.promote_in_turn.new.pass c.in-Some.block.now (reverse c.pop.new.self.items ++ more) c.in-Some-2.done.placed c.in-Some-2.done.outcome here commits place c.promote_in_turn.ensures.others (c.promote_in_turn.ensures.ready granted.1))
+    (refl, ample_next c.args.pass.now c.try_block.new.pass c.promote_in_turn.new.pass c.in-Some.block.now (reverse c.pop.new.self.items ++ more) c.in-Some-2.done.placed c.in-Some-2.done.outcome here done.ran.commits done.ran.place c.promote_in_turn.ensures.others (c.promote_in_turn.ensures.ready granted.1))
+
+pub promote_in_turn-requires-clause-pass : goal.promote_in_turn-requires-clause-pass
+promote_in_turn-requires-clause-pass g c =
+    let done : IsDone c.in-Some.block.now c.args.pass.now c.try_block.new.pass c.in-Some-2.done = rw c.in-Some-2.is at c.in_ok-done.ensures.tried in
+    (done.ran.commits.adds.engine ∙ c.requires.pass.same, done.ran.commits.adds.idle)
+
+pub promote_in_turn-requires-clause-rid : goal.promote_in_turn-requires-clause-rid
+promote_in_turn-requires-clause-rid g c =
+    let done : IsDone c.in-Some.block.now c.args.pass.now c.try_block.new.pass c.in-Some-2.done = rw c.in-Some-2.is at c.in_ok-done.ensures.tried in
+    subst (λ (e : EngineView). IfSome c.in-Some-2.done.first_read (λ rid. rid < e.size.records)) c.requires.pass.same done.first

@@ -9,7 +9,5 @@ pub returns-clause-at_most : goal.returns-clause-at_most
 returns-clause-at_most g c =
     let few = c.refusals.ensures.at_most in
     let e = c.self.invariant.counts in
-    let refusals = ap (λ (a : AloneView). a.pass.refusals) c.self.view_is in
     let clock = ap (λ (a : AloneView). a.pass.clock) c.self.view_is in
-    let own = c.refusals.ensures.value in
     omega arith

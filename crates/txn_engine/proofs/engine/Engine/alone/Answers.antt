@@ -4,7 +4,7 @@ use Rattle.core_rule.specs.View.{Splitting}
 use Rattle.txn_engine.specs.Joining.{AreOfEngine, AreOthers, refusals_of, come_together}
 use Rattle.txn_engine.specs.Pass.{PassView, EngineView, engine_of}
 use Rattle.txn_engine.specs.Retired.{RetiredView}
-use Rattle.txn_engine.proofs.Joined.{uncounted, count_others, earlier_more, earlier_most, first_out, none_left, rests_joined, together_more, alone_together}
+use Rattle.txn_engine.proofs.Joined.{unglanced, count_others, earlier_more, earlier_most, first_out, none_left, rests_joined, together_more, alone_together}
 use Rattle.txn_engine.proofs.engine.Engine.alone.Goals as goal
 
 pub overflow_add-earlier : goal.overflow_add-earlier
@@ -43,7 +43,6 @@ loop-pass-preserved g c =
     let clock = ap (λ (x : PassView). x.clock) e.joined in
     record {
       together = together_more p q r rest rs _ none e.joined first i.together;
-      own = ap (λ (x : PassView). x.refusals) e.joined ∙ i.own;
       rests = rests_joined p q r i.rests e.joined;
       engine = ap engine_of e.joined ∙ i.engine;
       of_engine = (subst (λ (xs : List RetiredView). AreOfEngine c.args.self.now xs) first i.of_engine).1;
@@ -59,7 +58,7 @@ returns-clause-alone g c =
     let first = c.clear_all.new.self in
     let others = c.args.others.items in
     let none : c.loop-pass.rest.items ≡ [] = none_left c.loop-pass.rest.items (let e = eqb-true _ 0 (sym c.is_empty.ensures ∙ c.loop-pass-test.false) in let ok = c.loop-pass.rest.ok in omega arith) in
-    let all = subst (λ (xs : List RetiredView). uncounted (come_together c.loop-pass.pass xs) ≡ uncounted (come_together first others)) none i.together in
+    let all = subst (λ (xs : List RetiredView). unglanced (come_together c.loop-pass.pass xs) ≡ unglanced (come_together first others)) none i.together in
     let seat = ap (λ (p : PassView). p.seat) all in
     let engine = ap engine_of all in
     let own : engine_of first ≡ c.args.self.now = sym engine ∙ i.engine in
@@ -75,7 +74,7 @@ invariant_of-result g c =
     let first = c.clear_all.new.self in
     let others = c.args.others.items in
     let none : c.loop-pass.rest.items ≡ [] = none_left c.loop-pass.rest.items (let e = eqb-true _ 0 (sym c.is_empty.ensures ∙ c.loop-pass-test.false) in let ok = c.loop-pass.rest.ok in omega arith) in
-    let all = subst (λ (xs : List RetiredView). uncounted (come_together c.loop-pass.pass xs) ≡ uncounted (come_together first others)) none i.together in
+    let all = subst (λ (xs : List RetiredView). unglanced (come_together c.loop-pass.pass xs) ≡ unglanced (come_together first others)) none i.together in
     let seat = ap (λ (p : PassView). p.seat) all in
     let engine = ap engine_of all in
     let own : engine_of first ≡ c.args.self.now = sym engine ∙ i.engine in

@@ -1,0 +1,85 @@
+-- What the end of a block's transaction leaves of the pass that it was begun at.
+use Rattle.std.proofs.Common.{◌≡◌, ℕ, ◌+◌, ◌<◌, ◌≤◌, false, [], Option, IsSome, Result, Ok, Err, refl, sym, ap, subst, ◌∙◌, arith}
+use Rattle.std.specs.Prelude.{IfSome}
+use Rattle.history_replay.specs.Results.{StandsForSome}
+use Rattle.record_store.specs.Limits.{record_limit}
+use Rattle.replay_model.specs.declared.input.Block.{Block}
+use Rattle.replay_model.specs.declared.outcome.Outcome.{Outcome}
+use Rattle.stored_tables.specs.Laws.{FitsRecords, FitsMore}
+use Rattle.seat_post.specs.FirstRead.{first_record}
+use Rattle.seat_post.specs.Logs.{IsAbove}
+use Rattle.txn_engine.specs.declared.faults.CommitFault.{CommitFault}
+use Rattle.txn_engine.specs.declared.transacting.Committed.{Committed}
+use Rattle.txn_engine.specs.Commits as calls
+use Rattle.txn_engine.specs.Lists.{IsFull}
+use Rattle.txn_engine.specs.Pass.{PassView, frame, IsAlone, begun, refused, knowing, entry_of, engine_of, desk_of, observing, placing}
+use Rattle.lane_runner.specs.declared.done.BlockDone.{BlockDone}
+use Rattle.lane_runner.specs.Rows.{stands}
+use Rattle.lane_runner.specs.Blocks.{IsRefused, IsTried}
+use Rattle.lane_runner.specs.Ending.{EndsBlock, done_at}
+use Rattle.lane_runner.specs.Ready.{IsReady, IsReadyOnceCollected}
+use Rattle.lane_runner.specs.Weighs.{WeighsAtMost}
+use Rattle.lane_runner.proofs.Adding.{Adds-no_entry}
+use Rattle.lane_runner.proofs.Begun.{commits_at}
+use Rattle.lane_runner.proofs.Counted.{counted_once}
+use Rattle.lane_runner.proofs.Entries.{HasRun, first_below}
+use Rattle.lane_runner.proofs.Granted.{only_full, ready_committed}
+use Rattle.lane_runner.proofs.Held.{roomy_once}
+use Rattle.lane_runner.proofs.Ran.{Opened}
+
+-- it was begun at `p`, has run to `q`, and ended at `r`, which the pass is then
+module _ (p q r r' : PassView) (same : r' ≡ r) (clock : ℕ) (later : p.clock < clock) (above : IsAbove p.log q.stamp) (kept : frame q ≡ frame (begun p clock)) where
+  refused_at : r ≡ observing (placing (refused (knowing q r.known)) r.placed) r.observed → IsRefused 1 p r
+  refused_at ends =
+      let same_clock : r.clock ≡ clock = ap (λ (x : PassView). x.clock) ends ∙ ap (λ (f : PassView). f.clock) kept in
+      let same_met : r.met ≡ p.met = ap (λ (x : PassView). x.met) ends ∙ ap (λ (f : PassView). f.met) kept in
+      let once : r.refusals ≡ q.refusals + 1 = ap (λ (x : PassView). x.refusals) ends in
+      let before : q.refusals ≡ p.refusals = ap (λ (f : PassView). f.refusals) kept in
+      record {
+        adds = Adds-no_entry p r (ap engine_of ends ∙ ap engine_of kept)
+            (ap (λ (x : PassView). x.seat) ends ∙ ap (λ (f : PassView). f.seat) kept)
+            (ap (λ (x : PassView). x.others) ends ∙ ap (λ (f : PassView). f.others) kept)
+            (ap desk_of ends)
+            (ap (λ (x : PassView). x.log) ends ∙ ap (λ (f : PassView). f.log) kept)
+            (omega arith) (omega arith) (omega arith);
+        refusals = omega arith;
+      }
+
+  pub tried_ended : (block : Block) (outcome : Outcome) (answer : Option BlockDone) → EndsBlock block outcome q r answer
+      → FitsRecords → FitsMore → p.shared.size.records ≤ record_limit → HasRun p.shared.size.records block.commands outcome q.reads q.writes → WeighsAtMost p.shared.size.records block.commands (entry_of q) → block.snap ≡ false → IsTried block p r' answer
+  tried_ended block outcome answer ends fits more few run weighs kind = subst (λ (x : PassView). IsTried block p x answer) (sym same) (subst (λ (a : Option BlockDone). IsTried block p r a) (sym ends.answers) (by_told ends.told ends.commits)) where
+    by_told : (told : Result Committed CommitFault) → calls.Commits (StandsForSome stands) q r told → IsTried block p r (done_at block outcome (first_record q.reads) told)
+    by_told (Err fault) commits = refused_at commits.err
+    by_told (Ok told) commits = record {
+      ran = record {
+        commits = commits_at p q r r clock r.known block.commands outcome _ later above kept commits.ok refl fits more few run (sym commits.stamp) refl weighs;
+        place = record { snap = sym kind; lane = refl; number = refl };
+      };
+      once = counted_once p q r r clock r.known kept commits.ok refl;
+      first = subst (λ (n : ℕ). IfSome (first_record q.reads) (λ rid. rid < n)) (ap (λ (f : PassView). f.shared.size.records) kept)
+          (first_below _ q.shared.size.records q.log (entry_of q) (first_record q.reads) commits.stood refl);
+    }
+
+  pub clock_ended : (block : Block) (outcome : Outcome) (answer : Option BlockDone) → EndsBlock block outcome q r answer → (most : ℕ) → clock ≤ most → r'.clock ≤ most
+  clock_ended block outcome answer ends most within = omega (arith, is, within) where
+    by_told : (told : Result Committed CommitFault) → calls.Commits (StandsForSome stands) q r told → r.clock ≡ q.clock
+    by_told (Ok told) commits = ap (λ (x : PassView). x.clock) commits.ok
+    by_told (Err fault) commits = ap (λ (x : PassView). x.clock) commits.err
+
+    is : r'.clock ≡ clock
+    is = ap (λ (x : PassView). x.clock) same ∙ by_told ends.told ends.commits ∙ ap (λ (f : PassView). f.clock) kept
+
+  -- a seat that is alone is refused only where it has no place
+  pub granted_ended : (block : Block) (outcome : Outcome) (answer : Option BlockDone) → EndsBlock block outcome q r answer → IsAlone q → (IsFull q → ⊥) → IsSome answer
+  granted_ended block outcome answer ends alone roomy = subst (λ (a : Option BlockDone). IsSome a) (sym ends.answers) (by_told ends.told ends.commits) where
+    by_told : (told : Result Committed CommitFault) → calls.Commits (StandsForSome stands) q r told → IsSome (done_at block outcome (first_record q.reads) told)
+    by_told (Ok told) commits = refl
+    by_told (Err fault) commits = absurd (only_full q fault _ alone commits.cause (λ is written. roomy (commits.full is alone)))
+
+  pub ready_ended : (block : Block) (outcome : Outcome) (answer : Option BlockDone) → EndsBlock block outcome q r answer → (b : PassView) → (IsReady p → Opened p b q) → IfSome answer (λ _. IsReady p → IsReadyOnceCollected r')
+  ready_ended block outcome answer ends b opened = subst (λ (x : PassView). IfSome answer (λ _. IsReady p → IsReadyOnceCollected x)) (sym same) (subst (λ (a : Option BlockDone). IfSome a (λ _. IsReady p → IsReadyOnceCollected r)) (sym ends.answers) (by_told ends.told ends.commits)) where
+    by_told : (told : Result Committed CommitFault) → calls.Commits (StandsForSome stands) q r told → IfSome (done_at block outcome (first_record q.reads) told) (λ _. IsReady p → IsReadyOnceCollected r)
+    by_told (Err fault) commits = tt
+    by_told (Ok told) commits = λ ready.
+        let o = opened ready in
+        ready_committed p b q r r r.known o ready.alone commits.ok (commits.absent o.absent) (commits.roomy (roomy_once q o.roomy)) refl

@@ -1,0 +1,103 @@
+use Rattle.std.proofs.Common.{rules, ◌≡◌, List, Result, Ok, Err, refl, sym, subst, ap, ◌∙◌}
+use Rattle.std.specs.Result.{IsErrAnd}
+use Rattle.plain_data.specs.State.{Fits}
+use Rattle.seat_post.specs.Observing.{Grows}
+use Rattle.seat_post.specs.Placing.{HavePlaces, CountsPlaces}
+use Rattle.seat_post.specs.Seats.{Known, Observed, Placed}
+use Rattle.seat_post.specs.Lists.{AreKnown, count_raised, AreSomeLinked}
+use Rattle.seat_post.proofs.Answered.{on_err, err_told}
+use Rattle.seat_post.specs.Conflicts.{IsLoaded}
+use Rattle.txn_engine.specs.Faults.{MatchStopped, WasLoaded, told_by}
+use Rattle.txn_engine.specs.declared.faults.CommitFault.TheVariants as fault
+use Rattle.std.specs.Prelude.{⊤}
+use Rattle.txn_engine.specs.Lists.{IsTidyOnceCollected, IsRoomyOnceCollected}
+use Rattle.txn_engine.specs.Pass.{PassView, entry_of, knowing, observing, placing, decided, published, committed, refused as refused_at}
+use Rattle.txn_engine.specs.Staged.{known_first}
+use Rattle.txn_engine.specs.Leaves.{HoldsAbsent}
+use Rattle.txn_engine.proofs.Accounting.{absent_committed}
+use Rattle.txn_engine.proofs.Growing.{grows_both, loaded_earlier}
+use Rattle.txn_engine.proofs.Tidying.{all_linked, tidy_committed, roomy_committed}
+use Rattle.txn_engine.proofs.at_pass.PassSeatCalls.commit.Goals as goal
+
+-- an answer is told as it is
+told_too : {A F : Type 0} (answer : Result A F) (P : F → Type 0) → IsErrAnd answer P → IsErrAnd (told_by (λ f. f) answer) P
+told_too (Ok value) P told = told
+told_too (Err f) P told = told
+
+pub check-requires-clause-fits : goal.check-requires-clause-fits
+check-requires-clause-fits g c = subst (λ (p : PassView). Fits g.J.Keeps.kept p.shared.size.records (entry_of p)) (sym c.in_ok-linked.ensures.ok.after) c.requires.fits
+
+pub returns-in_err-entered-clause-commits : goal.returns-in_err-entered-clause-commits
+returns-in_err-entered-clause-commits g c =
+    let p = c.args.self.now in
+    let linked = c.in_ok-linked.ensures.ok in
+    let refused = c.in_err-entered.ensures.err in
+    let known = ap (λ (q : PassView). q.known) refused.after in
+    let placed = ap (λ (q : PassView). q.placed) refused.after in
+    let conflict = c.in_err-entered.field-0.0 in
+    let told = told_too c.from_residual-in_err-entered.result _ c.from_residual-in_err-entered.ensures.1 in
+    let stopped = refused.after ∙ ap (λ (q : PassView). observing (refused_at q) c.check.new.self.observed) linked.after in
+    let some = all_linked p.writes p.stamp p.known c.install.new.self.known linked.linked in
+    record {
+      ok = search rules;
+      stood = search rules;
+      stamp = search rules;
+      counts = search rules;
+      inlined = search rules;
+      pooled = search rules;
+      err = on_err _ (subst (λ (x : PassView). x ≡ observing (placing (refused_at (knowing p x.known)) x.placed) x.observed) (sym stopped) refl);
+      grows = grows_both _ _ _ linked.grows refused.grows;
+      dead = search rules;
+      cause = search rules;
+      touched = search rules;
+      loaded = λ alive. err_told _ (fault.Conflict conflict) (λ f. MatchStopped f (WasLoaded p c.check.new.self) ⊤) told
+          (loaded_earlier p.stamp p.observed c.install.new.self.observed c.check.new.self.observed conflict linked.grows (subst (λ n. IsLoaded n conflict c.install.new.self.observed c.check.new.self.observed) (ap (λ (q : PassView). q.stamp) linked.after) refused.loaded));
+      places = search rules;
+      none_placed = search rules;
+      placed = λ alive. err_told _ (fault.Conflict conflict) (λ f. MatchStopped f (λ x. HavePlaces p.shared.size p.writes c.check.new.self.placed) ⊤) told
+          (subst (λ (x : List Placed). HavePlaces p.shared.size p.writes x) (sym placed) linked.have);
+      read_left = search rules;
+      linked = search rules;
+      some_linked = on_err _ (subst (λ (k : Known). AreSomeLinked p.writes p.stamp p.known k) (sym known) some);
+      full = search rules;
+      tidy = search rules;
+      roomy = search rules;
+      absent = search rules;
+    }
+
+pub returns-clause-commits : goal.returns-clause-commits
+returns-clause-commits g c =
+    let p = c.args.self.now in
+    let known = c.install.new.self.known in
+    let o = c.check.new.self.observed in
+    let linked = c.in_ok-linked.ensures.ok in
+    let entered = c.in_ok-entered.ensures.ok in
+    let publishes = c.publish.ensures.publishes in
+    let same = entered.after ∙ ap (λ (q : PassView). observing (decided q) o) linked.after in
+    let after = publishes.after ∙ ap published same in
+    let told = subst (λ (q : PassView). AreKnown (known_first q) q.writes → c.publish.result.pooled ≡ count_raised (known_first q) q.known q.writes) same publishes.pooled in
+    let then' = subst (λ (k : Known). AreKnown k p.writes → c.publish.result.pooled ≡ count_raised k known p.writes) linked.first told in
+    record {
+      ok = subst (λ (x : PassView). x ≡ observing (placing (committed (knowing p x.known)) x.placed) x.observed) (sym after) refl;
+      stood = search rules;
+      stamp = search rules;
+      counts = search rules;
+      inlined = subst (λ (x : List Placed). CountsPlaces p.shared.size p.writes x c.publish.result.inlined) (sym (ap (λ (q : PassView). q.placed) after)) (subst (λ (q : PassView). CountsPlaces q.shared.size q.writes q.placed c.publish.result.inlined) same publishes.inlined);
+      pooled = subst (λ (k : Known). AreKnown p.known p.writes → c.publish.result.pooled ≡ count_raised p.known k p.writes) (sym (ap (λ (q : PassView). q.known) after)) then';
+      err = search rules;
+      grows = subst (λ (x : Observed). Grows p.observed x) (sym (ap (λ (q : PassView). q.observed) publishes.after)) (grows_both _ _ _ linked.grows entered.grows);
+      dead = search rules;
+      cause = search rules;
+      touched = search rules;
+      loaded = search rules;
+      places = search rules;
+      none_placed = search rules;
+      placed = search rules;
+      read_left = search rules;
+      linked = search rules;
+      some_linked = search rules;
+      full = search rules;
+      tidy = λ tidy. subst (λ (q : PassView). IsTidyOnceCollected q) (sym after) (tidy_committed p known linked.linked tidy);
+      roomy = λ roomy. subst (λ (q : PassView). IsRoomyOnceCollected q) (sym after) (roomy_committed p known linked.linked roomy);
+      absent = λ absent. subst (λ (q : PassView). HoldsAbsent q) (sym after) (absent_committed p known linked.above absent);
+    }

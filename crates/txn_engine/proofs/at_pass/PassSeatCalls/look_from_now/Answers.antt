@@ -1,0 +1,27 @@
+use Rattle.std.proofs.Common.{ap, subst}
+use Rattle.txn_engine.specs.Pass.{PassView}
+use Rattle.txn_engine.specs.Inside.{pass_view}
+use Rattle.seat_post.specs.Post.{PostView}
+use Rattle.txn_engine.specs.Snapshot.{Begins}
+use Rattle.txn_engine.proofs.Snapshots.{pass_looking}
+use Rattle.txn_engine.proofs.Passes.{pass_observing}
+use Rattle.txn_engine.proofs.at_pass.PassSeatCalls.look_from_now.Goals as goal
+
+pub invariant_of-self : goal.invariant_of-self
+invariant_of-self g c = let e = c.begin_snapshot.ensures in rw e.after (pass_observing _ _ _ _ _ _ _ (pass_looking c.self.inside.post _ _ _ _ _ _ c.self.invariant e.snapshots))
+
+pub returns-clause-begins : goal.returns-clause-begins
+returns-clause-begins g c =
+    let e = c.begin_snapshot.ensures in
+    let i = c.self.inside in
+    subst (λ (p : PassView). Begins p (pass_view c.begin_snapshot.new.self i.boost i.queue i.numbers i.refusals i.commits i.dead i.counted)) c.self.view_is (record {
+      stamp = c.begin_snapshot.result;
+      pass = ap (λ (q : PostView). pass_view q i.boost i.queue i.numbers i.refusals i.commits i.dead i.counted) e.after;
+      grows = e.grows;
+      minimum = e.minimum;
+      met = e.met;
+      snapshots = e.snapshots;
+      below = e.below;
+      below_next = e.below_next;
+      alone = e.alone;
+    })

@@ -1,0 +1,32 @@
+use Rattle.std.proofs.Common.{rules, ◌≡◌, ◌++◌, refl, sym, ap, ◌∙◌, arith, []}
+use Rattle.txn_engine.specs.Accounts.{accounted}
+use Rattle.txn_engine.specs.Inside.{pass_view}
+use Rattle.txn_engine.specs.Pass.{PassView}
+use Rattle.seat_post.specs.Post.{PostView}
+use Rattle.seat_post.specs.Spare.{NumbersView}
+use Rattle.txn_engine.proofs.Passes.{pass_written, pass_numbers}
+use Rattle.txn_engine.proofs.Growing.{grows_none, grows_same}
+use Rattle.txn_engine.proofs.at_pass.PassSeatCalls.undo_if_open.Goals as goal
+
+pub invariant_of-self : goal.invariant_of-self
+invariant_of-self g c =
+    let phase = sym c.phase.ensures ∙ c.in-Open.is in
+    let back = pass_numbers c.self.inside.post c.self.inside.queue c.self.inside.numbers c.take_back.new.self _ _ _ c.self.invariant (ap (λ (n : NumbersView). n.fixed) c.take_back.ensures.after) (ap (λ (n : NumbersView). n.records) c.take_back.ensures.after) in
+    rw c.drop_writes.ensures (pass_written c.self.inside.post [] c.self.inside.queue c.take_back.new.self _ _ _ back phase (let h = c.self.invariant.room in omega arith))
+
+pub returns-in-Open-clause-undoes : goal.returns-in-Open-clause-undoes
+returns-in-Open-clause-undoes g c =
+    let i = c.self.inside in
+    let back = record i.numbers { spare = i.numbers.given ++ i.numbers.spare; given = [] } in
+    let accounts : accounted (pass_view c.drop_writes.new.self i.boost i.queue c.take_back.new.self i.refusals i.commits i.dead i.counted) ≡ accounted c.args.self.now =
+    ap (λ (n : NumbersView). accounted (pass_view c.drop_writes.new.self i.boost i.queue n i.refusals i.commits i.dead i.counted)) c.take_back.ensures.after
+    ∙ ap (λ (q : PostView). accounted (pass_view q i.boost i.queue back i.refusals i.commits i.dead i.counted)) c.drop_writes.ensures ∙ ap accounted c.self.view_is in
+    record {
+      meaning = search rules;
+      spare = search rules;
+      noted = search rules;
+      stays = record { same_frame = search rules; same_accounts = accounts; grows = grows_same c.args.self.now.observed c.drop_writes.new.self.observed (ap (λ (x : PostView). x.observed) c.drop_writes.ensures ∙ ap (λ (x : PassView). x.observed) c.self.view_is) };
+    }
+
+pub returns-in_default-clause-undoes : goal.returns-in_default-clause-undoes
+returns-in_default-clause-undoes g c = record { meaning = search rules; spare = search rules; noted = refl; stays = record { same_frame = refl; same_accounts = refl; grows = grows_none c.args.self.now.observed } }

@@ -1,0 +1,97 @@
+//! What transactions and snapshots do at the seat that is alone: what they do at its pass, where no conflict is met.
+
+use crate::alone::Alone;
+use crate::engine::Engine;
+use crate::faults::{AloneFault, BeginFault, CommitFault, TxnFault};
+use crate::pass::Pass;
+use crate::seat_calls::SeatCalls;
+use crate::transacting::Committed;
+use core_rule::Keeps;
+use plain_data::Cells;
+use version_pool::PlacesOut;
+
+impl<J: Keeps> SeatCalls for Alone<J> {
+    ghost use Rattle.txn_engine.specs.declared.faults.CommitFault.TheVariants as commit_fault;
+    ghost use Rattle.txn_engine.specs.Alone.{Beside, fault_of};
+    ghost use Rattle.txn_engine.specs.Pass.{IsAlone};
+
+    type Kept = J;
+
+    type Fault = AloneFault;
+
+    type Refusal = PlacesOut;
+
+    ghost pass = { λ a. a.pass };
+
+    ghost Beside = { Beside };
+
+    ghost beside = { λ a. a.beside };
+
+    ghost holds = { λ a. IsAlone a.pass };
+
+    ghost fault = { fault_of };
+
+    ghost refusal = { λ _. commit_fault.PlacesOut };
+
+    fn pass(&self) -> &Pass<J> {
+        &self.pass
+    }
+
+    fn open(&mut self, engine: &Engine<J>, reading: u64) -> Result<(), BeginFault> {
+        self.pass.open(engine, reading)?;
+        Ok(())
+    }
+
+    fn read(&mut self, engine: &Engine<J>, rid: u32) -> Result<Option<Cells>, AloneFault> {
+        match self.pass.read(engine, rid) {
+            Ok(value) => Ok(value),
+            Err(TxnFault::NoMemory) => Err(AloneFault::NoMemory),
+            Err(_) => unreachable!(),
+        }
+    }
+
+    fn write(&mut self, rid: u32, value: &Option<Cells>) -> Result<(), AloneFault> {
+        match self.pass.write(rid, value) {
+            Ok(()) => Ok(()),
+            Err(TxnFault::NoMemory) => Err(AloneFault::NoMemory),
+            Err(_) => unreachable!(),
+        }
+    }
+
+    fn fresh_if_open(&mut self, engine: &Engine<J>) -> Result<u32, AloneFault> {
+        match self.pass.fresh_if_open(engine) {
+            Ok(rid) => Ok(rid),
+            Err(TxnFault::RecordsOut) => Err(AloneFault::RecordsOut),
+            Err(TxnFault::NoMemory) => Err(AloneFault::NoMemory),
+            Err(TxnFault::Conflict(_)) => unreachable!(),
+        }
+    }
+
+    fn undo_if_open(&mut self) {
+        self.pass.undo_if_open();
+    }
+
+    fn abort(&mut self) {
+        self.pass.abort();
+    }
+
+    fn commit(&mut self, engine: &Engine<J>) -> Result<Committed, PlacesOut> {
+        match self.pass.commit(engine) {
+            Ok(committed) => Ok(committed),
+            Err(CommitFault::PlacesOut) => Err(PlacesOut),
+            Err(CommitFault::Conflict(_)) => unreachable!(),
+        }
+    }
+
+    fn look_from_now(&mut self, engine: &Engine<J>) {
+        self.pass.look_from_now(engine);
+    }
+
+    fn look(&mut self, engine: &Engine<J>, rid: u32) -> Option<Cells> {
+        self.pass.look(engine, rid)
+    }
+
+    fn end_look(&mut self, engine: &Engine<J>) -> u64 {
+        self.pass.end_look(engine)
+    }
+}

@@ -1,0 +1,105 @@
+//! What transactions and snapshots do at a pass.
+
+use crate::engine::Engine;
+use crate::faults::{BeginFault, CommitFault, TxnFault};
+use crate::pass::Pass;
+use crate::seat_calls::SeatCalls;
+use crate::transacting::{Committed, boost_left, one_if};
+use core_rule::Keeps;
+use plain_data::Cells;
+use seat_post::Phase;
+
+impl<J: Keeps> SeatCalls for Pass<J> {
+    type Kept = J;
+
+    type Fault = TxnFault;
+
+    type Refusal = CommitFault;
+
+    ghost pass = { λ p. p };
+
+    ghost Beside = { Unit {0} };
+
+    ghost beside = { λ _. tt };
+
+    ghost holds = { λ _. Unit {0} };
+
+    ghost fault = { λ f. f };
+
+    ghost refusal = { λ f. f };
+
+    fn pass(&self) -> &Pass<J> {
+        self
+    }
+
+    fn open(&mut self, engine: &Engine<J>, reading: u64) -> Result<(), BeginFault> {
+        // The seat is in its range.
+        self.post.number();
+        self.queue.reserve(1)?;
+        self.post
+            .open(&engine.core, reading.saturating_add(self.boost))?;
+        self.numbers.take_back();
+        Ok(())
+    }
+
+    fn read(&mut self, engine: &Engine<J>, rid: u32) -> Result<Option<Cells>, TxnFault> {
+        self.read(engine, rid)
+    }
+
+    fn write(&mut self, rid: u32, value: &Option<Cells>) -> Result<(), TxnFault> {
+        self.stopped()?;
+        let count = self.post.sets().count_writes() as u32 + 1;
+        self.queue.reserve(count)?;
+        self.post.write(rid, value)?;
+        Ok(())
+    }
+
+    fn fresh_if_open(&mut self, engine: &Engine<J>) -> Result<u32, TxnFault> {
+        match self.post.phase() {
+            Phase::Open => self.fresh(engine),
+            _ => {
+                self.stopped()?;
+                Err(TxnFault::NoMemory)
+            }
+        }
+    }
+
+    fn undo_if_open(&mut self) {
+        match self.post.phase() {
+            Phase::Open => {
+                self.numbers.take_back();
+                self.post.drop_writes();
+            }
+            _ => {}
+        }
+    }
+
+    fn abort(&mut self) {
+        // The count is below the clock, which fits.
+        self.post.clock();
+        self.refusals += one_if(self.counted);
+        self.boost = boost_left(&self.dead, self.boost);
+        self.counted = false;
+        self.dead = None;
+        self.numbers.take_back();
+        self.post.close();
+    }
+
+    fn commit(&mut self, engine: &Engine<J>) -> Result<Committed, CommitFault> {
+        let linked = self.install(engine)?;
+        let entered = self.check(engine, linked)?;
+        Ok(self.publish(engine, entered))
+    }
+
+    fn look_from_now(&mut self, engine: &Engine<J>) {
+        self.post.begin_snapshot(&engine.core);
+    }
+
+    fn look(&mut self, engine: &Engine<J>, rid: u32) -> Option<Cells> {
+        self.post.look(&engine.core, rid)
+    }
+
+    fn end_look(&mut self, engine: &Engine<J>) -> u64 {
+        self.post.end_snapshot(&engine.core)
+    }
+}

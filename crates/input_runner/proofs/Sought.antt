@@ -16,7 +16,7 @@ use Rattle.record_store.specs.declared.walk.Walk.{Walk}
 use Rattle.record_store.specs.declared.walk.Walk.TheVariants.{Store, Torn, NoMemory}
 use Rattle.replay_model.specs.TableMap.{TableMap}
 use Rattle.seat_post.specs.Ends.{Stood}
-use Rattle.seat_post.specs.Glance.{GlanceView, first_glance, entry_of_glance}
+use Rattle.seat_post.specs.Snapshot.{SnapshotView, first_snapshot, entry_of_snapshot}
 use Rattle.seat_post.specs.Logs.{IsAbove}
 use Rattle.seat_post.specs.Observing.{Grows}
 use Rattle.stored_tables.specs.Kept.{KeepsTables}
@@ -24,17 +24,17 @@ use Rattle.stored_tables.specs.Places.{Places}
 use Rattle.stored_tables.specs.Tables.{StandsFor, EachTables}
 use Rattle.txn_engine.specs.Alone.{AloneView, with_pass}
 use Rattle.txn_engine.specs.Pass.{PassView, IsAlone, IsIdle, next_clock, ticked, engine_of, desk_of, observing, with_met}
-use Rattle.txn_engine.specs.Snapshot.{Begins, finished, glance_store, looking, meaning_of_glance, unread}
+use Rattle.txn_engine.specs.Snapshot.{Begins, finished, snapshot_store, snapshot_begun, meaning_of_snapshot, unread}
 use Rattle.input_runner.specs.Reading.{AddsSnapshot, clock_read}
 
 -- ---- what was read
 
-abbrev stamp_in : Option GlanceView → ℕ
+abbrev stamp_in : Option SnapshotView → ℕ
 stamp_in None = 0
 stamp_in (Some g) = g.stamp
 
 -- a snapshot that has read still is one, at its stamp
-still_there : (glance : Option GlanceView) (stamp : ℕ) → option_map (λ (g : GlanceView). record g { reads = [] }) glance ≡ first_glance stamp → (g : GlanceView) × (glance ≡ Some g) × (g.stamp ≡ stamp)
+still_there : (snapshot : Option SnapshotView) (stamp : ℕ) → option_map (λ (g : SnapshotView). record g { reads = [] }) snapshot ≡ first_snapshot stamp → (g : SnapshotView) × (snapshot ≡ Some g) × (g.stamp ≡ stamp)
 still_there None stamp is = cc
 still_there (Some g) stamp is = (g, refl, ap stamp_in is)
 
@@ -59,27 +59,27 @@ clock_drawn p reading = omega arith
 
 -- what is known of it
 pub record Sought (p s0 s1 r : PassView) : Type 0 where
-  pub glance : GlanceView
-  pub seen : s1.glance ≡ Some glance
+  pub snapshot : SnapshotView
+  pub seen : s1.snapshot ≡ Some snapshot
   pub adds : AddsSnapshot p r
-  pub log : r.log ≡ p.log ++ entry_of_glance glance ∷ []
-  pub behind : (e : Entry) → Among e p.log → e.stamp ≤ glance.stamp
+  pub log : r.log ≡ p.log ++ entry_of_snapshot snapshot ∷ []
+  pub behind : (e : Entry) → Among e p.log → e.stamp ≤ snapshot.stamp
   pub records : s1.shared.size.records ≡ p.shared.size.records
   pub kept_records : r.shared.size.records ≡ p.shared.size.records
-  pub size : (meaning_of_glance s0).size ≡ p.shared.size.records
-  pub none : (meaning_of_glance s0).writes ≡ []
-  pub reads : (meaning_of_glance s1).reads ≡ glance.reads
+  pub size : (meaning_of_snapshot s0).size ≡ p.shared.size.records
+  pub none : (meaning_of_snapshot s0).writes ≡ []
+  pub reads : (meaning_of_snapshot s1).reads ≡ snapshot.reads
 
-pub sought : (p t s0 s1 f r : PassView) (clock : ℕ) → Begins t s0 → t ≡ ticked p clock → unread s1 ≡ unread s0 → IfSome s1.glance (λ g. f ≡ observing (finished s1 g) f.observed) → IsTold f r → IsIdle p → IsAlone p → IsAbove p.log t.published → p.clock < clock → clock ≤ clock_read p → Sought p s0 s1 r
+pub sought : (p t s0 s1 f r : PassView) (clock : ℕ) → Begins t s0 → t ≡ ticked p clock → unread s1 ≡ unread s0 → IfSome s1.snapshot (λ g. f ≡ observing (finished s1 g) f.observed) → IsTold f r → IsIdle p → IsAlone p → IsAbove p.log t.published → p.clock < clock → clock ≤ clock_read p → Sought p s0 s1 r
 sought p t s0 s1 f r clock begins tick rest ends told idle alone above later drawn =
     let tells = told.after in
     let not_back = told.not_back in
-    let found = still_there s1.glance begins.stamp (ap (λ (x : PassView). x.glance) (rest ∙ ap unread begins.pass)) in
+    let found = still_there s1.snapshot begins.stamp (ap (λ (x : PassView). x.snapshot) (rest ∙ ap unread begins.pass)) in
     let g = found.0 in
-    let ended : f ≡ observing (finished s1 g) f.observed = subst (λ (o : Option GlanceView). IfSome o (λ g. f ≡ observing (finished s1 g) f.observed)) found.1 ends in
-    let whole : unread s1 ≡ unread (looking (ticked p clock) begins.stamp) = rest ∙ ap unread (begins.pass ∙ ap (λ (x : PassView). observing (looking x begins.stamp) s0.observed) tick) in
+    let ended : f ≡ observing (finished s1 g) f.observed = subst (λ (o : Option SnapshotView). IfSome o (λ g. f ≡ observing (finished s1 g) f.observed)) found.1 ends in
+    let whole : unread s1 ≡ unread (snapshot_begun (ticked p clock) begins.stamp) = rest ∙ ap unread (begins.pass ∙ ap (λ (x : PassView). observing (snapshot_begun x begins.stamp) s0.observed) tick) in
     let stamped : g.stamp ≡ begins.stamp = found.2 in
-    let grown : r.log ≡ p.log ++ entry_of_glance g ∷ [] = ap (λ (x : PassView). x.log) tells ∙ ap (λ (x : PassView). x.log) ended ∙ ap (λ (x : PassView). x.log ++ entry_of_glance g ∷ []) whole in
+    let grown : r.log ≡ p.log ++ entry_of_snapshot g ∷ [] = ap (λ (x : PassView). x.log) tells ∙ ap (λ (x : PassView). x.log) ended ∙ ap (λ (x : PassView). x.log ++ entry_of_snapshot g ∷ []) whole in
     let engine : engine_of r ≡ engine_of p = ap engine_of tells ∙ ap engine_of ended ∙ ap engine_of whole in
     let at : r.clock ≡ clock = ap (λ (x : PassView). x.clock) tells ∙ ap (λ (x : PassView). x.clock) ended ∙ ap (λ (x : PassView). x.clock) whole in
     let met : p.met ≤ begins.stamp + 1 = subst (λ (x : PassView). x.met ≤ begins.stamp + 1) tick begins.met in
@@ -90,10 +90,10 @@ sought p t s0 s1 f r clock begins tick rest ends told idle alone above later dra
     (λ commit. (let below : e.stamp < t.published = above e among commit in omega (arith, below, published, stamped)))
     (cases_Bool e.snapshot) in
     record {
-      glance = g;
+      snapshot = g;
       seen = found.1;
       adds = record {
-        entry = entry_of_glance g;
+        entry = entry_of_snapshot g;
         snapshot = refl;
         log = grown;
         behind = behind;
@@ -111,9 +111,9 @@ sought p t s0 s1 f r clock begins tick rest ends told idle alone above later dra
       behind = behind;
       records = ap (λ (x : PassView). x.shared.size.records) whole;
       kept_records = ap (λ e. e.size.records) engine;
-      size = ap (λ (x : PassView). (meaning_of_glance x).size) (begins.pass ∙ ap (λ (x : PassView). observing (looking x begins.stamp) s0.observed) tick);
-      none = ap (λ (x : PassView). (meaning_of_glance x).writes) begins.pass;
-      reads = ap (λ (o : Option GlanceView). (glance_store s1 o).reads) found.1;
+      size = ap (λ (x : PassView). (meaning_of_snapshot x).size) (begins.pass ∙ ap (λ (x : PassView). observing (snapshot_begun x begins.stamp) s0.observed) tick);
+      none = ap (λ (x : PassView). (meaning_of_snapshot x).writes) begins.pass;
+      reads = ap (λ (o : Option SnapshotView). (snapshot_store s1 o).reads) found.1;
     }
 
 -- where what a torn answer says does not hold, no answer is torn
@@ -132,11 +132,11 @@ each_told records m m' reads P size none same each state places tables agrees st
     (subst (λ (ws : List (ℕ × Option (List ℕ))). StandsFor m.size (overlay ws state) places tables) (sym none) (subst (λ (n : ℕ). StandsFor n state places tables) (sym size) stands))
 
 -- no tables were torn
-pub never_torn : (kept : State → Type 0) (p s0 s1 r : PassView) (s : Sought p s0 s1 r) → KeepsTables kept → IfSome s1.glance (λ g. Stood kept s1.shared.size.records s1.log (entry_of_glance g)) → EachTables (meaning_of_glance s0) (meaning_of_glance s1) (λ _ _ _. ⊥) → ⊥
+pub never_torn : (kept : State → Type 0) (p s0 s1 r : PassView) (s : Sought p s0 s1 r) → KeepsTables kept → IfSome s1.snapshot (λ g. Stood kept s1.shared.size.records s1.log (entry_of_snapshot g)) → EachTables (meaning_of_snapshot s0) (meaning_of_snapshot s1) (λ _ _ _. ⊥) → ⊥
 never_torn kept p s0 s1 r s keeps stood torn =
-    let here : Stood kept s1.shared.size.records s1.log (entry_of_glance s.glance) = subst (λ (o : Option GlanceView). IfSome o (λ g. Stood kept s1.shared.size.records s1.log (entry_of_glance g))) s.seen stood in
+    let here : Stood kept s1.shared.size.records s1.log (entry_of_snapshot s.snapshot) = subst (λ (o : Option SnapshotView). IfSome o (λ g. Stood kept s1.shared.size.records s1.log (entry_of_snapshot g))) s.seen stood in
     let held = keeps.stands s1.shared.size.records here.state here.left.is_state here.left.is_kept in
-    each_told s1.shared.size.records (meaning_of_glance s0) (meaning_of_glance s1) s.glance.reads (λ _. ⊥) (s.size ∙ sym s.records) s.none s.reads torn here.state held.1.0 held.0 here.agrees held.1.1
+    each_told s1.shared.size.records (meaning_of_snapshot s0) (meaning_of_snapshot s1) s.snapshot.reads (λ _. ⊥) (s.size ∙ sym s.records) s.none s.reads torn here.state held.1.0 held.0 here.agrees held.1.1
 
 -- ---- what the log leaves agrees with it
 

@@ -25,7 +25,7 @@ use Rattle.txn_engine.specs.Pass.{EngineView, PassView, IsIdle, engine_of, desk_
 use Rattle.seat_post.specs.Post.{PostView}
 use Rattle.txn_engine.specs.Settling.{SettlesPass}
 use Rattle.seat_post.specs.declared.settled.Settled.{Settled}
-use Rattle.seat_post.specs.Glance.{first_glance}
+use Rattle.seat_post.specs.Snapshot.{first_snapshot}
 use Rattle.clock_stamps.specs.declared.clocks.ClockOut.{ClockOut}
 use Rattle.lane_runner.specs.declared.done.LaneDone.{LaneDone}
 use Rattle.lane_runner.specs.Rows.{stands}
@@ -125,7 +125,7 @@ module _ (p q : PassView) (answer : Result Settled ClockOut) (s : SettlesPass (S
   are : AreAgain p.shared.size.records p.log q.log
   are = again p.shared.size.records p.log q.log s.log
 
-  whole_settled : q ≡ record p { post = record p.post { clock = q.clock; published = q.published; met = q.met; known = q.known; log = q.log; observed = q.observed; gone = q.gone; placed = []; glance = first_glance (q.met - 1) } }
+  whole_settled : q ≡ record p { post = record p.post { clock = q.clock; published = q.published; met = q.met; known = q.known; log = q.log; observed = q.observed; gone = q.gone; placed = []; snapshot = first_snapshot (q.met - 1) } }
   whole_settled = s.beside ∙ ap (λ (x : PostView). record p { post = x }) s.only
 
   pub engine_settled : engine_of q ≡ engine_of p

@@ -15,7 +15,7 @@ use Rattle.stored_tables.specs.Weight.{all_add}
 use Rattle.stored_tables.specs.Weights.{AddsAfter}
 use Rattle.validate_core.specs.declared.conflict.Conflict.{Conflict}
 use Rattle.validate_core.specs.declared.conflict.Conflict.TheVariants.{Pending, ReadLater, Overtaken}
-use Rattle.seat_post.specs.Glance.{entry_of_glance}
+use Rattle.seat_post.specs.Snapshot.{entry_of_snapshot}
 use Rattle.seat_post.specs.Logs.{IsAbove}
 use Rattle.seat_post.specs.Seats.{Known, IsAloneAt}
 use Rattle.txn_engine.specs.declared.faults.CommitFault.{CommitFault}
@@ -199,7 +199,7 @@ ready_others p q others absent roomy ready = record {
 -- it has seen what a snapshot reads
 pub ready_seen : (p s f f' : PassView) (stamp : ℕ) → Sought p s f stamp → f' ≡ f → IsReady p → IsReadyOnceCollected f'
 ready_seen p s f f' stamp o same ready = subst (λ (x : PassView). IsReadyOnceCollected x) (sym same) (record {
-  alone = alone_stays p f (entry_of_glance o.glance ∷ []) o.adds ready.alone;
+  alone = alone_stays p f (entry_of_snapshot o.snapshot ∷ []) o.adds ready.alone;
   absent = o.absent ready.absent;
   roomy = roomy_once f (o.roomy ready.roomy);
 })

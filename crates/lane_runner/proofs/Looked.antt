@@ -24,13 +24,13 @@ use Rattle.stored_tables.specs.Places.{Places}
 use Rattle.stored_tables.specs.Tables.{StandsFor, EachTables}
 use Rattle.stored_tables.specs.Weight.{all_add}
 use Rattle.txn_engine.specs.Alone.{AloneView, with_pass}
-use Rattle.seat_post.specs.Glance.{GlanceView}
+use Rattle.seat_post.specs.Snapshot.{SnapshotView}
 use Rattle.txn_engine.specs.Leaves.{HoldsAbsent}
 use Rattle.txn_engine.specs.Lists.{IsRoomy}
 use Rattle.txn_engine.specs.Pass.{PassView, IsIdle, IsAlone, ticked, engine_of, desk_of, observing, with_log}
 use Rattle.seat_post.specs.Logs.{IsAbove}
-use Rattle.txn_engine.specs.Snapshot.{Begins, finished, glance_store, meaning_of_glance, unread, looking}
-use Rattle.seat_post.specs.Glance.{entry_of_glance}
+use Rattle.txn_engine.specs.Snapshot.{Begins, finished, snapshot_store, meaning_of_snapshot, unread, snapshot_begun}
+use Rattle.seat_post.specs.Snapshot.{entry_of_snapshot}
 use Rattle.txn_engine.proofs.Accounting.{absent_snapshot}
 use Rattle.lane_runner.specs.Rows.{stands}
 use Rattle.lane_runner.specs.Room.{clock_after}
@@ -79,31 +79,31 @@ before_later a b later = omega arith
 
 -- ---- what was read
 
-cleared_is : (glance : Option GlanceView) (stamp : ℕ) → option_map (λ (g : GlanceView). record g { reads = [] }) glance ≡ Some (record { stamp = stamp; reads = [] }) → (g : GlanceView) × (glance ≡ Some g) × (g.stamp ≡ stamp)
+cleared_is : (snapshot : Option SnapshotView) (stamp : ℕ) → option_map (λ (g : SnapshotView). record g { reads = [] }) snapshot ≡ Some (record { stamp = stamp; reads = [] }) → (g : SnapshotView) × (snapshot ≡ Some g) × (g.stamp ≡ stamp)
 cleared_is None stamp is = cc
 cleared_is (Some g) stamp is = (g, refl, (let same : Some (record g { reads = [] }) ≡ Some (record { stamp = stamp; reads = [] }) = is in stamp_of_some g stamp same)) where
-  stamp_of : Option GlanceView → ℕ
+  stamp_of : Option SnapshotView → ℕ
   stamp_of None = 0
   stamp_of (Some g) = g.stamp
 
-  stamp_of_some : (g : GlanceView) (stamp : ℕ) → Some (record g { reads = [] }) ≡ Some (record { stamp = stamp; reads = [] }) → g.stamp ≡ stamp
+  stamp_of_some : (g : SnapshotView) (stamp : ℕ) → Some (record g { reads = [] }) ≡ Some (record { stamp = stamp; reads = [] }) → g.stamp ≡ stamp
   stamp_of_some g stamp same = ap stamp_of same
 
 -- a snapshot that was begun at t, after the reads
-pub seen_at : (t s0 s1 : PassView) (begins : Begins t s0) → unread s1 ≡ unread s0 → (g : GlanceView) × (s1.glance ≡ Some g) × (g.stamp ≡ begins.stamp)
-seen_at t s0 s1 begins rest = cleared_is s1.glance begins.stamp (ap (λ (x : PassView). x.glance) (rest ∙ ap unread begins.pass))
+pub seen_at : (t s0 s1 : PassView) (begins : Begins t s0) → unread s1 ≡ unread s0 → (g : SnapshotView) × (s1.snapshot ≡ Some g) × (g.stamp ≡ begins.stamp)
+seen_at t s0 s1 begins rest = cleared_is s1.snapshot begins.stamp (ap (λ (x : PassView). x.snapshot) (rest ∙ ap unread begins.pass))
 
-module _ (p t s0 s1 f : PassView) (clock : ℕ) (begins : Begins t s0) (g : GlanceView) (later : p.clock ≤ clock) (idle : IsIdle p) (tick : t ≡ ticked p clock) (rest : unread s1 ≡ unread s0) (stamp : g.stamp ≡ begins.stamp) (ends : f ≡ observing (finished s1 g) f.observed) where
-  whole : unread s1 ≡ unread (looking (ticked p clock) begins.stamp)
-  whole = rest ∙ ap unread begins.pass ∙ ap (λ (x : PassView). unread (looking x begins.stamp)) tick
+module _ (p t s0 s1 f : PassView) (clock : ℕ) (begins : Begins t s0) (g : SnapshotView) (later : p.clock ≤ clock) (idle : IsIdle p) (tick : t ≡ ticked p clock) (rest : unread s1 ≡ unread s0) (stamp : g.stamp ≡ begins.stamp) (ends : f ≡ observing (finished s1 g) f.observed) where
+  whole : unread s1 ≡ unread (snapshot_begun (ticked p clock) begins.stamp)
+  whole = rest ∙ ap unread begins.pass ∙ ap (λ (x : PassView). unread (snapshot_begun x begins.stamp)) tick
 
   same_engine : engine_of f ≡ engine_of p
   same_engine = ap engine_of ends ∙ ap engine_of whole
 
-  grown : f.log ≡ p.log ++ entry_of_glance g ∷ []
-  grown = ap (λ (x : PassView). x.log) ends ∙ ap (λ (x : PassView). x.log ++ entry_of_glance g ∷ []) whole
+  grown : f.log ≡ p.log ++ entry_of_snapshot g ∷ []
+  grown = ap (λ (x : PassView). x.log) ends ∙ ap (λ (x : PassView). x.log ++ entry_of_snapshot g ∷ []) whole
 
-  next_snapshot : IsNext p (entry_of_glance g)
+  next_snapshot : IsNext p (entry_of_snapshot g)
   next_snapshot = record {
     commit_clock = λ is. cc;
     commit_log = λ is. cc;
@@ -116,7 +116,7 @@ module _ (p t s0 s1 f : PassView) (clock : ℕ) (begins : Begins t s0) (g : Glan
         omega arith;
   }
 
-  pub Adds-snapshot : Adds p f (entry_of_glance g ∷ [])
+  pub Adds-snapshot : Adds p f (entry_of_snapshot g ∷ [])
   Adds-snapshot = record {
     engine = same_engine;
     seat = ap (λ (x : PassView). x.seat) ends ∙ ap (λ (x : PassView). x.seat) whole;
@@ -133,7 +133,7 @@ module _ (p t s0 s1 f : PassView) (clock : ℕ) (begins : Begins t s0) (g : Glan
         omega arith;
     refusals = let is : f.refusals ≡ p.refusals = ap (λ (x : PassView). x.refusals) ends ∙ ap (λ (x : PassView). x.refusals) whole in omega arith;
   } where
-    only : (entry : Entry) → Among entry (entry_of_glance g ∷ []) → IsNext p entry
+    only : (entry : Entry) → Among entry (entry_of_snapshot g ∷ []) → IsNext p entry
     only entry (inl is) = subst (λ (e : Entry). IsNext p e) is next_snapshot
     only entry (inr among) = absurd among
 
@@ -141,14 +141,14 @@ module _ (p t s0 s1 f : PassView) (clock : ℕ) (begins : Begins t s0) (g : Glan
   clock_looked = ap (λ (x : PassView). x.clock) ends ∙ ap (λ (x : PassView). x.clock) whole
 
   pub absent_looked : HoldsAbsent p → HoldsAbsent f
-  absent_looked absent = absent_same (with_log p (p.log ++ entry_of_glance g ∷ [])) f same_engine
+  absent_looked absent = absent_same (with_log p (p.log ++ entry_of_snapshot g ∷ [])) f same_engine
       (ap (λ (x : PassView). x.given) ends ∙ ap (λ (x : PassView). x.given) whole) (ap (λ (x : PassView). x.spare) ends ∙ ap (λ (x : PassView). x.spare) whole) grown
-      (absent_snapshot p (entry_of_glance g) refl absent)
+      (absent_snapshot p (entry_of_snapshot g) refl absent)
 
   pub roomy_looked : IsRoomy p → IsRoomy f
   roomy_looked roomy = roomy_same p f same_engine (ap (λ (x : PassView). x.known) ends ∙ ap (λ (x : PassView). x.known) whole) roomy
 
-  pub log_looked : f.log ≡ p.log ++ entry_of_glance g ∷ []
+  pub log_looked : f.log ≡ p.log ++ entry_of_snapshot g ∷ []
   log_looked = grown
 
   -- it is behind each commit entry
@@ -159,24 +159,24 @@ module _ (p t s0 s1 f : PassView) (clock : ℕ) (begins : Begins t s0) (g : Glan
 
 -- what is known of a snapshot once it is finished
 pub record Sought (p s1 f : PassView) (stamp : ℕ) : Type 0 where
-  pub glance : GlanceView
-  pub seen : s1.glance ≡ Some glance
-  pub stamp_is : stamp ≡ glance.stamp
-  pub adds : Adds p f (entry_of_glance glance ∷ [])
+  pub snapshot : SnapshotView
+  pub seen : s1.snapshot ≡ Some snapshot
+  pub stamp_is : stamp ≡ snapshot.stamp
+  pub adds : Adds p f (entry_of_snapshot snapshot ∷ [])
   pub absent : HoldsAbsent p → HoldsAbsent f
   pub roomy : IsRoomy p → IsRoomy f
-  pub behind : IsBehind p.log glance.stamp
+  pub behind : IsBehind p.log snapshot.stamp
   pub clock : f.clock ≤ clock_after p.clock 1
 
-pub sought : (p t s0 s1 f : PassView) (clock stamp : ℕ) (begins : Begins t s0) → p.clock < clock → clock ≤ clock_after p.clock 1 → IsIdle p → t ≡ ticked p clock → unread s1 ≡ unread s0 → IfSome s1.glance (λ g. f ≡ observing (finished s1 g) f.observed) → IfSome s1.glance (λ g. stamp ≡ g.stamp)
+pub sought : (p t s0 s1 f : PassView) (clock stamp : ℕ) (begins : Begins t s0) → p.clock < clock → clock ≤ clock_after p.clock 1 → IsIdle p → t ≡ ticked p clock → unread s1 ≡ unread s0 → IfSome s1.snapshot (λ g. f ≡ observing (finished s1 g) f.observed) → IfSome s1.snapshot (λ g. stamp ≡ g.stamp)
     → IsAlone p → IsAbove p.log t.published → Sought p s1 f stamp
 sought p t s0 s1 f clock stamp begins later drawn idle tick rest ends is alone above =
     let found = seen_at t s0 s1 begins rest in
     let g = found.0 in
-    let ended : f ≡ observing (finished s1 g) f.observed = subst (λ (o : Option GlanceView). IfSome o (λ g. f ≡ observing (finished s1 g) f.observed)) found.1 ends in
-    let stamped : stamp ≡ g.stamp = subst (λ (o : Option GlanceView). IfSome o (λ g. stamp ≡ g.stamp)) found.1 is in
+    let ended : f ≡ observing (finished s1 g) f.observed = subst (λ (o : Option SnapshotView). IfSome o (λ g. f ≡ observing (finished s1 g) f.observed)) found.1 ends in
+    let stamped : stamp ≡ g.stamp = subst (λ (o : Option SnapshotView). IfSome o (λ g. stamp ≡ g.stamp)) found.1 is in
     record {
-      glance = g;
+      snapshot = g;
       seen = found.1;
       stamp_is = stamped;
       adds = Adds-snapshot p t s0 s1 f clock begins g (before_later p.clock clock later) idle tick rest found.2 ended;
@@ -188,19 +188,19 @@ sought p t s0 s1 f clock stamp begins later drawn idle tick rest ends is alone a
 
 -- ---- its entry
 
-module _ (p t s0 s1 : PassView) (clock : ℕ) (begins : Begins t s0) (tick : t ≡ ticked p clock) (glance : GlanceView) (seen : s1.glance ≡ Some glance) where
-  pub size_looked : (meaning_of_glance s0).size ≡ p.shared.size.records
-  size_looked = ap (λ (x : PassView). (meaning_of_glance x).size) begins.pass ∙ ap (λ (x : PassView). x.shared.size.records) tick
+module _ (p t s0 s1 : PassView) (clock : ℕ) (begins : Begins t s0) (tick : t ≡ ticked p clock) (snapshot : SnapshotView) (seen : s1.snapshot ≡ Some snapshot) where
+  pub size_looked : (meaning_of_snapshot s0).size ≡ p.shared.size.records
+  size_looked = ap (λ (x : PassView). (meaning_of_snapshot x).size) begins.pass ∙ ap (λ (x : PassView). x.shared.size.records) tick
 
-  pub none_looked : (meaning_of_glance s0).writes ≡ []
-  none_looked = ap (λ (x : PassView). (meaning_of_glance x).writes) begins.pass
+  pub none_looked : (meaning_of_snapshot s0).writes ≡ []
+  none_looked = ap (λ (x : PassView). (meaning_of_snapshot x).writes) begins.pass
 
-  pub reads_looked : (meaning_of_glance s1).reads ≡ glance.reads
-  reads_looked = ap (λ (o : Option GlanceView). (glance_store s1 o).reads) seen
+  pub reads_looked : (meaning_of_snapshot s1).reads ≡ snapshot.reads
+  reads_looked = ap (λ (o : Option SnapshotView). (snapshot_store s1 o).reads) seen
 
-pub is_entry_looked : (records : ℕ) (m m' : Meaning) (commands : List Command) (outcome : Outcome) (placed : Placed) (g : GlanceView) → FitsRecords
+pub is_entry_looked : (records : ℕ) (m m' : Meaning) (commands : List Command) (outcome : Outcome) (placed : Placed) (g : SnapshotView) → FitsRecords
     → m.size ≡ records → m.writes ≡ [] → m'.reads ≡ g.reads → EachTables m m' (λ _ _ tables. outcome ≡ outcome_of commands tables)
-    → g.stamp ≡ placed.stamp → placed.snap ≡ true → IsEntryOf stands records commands placed outcome (entry_of_glance g)
+    → g.stamp ≡ placed.stamp → placed.snap ≡ true → IsEntryOf stands records commands placed outcome (entry_of_snapshot g)
 is_entry_looked records m m' commands outcome placed g fits size_is none reads told stamp kind = record {
   stamp = stamp;
   kind = sym kind;
@@ -212,16 +212,16 @@ is_entry_looked records m m' commands outcome placed g fits size_is none reads t
 }
 
 -- no state that stands for tables agrees with what was read: then it did not stand
-pub torn_looked : (records : ℕ) (m m' : Meaning) (g : GlanceView) → m.size ≡ records → m.writes ≡ [] → m'.reads ≡ g.reads → EachTables m m' (λ _ _ _. ⊥)
-    → (state : State) (places : Places) (tables : TableMap) → Agrees state (entry_of_glance g).reads → StandsFor records state places tables → ⊥
+pub torn_looked : (records : ℕ) (m m' : Meaning) (g : SnapshotView) → m.size ≡ records → m.writes ≡ [] → m'.reads ≡ g.reads → EachTables m m' (λ _ _ _. ⊥)
+    → (state : State) (places : Places) (tables : TableMap) → Agrees state (entry_of_snapshot g).reads → StandsFor records state places tables → ⊥
 torn_looked records m m' g size_is none reads torn state places tables agrees holds =
     torn state places tables (subst (λ (rs : List (ℕ × Option (List ℕ))). Agrees state rs) (sym reads) agrees)
     (subst (λ (ws : List (ℕ × Option (List ℕ))). StandsFor m.size (overlay ws state) places tables) (sym none) (subst (λ (n : ℕ). StandsFor n state places tables) (sym size_is) holds))
 
 -- ---- what it leaves
 
-pub leaves_looked : (p f : PassView) (g : GlanceView) (commands : List Command) → Adds p f (entry_of_glance g ∷ []) → All ReadsAlone commands → LeavesAfter commands p f
+pub leaves_looked : (p f : PassView) (g : SnapshotView) (commands : List Command) → Adds p f (entry_of_snapshot g ∷ []) → All ReadsAlone commands → LeavesAfter commands p f
 leaves_looked p f g commands adds reads tables most within =
     let more = within_weaker p.shared.size.records p.log tables most (most + all_add commands tables) (omega arith) within in
-    let here = within_at p f (entry_of_glance g ∷ []) tables (most + all_add commands tables) adds (within_snapshot p.shared.size.records p.log (entry_of_glance g) tables (most + all_add commands tables) refl more) in
+    let here = within_at p f (entry_of_snapshot g ∷ []) tables (most + all_add commands tables) adds (within_snapshot p.shared.size.records p.log (entry_of_snapshot g) tables (most + all_add commands tables) refl more) in
     subst (λ (after : TableMap). LeavesWithin f.shared.size.records f.log after (most + all_add commands tables)) (sym (reads_stay commands tables reads)) here

@@ -7,7 +7,7 @@ use Rattle.plain_data.specs.declared.entry.Entry.{Entry}
 use Rattle.plain_data.specs.State.{State, overlay}
 use Rattle.stamp_base.specs.Stamp.{stamp_of}
 use Rattle.history_replay.specs.Results.{KeepsTables}
-use Rattle.seat_post.specs.Glance.{GlanceView}
+use Rattle.seat_post.specs.Snapshot.{SnapshotView}
 use Rattle.txn_engine.specs.Pass.{PassView, IsIdle}
 use Rattle.txn_engine.specs.Promoting.{Promotes, boost_after}
 use Rattle.seat_post.specs.Logs.{IsAbove}
@@ -65,11 +65,11 @@ pub record Leaves (p q : PassView) (clock : ℕ) : Type 0 where
   pub at_most : q.clock ≤ clock
 
 -- no entry was added
-leaves_none : (p q : PassView) (clock now published boost : ℕ) (known : Known) (glance : Option GlanceView) (observed : Observed) (placed : List Placed) → IsIdle p → p.clock ≤ now → now ≤ clock → q ≡ record p { post = record p.post { clock = now; published = published; known = known; glance = glance; observed = observed; placed = placed }; boost = boost } → Leaves p q clock
-leaves_none p q clock now published boost known glance observed placed idle later low is = rw is (record {
+leaves_none : (p q : PassView) (clock now published boost : ℕ) (known : Known) (snapshot : Option SnapshotView) (observed : Observed) (placed : List Placed) → IsIdle p → p.clock ≤ now → now ≤ clock → q ≡ record p { post = record p.post { clock = now; published = published; known = known; snapshot = snapshot; observed = observed; placed = placed }; boost = boost } → Leaves p q clock
+leaves_none p q clock now published boost known snapshot observed placed idle later low is = rw is (record {
   others = record {
     entries = [];
-    adds = Adds-no_entry p (record p { post = record p.post { clock = now; published = published; known = known; glance = glance; observed = observed; placed = placed }; boost = boost }) refl refl refl idle refl later (omega arith) (omega arith);
+    adds = Adds-no_entry p (record p { post = record p.post { clock = now; published = published; known = known; snapshot = snapshot; observed = observed; placed = placed }; boost = boost }) refl refl refl idle refl later (omega arith) (omega arith);
     keep = λ entry among. absurd among;
   };
   refusals = refl;
@@ -107,7 +107,7 @@ leaves_told kept p q rid clock (Ok (Promoted stamp)) idle later ok err above bes
 leaves_told kept p q rid clock (Ok Inline) idle later ok err above beside = leaves_none p q clock clock (stamp_of clock p.seat) p.boost p.known None q.observed [] idle (omega arith) (omega arith) (over p q _ p.boost beside ok)
 leaves_told kept p q rid clock (Ok Absent) idle later ok err above beside = leaves_none p q clock clock (stamp_of clock p.seat) p.boost p.known None q.observed [] idle (omega arith) (omega arith) (over p q _ p.boost beside ok)
 leaves_told kept p q rid clock (Ok Occupied) idle later ok err above beside = leaves_none p q clock clock (stamp_of clock p.seat) p.boost p.known None q.observed [] idle (omega arith) (omega arith) (over p q _ p.boost beside ok)
-leaves_told kept p q rid clock (Err fault.ClockOut) idle later ok err above beside = leaves_none p q clock p.clock p.published p.boost p.known p.glance p.observed p.placed idle (omega arith) (omega arith) (over p q p.post p.boost beside err)
+leaves_told kept p q rid clock (Err fault.ClockOut) idle later ok err above beside = leaves_none p q clock p.clock p.published p.boost p.known p.snapshot p.observed p.placed idle (omega arith) (omega arith) (over p q p.post p.boost beside err)
 leaves_told kept p q rid clock (Err (fault.Conflict conflict)) idle later ok err above beside = leaves_none p q clock clock (stamp_of clock p.seat) 1024 q.known None q.observed q.placed idle (omega arith) (omega arith) (over p q _ 1024 beside err.after)
 
 pub leaves_promoted : (kept : State → Type 0) (p q : PassView) (rid clock : ℕ) (told : Result Promotion PromoteFault) → IsIdle p → p.clock < clock → Promotes kept rid clock p q told → Leaves p q clock

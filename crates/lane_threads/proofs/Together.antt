@@ -15,8 +15,8 @@ use Rattle.replay_model.specs.TableMap.{TableMap}
 use Rattle.lane_queue.specs.declared.lane.Lane.{Lane}
 use Rattle.stored_tables.specs.Places.{fixed_records}
 use Rattle.lane_queue.specs.Passes.{Taker, IsFresh, AreAll, AreOf, numbered, taken_by}
-use Rattle.txn_engine.specs.Pass.{EngineView, PassView, IsIdle, IsAlone, with_glance, engine_of, desk_of}
-use Rattle.seat_post.specs.Glance.{GlanceView}
+use Rattle.txn_engine.specs.Pass.{EngineView, PassView, IsIdle, IsAlone, with_snapshot, engine_of, desk_of}
+use Rattle.seat_post.specs.Snapshot.{SnapshotView}
 use Rattle.txn_engine.specs.Retired.{RetiredView}
 use Rattle.txn_engine.specs.Alone.{AloneView}
 use Rattle.txn_engine.specs.Joining.{AreOthers, come_together, greatest_clock_of, greatest_met_of, logs_of, refusals_of}
@@ -129,8 +129,8 @@ met_grows met [] = omega arith
 met_grows met (r ∷ rs) = let more : max met r.met ≤ greatest_met_of (max met r.met) rs = met_grows (max met r.met) rs in omega arith
 
 module _ (engine : EngineView) (passes : List PassView) (takers : List Taker) (lanes : List (List Block)) (tries due : ℕ) (first : PassView) (others : List RetiredView) (ended : List Taker) (done : List LaneDone) (readings : List (ℕ × TableMap))
-    (alone : AloneView) (glance : Option GlanceView) (gathers : Gathers engine tries due passes takers first others ended done readings)
-    (first_seat : first.seat ≡ 0) (each_once : IsPermutation (numbered 1 lanes) (taken_by ended)) (is : alone.pass ≡ with_glance (come_together first others) glance) (shared : alone.shared ≡ true) (earlier : alone.earlier ≡ refusals_of others) (is_alone : IsAlone alone.pass) where
+    (alone : AloneView) (snapshot : Option SnapshotView) (gathers : Gathers engine tries due passes takers first others ended done readings)
+    (first_seat : first.seat ≡ 0) (each_once : IsPermutation (numbered 1 lanes) (taken_by ended)) (is : alone.pass ≡ with_snapshot (come_together first others) snapshot) (shared : alone.shared ≡ true) (earlier : alone.earlier ≡ refusals_of others) (is_alone : IsAlone alone.pass) where
   log_is : alone.pass.log ≡ grown_logs gathers.grown
   log_is = ap (λ (p : PassView). p.log) is ∙ gathers.logs
 
@@ -172,8 +172,8 @@ module _ (engine : EngineView) (passes : List PassView) (takers : List Taker) (l
 
 -- the same of passes that are these
 pub runs_all_on : (engine : EngineView) (passes passes' : List PassView) (takers : List Taker) (lanes : List (List Block)) (tries due : ℕ) (first : PassView) (others : List RetiredView) (ended : List Taker) (done : List LaneDone) (readings : List (ℕ × TableMap))
-    (alone : AloneView) (glance : Option GlanceView) → Gathers engine tries due passes takers first others ended done readings → first.seat ≡ 0 → IsPermutation (numbered 1 lanes) (taken_by ended)
-    → alone.pass ≡ with_glance (come_together first others) glance → alone.shared ≡ true → alone.earlier ≡ refusals_of others → IsAlone alone.pass → passes ≡ passes' → RunsAndReads engine passes' lanes tries due alone done readings
-runs_all_on engine passes passes' takers lanes tries due first others ended done readings alone glance gathers first_seat each_once is shared earlier is_alone same =
+    (alone : AloneView) (snapshot : Option SnapshotView) → Gathers engine tries due passes takers first others ended done readings → first.seat ≡ 0 → IsPermutation (numbered 1 lanes) (taken_by ended)
+    → alone.pass ≡ with_snapshot (come_together first others) snapshot → alone.shared ≡ true → alone.earlier ≡ refusals_of others → IsAlone alone.pass → passes ≡ passes' → RunsAndReads engine passes' lanes tries due alone done readings
+runs_all_on engine passes passes' takers lanes tries due first others ended done readings alone snapshot gathers first_seat each_once is shared earlier is_alone same =
     subst (λ (ps : List PassView). RunsAndReads engine ps lanes tries due alone done readings) same
-    (runs_all engine passes takers lanes tries due first others ended done readings alone glance gathers first_seat each_once is shared earlier is_alone)
+    (runs_all engine passes takers lanes tries due first others ended done readings alone snapshot gathers first_seat each_once is shared earlier is_alone)

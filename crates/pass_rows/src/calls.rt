@@ -32,7 +32,7 @@ pub enum Call {
     /// A transaction does this and commits.
     Commit(u64, Act),
     /// A snapshot reads this record.
-    Glance(u32),
+    Snapshot(u32),
     Collect,
     /// This record is promoted, at reading 0.
     Promote(u32),
@@ -64,7 +64,7 @@ pub enum Told {
     Stopped(Conflict),
     PlacesOut,
     /// A snapshot of this stamp has read this.
-    Glanced(u64, Option<u64>),
+    Snapshot(u64, Option<u64>),
     Collected(Collected),
     /// A record was promoted at this stamp; it was not, since it stands in its inline place, is absent, or that place is not free.
     Promoted(u64),
@@ -240,7 +240,7 @@ pub fn commit(
 }
 
 // A snapshot that reads a record.
-fn glance(engine: &Engine<AnyState>, pass: &mut Pass<AnyState>, rid: u32) -> Told
+fn read_snapshot(engine: &Engine<AnyState>, pass: &mut Pass<AnyState>, rid: u32) -> Told
     requires { IsIdleOf engine.now pass.old }
     ensures { IsIdleOf engine.now pass.new }
 {
@@ -250,7 +250,7 @@ fn glance(engine: &Engine<AnyState>, pass: &mut Pass<AnyState>, rid: u32) -> Tol
     } else {
         Some(filled(0))
     };
-    Told::Glanced(snapshot.finish(), word_of(value))
+    Told::Snapshot(snapshot.finish(), word_of(value))
 }
 
 fn of_promotion(promotion: Promotion) -> Told {
@@ -319,7 +319,7 @@ fn make_once(engine: &Engine<AnyState>, pass: &mut Pass<AnyState>, call: Call) -
         Call::Last => Told::Stamp(pass.last().number()),
         Call::Abort(reading) => abort(engine, pass, reading),
         Call::Commit(reading, act) => commit(engine, pass, reading, act, true),
-        Call::Glance(rid) => glance(engine, pass, rid),
+        Call::Snapshot(rid) => read_snapshot(engine, pass, rid),
         Call::Collect => Told::Collected(pass.collect(engine)),
         Call::Promote(rid) => promote(engine, pass, rid),
     }

@@ -139,7 +139,7 @@ fn refill<R: process::Abort>(
 }
 
 // Reads every record by a snapshot.
-fn glance<R: process::Abort>(rt: &R, engine: &Engine<AnyState>, pass: &mut Pass<AnyState>)
+fn read_snapshot<R: process::Abort>(rt: &R, engine: &Engine<AnyState>, pass: &mut Pass<AnyState>)
     requires { IsIdleOf engine.now pass.old }
     ensures { IsIdleOf engine.now pass.new }
 {
@@ -229,7 +229,7 @@ fn change_and_meet<R: Threads + process::Abort + Sync>(
     ensures { IfOk result (λ alone. IsIdleOf engine.now alone.pass) }
 {
     let mut first = take_one(rt, &mut passes, engine);
-    glance(rt, engine, &mut first);
+    read_snapshot(rt, engine, &mut first);
     refill(rt, engine, &mut first, 0, MOST_RECORDS, 1);
     change_own(rt, engine, &mut passes);
     meet(rt, alloc, engine, first, passes)

@@ -165,7 +165,7 @@ fn a_snapshot_is_below_what_is_in_flight(rt: HostRuntime) -> Result<(), Fail> {
         is_linked: false,
         calls: &[
             (0, Call::Commit(20, Act::Write(3)), pooled(5_121)),
-            (0, Call::Glance(3), Told::Glanced(2_559, None)),
+            (0, Call::Snapshot(3), Told::Snapshot(2_559, None)),
             (0, Call::Collect, late),
         ],
         due: Told::Committed(2_560, Done::Nothing, 0, 0),
@@ -238,7 +238,7 @@ fn what_another_pass_has_cut_is_dropped(rt: HostRuntime) -> Result<(), Fail> {
         (1, Call::Commit(20, Act::Write(0)), pooled(5_121)),
         (0, Call::Tick(30), Told::Stamp(7_680)),
         (1, Call::Tick(30), Told::Stamp(7_681)),
-        (0, Call::Glance(0), Told::Glanced(7_679, Some(9))),
+        (0, Call::Snapshot(0), Told::Snapshot(7_679, Some(9))),
         (1, Call::Collect, cut(2)),
         (0, Call::Collect, dropped),
     ];

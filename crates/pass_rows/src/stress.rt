@@ -52,7 +52,7 @@ fn transact(
 }
 
 // A snapshot of all records.
-fn glance(engine: &Engine<AnyState>, pass: &mut Pass<AnyState>, touches: &mut Vec<Touch>)
+fn read_snapshot(engine: &Engine<AnyState>, pass: &mut Pass<AnyState>, touches: &mut Vec<Touch>)
     requires { IsIdleOf engine.now pass.old }
     ensures { IsIdleOf engine.now pass.new }
 {
@@ -76,7 +76,7 @@ fn aside(
     let rid = draws.below(RECORDS);
     let other = draws.below(4);
     match draws.below(16) {
-        0 => glance(engine, pass, touches),
+        0 => read_snapshot(engine, pass, touches),
         1 => {
             if rid < engine.records() {
                 let _ = pass.promote(engine, rid, round);

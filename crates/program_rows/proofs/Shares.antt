@@ -6,7 +6,7 @@ use Rattle.txn_engine.specs.Pass.{EngineView, PassView, bare, engine_of, desk_of
 use Rattle.txn_engine.specs.Sharing.{share_at, first_share, announced, shares}
 use Rattle.program_rows.specs.Seats.{IsSeat}
 
--- what two passes have in common that differ in their glances alone
+-- what two passes have in common that differ in their snapshots alone
 seat_by : (e : EngineView) (p x q : PassView) → IsSeat e p → bare x ≡ q → engine_of q ≡ engine_of p → desk_of q ≡ desk_of p → q.clock ≡ p.clock → IsSeat e x
 seat_by e p x q seat is engine desk clock = record {
   engine_is = ap engine_of is ∙ engine ∙ seat.engine_is;

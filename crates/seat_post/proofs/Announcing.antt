@@ -101,7 +101,7 @@ announces hand idle raised result ends whole rises unchanged alone raises view =
     let is = idles hand.view idle.view ends whole rises (λ high. ap (λ (h : Seated). h.view) (unchanged high)) in
     announces_of hand.view idle.view raised.view result is (reached hand.view idle.view raised.view result is.only (alone_told hand.view alone) raises) view
 
-pub announced_view : (hand hand' : Seated) (phase : Phase) (stamp : ℕ) (sets : SetsView) → hand'.table ≡ hand.table → Announces hand.view hand'.view → post_of hand' phase stamp sets ≡ record (announced_at (post_of hand phase stamp sets)) { placed = (post_of hand' phase stamp sets).placed; glance = (post_of hand' phase stamp sets).glance; observed = observed_in hand' }
+pub announced_view : (hand hand' : Seated) (phase : Phase) (stamp : ℕ) (sets : SetsView) → hand'.table ≡ hand.table → Announces hand.view hand'.view → post_of hand' phase stamp sets ≡ record (announced_at (post_of hand phase stamp sets)) { placed = (post_of hand' phase stamp sets).placed; snapshot = (post_of hand' phase stamp sets).snapshot; observed = observed_in hand' }
 announced_view hand hand' phase stamp sets table is = rw (table, is.only) refl
 
 -- an idle post whose hand has nothing to be done

@@ -18,7 +18,7 @@ use Rattle.validate_core.specs.Sets.{SetsView, Once, SameWrites, Turn, IsInside}
 use Rattle.validate_core.specs.Installing.{SameSets, Installs}
 use Rattle.validate_core.specs.Validating as validating
 use Rattle.seat_post.proofs.AloneSeats.{others_of, alone_told}
-use Rattle.seat_post.specs.Glance.{glance_of}
+use Rattle.seat_post.specs.Snapshot.{snapshot_view}
 use Rattle.seat_post.specs.Conflicts.{IsOfAnother, Touches}
 use Rattle.seat_post.specs.Ends.{Stood}
 use Rattle.seat_post.specs.Post.{IsPost, IsShownAt, entered, PostView, post_of, entry_at, observing, observed_in}
@@ -100,10 +100,10 @@ decided_view kept records hand hand' phase stamp t t' sets flight linked table d
     let counts : hand'.view.counts ≡ hand.view.counts = ap (λ (v : View). v.counts) decides.only in
     let tops : hand'.view.tops ≡ hand.view.tops = ap (λ (v : View). v.tops) decides.only in
     let still : hand'.view.flight ≡ writing t' = ap (λ (v : View). v.flight) decides.only ∙ flight in
-    let glance' : glance_of hand'.view.flight hand'.view.published.read hand'.view.work.reads ≡ None = rw still refl in
-    let glance : glance_of hand.view.flight hand.view.published.read hand.view.work.reads ≡ None = rw flight refl in
+    let snapshot' : snapshot_view hand'.view.flight hand'.view.published.read hand'.view.work.reads ≡ None = rw still refl in
+    let snapshot : snapshot_view hand.view.flight hand.view.published.read hand.view.work.reads ≡ None = rw flight refl in
     let gone : hand'.view.gone ≡ hand.view.gone = ap (λ (v : View). v.gone) decides.only in
-    rw (glance', glance, table, number, size, clock, published, splitting, counts, tops, log, gone, decides.decided.linked, linked) refl
+    rw (snapshot', snapshot, table, number, size, clock, published, splitting, counts, tops, log, gone, decides.decided.linked, linked) refl
 
 -- ---- what is kept
 

@@ -5,12 +5,12 @@ pub mod Answered
 pub mod Bounds
 pub mod EndMore
 pub mod FreedPlaces
-pub mod Glanced
+pub mod SnapshotReads
 pub mod KeptPlace
 pub mod Leaving
 pub mod Linked
 pub mod Listed
-pub mod Looking
+pub mod SnapshotPosts
 pub mod MarkWords
 pub mod Marked
 pub mod NumberLists

@@ -11,7 +11,7 @@ use Rattle.validate_core.specs.Validating.{Stands, Works}
 use Rattle.core_rule.specs.Versions.{read_version}
 use Rattle.seat_post.specs.Searched.{Finds, Stops}
 use Rattle.seat_post.specs.Seats.{Known, placed_of}
-use Rattle.seat_post.specs.Glance.{glance_of}
+use Rattle.seat_post.specs.Snapshot.{snapshot_view}
 use Rattle.seat_post.specs.Post.{PostView, IsPost, post_of, noted, closed, in_phase, knowing, placing, observing, observed_in}
 use Rattle.seat_post.specs.declared.phase.Phase.{Phase}
 use Rattle.seat_post.specs.declared.phase.Phase.TheVariants.{Idle, Installed}
@@ -21,8 +21,8 @@ use Rattle.seat_post.proofs.ReadMore.{read_more}
 use Rattle.seat_post.proofs.WriteMore.{post_closed}
 
 -- a stamp is in flight, so no snapshot is
-pub none_glanced : (f : Flight) (t bound : ℕ) (ds : List Read) → f ≡ writing t → glance_of f bound ds ≡ None
-none_glanced f t bound ds flight = rw flight refl
+pub none_in_snapshot : (f : Flight) (t bound : ℕ) (ds : List Read) → f ≡ writing t → snapshot_view f bound ds ≡ None
+none_in_snapshot f t bound ds flight = rw flight refl
 
 pub none_resting : (f : Flight) (t : ℕ) (ds : List Read) → f ≡ writing t → f ≡ resting → AreAllWhole ds
 none_resting f t ds flight rests = let e : writing t ≡ resting = sym flight ∙ rests in cc
@@ -37,9 +37,9 @@ view_over hand hand' phase stamp stamp' t sets sets' table stands flight log non
     let number : hand'.view.number ≡ hand.view.number = ap (λ (v : View). v.number) stands.others in
     let splitting : hand'.view.splitting ≡ hand.view.splitting = ap (λ (v : View). v.splitting) stands.others in
     let gone : hand'.view.gone ≡ hand.view.gone = ap (λ (v : View). v.gone) stands.others in
-    let glance' = none_glanced hand'.view.flight t hand'.view.published.read hand'.view.work.reads (still_flying hand.view hand'.view t stands flight) in
-    let glance = none_glanced hand.view.flight t hand.view.published.read hand.view.work.reads flight in
-    rw (glance', glance, table, size, number, splitting, stands.clock, stands.published, log, gone, none, none_read, none_written) refl
+    let snapshot' = none_in_snapshot hand'.view.flight t hand'.view.published.read hand'.view.work.reads (still_flying hand.view hand'.view t stands flight) in
+    let snapshot = none_in_snapshot hand.view.flight t hand.view.published.read hand.view.work.reads flight in
+    rw (snapshot', snapshot, table, size, number, splitting, stands.clock, stands.published, log, gone, none, none_read, none_written) refl
 
 -- where what is known of lists stays too
 pub view_over_all : (hand hand' : Seated) (phase : Phase) (stamp stamp' t : ℕ) (sets sets' : SetsView) → hand'.table ≡ hand.table → Stands hand.view hand'.view → Works hand.view hand'.view → hand'.view.work.linked ≡ hand.view.work.linked → hand.view.flight ≡ writing t → hand'.view.log ≡ hand.view.log → stamp' ≡ 0 → sets'.reads ≡ [] → sets'.writes ≡ [] → post_of hand' Idle stamp' sets' ≡ observing (closed (post_of hand phase stamp sets)) (observed_in hand')
@@ -64,9 +64,9 @@ view_installed hand hand' phase stamp t sets sets' table stands flight log same 
     let number : hand'.view.number ≡ hand.view.number = ap (λ (v : View). v.number) stands.others in
     let splitting : hand'.view.splitting ≡ hand.view.splitting = ap (λ (v : View). v.splitting) stands.others in
     let gone : hand'.view.gone ≡ hand.view.gone = ap (λ (v : View). v.gone) stands.others in
-    let glance' = none_glanced hand'.view.flight t hand'.view.published.read hand'.view.work.reads (still_flying hand.view hand'.view t stands flight) in
-    let glance = none_glanced hand.view.flight t hand.view.published.read hand.view.work.reads flight in
-    rw (glance', glance, table, size, number, splitting, stands.clock, stands.published, log, gone, same.reads, same_values sets.writes sets'.writes same.writes) refl
+    let snapshot' = none_in_snapshot hand'.view.flight t hand'.view.published.read hand'.view.work.reads (still_flying hand.view hand'.view t stands flight) in
+    let snapshot = none_in_snapshot hand.view.flight t hand.view.published.read hand.view.work.reads flight in
+    rw (snapshot', snapshot, table, size, number, splitting, stands.clock, stands.published, log, gone, same.reads, same_values sets.writes sets'.writes same.writes) refl
 
 -- it keeps what an idle post keeps
 pub post_over : (core : Shared) (hand hand' : Seated) (phase : Phase) (stamp stamp' t : ℕ) (sets sets' : SetsView) → IsPost hand phase stamp sets → Stands hand.view hand'.view → hand'.view.counts.in_kept ≡ hand.view.counts.in_kept → hand.view.flight ≡ writing t → IsReady core hand' → Ends hand'.view.work → stamp' ≡ 0 → sets'.reads ≡ [] → sets'.writes ≡ [] → IsPost hand' Idle stamp' sets'
@@ -79,8 +79,8 @@ post_over core hand hand' phase stamp stamp' t sets sets' is stands kept flight 
 view_searched : (hand hand' : Seated) (phase : Phase) (stamp t : ℕ) (sets : SetsView) (search : Search) (found : List Read) → hand'.table ≡ hand.table → hand'.view ≡ record hand.view { work = record hand.view.work { search = search; reads = found }; seen = hand'.view.seen } → hand.view.flight ≡ writing t → post_of hand' phase stamp sets ≡ observing (post_of hand phase stamp sets) (observed_in hand')
 view_searched hand hand' phase stamp t sets search found table view flight =
     let flying : hand'.view.flight ≡ writing t = ap (λ (v : View). v.flight) view ∙ flight in
-    let glance' = none_glanced hand'.view.flight t hand'.view.published.read hand'.view.work.reads flying in
-    let glance = none_glanced hand.view.flight t hand.view.published.read hand.view.work.reads flight in
+    let snapshot' = none_in_snapshot hand'.view.flight t hand'.view.published.read hand'.view.work.reads flying in
+    let snapshot = none_in_snapshot hand.view.flight t hand.view.published.read hand.view.work.reads flight in
     let size : hand'.view.size ≡ hand.view.size = ap (λ (v : View). v.size) view in
     let number : hand'.view.number ≡ hand.view.number = ap (λ (v : View). v.number) view in
     let splitting : hand'.view.splitting ≡ hand.view.splitting = ap (λ (v : View). v.splitting) view in
@@ -91,7 +91,7 @@ view_searched hand hand' phase stamp t sets search found table view flight =
     let log : hand'.view.log ≡ hand.view.log = ap (λ (v : View). v.log) view in
     let gone : hand'.view.gone ≡ hand.view.gone = ap (λ (v : View). v.gone) view in
     let linked : hand'.view.work.linked ≡ hand.view.work.linked = ap (λ (v : View). v.work.linked) view in
-    rw (glance', glance, table, size, number, splitting, clock, published, counts, tops, log, gone, linked) refl
+    rw (snapshot', snapshot, table, size, number, splitting, clock, published, counts, tops, log, gone, linked) refl
 
 -- one that found a version
 pub view_found : (hand hand' : Seated) (phase : Phase) (stamp t rid place wts : ℕ) (value : Option (List ℕ)) (sets : SetsView) → hand'.table ≡ hand.table → Finds rid place wts value hand.view hand'.view → hand.view.flight ≡ writing t → post_of hand' phase stamp sets ≡ observing (post_of hand phase stamp sets) (observed_in hand')

@@ -18,7 +18,7 @@ use Rattle.version_search.proofs.Grown.{grows_both}
 use Rattle.rapid_gc.specs.Bounds.{IsOneLeft}
 use Rattle.validate_core.specs.Sets.{SetsView}
 use Rattle.seat_post.specs.declared.phase.Phase.{Phase}
-use Rattle.seat_post.specs.Glance.{first_glance}
+use Rattle.seat_post.specs.Snapshot.{first_snapshot}
 use Rattle.seat_post.specs.Post.{post_of}
 use Rattle.seat_post.specs.Rewriting.{Rewritings}
 use Rattle.seat_post.specs.declared.settled.Settled.{Settled}
@@ -88,10 +88,10 @@ settles_post kept hand hand' last phase stamp bound sets table table' settles se
     let after' = post_of last phase stamp sets in
     let linked : last.view.work.linked ≡ [] = ap (λ (v : View). v.work.linked) view in
     let is : bound ≡ bound + 1 - 1 = omega arith in
-    let glance : after'.glance ≡ first_glance (last.view.clock.met - 1) = rw view (ap first_glance is) in
-    let rest : record after' { glance = first_glance (last.view.clock.met - 1) } ≡ record before { clock = after'.clock; published = after'.published; met = after'.met; known = after'.known; log = after'.log; observed = after'.observed; gone = after'.gone; placed = []; glance = first_glance (after'.met - 1) } = rw (table' ∙ table, number, size, splitting, taken, linked) refl in
+    let snapshot : after'.snapshot ≡ first_snapshot (last.view.clock.met - 1) = rw view (ap first_snapshot is) in
+    let rest : record after' { snapshot = first_snapshot (last.view.clock.met - 1) } ≡ record before { clock = after'.clock; published = after'.published; met = after'.met; known = after'.known; log = after'.log; observed = after'.observed; gone = after'.gone; placed = []; snapshot = first_snapshot (after'.met - 1) } = rw (table' ∙ table, number, size, splitting, taken, linked) refl in
     record {
-      only = ap (λ g. record after' { glance = g }) glance ∙ rest;
+      only = ap (λ g. record after' { snapshot = g }) snapshot ∙ rest;
       later = omega arith;
       met = omega arith;
       grows = observed_grows hand last (grows_both hand.view.seen hand'.view.seen last.view.seen settles.grows (bounded_grows hand'.view last.view bound view));

@@ -10,8 +10,8 @@ pub mod Spare
 pub mod Ends
 pub mod Reading
 pub mod Searched
-pub mod Glance
-pub mod Glancing
+pub mod Snapshot
+pub mod InSnapshot
 pub mod Lists
 pub mod Post
 pub mod Collecting

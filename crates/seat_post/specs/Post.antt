@@ -15,7 +15,7 @@ use Rattle.validate_core.specs.Installing.{IsBegun, IsFor}
 use Rattle.validate_core.specs.Validating as validating
 use Rattle.validate_core.specs.declared.conflict.Conflict.{Conflict}
 use Rattle.core_rule.specs.Snapshots.{AreAllWhole}
-use Rattle.seat_post.specs.Glance.{GlanceView, glance_of, first_glance, with_read}
+use Rattle.seat_post.specs.Snapshot.{SnapshotView, snapshot_view, first_snapshot, with_read}
 use Rattle.seat_post.specs.Seats.{Others, Known, Observed, Removed, Placed, IsAloneAt, observed_of, removed_of, placed_of}
 use Rattle.seat_post.specs.Conflicts.{Shows, WereFound}
 use Rattle.seat_post.specs.Logs.{IsAbove}
@@ -40,7 +40,7 @@ pub record PostView : Type 0 where
   pub observed : Observed
   pub gone : Removed
   pub placed : List Placed
-  pub glance : Option GlanceView
+  pub snapshot : Option SnapshotView
   pub phase : Phase
   pub stamp : ℕ
   pub reads : List (ℕ × Option (List ℕ))
@@ -75,7 +75,7 @@ post_view hand phase stamp reads writes = record {
   observed = observed_in hand;
   gone = removed_of hand.view;
   placed = placed_of hand.view.work.linked;
-  glance = glance_of hand.view.flight hand.view.published.read hand.view.work.reads;
+  snapshot = snapshot_view hand.view.flight hand.view.published.read hand.view.work.reads;
   phase = phase;
   stamp = stamp;
   reads = reads;
@@ -157,27 +157,27 @@ abbrev pub placing : PostView → List Placed → PostView
 placing p placed = record p { placed = placed }
 
 abbrev pub drawn_at : PostView → ℕ → PostView
-drawn_at p clock = record p { clock = clock; published = stamp_of clock p.seat; placed = []; glance = None }
+drawn_at p clock = record p { clock = clock; published = stamp_of clock p.seat; placed = []; snapshot = None }
 
 abbrev pub opened : PostView → ℕ → PostView
 opened p clock = record (drawn_at p clock) { phase = Open; stamp = stamp_of clock p.seat }
 
 -- the bound of its clock is published, a greater `min_wts` was met, and this is known of lists
 abbrev pub collected_at : PostView → (met : ℕ) → Known → PostView
-collected_at p met known = record p { published = max p.published (bound_of_clock p.clock); met = met; known = known; placed = []; glance = first_glance (met - 1) }
+collected_at p met known = record p { published = max p.published (bound_of_clock p.clock); met = met; known = known; placed = []; snapshot = first_snapshot (met - 1) }
 
 -- a snapshot begins, reads one more record, and ends
-abbrev pub looking_at : PostView → ℕ → PostView
-looking_at p stamp = record p { met = stamp + 1; placed = []; glance = first_glance stamp }
+abbrev pub snapshot_begun_at : PostView → ℕ → PostView
+snapshot_begun_at p stamp = record p { met = stamp + 1; placed = []; snapshot = first_snapshot stamp }
 
-abbrev pub looked_at : PostView → ℕ → Option (List ℕ) → PostView
-looked_at p rid value = record p { glance = option_map (λ (g : GlanceView). record g { reads = with_read g.reads rid value }) p.glance }
+abbrev pub snapshot_read_at : PostView → ℕ → Option (List ℕ) → PostView
+snapshot_read_at p rid value = record p { snapshot = option_map (λ (g : SnapshotView). record g { reads = with_read g.reads rid value }) p.snapshot }
 
-abbrev pub finished_at : PostView → GlanceView → PostView
+abbrev pub finished_at : PostView → SnapshotView → PostView
 finished_at p g = record p {
   log = p.log ++ record { stamp = g.stamp; snapshot = true; reads = g.reads; writes = [] } ∷ [];
   placed = [];
-  glance = first_glance g.stamp;
+  snapshot = first_snapshot g.stamp;
 }
 
 abbrev pub with_clock : PostView → ℕ → PostView

@@ -4,7 +4,7 @@ use Rattle.stamp_base.specs.Stamp.{bound_of_clock}
 use Rattle.core_rule.specs.View.{View}
 use Rattle.core_rule.specs.Searching.{Rests, Ends}
 use Rattle.version_search.specs.Growing.{Grows}
-use Rattle.seat_post.specs.Glance.{first_glance}
+use Rattle.seat_post.specs.Snapshot.{first_snapshot}
 use Rattle.seat_post.specs.Post.{PostView}
 
 -- searches change what they have in flight, and what was loaded, which has grown
@@ -20,5 +20,5 @@ looked_over p = record p {
   published = max p.published (bound_of_clock p.clock);
   met = max p.published (bound_of_clock p.clock);
   placed = [];
-  glance = first_glance (max p.published (bound_of_clock p.clock) - 1);
+  snapshot = first_snapshot (max p.published (bound_of_clock p.clock) - 1);
 }

@@ -18,7 +18,7 @@ use Rattle.version_search.specs.Growing.{Grows}
 use Rattle.version_search.specs.Looking.{Looked}
 use Rattle.rapid_gc.specs.Bounds.{IsOneLeft}
 use Rattle.seat_post.specs.declared.settled.Settled.{Settled}
-use Rattle.seat_post.specs.Glance.{first_glance}
+use Rattle.seat_post.specs.Snapshot.{first_snapshot}
 use Rattle.seat_post.specs.Logs.{IsAbove}
 use Rattle.seat_post.specs.Observing as observing
 use Rattle.seat_post.specs.Observing.{with_load, MeetsNoPlace}
@@ -49,7 +49,7 @@ pub record SettlesPost (kept : State → Type 0) (before after' : PostView) : Ty
     observed = after'.observed;
     gone = after'.gone;
     placed = [];
-    glance = first_glance (after'.met - 1);
+    snapshot = first_snapshot (after'.met - 1);
   }
   pub grows : observing.Grows before.observed after'.observed
   pub later : before.clock ≤ after'.clock

@@ -2,7 +2,7 @@
 ghost use Rattle.std.specs.Prelude.{◌≡◌, ◌≤◌, []};
 ghost use Rattle.stamp_base.specs.Limits.{end_of_stamps};
 ghost use Rattle.core_rule.specs.Offers.{made_within};
-ghost use Rattle.seat_post.specs.Glance.{first_glance};
+ghost use Rattle.seat_post.specs.Snapshot.{first_snapshot};
 ghost use Rattle.seat_post.specs.Joining.{IsDone, joined_at};
 ghost use Rattle.seat_post.specs.Post.{shared_of, post_view};
 
@@ -16,7 +16,7 @@ impl<J: Keeps> Post<J> {
     pub fn retire(self, core: &Core<J>) -> Hand<J>
         requires core { self.shared ≡ core.now }
         requires idle { self.phase ≡ Phase.Idle }
-        ensures hand { post_view result Phase.Idle self.stamp self.reads self.writes ≡ record self { published = end_of_stamps; placed = []; glance = first_glance end_of_stamps } }
+        ensures hand { post_view result Phase.Idle self.stamp self.reads self.writes ≡ record self { published = end_of_stamps; placed = []; snapshot = first_snapshot end_of_stamps } }
         ensures done { IsDone result }
     {
         let Post {
@@ -36,7 +36,7 @@ impl<J: Keeps> Post<J> {
         requires idle { self.old.phase ≡ Phase.Idle }
         requires done { IsDone other }
         requires same { shared_of other ≡ core.now }
-        ensures { self.new ≡ record (joined_at self.old other) { glance = self.new.glance } }
+        ensures { self.new ≡ record (joined_at self.old other) { snapshot = self.new.snapshot } }
     {
         core.join(&mut self.hand, other);
     }

@@ -5,7 +5,6 @@
 
 mod collecting;
 mod ending;
-mod glancing;
 mod joining;
 mod marks;
 mod numbers;
@@ -20,6 +19,7 @@ mod search;
 mod settled;
 mod settling;
 mod sharing;
+mod snapshots;
 mod telling;
 mod writing;
 

@@ -18,7 +18,7 @@ impl<J: Keeps> Post<J> {
         requires core { self.old.shared ≡ core.now }
         requires idle { self.old.phase ≡ Phase.Idle }
         requires alone { IsAloneAt self.old.shared.size self.old.seat self.old.others }
-        ensures value { self.new ≡ record (announced_at self.old) { placed = self.new.placed; glance = self.new.glance; observed = self.new.observed } }
+        ensures value { self.new ≡ record (announced_at self.old) { placed = self.new.placed; snapshot = self.new.snapshot; observed = self.new.observed } }
         ensures grows { Grows self.old.observed self.new.observed }
         ensures not_back { self.old.met ≤ self.new.met }
     {
@@ -32,8 +32,8 @@ impl<J: Keeps> Post<J> {
         requires idle { self.old.phase ≡ Phase.Idle }
         requires makes { MayOffer self.old.others.splitting }
         requires room { made_of self.old.others.splitting < core.now.size.seats }
-        ensures left { self.new ≡ record (one_more self.old) { glance = self.new.glance } }
-        ensures right { result ≡ record (made_next self.old) { glance = result.glance } }
+        ensures left { self.new ≡ record (one_more self.old) { snapshot = self.new.snapshot } }
+        ensures right { result ≡ record (made_next self.old) { snapshot = result.snapshot } }
     {
         let hand = core.split(&mut self.hand);
         Post::new(alloc, hand, room)

@@ -11,7 +11,7 @@ use Rattle.replay_model.specs.declared.outcome.Outcome.{Outcome}
 use Rattle.replay_model.specs.declared.outcome.Placed.{Placed}
 use Rattle.replay_model.specs.TableMap.{TableMap}
 use Rattle.stamp_base.specs.Stamp.{stamp_of}
-use Rattle.seat_post.specs.Glance.{GlanceView}
+use Rattle.seat_post.specs.Snapshot.{SnapshotView}
 use Rattle.txn_engine.specs.Alone.{AloneView, with_pass}
 use Rattle.txn_engine.specs.Pass.{PassView, EngineView, IsIdle}
 use Rattle.lane_runner.specs.Adds.{Adds, IsNext}

@@ -8,7 +8,7 @@ use Rattle.std.proofs.lemmas.List.FromFn.{map-range_with_len_more, length-map-ra
 use Rattle.core_rule.specs.View.{single, sharing}
 use Rattle.core_rule.specs.Views.{Among}
 use Rattle.core_rule.specs.Offers.{MayOffer, made_of}
-use Rattle.txn_engine.specs.Pass.{PassView, IsIdle, IsIdleOf, with_glance, bare, engine_of, desk_of}
+use Rattle.txn_engine.specs.Pass.{PassView, IsIdle, IsIdleOf, with_snapshot, bare, engine_of, desk_of}
 use Rattle.seat_post.specs.Seats.{Others}
 use Rattle.seat_post.specs.Sharing.{no_knowledge, one_more}
 use Rattle.txn_engine.specs.Sharing.{others_made, with_made, share_at, first_share, announced, shares, shares_of}
@@ -76,13 +76,13 @@ each_more P xs ys y each last same x among = each_pushed P xs y each last x (sub
     each_pushed P (z ∷ xs) y each last x (inr more) = each_pushed P xs y (λ w a. each w (inr a)) last x more
 
 -- the pass that is made for the next seat
-pub next_share : (p q r : PassView) (made : ℕ) → 1 ≤ made → p.others.splitting ≡ single → q ≡ with_glance (with_made made p) q.glance → bare r ≡ share_at q (made_of q.others.splitting) → bare r ≡ share_at p made
+pub next_share : (p q r : PassView) (made : ℕ) → 1 ≤ made → p.others.splitting ≡ single → q ≡ with_snapshot (with_made made p) q.snapshot → bare r ≡ share_at q (made_of q.others.splitting) → bare r ≡ share_at p made
 next_share p q r made some plain are is =
     is ∙ ap (λ (x : PassView). share_at x (made_of x.others.splitting)) are ∙ ap (share_at p) (may_make made p.others some plain).1
 
-pub next_made : (p q r : PassView) (made : ℕ) → 1 ≤ made → p.others.splitting ≡ single → q ≡ with_glance (with_made made p) q.glance → r ≡ record q { post = record (one_more q.post) { glance = r.glance } } → r ≡ with_glance (with_made (made + 1) p) r.glance
+pub next_made : (p q r : PassView) (made : ℕ) → 1 ≤ made → p.others.splitting ≡ single → q ≡ with_snapshot (with_made made p) q.snapshot → r ≡ record q { post = record (one_more q.post) { snapshot = r.snapshot } } → r ≡ with_snapshot (with_made (made + 1) p) r.snapshot
 next_made p q r made some plain are is =
-    is ∙ ap (λ (x : PassView). record x { post = record (one_more x.post) { glance = r.glance } }) are ∙ ap (λ (x : PassView). with_glance x r.glance) (made_more made p some plain)
+    is ∙ ap (λ (x : PassView). record x { post = record (one_more x.post) { snapshot = r.snapshot } }) are ∙ ap (λ (x : PassView). with_snapshot x r.snapshot) (made_more made p some plain)
 
 pub count_shares : (p : PassView) (passes : List PassView) (seat : ℕ) → map bare passes ≡ map (share_at p) (range_with_len 1 (seat - 1)) → length passes ≡ seat - 1
 count_shares p passes seat are = sym (length-map passes bare) ∙ ap length are ∙ length-map-range_with_len (share_at p) 1 (seat - 1)

@@ -55,7 +55,7 @@ abbrev pub placed_of : List Placed → List RetiredView → List Placed
 placed_of placed [] = placed
 placed_of placed (r ∷ rs) = []
 
--- the pass with one seat taken in, but for its glance
+-- the pass with one seat taken in, but for its snapshot
 abbrev pub joined : PassView → RetiredView → PassView
 joined p r = record p {
   post = record p.post {
@@ -69,7 +69,7 @@ joined p r = record p {
   spare = with_all p.spare r.spare;
 }
 
--- the seat that is alone when all of them are taken in, but for its glance
+-- the seat that is alone when all of them are taken in, but for its snapshot
 abbrev pub come_together : PassView → List RetiredView → PassView
 come_together p rs = record p {
   post = record p.post {

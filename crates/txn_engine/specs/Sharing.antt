@@ -29,7 +29,7 @@ placed_made made placed = if nat_lt 1 made then [] else placed
 abbrev pub with_made : (made : ℕ) → PassView → PassView
 with_made made p = record p { post = record p.post { others = others_made made p.others; known = known_made made p.known; placed = placed_made made p.placed } }
 
--- the pass of another seat, with its share of the spare numbers, but for its glance
+-- the pass of another seat, with its share of the spare numbers, but for its snapshot
 abbrev pub share_at : PassView → (seat : ℕ) → PassView
 share_at p seat = record {
   post = record (made_next p.post) { seat = seat };
@@ -44,7 +44,7 @@ share_at p seat = record {
   counted = false;
 }
 
--- that of seat 0, with its share, but for its glance, for what its steps came upon, and for where its versions were linked
+-- that of seat 0, with its share, but for its snapshot, for what its steps came upon, and for where its versions were linked
 abbrev pub first_share : PassView → PassView
 first_share p = bare (record (with_made p.shared.size.seats p) { spare = every p.shared.size.seats 0 p.spare })
 

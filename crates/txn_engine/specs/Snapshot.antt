@@ -8,19 +8,19 @@ use Rattle.seat_post.specs.declared.phase.Phase.{Phase}
 use Rattle.seat_post.specs.declared.phase.Phase.TheVariants.{Idle, Open, Installed, Decided}
 use Rattle.plain_data.specs.State.{State}
 use Rattle.seat_post.specs.Ends.{Stood}
-use Rattle.seat_post.specs.Glance.{GlanceView, entry_of_glance}
+use Rattle.seat_post.specs.Snapshot.{SnapshotView, entry_of_snapshot}
 use Rattle.seat_post.specs.Observing.{Grows, MeetsMinimum}
-use Rattle.seat_post.specs.Post.{looking_at, looked_at, finished_at}
+use Rattle.seat_post.specs.Post.{snapshot_begun_at, snapshot_read_at, finished_at}
 use Rattle.seat_post.specs.Reading.{FindsValue}
 use Rattle.seat_post.specs.Seats.{nothing_observed}
 use Rattle.txn_engine.specs.Pass.{PassView, IsAlone, no_store, observing}
 use Rattle.seat_post.specs.Logs.{AreBelow}
 
 -- one begins at this stamp, one less than the minimum met; it ends with its entry
-abbrev pub looking : PassView → ℕ → PassView
-looking p stamp = record p { post = looking_at p.post stamp }
+abbrev pub snapshot_begun : PassView → ℕ → PassView
+snapshot_begun p stamp = record p { post = snapshot_begun_at p.post stamp }
 
-abbrev pub finished : PassView → GlanceView → PassView
+abbrev pub finished : PassView → SnapshotView → PassView
 finished p g = record p { post = finished_at p.post g }
 
 -- A snapshot begins: its stamp is at least one less than the minimum met before, and no snapshot of the log is above it. It is below
@@ -28,7 +28,7 @@ finished p g = record p { post = finished_at p.post g }
 -- word of each seat was loaded, and it is at least one less than the least of them.
 pub record Begins (before after' : PassView) : Type 0 where
   pub stamp : ℕ
-  pub pass : after' ≡ observing (looking before stamp) after'.observed
+  pub pass : after' ≡ observing (snapshot_begun before stamp) after'.observed
   pub grows : Grows before.observed after'.observed
   pub minimum : MeetsMinimum before.shared.size.seats (stamp + 1) before.observed after'.observed
   pub met : before.met ≤ stamp + 1
@@ -40,47 +40,47 @@ pub record Begins (before after' : PassView) : Type 0 where
 -- It ends, and gives its stamp: one entry with all that was read stands at the end of the log, and a kept state of the history at that
 -- stamp agrees with it.
 pub record Finishes (kept : State → Type 0) (before after' : PassView) (told : ℕ) : Type 0 where
-  pub after : IfSome before.glance (λ g. after' ≡ observing (finished before g) after'.observed)
+  pub after : IfSome before.snapshot (λ g. after' ≡ observing (finished before g) after'.observed)
   pub grows : Grows before.observed after'.observed
-  pub stamp : IfSome before.glance (λ g. told ≡ g.stamp)
-  pub stood : IfSome before.glance (λ g. Stood kept before.shared.size.records before.log (entry_of_glance g))
+  pub stamp : IfSome before.snapshot (λ g. told ≡ g.stamp)
+  pub stood : IfSome before.snapshot (λ g. Stood kept before.shared.size.records before.log (entry_of_snapshot g))
 
 -- no transaction is in flight, and a snapshot is, at a stamp below the minimum met
-abbrev pub looks_in : Phase → Option GlanceView → (met : ℕ) → Bool
-looks_in Idle None met = false
-looks_in Idle (Some g) met = nat_lt g.stamp met
-looks_in Open glance met = false
-looks_in Installed glance met = false
-looks_in Decided glance met = false
+abbrev pub has_snapshot_in : Phase → Option SnapshotView → (met : ℕ) → Bool
+has_snapshot_in Idle None met = false
+has_snapshot_in Idle (Some g) met = nat_lt g.stamp met
+has_snapshot_in Open snapshot met = false
+has_snapshot_in Installed snapshot met = false
+has_snapshot_in Decided snapshot met = false
 
-abbrev pub IsLooking : PassView → Type 0
-IsLooking p = looks_in p.phase p.glance p.met ≡ true
+abbrev pub HasSnapshot : PassView → Type 0
+HasSnapshot p = has_snapshot_in p.phase p.snapshot p.met ≡ true
 
 -- the records that it sees
-abbrev pub glance_store : PassView → Option GlanceView → Meaning
-glance_store p None = no_store
-glance_store p (Some g) = record { size = p.shared.size.records; fixed = p.fixed; reads = g.reads; writes = []; given = [] }
+abbrev pub snapshot_store : PassView → Option SnapshotView → Meaning
+snapshot_store p None = no_store
+snapshot_store p (Some g) = record { size = p.shared.size.records; fixed = p.fixed; reads = g.reads; writes = []; given = [] }
 
-abbrev pub meaning_of_glance : PassView → Meaning
-meaning_of_glance p = glance_store p p.glance
+abbrev pub meaning_of_snapshot : PassView → Meaning
+meaning_of_snapshot p = snapshot_store p p.snapshot
 
 -- what no read changes: at which seat it is, all of its pass but what was read and what its steps came upon, and what the seat has beside
-pub record GlanceRest (B : Type 0) : Type 0 where
+pub record SnapshotRest (B : Type 0) : Type 0 where
   pub name : GName
   pub of_pass : PassView
   pub beside : B
 
 abbrev pub unread : PassView → PassView
-unread p = record p { post = record p.post { observed = nothing_observed; glance = option_map (λ (g : GlanceView). record g { reads = [] }) p.glance } }
+unread p = record p { post = record p.post { observed = nothing_observed; snapshot = option_map (λ (g : SnapshotView). record g { reads = [] }) p.snapshot } }
 
 -- one more record was read, where it is not there
-abbrev pub looked : PassView → ℕ → Option (List ℕ) → PassView
-looked p rid value = record p { post = looked_at p.post rid value }
+abbrev pub snapshot_read : PassView → ℕ → Option (List ℕ) → PassView
+snapshot_read p rid value = record p { post = snapshot_read_at p.post rid value }
 
 -- what is read is the value of the version that the search at the stamp found
 abbrev pub FindsSeen : (before after' : PassView) → ℕ → Option (List ℕ) → Type 0
-FindsSeen before after' rid value = IfSome before.glance (λ g. FindsValue (g.stamp + 1) rid before.observed after'.observed value)
+FindsSeen before after' rid value = IfSome before.snapshot (λ g. FindsValue (g.stamp + 1) rid before.observed after'.observed value)
 
 -- a seat that is alone reads what its log leaves up to the stamp
 abbrev pub ReadsLeft : PassView → ℕ → Option (List ℕ) → Type 0
-ReadsLeft p rid value = IsAlone p → IfSome p.glance (λ g. IsValue (UpTo p.log g.stamp) rid value)
+ReadsLeft p rid value = IsAlone p → IfSome p.snapshot (λ g. IsValue (UpTo p.log g.stamp) rid value)

@@ -83,15 +83,15 @@ impl<J: Keeps> SeatCalls for Alone<J> {
         }
     }
 
-    fn look_from_now(&mut self, engine: &Engine<J>) {
-        self.pass.look_from_now(engine);
+    fn begin_snapshot(&mut self, engine: &Engine<J>) {
+        self.pass.begin_snapshot(engine);
     }
 
-    fn look(&mut self, engine: &Engine<J>, rid: u32) -> Option<Cells> {
-        self.pass.look(engine, rid)
+    fn read_snapshot(&mut self, engine: &Engine<J>, rid: u32) -> Option<Cells> {
+        self.pass.read_snapshot(engine, rid)
     }
 
-    fn end_look(&mut self, engine: &Engine<J>) -> u64 {
-        self.pass.end_look(engine)
+    fn end_snapshot(&mut self, engine: &Engine<J>) -> u64 {
+        self.pass.end_snapshot(engine)
     }
 }

@@ -91,15 +91,15 @@ impl<J: Keeps> SeatCalls for Pass<J> {
         Ok(self.publish(engine, entered))
     }
 
-    fn look_from_now(&mut self, engine: &Engine<J>) {
+    fn begin_snapshot(&mut self, engine: &Engine<J>) {
         self.post.begin_snapshot(&engine.core);
     }
 
-    fn look(&mut self, engine: &Engine<J>, rid: u32) -> Option<Cells> {
-        self.post.look(&engine.core, rid)
+    fn read_snapshot(&mut self, engine: &Engine<J>, rid: u32) -> Option<Cells> {
+        self.post.read_snapshot(&engine.core, rid)
     }
 
-    fn end_look(&mut self, engine: &Engine<J>) -> u64 {
+    fn end_snapshot(&mut self, engine: &Engine<J>) -> u64 {
         self.post.end_snapshot(&engine.core)
     }
 }

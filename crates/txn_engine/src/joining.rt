@@ -2,7 +2,7 @@
 ghost use Rattle.std.specs.Prelude.{◌≡◌, ◌≤◌, ◌+◌, ◌++◌, [], true};
 ghost use Rattle.stamp_base.specs.Limits.{greatest_clock};
 ghost use Rattle.txn_engine.specs.Joining.{AreOfEngine, AreOthers, refusals_of, joined, come_together};
-ghost use Rattle.txn_engine.specs.Pass.{IsIdle, IsAlone, with_glance, engine_of};
+ghost use Rattle.txn_engine.specs.Pass.{IsIdle, IsAlone, with_snapshot, engine_of};
 
 use crate::alone::Alone;
 use crate::engine::Engine;
@@ -17,7 +17,7 @@ impl<J: Keeps> Pass<J> {
         requires other_engine { other.engine ≡ engine.now }
         requires idle { IsIdle self.old }
         requires none_given { self.old.given ≡ [] }
-        ensures joined { self.new ≡ with_glance (joined self.old other) self.new.glance }
+        ensures joined { self.new ≡ with_snapshot (joined self.old other) self.new.snapshot }
         ensures refusals { result ≡ other.refusals }
         ensures few { result ≤ other.clock }
         ensures in_range { self.new.clock ≤ greatest_clock }
@@ -55,7 +55,7 @@ impl<J: Keeps> Engine<J> {
         requires first { pass.seat ≡ 0 }
         requires of_engine { AreOfEngine self.now others.items }
         requires each_once { AreOthers self.now.size others.items }
-        ensures pass { result.pass ≡ with_glance (come_together pass others.items) result.pass.glance }
+        ensures pass { result.pass ≡ with_snapshot (come_together pass others.items) result.pass.snapshot }
         ensures shared { result.shared ≡ true }
         ensures earlier { result.earlier ≡ refusals_of others.items }
         ensures alone { IsAlone result.pass }

@@ -68,7 +68,7 @@ impl<J: Keeps> Seat for Pass<J> {
     }
 
     fn snapshot<'a>(&'a mut self, engine: &'a Engine<J>) -> Snapshot<'a, J> {
-        self.look_from_now(engine);
+        self.begin_snapshot(engine);
         SnapshotOver { seat: self, engine }
     }
 }
@@ -84,7 +84,7 @@ impl<J: Keeps> Seat for Alone<J> {
     }
 
     fn snapshot<'a>(&'a mut self, engine: &'a Engine<J>) -> AloneSnapshot<'a, J> {
-        self.look_from_now(engine);
+        self.begin_snapshot(engine);
         SnapshotOver { seat: self, engine }
     }
 }

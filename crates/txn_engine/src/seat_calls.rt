@@ -23,7 +23,7 @@ pub trait SeatCalls {
     ghost use Rattle.txn_engine.specs.Commits.{Commits};
     ghost use Rattle.txn_engine.specs.Faults.{told_by};
     ghost use Rattle.txn_engine.specs.Pass.{PassView, IsIdle, IsAlone, next_clock, begun, entry_of, aborted, observing, engine_of};
-    ghost use Rattle.txn_engine.specs.Snapshot.{meaning_of_glance, Begins, IsLooking, looked, unread, Finishes, FindsSeen, ReadsLeft};
+    ghost use Rattle.txn_engine.specs.Snapshot.{meaning_of_snapshot, Begins, HasSnapshot, snapshot_read, unread, Finishes, FindsSeen, ReadsLeft};
     ghost use Rattle.txn_engine.specs.Txn.{Reads, Writes, Gives, Undoes};
 
     /// Which states its engine keeps.
@@ -110,32 +110,32 @@ pub trait SeatCalls {
         ensures holds { holds self.old };
 
     /// Begins a snapshot.
-    fn look_from_now(&mut self, engine: &Engine<Self::Kept>)
+    fn begin_snapshot(&mut self, engine: &Engine<Self::Kept>)
         requires engine { engine_of (pass self.old) ≡ engine.now }
         requires idle { IsIdle (pass self.old) }
         ensures begins { Begins (pass self.old) (pass self.new) }
-        ensures looks { IsLooking (pass self.new) }
+        ensures snapshot { HasSnapshot (pass self.new) }
         ensures beside { beside self.new ≡ beside self.old };
 
     /// Reads a record for it.
-    fn look(&mut self, engine: &Engine<Self::Kept>, rid: u32) -> Option<Cells>
+    fn read_snapshot(&mut self, engine: &Engine<Self::Kept>, rid: u32) -> Option<Cells>
         requires engine { engine_of (pass self.old) ≡ engine.now }
-        requires looks { IsLooking (pass self.old) }
+        requires snapshot { HasSnapshot (pass self.old) }
         requires rid { rid < (pass self.old).shared.size.records }
-        ensures still { IsLooking (pass self.new) }
-        ensures meaning { meaning_of_glance (pass self.new) ≡ after_read (meaning_of_glance (pass self.old)) rid result }
+        ensures still { HasSnapshot (pass self.new) }
+        ensures meaning { meaning_of_snapshot (pass self.new) ≡ after_read (meaning_of_snapshot (pass self.old)) rid result }
         ensures rest { unread (pass self.new) ≡ unread (pass self.old) }
-        ensures after { pass self.new ≡ observing (looked (pass self.old) rid result) (pass self.new).observed }
+        ensures after { pass self.new ≡ observing (snapshot_read (pass self.old) rid result) (pass self.new).observed }
         ensures beside { beside self.new ≡ beside self.old }
         ensures grows { Grows (pass self.old).observed (pass self.new).observed }
-        ensures answer { known (meaning_of_glance (pass self.new)) rid ≡ Some result }
+        ensures answer { known (meaning_of_snapshot (pass self.new)) rid ≡ Some result }
         ensures found { FindsSeen (pass self.old) (pass self.new) rid result }
         ensures left { ReadsLeft (pass self.old) rid result };
 
     /// Ends it.
-    fn end_look(&mut self, engine: &Engine<Self::Kept>) -> u64
+    fn end_snapshot(&mut self, engine: &Engine<Self::Kept>) -> u64
         requires engine { engine_of (pass self.old) ≡ engine.now }
-        requires looks { IsLooking (pass self.old) }
+        requires snapshot { HasSnapshot (pass self.old) }
         ensures finishes { Finishes Self.Kept.kept (pass self.old) (pass self.new) result }
         ensures beside { beside self.new ≡ beside self.old };
 }

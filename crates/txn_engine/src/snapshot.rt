@@ -2,7 +2,7 @@
 ghost use Rattle.std.specs.Prelude.{◌≡◌, IfSome};
 ghost use Rattle.std.proofs.Props.{props};
 ghost use Rattle.txn_engine.specs.Pass.{engine_of};
-ghost use Rattle.txn_engine.specs.Snapshot.{IsLooking, Finishes};
+ghost use Rattle.txn_engine.specs.Snapshot.{HasSnapshot, Finishes};
 
 use crate::alone::Alone;
 use crate::engine::Engine;
@@ -20,7 +20,7 @@ pub struct SnapshotOver<'a, S: SeatCalls> {
     pub(crate) seat: &'a mut S,
     pub(crate) engine: &'a Engine<S::Kept>,
     ghost of: { engine_of (S.pass seat.now) ≡ engine.now } by { Prim.hlevel props },
-    ghost looks: { IsLooking (S.pass seat.now) } by { Prim.hlevel props },
+    ghost snapshot: { HasSnapshot (S.pass seat.now) } by { Prim.hlevel props },
 }
 
 /// A snapshot of a pass.
@@ -32,9 +32,9 @@ pub type AloneSnapshot<'a, J> = SnapshotOver<'a, Alone<J>>;
 impl<S: SeatCalls> SnapshotOver<'_, S> {
     /// The stamp at which records are read.
     pub fn stamp(&self) -> u64
-        ensures { IfSome (S.pass self.now.seat.now).glance (λ g. result ≡ g.stamp) }
+        ensures { IfSome (S.pass self.now.seat.now).snapshot (λ g. result ≡ g.stamp) }
     {
-        self.seat.pass().look_stamp()
+        self.seat.pass().snapshot_stamp()
     }
 
     /// Ends the snapshot, and gives its stamp. One entry with all that was read stands at the end of the log, and a kept state of
@@ -44,7 +44,7 @@ impl<S: SeatCalls> SnapshotOver<'_, S> {
         ensures beside { S.beside self.exit.0.now ≡ S.beside self.entry.seat.now }
     {
         let SnapshotOver { seat, engine } = self;
-        seat.end_look(engine)
+        seat.end_snapshot(engine)
     }
 }
 
@@ -53,21 +53,21 @@ impl<S: SeatCalls> RecordRead for SnapshotOver<'_, S> {
 
     ghost use Rattle.std.specs.Prelude.{IfOk};
     ghost use Rattle.seat_post.specs.Observing.{Grows};
-    ghost use Rattle.txn_engine.specs.Snapshot.{meaning_of_glance, GlanceRest, unread, FindsSeen, ReadsLeft};
+    ghost use Rattle.txn_engine.specs.Snapshot.{meaning_of_snapshot, SnapshotRest, unread, FindsSeen, ReadsLeft};
 
-    ghost meaning = { λ s. meaning_of_glance (S.pass s.seat.now) };
+    ghost meaning = { λ s. meaning_of_snapshot (S.pass s.seat.now) };
 
-    ghost Rest = { GlanceRest S.Beside };
+    ghost Rest = { SnapshotRest S.Beside };
 
     ghost rest = { λ s. record { name = s.seat.ghost_name; of_pass = unread (S.pass s.seat.now); beside = S.beside s.seat.now } };
 
     ghost read_gives = { λ s rid answer s'. IfOk answer (ReadsLeft (S.pass s.seat.now) rid) × Grows (S.pass s.seat.now).observed (S.pass s'.seat.now).observed × IfOk answer (FindsSeen (S.pass s.seat.now) (S.pass s'.seat.now) rid) };
 
     fn read(&mut self, rid: u32) -> Result<Option<Cells>, NoFault> {
-        Ok(self.seat.look(self.engine, rid))
+        Ok(self.seat.read_snapshot(self.engine, rid))
     }
 
     fn size(&self) -> u32 {
-        self.seat.pass().glance_size()
+        self.seat.pass().snapshot_size()
     }
 }

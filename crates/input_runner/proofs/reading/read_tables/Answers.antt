@@ -3,13 +3,13 @@ use Rattle.plain_data.specs.declared.entry.Entry.{Entry}
 use Rattle.histories.specs.History.{Lawful, Leaves}
 use Rattle.history_replay.specs.Results.{StandsForSome}
 use Rattle.record_store.specs.Limits.{record_limit}
-use Rattle.seat_post.specs.Glance.{entry_of_glance}
+use Rattle.seat_post.specs.Snapshot.{entry_of_snapshot}
 use Rattle.seat_post.specs.Logs.{IsAbove}
 use Rattle.stored_tables.proofs.Runs.{IfOk-map, ok_of}
 use Rattle.txn_engine.specs.Alone.{AloneView, Beside}
-use Rattle.txn_engine.specs.Snapshot.{GlanceRest}
+use Rattle.txn_engine.specs.Snapshot.{SnapshotRest}
 use Rattle.txn_engine.specs.Pass.{next_clock}
-use Rattle.txn_engine.specs.Snapshot.{meaning_of_glance}
+use Rattle.txn_engine.specs.Snapshot.{meaning_of_snapshot}
 use Rattle.typed_tables.specs.Listing.{AreRows}
 use Rattle.lane_runner.specs.Rows.{stands}
 use Rattle.input_runner.proofs.Sought.{Sought, sought, told_of, not_torn, never_torn, each_told, left_agrees, clock_later, clock_drawn}
@@ -22,7 +22,7 @@ sight c =
     let s1 = c.list_tables-told.new.store.seat.now in
     let f = c.finish.new.self.0 in
     sought p c.tick.new.self.pass c.snapshot-snapshot.result.seat.now.pass s1.pass f.pass c.tell.new.self.pass (next_clock p 0) c.snapshot-snapshot.ensures.begins
-    (ap (λ (a : AloneView). a.pass) c.in-Ok.ensures.ok) (ap (λ (x : GlanceRest Beside). x.of_pass) c.list_tables-told.ensures.rest) c.finish.ensures.finishes.after
+    (ap (λ (a : AloneView). a.pass) c.in-Ok.ensures.ok) (ap (λ (x : SnapshotRest Beside). x.of_pass) c.list_tables-told.ensures.rest) c.finish.ensures.finishes.after
     (told_of f _ c.tell.new.self c.tell.ensures.value c.tell.ensures.grows c.tell.ensures.not_back (search rules)) c.requires.pass.1 c.shared.ensures.alone
     (subst (λ (n : ℕ). IsAbove p.log n) (c.in-Ok.ensures.stamp ∙ sym (ap (λ (a : AloneView). a.pass.published) c.in-Ok.ensures.ok)) c.in-Ok.ensures.above) (clock_later p 0) (clock_drawn p 0)
 
@@ -39,12 +39,12 @@ pub returns-clause-rows : goal.returns-clause-rows
 returns-clause-rows c =
     let p = c.args.alone.now.pass in
     let s = sight (goal.at.returns-clause-rows c).After-tell in
-    let entry = entry_of_glance s.glance in
+    let entry = entry_of_snapshot s.snapshot in
     let records = p.shared.size.records in
     let told : Lawful (StandsForSome stands) c.tell.new.self.pass.shared.size.records c.tell.new.self.pass.log = search rules in
     let lawful : Lawful (StandsForSome stands) records (p.log ++ entry ∷ []) =
     subst (λ (n : ℕ). Lawful (StandsForSome stands) n (p.log ++ entry ∷ [])) s.kept_records (subst (λ (log : List Entry). Lawful (StandsForSome stands) c.tell.new.self.pass.shared.size.records log) s.log told) in
     IfOk-map c.untorn.result (λ rows was tables leaves.
     (let left = left_agrees (StandsForSome stands) records p.log entry leaves.0 c.lawful_has_states.ensures lawful refl s.behind (subst (λ (log : List Entry). Leaves (Contains log) leaves.0) s.log leaves.1) in
-    each_told records (meaning_of_glance c.snapshot-snapshot.result.seat.now.pass) (meaning_of_glance c.list_tables-told.new.store.seat.now.pass) s.glance.reads (λ tables. AreRows c.args.count tables rows.items) s.size s.none s.reads (ok_of c.list_tables-told.result _ rows was c.list_tables-told.ensures.rows) leaves.0 leaves.2.0 tables left.agrees
+    each_told records (meaning_of_snapshot c.snapshot-snapshot.result.seat.now.pass) (meaning_of_snapshot c.list_tables-told.new.store.seat.now.pass) s.snapshot.reads (λ tables. AreRows c.args.count tables rows.items) s.size s.none s.reads (ok_of c.list_tables-told.result _ rows was c.list_tables-told.ensures.rows) leaves.0 leaves.2.0 tables left.agrees
     (c.fits_records.ensures record_limit records leaves.0 leaves.2.0 tables left.is_state leaves.2.1))) c.untorn.ensures

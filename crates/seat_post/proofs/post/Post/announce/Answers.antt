@@ -30,7 +30,7 @@ returns-clause-value g c =
     let alone = subst (λ (p : PostView). IsAloneAt p.shared.size p.seat p.others) (sym c.self.view_is) c.requires.alone in
     let is = announces i.hand c.idle.new.hand c.raise_min_write.new.hand c.raise_min_write.result at.ends at.whole c.idle.ensures.rises c.idle.ensures.unchanged alone c.raise_min_write.ensures.raises c.raise_min_write.ensures.view in
     let table = c.raise_min_write.ensures.ready.seat.same_table ∙ c.idle.ensures.ready.seat.same_table in
-    announced_view i.hand c.raise_min_write.new.hand i.phase i.stamp i.sets table is ∙ ap (λ (p : PostView). record (announced_at p) { placed = (post_of c.raise_min_write.new.hand i.phase i.stamp i.sets).placed; glance = (post_of c.raise_min_write.new.hand i.phase i.stamp i.sets).glance; observed = observed_in c.raise_min_write.new.hand }) c.self.view_is
+    announced_view i.hand c.raise_min_write.new.hand i.phase i.stamp i.sets table is ∙ ap (λ (p : PostView). record (announced_at p) { placed = (post_of c.raise_min_write.new.hand i.phase i.stamp i.sets).placed; snapshot = (post_of c.raise_min_write.new.hand i.phase i.stamp i.sets).snapshot; observed = observed_in c.raise_min_write.new.hand }) c.self.view_is
 
 pub returns-clause-grows : goal.returns-clause-grows
 returns-clause-grows g c =

@@ -3,36 +3,36 @@ use Rattle.std.specs.Prelude.{IsSome, IfSome}
 use Rattle.core_rule.specs.Hands.{Shared}
 use Rattle.seat_post.specs.declared.phase.Phase.TheVariants.{Idle}
 use Rattle.core_rule.specs.Deciding.{StoodAt}
-use Rattle.seat_post.specs.Glancing.{entry_of_glances}
+use Rattle.seat_post.specs.InSnapshot.{logged_snapshot}
 use Rattle.seat_post.specs.Ends.{Stood}
 use Rattle.seat_post.specs.Post.{PostView}
-use Rattle.seat_post.specs.Glance.{entry_of_glance}
-use Rattle.seat_post.proofs.Looking.{glancing_of, post_ended, stood_glance}
+use Rattle.seat_post.specs.Snapshot.{entry_of_snapshot}
+use Rattle.seat_post.proofs.SnapshotPosts.{in_snapshot_of, post_ended, stood_snapshot}
 use Rattle.seat_post.proofs.Posts.{at_phase}
 use Rattle.seat_post.proofs.Observed.{post_grows}
 use Rattle.seat_post.proofs.post.Post.end_snapshot.Goals as goal
 
-pub end_glances-requires-clause-glancing : goal.end_glances-requires-clause-glancing
-end_glances-requires-clause-glancing g c =
+pub end_snapshot-requires-clause-in_snapshot : goal.end_snapshot-requires-clause-in_snapshot
+end_snapshot-requires-clause-in_snapshot g c =
     let idle = at_phase _ Idle _ _ _ c.self.invariant (ap (λ (p : PostView). p.phase) c.self.view_is ∙ c.requires.idle) in
-    glancing_of _ _ _ idle (subst (λ (p : PostView). IsSome p.glance) (sym c.self.view_is) c.requires.looks)
+    in_snapshot_of _ _ _ idle (subst (λ (p : PostView). IsSome p.snapshot) (sym c.self.view_is) c.requires.snapshot)
 
 pub invariant_of-self : goal.invariant_of-self
 invariant_of-self g c =
     let phase = ap (λ (p : PostView). p.phase) c.self.view_is ∙ c.requires.idle in
     let idle = at_phase _ Idle _ _ _ c.self.invariant phase in
-    let e = c.end_glances.ensures in
+    let e = c.end_snapshot.ensures in
     post_ended c.args.core.now _ _ _ _ _ c.self.invariant idle phase e.stays.ready e.view
 
 pub returns-clause-stood : goal.returns-clause-stood
 returns-clause-stood g c =
     let v = c.self.inside.hand.view in
     let idle = at_phase _ Idle _ _ _ c.self.invariant (ap (λ (p : PostView). p.phase) c.self.view_is ∙ c.requires.idle) in
-    let rests = (glancing_of _ _ _ idle (subst (λ (p : PostView). IsSome p.glance) (sym c.self.view_is) c.requires.looks)).rests in
+    let rests = (in_snapshot_of _ _ _ idle (subst (λ (p : PostView). IsSome p.snapshot) (sym c.self.view_is) c.requires.snapshot)).rests in
     let core = ap (λ (p : PostView). p.shared) c.self.view_is ∙ c.requires.core in
-    let stood = subst (λ (x : Shared). StoodAt g.J.Keeps.kept x.size.records v.log (entry_of_glances v)) (sym core) c.end_glances.ensures.stood in
-    let told = stood_glance g.J.Keeps.kept v.size.records v rests stood in
-    subst (λ (p : PostView). IfSome p.glance (λ o. Stood g.J.Keeps.kept p.shared.size.records p.log (entry_of_glance o))) c.self.view_is told
+    let stood = subst (λ (x : Shared). StoodAt g.J.Keeps.kept x.size.records v.log (logged_snapshot v)) (sym core) c.end_snapshot.ensures.stood in
+    let told = stood_snapshot g.J.Keeps.kept v.size.records v rests stood in
+    subst (λ (p : PostView). IfSome p.snapshot (λ o. Stood g.J.Keeps.kept p.shared.size.records p.log (entry_of_snapshot o))) c.self.view_is told
 
 pub returns-clause-grows : goal.returns-clause-grows
-returns-clause-grows g c = let i = c.self.inside in post_grows i.hand c.end_glances.new.hand i.phase i.stamp i.sets c.args.self.now c.self.view_is c.end_glances.ensures.grows
+returns-clause-grows g c = let i = c.self.inside in post_grows i.hand c.end_snapshot.new.hand i.phase i.stamp i.sets c.args.self.now c.self.view_is c.end_snapshot.ensures.grows

@@ -4,7 +4,7 @@ use Rattle.core_rule.specs.View.{Splitting}
 use Rattle.txn_engine.specs.Joining.{AreOfEngine, AreOthers, refusals_of, come_together}
 use Rattle.txn_engine.specs.Pass.{PassView, EngineView, engine_of}
 use Rattle.txn_engine.specs.Retired.{RetiredView}
-use Rattle.txn_engine.proofs.Joined.{unglanced, count_others, earlier_more, earlier_most, first_out, none_left, rests_joined, together_more, alone_together}
+use Rattle.txn_engine.proofs.Joined.{without_snapshot, count_others, earlier_more, earlier_most, first_out, none_left, rests_joined, together_more, alone_together}
 use Rattle.txn_engine.proofs.engine.Engine.alone.Goals as goal
 
 pub overflow_add-earlier : goal.overflow_add-earlier
@@ -58,7 +58,7 @@ returns-clause-alone g c =
     let first = c.clear_all.new.self in
     let others = c.args.others.items in
     let none : c.loop-pass.rest.items ≡ [] = none_left c.loop-pass.rest.items (let e = eqb-true _ 0 (sym c.is_empty.ensures ∙ c.loop-pass-test.false) in let ok = c.loop-pass.rest.ok in omega arith) in
-    let all = subst (λ (xs : List RetiredView). unglanced (come_together c.loop-pass.pass xs) ≡ unglanced (come_together first others)) none i.together in
+    let all = subst (λ (xs : List RetiredView). without_snapshot (come_together c.loop-pass.pass xs) ≡ without_snapshot (come_together first others)) none i.together in
     let seat = ap (λ (p : PassView). p.seat) all in
     let engine = ap engine_of all in
     let own : engine_of first ≡ c.args.self.now = sym engine ∙ i.engine in
@@ -74,7 +74,7 @@ invariant_of-result g c =
     let first = c.clear_all.new.self in
     let others = c.args.others.items in
     let none : c.loop-pass.rest.items ≡ [] = none_left c.loop-pass.rest.items (let e = eqb-true _ 0 (sym c.is_empty.ensures ∙ c.loop-pass-test.false) in let ok = c.loop-pass.rest.ok in omega arith) in
-    let all = subst (λ (xs : List RetiredView). unglanced (come_together c.loop-pass.pass xs) ≡ unglanced (come_together first others)) none i.together in
+    let all = subst (λ (xs : List RetiredView). without_snapshot (come_together c.loop-pass.pass xs) ≡ without_snapshot (come_together first others)) none i.together in
     let seat = ap (λ (p : PassView). p.seat) all in
     let engine = ap engine_of all in
     let own : engine_of first ≡ c.args.self.now = sym engine ∙ i.engine in

@@ -2,12 +2,12 @@ use Rattle.txn_engine.specs.Pass.{engine_of}
 use Rattle.std.proofs.Common.{◌≡◌, ◌+◌, ◌-◌, ◌*◌, ◌≤◌, length}
 use Rattle.stamp_base.specs.Limits.{greatest_clock}
 use Rattle.txn_engine.specs.Joining.{AreOfEngine, refusals_of, come_together}
-use Rattle.txn_engine.proofs.Joined.{unglanced, resting}
+use Rattle.txn_engine.proofs.Joined.{without_snapshot, resting}
 use Rattle.txn_engine.proofs.engine.Engine.alone.Given as goal
 
 abbrev pub invariant-loop-pass : goal.invariant-loop-pass
 invariant-loop-pass g l = record {
-  together : unglanced (come_together l.pass l.rest.items) ≡ unglanced (come_together l.initial.pass l.initial.rest.items);
+  together : without_snapshot (come_together l.pass l.rest.items) ≡ without_snapshot (come_together l.initial.pass l.initial.rest.items);
   rests : l.pass ≡ resting l.pass;
   engine : engine_of l.pass ≡ l.self;
   of_engine : AreOfEngine l.self l.rest.items;

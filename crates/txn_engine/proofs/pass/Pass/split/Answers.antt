@@ -6,4 +6,4 @@ use Rattle.txn_engine.proofs.pass.Pass.split.Goals as goal
 pub invariant_of-self : goal.invariant_of-self
 invariant_of-self g c =
     let alive = ap (λ (p : PassView). p.dead) c.self.view_is ∙ ap (λ (d : DeskView). d.dead) c.requires.idle in
-    pass_one_more c.self.inside.post c.split-post.new.self c.split-post.new.self.glance _ _ _ _ _ c.self.invariant alive c.split-post.ensures.left
+    pass_one_more c.self.inside.post c.split-post.new.self c.split-post.new.self.snapshot _ _ _ _ _ c.self.invariant alive c.split-post.ensures.left

@@ -3,7 +3,7 @@ use Rattle.word_layout.specs.Size.{Size, places}
 use Rattle.version_search.specs.Finding.{Reads, status_of}
 use Rattle.seat_post.specs.Searched.{Finds}
 use Rattle.seat_post.proofs.Leaving.{limit_rests, finds_absent, finds_present}
-use Rattle.seat_post.proofs.glancing.look.Goals as goal
+use Rattle.seat_post.proofs.snapshots.load_visible.Goals as goal
 
 pub returns-in-Version-default-default-true-clause-finds : goal.returns-in-Version-default-default-true-clause-finds
 returns-in-Version-default-default-true-clause-finds g c =

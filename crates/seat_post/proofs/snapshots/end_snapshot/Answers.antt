@@ -1,7 +1,7 @@
 use Rattle.std.proofs.Common.{ap}
 use Rattle.core_rule.specs.View.{View}
 use Rattle.version_search.proofs.Grown.{grows_loads}
-use Rattle.seat_post.proofs.glancing.end_glances.Goals as goal
+use Rattle.seat_post.proofs.snapshots.end_snapshot.Goals as goal
 
 pub returns-clause-grows : goal.returns-clause-grows
 returns-clause-grows g c =

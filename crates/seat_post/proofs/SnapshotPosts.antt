@@ -14,8 +14,8 @@ use Rattle.validate_core.specs.Sets.{SetsView}
 use Rattle.seat_post.specs.declared.phase.Phase.{Phase}
 use Rattle.seat_post.specs.declared.phase.Phase.TheVariants.{Idle}
 use Rattle.seat_post.specs.Ends.{Stood}
-use Rattle.seat_post.specs.Glance.{glance_of, entry_of_glance}
-use Rattle.seat_post.specs.Glancing.{IsGlancing, Opens, IsLeftAt, entry_of_glances, glances_ended}
+use Rattle.seat_post.specs.Snapshot.{snapshot_view, entry_of_snapshot}
+use Rattle.seat_post.specs.InSnapshot.{IsInSnapshot, Opens, IsLeftAt, logged_snapshot, snapshot_ended}
 use Rattle.seat_post.specs.Logs.{AreBelow}
 use Rattle.seat_post.specs.Observing.{MeetsMinimum}
 use Rattle.seat_post.specs.Reading.{FindsValue, value_loaded}
@@ -28,28 +28,28 @@ use Rattle.seat_post.proofs.EndMore.{stood_same}
 use Rattle.seat_post.proofs.Posts.{post_idle}
 
 -- a seat that shows a snapshot rests
-rests_of : (f : Flight) (bound : ℕ) (ds : List Read) → IsSome (glance_of f bound ds) → f ≡ resting
+rests_of : (f : Flight) (bound : ℕ) (ds : List Read) → IsSome (snapshot_view f bound ds) → f ≡ resting
 rests_of resting bound ds some = refl
 rests_of (writing t) bound ds some = cc
 
-pub glancing_of : (hand : Seated) (stamp : ℕ) (sets : SetsView) → IsIdleAt hand stamp sets → IsSome (glance_of hand.view.flight hand.view.published.read hand.view.work.reads) → IsGlancing hand.view
-glancing_of hand stamp sets idle some =
+pub in_snapshot_of : (hand : Seated) (stamp : ℕ) (sets : SetsView) → IsIdleAt hand stamp sets → IsSome (snapshot_view hand.view.flight hand.view.published.read hand.view.work.reads) → IsInSnapshot hand.view
+in_snapshot_of hand stamp sets idle some =
     let rests = rests_of hand.view.flight hand.view.published.read hand.view.work.reads some in
     record { rests = rests; ends = idle.ends; whole = idle.whole rests }
 
 -- an idle post at another hand that reads for a snapshot
-pub post_glancing : (core : Shared) (phase : Phase) (hand hand' : Seated) (stamp : ℕ) (sets : SetsView) → IsPost hand phase stamp sets → IsIdleAt hand stamp sets → phase ≡ Idle → IsReady core hand' → hand'.view.size ≡ hand.view.size → hand'.view.places.held ≡ hand.view.places.held → hand'.view.counts.in_kept ≡ hand.view.counts.in_kept → IsGlancing hand'.view → IsPost hand' phase stamp sets
-post_glancing core phase hand hand' stamp sets is idle same ready size held kept glancing =
+pub post_in_snapshot : (core : Shared) (phase : Phase) (hand hand' : Seated) (stamp : ℕ) (sets : SetsView) → IsPost hand phase stamp sets → IsIdleAt hand stamp sets → phase ≡ Idle → IsReady core hand' → hand'.view.size ≡ hand.view.size → hand'.view.places.held ≡ hand.view.places.held → hand'.view.counts.in_kept ≡ hand.view.counts.in_kept → IsInSnapshot hand'.view → IsPost hand' phase stamp sets
+post_in_snapshot core phase hand hand' stamp sets is idle same ready size held kept in_snapshot =
     post_idle core phase hand' stamp sets same ready (rw size is.size) (held ∙ is.holds_none) (kept ∙ is.keeps_none) (record {
-      ends = glancing.ends;
-      whole = λ at. glancing.whole;
+      ends = in_snapshot.ends;
+      whole = λ at. in_snapshot.whole;
       no_stamp = idle.no_stamp;
       none_read = idle.none_read;
       none_written = idle.none_written;
     })
 
 -- a snapshot has ended there
-pub post_ended : (core : Shared) (phase : Phase) (hand hand' : Seated) (stamp : ℕ) (sets : SetsView) → IsPost hand phase stamp sets → IsIdleAt hand stamp sets → phase ≡ Idle → IsReady core hand' → hand'.view ≡ glances_ended hand.view hand'.view.seen → IsPost hand' phase stamp sets
+pub post_ended : (core : Shared) (phase : Phase) (hand hand' : Seated) (stamp : ℕ) (sets : SetsView) → IsPost hand phase stamp sets → IsIdleAt hand stamp sets → phase ≡ Idle → IsReady core hand' → hand'.view ≡ snapshot_ended hand.view hand'.view.seen → IsPost hand' phase stamp sets
 post_ended core phase hand hand' stamp sets is idle same ready view =
     let work : hand'.view.work ≡ no_work = ap (λ (v : View). v.work) view in
     post_idle core phase hand' stamp sets same ready (rw view is.size) (ap (λ (v : View). v.places.held) view ∙ is.holds_none) (ap (λ (v : View). v.counts.in_kept) view ∙ is.keeps_none) (record {
@@ -86,15 +86,15 @@ below_logged log t low e among snapshot =
     omega arith
 
 -- what the end tells
-pub stood_glance : (kept : State → Type 0) (records : ℕ) (v : View) → v.flight ≡ resting → StoodAt kept records v.log (entry_of_glances v) → IfSome (glance_of v.flight v.published.read v.work.reads) (λ g. Stood kept records (map entry_of v.log) (entry_of_glance g))
-stood_glance kept records v rests stood = rw rests (stood_same kept records v.log (entry_of_glances v) _ refl stood)
+pub stood_snapshot : (kept : State → Type 0) (records : ℕ) (v : View) → v.flight ≡ resting → StoodAt kept records v.log (logged_snapshot v) → IfSome (snapshot_view v.flight v.published.read v.work.reads) (λ g. Stood kept records (map entry_of v.log) (entry_of_snapshot g))
+stood_snapshot kept records v rests stood = rw rests (stood_same kept records v.log (logged_snapshot v) _ refl stood)
 
-pub left_glance : (v : View) (rid : ℕ) (value : Option (List ℕ)) → v.flight ≡ resting → IsLeftAt v rid value → IfSome (glance_of v.flight v.published.read v.work.reads) (λ g. IsValue (UpTo (map entry_of v.log) g.stamp) rid value)
-left_glance v rid value rests left = rw rests left
+pub left_snapshot : (v : View) (rid : ℕ) (value : Option (List ℕ)) → v.flight ≡ resting → IsLeftAt v rid value → IfSome (snapshot_view v.flight v.published.read v.work.reads) (λ g. IsValue (UpTo (map entry_of v.log) g.stamp) rid value)
+left_snapshot v rid value rests left = rw rests left
 
 -- what was read was found by loads
-pub found_glance : (v w : View) (rid place wts : ℕ) (value : Option (List ℕ)) → v.flight ≡ resting → Finds rid place wts value v w → IfSome (glance_of v.flight v.published.read v.work.reads) (λ g. FindsValue (g.stamp + 1) rid (observed_of v) (observed_of w) value)
-found_glance v w rid place wts value rests finds = rw rests (record {
+pub found_snapshot : (v w : View) (rid place wts : ℕ) (value : Option (List ℕ)) → v.flight ≡ resting → Finds rid place wts value v w → IfSome (snapshot_view v.flight v.published.read v.work.reads) (λ g. FindsValue (g.stamp + 1) rid (observed_of v) (observed_of w) value)
+found_snapshot v w rid place wts value rests finds = rw rests (record {
   wts = wts;
   met = subst (λ (n : ℕ). Met n rid wts (state_of value) (value_loaded value) v.seen.loads w.seen.loads) (limit_rests v v.published.read rests refl) finds.met;
 })

@@ -9,12 +9,12 @@ ghost use Rattle.core_rule.specs.Deciding.{StoodAt};
 ghost use Rattle.core_rule.specs.Hands.{IsReady, StaysReady};
 ghost use Rattle.record_store.specs.Meaning.{value_at};
 ghost use Rattle.seat_post.specs.Ends.{Stood};
-ghost use Rattle.seat_post.specs.Glance.{with_read, entry_of_glance};
-ghost use Rattle.seat_post.specs.Glancing.{IsGlancing, Opens, Glances, glanced, IsLeftAt, entry_of_glances, glances_ended};
+ghost use Rattle.seat_post.specs.Snapshot.{with_read, entry_of_snapshot};
+ghost use Rattle.seat_post.specs.InSnapshot.{IsInSnapshot, Opens, FindsAlike, snapshot_reads, IsLeftAt, logged_snapshot, snapshot_ended};
 ghost use Rattle.seat_post.specs.Logs.{AreBelow};
 ghost use Rattle.version_search.specs.Growing as growing;
 ghost use Rattle.seat_post.specs.Observing.{Grows, MeetsMinimum};
-ghost use Rattle.seat_post.specs.Post.{IsAlonePost, looking_at, looked_at, finished_at, observing};
+ghost use Rattle.seat_post.specs.Post.{IsAlonePost, snapshot_begun_at, snapshot_read_at, finished_at, observing};
 ghost use Rattle.seat_post.specs.Reading.{FindsValue};
 ghost use Rattle.seat_post.specs.Searched.{Finds};
 
@@ -27,11 +27,11 @@ use plain_data::Cells;
 use version_search::{Found, find, load_value};
 
 /// Begins a snapshot: raises `min_wts`, publishes one less than it as the read stamp, and gives that. What was in flight has ended.
-pub(crate) fn begin_glances<J: Keeps>(core: &Core<J>, hand: &mut Hand<J>) -> u64
+pub(crate) fn begin_snapshot<J: Keeps>(core: &Core<J>, hand: &mut Hand<J>) -> u64
     requires ready { IsReady core.now hand.old }
     requires ends { Ends hand.old.view.work }
     ensures opens { Opens result hand.old.view hand.new.view }
-    ensures glancing { IsGlancing hand.new.view }
+    ensures in_snapshot { IsInSnapshot hand.new.view }
     ensures snapshots { (e : Logged) → Among e hand.old.view.log → e.snapshot ≡ true → e.stamp ≤ result }
     ensures met { hand.old.view.clock.met ≤ result + 1 }
     ensures below { result < hand.old.view.published.write }
@@ -43,7 +43,7 @@ pub(crate) fn begin_glances<J: Keeps>(core: &Core<J>, hand: &mut Hand<J>) -> u64
 }
 
 // Searches for the version that is visible at the published read stamp, and loads its value.
-fn look<J: Keeps>(core: &Core<J>, hand: &mut Hand<J>, rid: u32) -> Read
+fn load_visible<J: Keeps>(core: &Core<J>, hand: &mut Hand<J>, rid: u32) -> Read
     requires ready { IsReady core.now hand.old }
     requires rid { rid < core.now.size.records }
     requires rests { Rests hand.old.view.work.search }
@@ -81,31 +81,31 @@ fn look<J: Keeps>(core: &Core<J>, hand: &mut Hand<J>, rid: u32) -> Read
 
 /// Reads a record at the published read stamp. It always answers, and a record that was read before answers what it did then.
 /// Nothing is noted: what was read stands in the view.
-pub(crate) fn glance<J: Keeps>(core: &Core<J>, hand: &mut Hand<J>, rid: u32) -> Option<Cells>
+pub(crate) fn read_snapshot<J: Keeps>(core: &Core<J>, hand: &mut Hand<J>, rid: u32) -> Option<Cells>
     requires ready { IsReady core.now hand.old }
     requires rid { rid < core.now.size.records }
-    requires glancing { IsGlancing hand.old.view }
-    ensures glances { Glances rid result hand.old.view hand.new.view }
-    ensures glancing { IsGlancing hand.new.view }
-    ensures reads { glanced hand.new.view ≡ with_read (glanced hand.old.view) rid result }
-    ensures answer { value_at (glanced hand.new.view) rid ≡ Some result }
+    requires in_snapshot { IsInSnapshot hand.old.view }
+    ensures finds_alike { FindsAlike rid result hand.old.view hand.new.view }
+    ensures in_snapshot { IsInSnapshot hand.new.view }
+    ensures reads { snapshot_reads hand.new.view ≡ with_read (snapshot_reads hand.old.view) rid result }
+    ensures answer { value_at (snapshot_reads hand.new.view) rid ≡ Some result }
     ensures left { IsAlone hand.old.view → IsLeftAt hand.old.view rid result }
     ensures stays { StaysReady core.now hand.old hand.new }
 {
-    let read = look(core, hand, rid);
+    let read = load_visible(core, hand, rid);
     // This load tells that what was read of one record is alike.
     core.load_min_read(hand);
     read.value
 }
 
 /// Ends the snapshot: one entry with all that it has read enters the log. Gives its stamp.
-pub(crate) fn end_glances<J: Keeps>(core: &Core<J>, hand: &mut Hand<J>) -> u64
+pub(crate) fn end_snapshot<J: Keeps>(core: &Core<J>, hand: &mut Hand<J>) -> u64
     requires ready { IsReady core.now hand.old }
-    requires glancing { IsGlancing hand.old.view }
+    requires in_snapshot { IsInSnapshot hand.old.view }
     ensures stamp { result ≡ hand.old.view.published.read }
-    ensures view { hand.new.view ≡ glances_ended hand.old.view hand.new.view.seen }
+    ensures view { hand.new.view ≡ snapshot_ended hand.old.view hand.new.view.seen }
     ensures grows { growing.Grows hand.old.view.seen hand.new.view.seen }
-    ensures stood { StoodAt J.kept core.now.size.records hand.old.view.log (entry_of_glances hand.old.view) }
+    ensures stood { StoodAt J.kept core.now.size.records hand.old.view.log (logged_snapshot hand.old.view) }
     ensures stays { StaysReady core.now hand.old hand.new }
 {
     let stamp = hand.published_read();
@@ -118,7 +118,7 @@ impl<J: Keeps> Post<J> {
     pub fn begin_snapshot(&mut self, core: &Core<J>) -> u64
         requires core { self.old.shared ≡ core.now }
         requires idle { self.old.phase ≡ Phase.Idle }
-        ensures after { self.new ≡ observing (looking_at self.old result) self.new.observed }
+        ensures after { self.new ≡ observing (snapshot_begun_at self.old result) self.new.observed }
         ensures grows { Grows self.old.observed self.new.observed }
         // The stamp is at least one less than the least published write word that was loaded.
         ensures minimum { MeetsMinimum self.old.shared.size.seats (result + 1) self.old.observed self.new.observed }
@@ -128,42 +128,42 @@ impl<J: Keeps> Post<J> {
         ensures below_next { result < stamp_of (self.old.clock + 1) self.old.seat }
         ensures alone { IsAlonePost self.old → self.old.published ≤ result + 1 }
     {
-        begin_glances(core, &mut self.hand)
+        begin_snapshot(core, &mut self.hand)
     }
 
     /// The stamp of the snapshot.
     pub fn snapshot_stamp(&self) -> u64
-        ensures { IfSome self.now.glance (λ g. result ≡ g.stamp) }
+        ensures { IfSome self.now.snapshot (λ g. result ≡ g.stamp) }
     {
         self.hand.published_read()
     }
 
     /// Reads a record for the snapshot. What was read of it before is read again.
-    pub fn look(&mut self, core: &Core<J>, rid: u32) -> Option<Cells>
+    pub fn read_snapshot(&mut self, core: &Core<J>, rid: u32) -> Option<Cells>
         requires core { self.old.shared ≡ core.now }
         requires idle { self.old.phase ≡ Phase.Idle }
-        requires looks { IsSome self.old.glance }
+        requires snapshot { IsSome self.old.snapshot }
         requires rid { rid < self.old.shared.size.records }
-        ensures after { self.new ≡ observing (looked_at self.old rid result) self.new.observed }
+        ensures after { self.new ≡ observing (snapshot_read_at self.old rid result) self.new.observed }
         ensures grows { Grows self.old.observed self.new.observed }
-        ensures answer { IfSome self.new.glance (λ g. value_at g.reads rid ≡ Some result) }
+        ensures answer { IfSome self.new.snapshot (λ g. value_at g.reads rid ≡ Some result) }
         // It is the value of the version that the search found.
-        ensures found { IfSome self.old.glance (λ g. FindsValue (g.stamp + 1) rid self.old.observed self.new.observed result) }
-        ensures left { IsAlonePost self.old → IfSome self.old.glance (λ g. IsValue (UpTo self.old.log g.stamp) rid result) }
+        ensures found { IfSome self.old.snapshot (λ g. FindsValue (g.stamp + 1) rid self.old.observed self.new.observed result) }
+        ensures left { IsAlonePost self.old → IfSome self.old.snapshot (λ g. IsValue (UpTo self.old.log g.stamp) rid result) }
     {
-        glance(core, &mut self.hand, rid)
+        read_snapshot(core, &mut self.hand, rid)
     }
 
     /// Ends the snapshot: its entry enters the log. Gives its stamp.
     pub fn end_snapshot(&mut self, core: &Core<J>) -> u64
         requires core { self.old.shared ≡ core.now }
         requires idle { self.old.phase ≡ Phase.Idle }
-        requires looks { IsSome self.old.glance }
-        ensures after { IfSome self.old.glance (λ g. self.new ≡ observing (finished_at self.old g) self.new.observed) }
+        requires snapshot { IsSome self.old.snapshot }
+        ensures after { IfSome self.old.snapshot (λ g. self.new ≡ observing (finished_at self.old g) self.new.observed) }
         ensures grows { Grows self.old.observed self.new.observed }
-        ensures stamp { IfSome self.old.glance (λ g. result ≡ g.stamp) }
-        ensures stood { IfSome self.old.glance (λ g. Stood J.kept self.old.shared.size.records self.old.log (entry_of_glance g)) }
+        ensures stamp { IfSome self.old.snapshot (λ g. result ≡ g.stamp) }
+        ensures stood { IfSome self.old.snapshot (λ g. Stood J.kept self.old.shared.size.records self.old.log (entry_of_snapshot g)) }
     {
-        end_glances(core, &mut self.hand)
+        end_snapshot(core, &mut self.hand)
     }
 }

@@ -19,8 +19,8 @@ use Rattle.core_rule.specs.Hands.{Seated, Steps}
 use Rattle.core_rule.specs.Kinds.{load_min_read}
 use Rattle.record_store.specs.Meaning.{value_at}
 use Rattle.seat_post.specs.Searched.{Finds}
-use Rattle.seat_post.specs.Glance.{with_read}
-use Rattle.seat_post.specs.Glancing.{IsGlancing, Glances, glanced, IsLeftAt}
+use Rattle.seat_post.specs.Snapshot.{with_read}
+use Rattle.seat_post.specs.InSnapshot.{IsInSnapshot, FindsAlike, snapshot_reads, IsLeftAt}
 use Rattle.seat_post.proofs.Listed.{read_values-append, read_value-version}
 
 -- ---- the first reads, by their records
@@ -83,17 +83,17 @@ first_value ds r x was alike = by_found (value_at (read_values (firsts ds)) r) r
 
 module _ (ds : List Read) (d : Read) where
   -- one more read is noted where its record was not read before
-  pub glanced_more : read_values (firsts (d ∷ ds)) ≡ with_read (read_values (firsts ds)) d.record_number (read_value d)
-  glanced_more = by_test (is_read d.record_number ds) refl where
+  pub snapshot_reads_more : read_values (firsts (d ∷ ds)) ≡ with_read (read_values (firsts ds)) d.record_number (read_value d)
+  snapshot_reads_more = by_test (is_read d.record_number ds) refl where
     by_test : (b : Bool) → is_read d.record_number ds ≡ b
         → read_values (cond b (firsts ds) (firsts ds ++ d ∷ [])) ≡ with_read (read_values (firsts ds)) d.record_number (read_value d)
     by_test true e = rw (sym (known_first d.record_number ds) ∙ e) refl
     by_test false e = rw (sym (known_first d.record_number ds) ∙ e) (read_values-append (firsts ds) d)
 
   -- and its value is known afterwards
-  pub glanced_answer : ((c : Read) → Among c ds → c.record_number ≡ d.record_number → read_value c ≡ read_value d)
+  pub snapshot_reads_answer : ((c : Read) → Among c ds → c.record_number ≡ d.record_number → read_value c ≡ read_value d)
       → value_at (read_values (firsts (d ∷ ds))) d.record_number ≡ Some (read_value d)
-  glanced_answer alike = by_test (is_read d.record_number ds) refl where
+  snapshot_reads_answer alike = by_test (is_read d.record_number ds) refl where
     by_test : (b : Bool) → is_read d.record_number ds ≡ b
         → value_at (read_values (cond b (firsts ds) (firsts ds ++ d ∷ []))) d.record_number ≡ Some (read_value d)
     by_test true e = first_value ds d.record_number (read_value d) e alike
@@ -103,7 +103,7 @@ module _ (ds : List Read) (d : Read) where
 -- ---- a read at the hand
 
 module _ (kept : State → Type 0) (rid place wts n : ℕ) (value : Option (List ℕ)) (v : View) (mid after' : Seated)
-    (finds : Finds rid place wts value v mid.view) (is : IsGlancing v) (step : Steps kept load_min_read mid n after') where
+    (finds : Finds rid place wts value v mid.view) (is : IsInSnapshot v) (step : Steps kept load_min_read mid n after') where
   abbrev d : Read
   d = read_version rid place wts value
 
@@ -126,8 +126,8 @@ module _ (kept : State → Type 0) (rid place wts n : ℕ) (value : Option (List
       let all : AreAlike (d ∷ v.work.reads) = subst AreAlike (ap (λ (x : View). x.work.reads) finds.view) (step.learnt.1 rests) in
       all c d (inr among) (inl refl) (is.whole c among) finds.whole same ∙ read_value-version rid place wts value
 
-  pub glances : Glances rid value v after'.view
-  glances = record {
+  pub finds_alike : FindsAlike rid value v after'.view
+  finds_alike = record {
     place = place;
     wts = wts;
     finds = record {
@@ -141,8 +141,8 @@ module _ (kept : State → Type 0) (rid place wts n : ℕ) (value : Option (List
     alike = alike;
   }
 
-  pub glances_on : IsGlancing after'.view
-  glances_on = subst IsGlancing (sym view_is) record {
+  pub in_snapshot_still : IsInSnapshot after'.view
+  in_snapshot_still = subst IsInSnapshot (sym view_is) record {
     rests = is.rests;
     ends = record { rests = tt; settled = is.ends.settled; collected = is.ends.collected };
     whole = all_whole;
@@ -151,13 +151,13 @@ module _ (kept : State → Type 0) (rid place wts n : ℕ) (value : Option (List
     all_whole c (inl same) = subst IsWhole same finds.whole
     all_whole c (inr among) = is.whole c among
 
-  pub reads_noted : glanced after'.view ≡ with_read (glanced v) rid value
-  reads_noted = ap (λ (ds : List Read). read_values (firsts ds)) reads_are ∙ glanced_more v.work.reads d
-      ∙ ap (λ x. with_read (glanced v) rid x) (read_value-version rid place wts value)
+  pub reads_noted : snapshot_reads after'.view ≡ with_read (snapshot_reads v) rid value
+  reads_noted = ap (λ (ds : List Read). read_values (firsts ds)) reads_are ∙ snapshot_reads_more v.work.reads d
+      ∙ ap (λ x. with_read (snapshot_reads v) rid x) (read_value-version rid place wts value)
 
-  pub answers : value_at (glanced after'.view) rid ≡ Some value
+  pub answers : value_at (snapshot_reads after'.view) rid ≡ Some value
   answers = ap (λ (ds : List Read). value_at (read_values (firsts ds)) rid) reads_are
-      ∙ glanced_answer v.work.reads d (λ c among same. alike c among same ∙ sym (read_value-version rid place wts value))
+      ∙ snapshot_reads_answer v.work.reads d (λ c among same. alike c among same ∙ sym (read_value-version rid place wts value))
       ∙ ap Some (read_value-version rid place wts value)
 
   -- a seat that is alone reads what its log leaves

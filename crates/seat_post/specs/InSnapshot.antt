@@ -11,7 +11,7 @@ use Rattle.core_rule.specs.Snapshots.{firsts, AreAllWhole}
 use Rattle.seat_post.specs.Searched.{Finds}
 
 -- no transaction is in flight, and all that was read so far is whole
-pub record IsGlancing (v : View) : Type 0 where
+pub record IsInSnapshot (v : View) : Type 0 where
   pub rests : v.flight ≡ resting
   pub ends : Ends v.work
   pub whole : AreAllWhole v.work.reads
@@ -26,11 +26,11 @@ pub record Opens (stamp : ℕ) (v w : View) : Type 0 where
   pub bound : w ≡ bounded between stamp
 
 -- the records read so far, each with the value of its first read
-abbrev pub glanced : View → List (ℕ × Option (List ℕ))
-glanced v = read_values (firsts v.work.reads)
+abbrev pub snapshot_reads : View → List (ℕ × Option (List ℕ))
+snapshot_reads v = read_values (firsts v.work.reads)
 
 -- one more version was found, in some place, with this value; each earlier read of the record has it too
-pub record Glances (rid : ℕ) (value : Option (List ℕ)) (v w : View) : Type 0 where
+pub record FindsAlike (rid : ℕ) (value : Option (List ℕ)) (v w : View) : Type 0 where
   pub place : ℕ
   pub wts : ℕ
   pub finds : Finds rid place wts value v w
@@ -41,8 +41,8 @@ abbrev pub IsLeftAt : View → ℕ → Option (List ℕ) → Type 0
 IsLeftAt v rid value = IsValue (UpTo (map entry_of v.log) v.published.read) rid value
 
 -- the entry of a snapshot that ends here, and the view after it has ended
-abbrev pub entry_of_glances : View → Logged
-entry_of_glances v = snapshot_of v.published.read (firsts v.work.reads)
+abbrev pub logged_snapshot : View → Logged
+logged_snapshot v = snapshot_of v.published.read (firsts v.work.reads)
 
-abbrev pub glances_ended : View → Seen → View
-glances_ended v seen = record v { work = no_work; log = v.log ++ entry_of_glances v ∷ []; seen = seen }
+abbrev pub snapshot_ended : View → Seen → View
+snapshot_ended v seen = record v { work = no_work; log = v.log ++ logged_snapshot v ∷ []; seen = seen }

@@ -3,12 +3,12 @@ use Rattle.txn_engine.specs.Pass.{PassView}
 use Rattle.txn_engine.specs.Inside.{pass_view}
 use Rattle.seat_post.specs.Post.{PostView}
 use Rattle.txn_engine.specs.Snapshot.{Begins}
-use Rattle.txn_engine.proofs.Snapshots.{pass_looking}
+use Rattle.txn_engine.proofs.Snapshots.{pass_snapshot_begun}
 use Rattle.txn_engine.proofs.Passes.{pass_observing}
-use Rattle.txn_engine.proofs.at_pass.PassSeatCalls.look_from_now.Goals as goal
+use Rattle.txn_engine.proofs.at_pass.PassSeatCalls.begin_snapshot.Goals as goal
 
 pub invariant_of-self : goal.invariant_of-self
-invariant_of-self g c = let e = c.begin_snapshot.ensures in rw e.after (pass_observing _ _ _ _ _ _ _ (pass_looking c.self.inside.post _ _ _ _ _ _ c.self.invariant e.snapshots))
+invariant_of-self g c = let e = c.begin_snapshot.ensures in rw e.after (pass_observing _ _ _ _ _ _ _ (pass_snapshot_begun c.self.inside.post _ _ _ _ _ _ c.self.invariant e.snapshots))
 
 pub returns-clause-begins : goal.returns-clause-begins
 returns-clause-begins g c =

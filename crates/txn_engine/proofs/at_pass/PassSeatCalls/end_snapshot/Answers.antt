@@ -1,0 +1,10 @@
+use Rattle.std.proofs.Common.{sym, subst}
+use Rattle.txn_engine.specs.Pass.{PassView}
+use Rattle.txn_engine.specs.Snapshot.{HasSnapshot}
+use Rattle.txn_engine.proofs.Snapshots.{pass_ended}
+use Rattle.txn_engine.proofs.at_pass.PassSeatCalls.end_snapshot.Goals as goal
+
+pub invariant_of-self : goal.invariant_of-self
+invariant_of-self g c =
+    let snapshot = subst (λ (p : PassView). HasSnapshot p) (sym c.self.view_is) c.requires.snapshot in
+    pass_ended c.self.inside.post c.end_snapshot.new.self _ _ _ _ _ c.self.invariant snapshot c.end_snapshot.ensures.after

@@ -5,5 +5,6 @@ pub mod Parts
 pub mod Due
 pub mod Delivery
 pub mod Ending
+pub mod Told
 pub mod Reported
 pub mod Runs

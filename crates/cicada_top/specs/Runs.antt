@@ -11,9 +11,10 @@ use Rattle.cicada_top.specs.declared.finish.Finish.{Finish}
 use Rattle.cicada_top.specs.declared.finish.Status.{Status}
 use Rattle.cicada_top.specs.declared.finish.Status.TheVariants.{Done, Usage, ReadFault, WriteFault, NoMemory, Differs}
 use Rattle.cicada_top.specs.declared.mode.Mode.{Mode}
-use Rattle.cicada_top.specs.Words.{AreAccepted, AreRefused, mode_of}
+use Rattle.cicada_top.specs.declared.mode.Settings.{Settings}
+use Rattle.cicada_top.specs.Words.{AreAccepted, AreRefused, IsPlainly, mode_of, settings_of}
 use Rattle.cicada_top.specs.Ending.{RunsBlocks, ChecksReport, IsInputFor, IsLawfulEnd, IsHistoryOf}
-use Rattle.cicada_top.specs.Received.{HoldsFor, ReceivesFor, ReadsAtMostFor}
+use Rattle.cicada_top.specs.Received.{HoldsFor, ReceivesFor, ReadsAtMostFor, IsGenerated}
 use Rattle.cicada_top.specs.Due.{Causes, IsAnswer, IsJudged}
 use Rattle.cicada_top.specs.Delivery.{EndsAs}
 
@@ -73,6 +74,16 @@ pub record RunsBy (words : List (List ℕ)) (finish : Finish) (before after : St
   pub refused : AreRefused words → (finish.status ≡ Usage) ⊎ (finish.status ≡ NoMemory)
   pub usage_text : IsSome finish.usage ↔ (finish.status ≡ Usage)
   pub complete : AreAccepted words → IsDecided (mode_of words) finish.status before after
+
+-- THE CALL, over a source and a sink of whatever type.
+pub record Answers {S K : Type 0} (words : List (List ℕ)) (finish : Finish) (source source' : S) (sink sink' : K) (before after : Streams) : Type 0 where
+  -- what is answered, read and written: at `Done`, where the words ask for a run, it is the report theorem
+  pub runs : RunsBy words finish before after
+  -- where the words are refused nothing is touched, and where the input is generated the source is not
+  pub words_first : AreRefused words → (source' ≡ source) × (sink' ≡ sink)
+  pub unread : IsGenerated (mode_of words) → source' ≡ source
+  -- plain words are accepted, and ask for what they say
+  pub plain_words : (given : List (List ℕ)) (settings : Settings) → IsPlainly given settings → AreAccepted given × (settings_of given ≡ settings)
 
 -- What belongs together where blocks were run and all was written, also over a source that does not tell its bytes: the bytes that were
 -- received, the text that was written for them in this order, and of the input whose blocks were run its history, the tables that it

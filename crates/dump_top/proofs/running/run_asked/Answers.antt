@@ -22,7 +22,7 @@ returns-then-ne-clause-runs g c given asks =
     let finish = c.run_with-finish.result in
     let before = streams (g.S.Source.left c.args.source.now) (g.K.Sink.taken c.args.sink.now) (g.S.Source.faults c.args.source.now) (g.K.Sink.faults c.args.sink.now) in
     let mid = streams (g.S.Source.left c.run_with-finish.new.source) (g.K.Sink.taken c.run_with-finish.new.sink) (g.S.Source.faults c.run_with-finish.new.source) (g.K.Sink.faults c.run_with-finish.new.sink) in
-    let ran : RunsAs Run finish before mid = subst (λ (m : Mode). RunsAs m finish before mid) c.requires.runs c.run_with-finish.ensures.runs.asked in
+    let ran : RunsAs Run finish before mid = subst (λ (m : Mode). RunsAs m finish before mid) c.requires.runs c.run_with-finish.ensures.answers.runs.asked in
     let other : finish.status ≢ Done = search rules in
     record {
       ends = ends_as_run given c.args.dumps asks finish.order.items finish.fault finish.end before.left mid.left before.taken mid.taken finish.status other ran.ends;
@@ -36,7 +36,7 @@ returns-clause-runs g c given asks =
     let before = streams (g.S.Source.left c.args.source.now) (g.K.Sink.taken c.args.sink.now) (g.S.Source.faults c.args.source.now) (g.K.Sink.faults c.args.sink.now) in
     let mid = streams (g.S.Source.left c.run_with-finish.new.source) (g.K.Sink.taken c.run_with-finish.new.sink) (g.S.Source.faults c.run_with-finish.new.source) (g.K.Sink.faults c.run_with-finish.new.sink) in
     let after = streams (g.S.Source.left c.run_with-finish.new.source) (g.K.Sink.taken c.deliver_dumps.new.sink) (g.S.Source.faults c.run_with-finish.new.source) (g.K.Sink.faults c.deliver_dumps.new.sink) in
-    let ran : RunsAs Run finish before mid = subst (λ (m : Mode). RunsAs m finish before mid) c.requires.runs c.run_with-finish.ensures.runs.asked in
+    let ran : RunsAs Run finish before mid = subst (λ (m : Mode). RunsAs m finish before mid) c.requires.runs c.run_with-finish.ensures.answers.runs.asked in
     let done : finish.status ≡ Done = search rules in
     let are : c.run_with-finish.new.lanes.made.items ≡ made = sym c.dumps.ensures in
     let count : length (seen_in c.run_with-finish.new.lanes.made.items) ≡ c.in-Ok.dumping.dumps =
@@ -53,8 +53,8 @@ returns-clause-complete g c =
     let before = streams (g.S.Source.left c.args.source.now) (g.K.Sink.taken c.args.sink.now) (g.S.Source.faults c.args.source.now) (g.K.Sink.faults c.args.sink.now) in
     let mid = streams (g.S.Source.left c.run_with-finish.new.source) (g.K.Sink.taken c.run_with-finish.new.sink) (g.S.Source.faults c.run_with-finish.new.source) (g.K.Sink.faults c.run_with-finish.new.sink) in
     let after = streams (g.S.Source.left c.run_with-finish.new.source) (g.K.Sink.taken c.deliver_dumps.new.sink) (g.S.Source.faults c.run_with-finish.new.source) (g.K.Sink.faults c.deliver_dumps.new.sink) in
-    let ran : RunsAs Run finish before mid = subst (λ (m : Mode). RunsAs m finish before mid) c.requires.runs c.run_with-finish.ensures.runs.asked in
+    let ran : RunsAs Run finish before mid = subst (λ (m : Mode). RunsAs m finish before mid) c.requires.runs c.run_with-finish.ensures.answers.runs.asked in
     let decided : IsDecided Run finish.status before mid =
-    subst (λ (m : Mode). IsDecided m finish.status before mid) c.requires.runs (c.run_with-finish.ensures.runs.complete c.requires.accepted) in
+    subst (λ (m : Mode). IsDecided m finish.status before mid) c.requires.runs (c.run_with-finish.ensures.answers.runs.complete c.requires.accepted) in
     let out = c.deliver_dumps.ensures in
     still_decided finish c.deliver_dumps.result (readings_text finish.tables (seen_in c.dumps.result.now)) before mid after decided refl refl out.never_falls out.stays_ended ran.beside.never_falls out.failed out.delivers

@@ -44,8 +44,8 @@ pub trait Seat: SeatCalls {
         ensures in_range { OnOk result (next_clock (Self.pass self.old) reading ≤ greatest_clock) }
         ensures clock_out { IfErr result (λ fault. fault ≡ BeginFault.ClockOut → next_clock (Self.pass self.old) reading ≡ greatest_clock + 1) };
 
-    /// Begins a snapshot: raises `min_wts` to the least published write word of all open seats, and reads at one less than it. No
-    /// transaction that commits from then on is stamped up to that.
+    /// Begins a snapshot: raises `min_wts` to the least published write word of all seats, and reads at one less than it. No
+    /// transaction that commits from then on is stamped up to that. Where the seat is alone, that word is its own.
     fn snapshot<'a>(&'a mut self, engine: &'a Engine<Self::Kept>) -> SnapshotOver<'a, Self>
     where
         Self: Sized,

@@ -3,13 +3,13 @@ use Rattle.std.proofs.Common.{◌≡◌, ◌≢◌, ℕ, ◌<◌, ◌≤◌, Lis
 use mathlib.Core.Logic.{dite}
 use native.Mathlib.Decide.{ℕ_discrete}
 use Rattle.plain_data.specs.State.{State}
-use Rattle.word_layout.specs.Size.{Size, places, kept_place}
+use Rattle.word_layout.specs.Size.{Size, places, reserved_place}
 use Rattle.word_layout.specs.Name.{status}
 use Rattle.core_rule.specs.Memory.{Memory, stored}
 use Rattle.core_rule.specs.World.{World, Owner, free, linked}
-use Rattle.core_rule.specs.View.{View, Bound, nothing_kept}
+use Rattle.core_rule.specs.View.{View, Bound, nothing_reserved}
 use Rattle.core_rule.specs.Views.{At, Has, OthersTaken}
-use Rattle.core_rule.specs.Spares.{StandsKept, IsSpare, KnowsFree}
+use Rattle.core_rule.specs.Spares.{StandsReserved, IsSpare, KnowsFree}
 use Rattle.core_rule.specs.Rule.{Rule}
 use Rattle.core_rule.specs.Parts.Places.{Shows, IsLinkedAt}
 use Rattle.core_rule.specs.Parts.Counts.{IsBounded}
@@ -29,23 +29,23 @@ module _ (kept : State → Type 0) (z : Size) (g : World) (m : Memory) (vs : Lis
   alone : OthersTaken z.seats v.number v.splitting v.clock.taken_in
   alone = taken_as kept z g m vs rule id v at live knows.alone
 
-  -- nothing is linked in the kept place
-  kept_free : v.counts.in_kept ≡ nothing_kept → (r : ℕ) → g.owner (kept_place z) ≡ linked r → ⊥
-  kept_free is r linked_is =
+  -- nothing is linked in the reserved place
+  reserved_free : v.counts.in_reserved ≡ nothing_reserved → (r : ℕ) → g.owner (reserved_place z) ≡ linked r → ⊥
+  reserved_free is r linked_is =
       let h = rule.keeping.known r linked_is in
-      let mine = subst (λ (u : View). MayBe r ((stored m).stamps (kept_place z)) u.counts.in_kept) (sym (as_this kept z g m vs rule id v at live h.index h.view h.here h.is_open alone)) h.holds in
-      subst (MayBe r ((stored m).stamps (kept_place z))) is mine
+      let mine = subst (λ (u : View). MayBe r ((stored m).stamps (reserved_place z)) u.counts.in_reserved) (sym (as_this kept z g m vs rule id v at live h.index h.view h.here h.is_open alone)) h.holds in
+      subst (MayBe r ((stored m).stamps (reserved_place z))) is mine
 
   -- nor in the inline place of a record whose only version stands there
-  inline_free : p < z.records → StandsKept p v.counts → Has p (g.lists p) → ⊥
+  inline_free : p < z.records → StandsReserved p v.counts → Has p (g.lists p) → ⊥
   inline_free lt stands has =
-      let there = subst (IsThere (g.owner (kept_place z)) ((stored m).stamps (kept_place z))) stands.kept (rule.keeping.alone id v at live alone) in
+      let there = subst (IsThere (g.owner (reserved_place z)) ((stored m).stamps (reserved_place z))) stands.reserved (rule.keeping.alone id v at live alone) in
       let spare = rule.sized.has_spare in let only = stands.only in
       let long = (subst (λ (o : Option Bound). IsBounded z o (g.lists p)) stands.known ((rule.counts id v at live alone).bounded p lt)).0 in
-      let same : p ≡ kept_place z = one_of p (kept_place z) (g.lists p) (omega arith) has (rule.lists.listed (kept_place z) p (omega arith) there.0) in absurd (omega arith)
+      let same : p ≡ reserved_place z = one_of p (reserved_place z) (g.lists p) (omega arith) has (rule.lists.listed (reserved_place z) p (omega arith) there.0) in absurd (omega arith)
 
   linked_not : IsSpare z p v.counts → (r : ℕ) → r < z.records → Has p (g.lists r) → ⊥
-  linked_not (inl a) r lt has = kept_free a.1 r (subst (λ (x : ℕ). g.owner x ≡ linked r) a.0 ((rule.lists.each r lt).owned p has).1)
+  linked_not (inl a) r lt has = reserved_free a.1 r (subst (λ (x : ℕ). g.owner x ≡ linked r) a.0 ((rule.lists.each r lt).owned p has).1)
   linked_not (inr a) r lt has =
       let own = (rule.lists.each r lt).owned p has in
       let same : r ≡ p = (subst (IsLinkedAt z p) own.1 (rule.places.inline p own.0)).1 a.0 in inline_free a.0 a.1 (subst (λ (x : ℕ). Has p (g.lists x)) same has)

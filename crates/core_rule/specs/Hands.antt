@@ -5,7 +5,7 @@ use Rattle.word_layout.specs.Size.{Size, IsSize, IsUsable, places}
 use Rattle.core_rule.specs.Views.{AllOf}
 use Rattle.stamp_base.specs.Limits.{end_of_stamps, greatest_clock}
 use Rattle.core_rule.specs.View.{View, Clock, sharing, shared, resting, no_raises, no_places, no_work, nothing_known, forgotten, no_front, nothing_gone, nothing_seen}
-use Rattle.core_rule.specs.Searching.{kept_by_both}
+use Rattle.core_rule.specs.Searching.{reserved_by_both}
 use Rattle.core_rule.specs.Offers.{made_of, made_within, MayOffer, IsSettled}
 use Rattle.plain_data.specs.State.{State}
 use Rattle.core_rule.specs.Kinds.{Kind, take, after}
@@ -60,7 +60,7 @@ pub record Steps (kept : State → Type 0) (k : Kind) (before : Seated) (n : ℕ
 
 -- the view that splits, after another seat was made
 abbrev pub split_left : View → View
-split_left v = record v { splitting = sharing (made_of v.splitting + 1); flight = resting; work = no_work; counts = forgotten v.counts.in_kept; tops = []; front = no_front; seen = record v.seen { since = length v.seen.lost } }
+split_left v = record v { splitting = sharing (made_of v.splitting + 1); flight = resting; work = no_work; counts = forgotten v.counts.in_reserved; tops = []; front = no_front; seen = record v.seen { since = length v.seen.lost } }
 
 -- the view of the seat that was made
 abbrev pub split_right : View → View
@@ -95,7 +95,7 @@ joined_view v w = record v {
   clock = joined_clock v.clock w.clock w.number;
   flight = resting;
   work = no_work;
-  counts = forgotten (kept_by_both v.counts.in_kept w.counts.in_kept);
+  counts = forgotten (reserved_by_both v.counts.in_reserved w.counts.in_reserved);
   tops = [];
   front = no_front;
   log = v.log ++ w.log;

@@ -201,7 +201,7 @@ linked_after s j w n work = record work {
 
 -- the view after, but for what is the same for all kinds, from the number told
 abbrev pub next : Kind → View → ℕ → View
-next offer_write_word v n = record v { counts = forgotten v.counts.in_kept; tops = []; front = no_front }
+next offer_write_word v n = record v { counts = forgotten v.counts.in_reserved; tops = []; front = no_front }
 next (publish_stamp clock) v n = record v {
   clock = record v.clock {
     clock = clock;

@@ -3,7 +3,7 @@ use Rattle.std.specs.Prelude.{◌≡◌, ℕ, List, length}
 use Rattle.word_layout.specs.Name.{published_write, published_read, min_write, min_read, head, lock, floor, status}
 use Rattle.atomic_table.specs.Table.{State as Table}
 use Rattle.plain_data.specs.State.{State, empty_state}
-use Rattle.word_layout.specs.Size.{Size, IsSize, kept_place, words}
+use Rattle.word_layout.specs.Size.{Size, IsSize, reserved_place, words}
 use Rattle.core_rule.specs.View.{View}
 use Rattle.core_rule.specs.Memory.{Memory, memory, stored}
 use Rattle.core_rule.specs.World.{World}
@@ -97,7 +97,7 @@ pub record Rule (kept : State → Type 0) (z : Size) (g : World) (m : Memory) (v
   pub marked : Marked z g.owner vs
   pub met : Met z g.owner vs
   pub tops : Tops z (head_words m) vs
-  pub keeping : Keeping z (g.owner (kept_place z)) ((stored m).stamps (kept_place z)) vs
+  pub keeping : Keeping z (g.owner (reserved_place z)) ((stored m).stamps (reserved_place z)) vs
 
 -- the rule of a table of this size
 pub record Holds (kept : State → Type 0) (z : Size) {S : Type 0} (s : Table S View) : Type 0 where

@@ -1,11 +1,11 @@
 -- What a seat searches for, finds and links, from step to step.
 use Rattle.std.specs.Prelude.{◌≡◌, ◌≢◌, ◌⊎◌, ℕ, suc, ◌-◌, ◌<◌, ◌≤◌, Bool, false, ◌==◌, ◌&&◌, nat_le, nat_lt, if◌then◌else◌, List, [], ◌∷◌, ◌++◌, length, Option, Some, None}
-use Rattle.word_layout.specs.Size.{Size, kept_place}
+use Rattle.word_layout.specs.Size.{Size, reserved_place}
 use Rattle.word_layout.specs.Limits.{cells_of_value}
 use Rattle.core_rule.specs.Status.{status_word}
 use Rattle.core_rule.specs.declared.status.Status.TheVariants.{Committed, Deleted, Aborted}
 use Rattle.core_rule.specs.Views.{Among, Has}
-use Rattle.core_rule.specs.View.{Flight, resting, writing, Fill, Write, Read, Joint, Aim, reads, links, again, checks, Stand, Look, blank, stamped, shown, Search, still, marks, stands, no_item, Work, Bound, Count, Kept, nothing_kept, version_kept, maybe_kept, Counted, Top, Front, no_front, at_front}
+use Rattle.core_rule.specs.View.{Flight, resting, writing, Fill, Write, Read, Joint, Aim, reads, links, again, checks, Stand, Look, blank, stamped, shown, Search, still, marks, stands, no_item, Work, Bound, Count, Reserved, nothing_reserved, version_reserved, maybe_reserved, Counted, Top, Front, no_front, at_front}
 
 -- versions from this stamp on are too late for a transaction at its stamp, and for a snapshot at the read stamp
 abbrev pub limit_of : Flight → ℕ → ℕ
@@ -208,7 +208,7 @@ abbrev pub counted_more : Size → (r t p : ℕ) → Counted → Counted
 counted_more z r t p c = record {
   rest = c.rest;
   listed = record { record_number = r; bound = one_more z p (known_of c r) } ∷ c.listed;
-  in_kept = (if p == kept_place z then version_kept r t else c.in_kept);
+  in_reserved = (if p == reserved_place z then version_reserved r t else c.in_reserved);
 }
 
 -- what is known after the version in place p was found to be the only one of record r
@@ -226,20 +226,20 @@ abbrev pub is_newest : ℕ → Option ℕ → Bool
 is_newest c None = false
 is_newest c (Some t) = nat_le t c
 
--- what the seat has in the kept place, after the versions of record r below the stamp c were cut off
-abbrev pub kept_from : (r c : ℕ) → Kept → Kept
-kept_from r c (version_kept q t) = if (q == r) && nat_lt t c then nothing_kept else version_kept q t
-kept_from r c k = k
+-- what the seat has in the reserved place, after the versions of record r below the stamp c were cut off
+abbrev pub reserved_from : (r c : ℕ) → Reserved → Reserved
+reserved_from r c (version_reserved q t) = if (q == r) && nat_lt t c then nothing_reserved else version_reserved q t
+reserved_from r c k = k
 
 -- what is known after what is older than the version of record r in place p, at the stamp c, was cut off
 abbrev pub counted_cut : Size → (r c p : ℕ) → List Top → Counted → Counted
 counted_cut z r c p tops known =
-    record (if is_newest c (newest_stamp tops r) then counted_one z r p known else known) { in_kept = kept_from r c known.in_kept }
+    record (if is_newest c (newest_stamp tops r) then counted_one z r p known else known) { in_reserved = reserved_from r c known.in_reserved }
 
--- what two seats together have in the kept place
-abbrev pub kept_by_both : Kept → Kept → Kept
-kept_by_both nothing_kept nothing_kept = nothing_kept
-kept_by_both a b = maybe_kept
+-- what two seats together have in the reserved place
+abbrev pub reserved_by_both : Reserved → Reserved → Reserved
+reserved_by_both nothing_reserved nothing_reserved = nothing_reserved
+reserved_by_both a b = maybe_reserved
 
 -- where the look at a first version stands
 abbrev pub front_record : Front → ℕ

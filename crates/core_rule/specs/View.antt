@@ -158,21 +158,21 @@ pub record Bound : Type 0 where
   pub linked : ℕ
   pub outside : ℕ
 
--- what is known of one record's list, of all that are not listed, and of the kept place
+-- what is known of one record's list, of all that are not listed, and of the reserved place
 pub record Count : Type 0 where
   pub record_number : ℕ
   pub bound : Option Bound
 
--- what the seat has linked in the kept place and not cut off since: nothing, the version of a record at a stamp, or perhaps one
-pub data Kept : Type 0 where
-  nothing_kept : Kept
-  version_kept : (record_number stamp : ℕ) → Kept
-  maybe_kept : Kept
+-- what the seat has linked in the reserved place and not cut off since: nothing, the version of a record at a stamp, or perhaps one
+pub data Reserved : Type 0 where
+  nothing_reserved : Reserved
+  version_reserved : (record_number stamp : ℕ) → Reserved
+  maybe_reserved : Reserved
 
 pub record Counted : Type 0 where
   pub rest : Option Bound
   pub listed : List Count
-  pub in_kept : Kept
+  pub in_reserved : Reserved
 
 -- a number that no write stamp in a record's list is above
 pub record Top : Type 0 where
@@ -227,7 +227,7 @@ pub record View : Type 0 where
   -- the `min_wts` that was loaded for the own published read word, and is not yet published
   pub loaded_bound : Option ℕ
   pub places : Places
-  -- what it knows of each record's list, while no other seat is open, and of the kept place
+  -- what it knows of each record's list, while no other seat is open, and of the reserved place
   pub counts : Counted
   pub tops : List Top
   pub front : Front
@@ -248,14 +248,14 @@ abbrev pub no_work : Work
 no_work = record { search = still; reads = []; raised = []; finished = []; linked = []; passed = []; settled = []; decided = false; item = no_item }
 
 abbrev pub nothing_known : Counted
-nothing_known = record { rest = None; listed = []; in_kept = nothing_kept }
+nothing_known = record { rest = None; listed = []; in_reserved = nothing_reserved }
 
--- what is left of it where seats are made or taken in: of the kept place alone
-abbrev pub forgotten : Kept → Counted
-forgotten k = record nothing_known { in_kept = k }
+-- what is left of it where seats are made or taken in: of the reserved place alone
+abbrev pub forgotten : Reserved → Counted
+forgotten k = record nothing_known { in_reserved = k }
 
 abbrev pub one_each : Counted
-one_each = record { rest = Some record { linked = 1; outside = 0 }; listed = []; in_kept = nothing_kept }
+one_each = record { rest = Some record { linked = 1; outside = 0 }; listed = []; in_reserved = nothing_reserved }
 
 abbrev pub nothing_gone : Gone
 nothing_gone = record { cuts = []; freed = []; left = 0 }

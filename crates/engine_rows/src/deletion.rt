@@ -84,7 +84,7 @@ fn a_deletion_is_linked_checked_and_published(rt: HostRuntime) -> Result<(), Fai
     let stamp = publish(&core, &mut hand);
     same(&rt, stamp.number(), 5120, 0);
     if !link_deletion(&core, &mut hand, stamp) {
-        return Err("the kept place is free".into());
+        return Err("the reserved place is free".into());
     }
     let write = WrittenVersion::new(0, 1, stamp.number(), None);
     let Some(read) = decide_deletion(&core, &mut hand, &write, stamp) else {

@@ -12,7 +12,7 @@ use stamp_base::Stamp;
 use std::alloc::{AllocError, Global};
 use std::test::*;
 use std::thread::{Threads, join};
-use version_pool::{Kind, PlacesOut, fill, give, take, take_inline, take_kept};
+use version_pool::{Kind, PlacesOut, fill, give, take, take_inline, take_reserved};
 
 // Takes a place for a record.
 fn take_one(
@@ -43,14 +43,14 @@ fn take_beside(
     take(core, hand, 0)
 }
 
-// Takes the kept place beside one that is held already.
-fn take_kept_beside(core: &Core<AnyState>, hand: &mut Hand<AnyState>, held: u32) -> Option<u32>
+// Takes the reserved place beside one that is held already.
+fn take_reserved_beside(core: &Core<AnyState>, hand: &mut Hand<AnyState>, held: u32) -> Option<u32>
     requires ready { IsReady core.now hand.old }
     requires held { Has held hand.old.view.places.held }
     ensures ready { IsReady core.now hand.new }
     ensures held { Has held hand.new.view.places.held }
 {
-    take_kept(core, hand)
+    take_reserved(core, hand)
 }
 
 // Whether the inline place of record 0 is free, which is then taken.
@@ -94,8 +94,8 @@ fn each_usable_place_is_tried_and_the_turn_goes_round(rt: HostRuntime) -> Result
     let (place, kind) = take_one(&core, &mut hand, 1)?;
     let third = take_beside(&core, &mut hand, place);
     let kept = [
-        take_kept_beside(&core, &mut hand, place),
-        take_kept_beside(&core, &mut hand, place),
+        take_reserved_beside(&core, &mut hand, place),
+        take_reserved_beside(&core, &mut hand, place),
     ];
     give_back(&core, &mut hand, place);
     let again = take_one(&core, &mut hand, 0);
@@ -125,7 +125,7 @@ fn without_usable_places_the_kept_one_is_left(rt: HostRuntime) -> Result<(), Fai
     // The inline place is linked from the start.
     hold(&rt, !inline_is_free(&core, &mut hand), 0);
     same(&rt, take_one(&core, &mut hand, 0), Err(PlacesOut), 1);
-    same(&rt, take_kept(&core, &mut hand), Some(1), 2);
+    same(&rt, take_reserved(&core, &mut hand), Some(1), 2);
     Ok(())
 }
 

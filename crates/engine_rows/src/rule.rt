@@ -293,7 +293,7 @@ fn two_hands_step_in_two_threads(rt: HostRuntime) -> Result<(), Fail> {
 #[test]
 fn the_greatest_run_starts(rt: HostRuntime) -> Result<(), Fail> {
     let (core, mut hand) = first_seat(rt.alloc(), 64, 135_168, 143_361)?;
-    // The last inline place is linked, and the kept place is free.
+    // The last inline place is linked, and the reserved place is free.
     hold(&rt, !take_at(&core, &mut hand, 135_167), 0);
     hold(&rt, take_at(&core, &mut hand, 278_528), 1);
     Ok(())

@@ -19,7 +19,7 @@ use std::sync::{Condvar, Mutex, Wait};
 use std::test::*;
 use std::thread::{Threads, join};
 use validate_core::{Conflict, Sets, install};
-use version_pool::{PlacesOut, take, take_kept};
+use version_pool::{PlacesOut, take, take_reserved};
 use version_search::{Found, find};
 
 /// Draws the stamp of a transaction, whose sets are empty.
@@ -404,6 +404,6 @@ fn without_a_place_for_a_write_nothing_stays_installed(rt: HostRuntime) -> Resul
     same(&rt, number, 256, 0);
     same(&rt, fault, PlacesOut, 1);
     same(&rt, take(&core, &mut hand, 0), Err(PlacesOut), 2);
-    same(&rt, take_kept(&core, &mut hand), Some(3), 3);
+    same(&rt, take_reserved(&core, &mut hand), Some(3), 3);
     Ok(())
 }

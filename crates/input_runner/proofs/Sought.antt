@@ -22,7 +22,6 @@ use Rattle.seat_post.specs.Observing.{Grows}
 use Rattle.stored_tables.specs.Kept.{KeepsTables}
 use Rattle.stored_tables.specs.Places.{Places}
 use Rattle.stored_tables.specs.Tables.{StandsFor, EachTables}
-use Rattle.txn_engine.specs.Alone.{AloneView, with_pass}
 use Rattle.txn_engine.specs.Pass.{PassView, IsAlone, IsIdle, next_clock, ticked, engine_of, desk_of, observing, with_met}
 use Rattle.txn_engine.specs.Snapshot.{Begins, finished, snapshot_store, snapshot_begun, meaning_of_snapshot, unread}
 use Rattle.input_runner.specs.Reading.{AddsSnapshot, clock_read}
@@ -44,11 +43,11 @@ pub record IsTold (f r : PassView) : Type 0 where
   pub grows : Grows f.observed r.observed
   pub not_back : f.met ≤ r.met
 
-pub told_of : (f b r : AloneView) → r ≡ with_pass b (observing (with_met b.pass r.pass.met) r.pass.observed) → Grows b.pass.observed r.pass.observed → b.pass.met ≤ r.pass.met → b ≡ f → IsTold f.pass r.pass
+pub told_of : (f b r : PassView) → r ≡ observing (with_met b r.met) r.observed → Grows b.observed r.observed → b.met ≤ r.met → b ≡ f → IsTold f r
 told_of f b r value grows not_back same = record {
-  after = ap (λ (a : AloneView). a.pass) value ∙ ap (λ (a : AloneView). observing (with_met a.pass r.pass.met) r.pass.observed) same;
-  grows = subst (λ (a : AloneView). Grows a.pass.observed r.pass.observed) same grows;
-  not_back = subst (λ (a : AloneView). a.pass.met ≤ r.pass.met) same not_back;
+  after = value ∙ ap (λ (x : PassView). observing (with_met x r.met) r.observed) same;
+  grows = subst (λ (x : PassView). Grows x.observed r.observed) same grows;
+  not_back = subst (λ (x : PassView). x.met ≤ r.met) same not_back;
 }
 
 pub clock_later : (p : PassView) (reading : ℕ) → p.clock < next_clock p reading

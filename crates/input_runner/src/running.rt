@@ -23,7 +23,7 @@ use std::alloc::Global;
 use std::sync::Wait;
 use std::thread::Threads;
 use stored_tables::{RowsLawful, one_tables};
-use txn_engine::{Alone, Engine, StartFault};
+use txn_engine::{Alone, Engine, Seat, StartFault};
 
 /// What the run of an input came to.
 #[derive(Drop)]

@@ -125,7 +125,7 @@ module _ (p q : PassView) (answer : Result Settled ClockOut) (s : SettlesPass (S
   are : AreAgain p.shared.size.records p.log q.log
   are = again p.shared.size.records p.log q.log s.log
 
-  whole_settled : q ≡ record p { post = record p.post { clock = q.clock; published = q.published; met = q.met; known = q.known; log = q.log; observed = q.observed; gone = q.gone; placed = []; snapshot = first_snapshot (q.met - 1) } }
+  whole_settled : q ≡ record p { post = record p.post { clock = q.clock; published = q.published; met = q.met; bounds = q.bounds; log = q.log; observed = q.observed; gone = q.gone; placed = []; snapshot = first_snapshot (q.met - 1) } }
   whole_settled = s.beside ∙ ap (λ (x : PostView). record p { post = x }) s.only
 
   pub engine_settled : engine_of q ≡ engine_of p

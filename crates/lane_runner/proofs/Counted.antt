@@ -1,7 +1,7 @@
 -- How often a try counts among the refusals: once at most.
 use Rattle.std.proofs.Common.{◌≡◌, ℕ, ◌+◌, ◌≤◌, Bool, true, false, ap, ◌∙◌, lit≤, arith}
-use Rattle.seat_post.specs.Seats.{Known}
-use Rattle.txn_engine.specs.Pass.{PassView, frame, begun, committed, knowing, one_if, observing, placing}
+use Rattle.seat_post.specs.Seats.{Bounds}
+use Rattle.txn_engine.specs.Pass.{PassView, frame, begun, committed, with_bounds, one_if, observing, placing}
 use Rattle.lane_runner.specs.Blocks.{IsRefused, CountsOnce}
 
 one_at_most : (counted : Bool) → one_if counted ≤ 1
@@ -9,7 +9,7 @@ one_at_most true = lit≤ tt
 one_at_most false = lit≤ tt
 
 -- a transaction that was begun at p and has committed
-pub counted_once : (p q r r' : PassView) (clock : ℕ) (known : Known) → frame q ≡ frame (begun p clock) → r ≡ observing (placing (committed (knowing q known)) r.placed) r.observed → r' ≡ r → CountsOnce p r'
+pub counted_once : (p q r r' : PassView) (clock : ℕ) (known : Bounds) → frame q ≡ frame (begun p clock) → r ≡ observing (placing (committed (with_bounds q known)) r.placed) r.observed → r' ≡ r → CountsOnce p r'
 counted_once p q r r' clock known kept ends same = record {
   once =
       let is : r'.refusals ≡ q.refusals + one_if q.counted = ap (λ (x : PassView). x.refusals) same ∙ ap (λ (x : PassView). x.refusals) ends in

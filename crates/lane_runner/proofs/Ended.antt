@@ -12,7 +12,7 @@ use Rattle.txn_engine.specs.declared.faults.CommitFault.{CommitFault}
 use Rattle.txn_engine.specs.declared.transacting.Committed.{Committed}
 use Rattle.txn_engine.specs.Commits as calls
 use Rattle.txn_engine.specs.Lists.{IsFull}
-use Rattle.txn_engine.specs.Pass.{PassView, frame, IsAlone, begun, refused, knowing, entry_of, engine_of, desk_of, observing, placing}
+use Rattle.txn_engine.specs.Pass.{PassView, frame, IsAlone, begun, refused, with_bounds, entry_of, engine_of, desk_of, observing, placing}
 use Rattle.lane_runner.specs.declared.done.BlockDone.{BlockDone}
 use Rattle.lane_runner.specs.Rows.{stands}
 use Rattle.lane_runner.specs.Blocks.{IsRefused, IsTried}
@@ -29,7 +29,7 @@ use Rattle.lane_runner.proofs.Ran.{Opened}
 
 -- it was begun at `p`, has run to `q`, and ended at `r`, which the pass is then
 module _ (p q r r' : PassView) (same : r' ≡ r) (clock : ℕ) (later : p.clock < clock) (above : IsAbove p.log q.stamp) (kept : frame q ≡ frame (begun p clock)) where
-  refused_at : r ≡ observing (placing (refused (knowing q r.known)) r.placed) r.observed → IsRefused 1 p r
+  refused_at : r ≡ observing (placing (refused (with_bounds q r.bounds)) r.placed) r.observed → IsRefused 1 p r
   refused_at ends =
       let same_clock : r.clock ≡ clock = ap (λ (x : PassView). x.clock) ends ∙ ap (λ (f : PassView). f.clock) kept in
       let same_met : r.met ≡ p.met = ap (λ (x : PassView). x.met) ends ∙ ap (λ (f : PassView). f.met) kept in
@@ -52,10 +52,10 @@ module _ (p q r r' : PassView) (same : r' ≡ r) (clock : ℕ) (later : p.clock 
     by_told (Err fault) commits = refused_at commits.err
     by_told (Ok told) commits = record {
       ran = record {
-        commits = commits_at p q r r clock r.known block.commands outcome _ later above kept commits.ok refl fits more few run (sym commits.stamp) refl weighs;
+        commits = commits_at p q r r clock r.bounds block.commands outcome _ later above kept commits.ok refl fits more few run (sym commits.stamp) refl weighs;
         place = record { snap = sym kind; lane = refl; number = refl };
       };
-      once = counted_once p q r r clock r.known kept commits.ok refl;
+      once = counted_once p q r r clock r.bounds kept commits.ok refl;
       first = subst (λ (n : ℕ). IfSome (first_record q.reads) (λ rid. rid < n)) (ap (λ (f : PassView). f.shared.size.records) kept)
           (first_below _ q.shared.size.records q.log (entry_of q) (first_record q.reads) commits.stood refl);
     }
@@ -82,4 +82,4 @@ module _ (p q r r' : PassView) (same : r' ≡ r) (clock : ℕ) (later : p.clock 
     by_told (Err fault) commits = tt
     by_told (Ok told) commits = λ ready.
         let o = opened ready in
-        ready_committed p b q r r r.known o ready.alone commits.ok (commits.absent o.absent) (commits.roomy (roomy_once q o.roomy)) refl
+        ready_committed p b q r r r.bounds o ready.alone commits.ok (commits.absent o.absent) (commits.roomy (roomy_once q o.roomy)) refl

@@ -17,14 +17,14 @@ use Rattle.validate_core.specs.declared.conflict.Conflict.{Conflict}
 use Rattle.validate_core.specs.declared.conflict.Conflict.TheVariants.{Pending, ReadLater, Overtaken}
 use Rattle.seat_post.specs.Snapshot.{entry_of_snapshot}
 use Rattle.seat_post.specs.Logs.{IsAbove}
-use Rattle.seat_post.specs.Seats.{Known, IsAloneAt}
+use Rattle.seat_post.specs.Seats.{Bounds, IsAloneAt}
 use Rattle.txn_engine.specs.declared.faults.CommitFault.{CommitFault}
 use Rattle.txn_engine.specs.declared.faults.CommitFault.TheVariants as commit
 use Rattle.txn_engine.specs.Collecting.{collected}
 use Rattle.txn_engine.specs.Faults.{IsShown, IsPending, MatchStopped}
 use Rattle.txn_engine.specs.Leaves.{HoldsAbsent}
 use Rattle.txn_engine.specs.Lists.{IsRoomy, IsRoomyOnceCollected}
-use Rattle.txn_engine.specs.Pass.{EngineView, PassView, frame, IsIdle, IsAlone, begun, committed, knowing, entry_of, engine_of, desk_of, observing, removing, placing, with_met}
+use Rattle.txn_engine.specs.Pass.{EngineView, PassView, frame, IsIdle, IsAlone, begun, committed, with_bounds, entry_of, engine_of, desk_of, observing, removing, placing, with_met}
 use Rattle.lane_runner.specs.Rows.{stands}
 use Rattle.lane_runner.specs.Adds.{IsNext}
 use Rattle.lane_runner.specs.Blocks.{IsPlaceOf, Commits, IsRefused, AddsOthers}
@@ -162,7 +162,7 @@ pub alone_still : (q r : PassView) → frame r ≡ frame q → IsAlone q → IsA
 alone_still q r same alone = subst (λ (f : PassView). IsAloneAt f.shared.size f.seat f.others) (sym same) alone
 
 -- it has committed
-pub ready_committed : (p b q r r' : PassView) (known : Known) → Opened p b q → IsAlone p → r ≡ observing (placing (committed (knowing q known)) r.placed) r.observed → HoldsAbsent r → IsRoomyOnceCollected r → r' ≡ r → IsReadyOnceCollected r'
+pub ready_committed : (p b q r r' : PassView) (known : Bounds) → Opened p b q → IsAlone p → r ≡ observing (placing (committed (with_bounds q known)) r.placed) r.observed → HoldsAbsent r → IsRoomyOnceCollected r → r' ≡ r → IsReadyOnceCollected r'
 ready_committed p b q r r' known o alone ends absent roomy same = subst (λ (x : PassView). IsReadyOnceCollected x) (sym same) (record {
   alone = alone_stays p r (entry_of q ∷ []) (adds_entered p b q r known o ends) alone;
   absent = absent;
@@ -170,7 +170,7 @@ ready_committed p b q r r' known o alone ends absent roomy same = subst (λ (x :
 })
 
 -- it has told that its log is lawful, and has collected
-pub none_collected : (p q r : PassView) (met met' : ℕ) (known : Known) → q ≡ observing (with_met p met) q.observed → r ≡ removing (observing (collected q met' known r.queue) r.observed) r.gone → IsIdle p → p.met ≤ met → met ≤ met' → IsRefused 0 p r
+pub none_collected : (p q r : PassView) (met met' : ℕ) (known : Bounds) → q ≡ observing (with_met p met) q.observed → r ≡ removing (observing (collected q met' known r.queue) r.observed) r.gone → IsIdle p → p.met ≤ met → met ≤ met' → IsRefused 0 p r
 none_collected p q r met met' known told after idle more most =
     let is : r ≡ removing (observing (collected (with_met p met) met' known r.queue) r.observed) r.gone = after ∙ ap (λ (x : PassView). removing (observing (collected x met' known r.queue) r.observed) r.gone) told in
     let same_clock : r.clock ≡ p.clock = ap (λ (x : PassView). x.clock) is in

@@ -18,8 +18,8 @@ use Rattle.seat_post.specs.Lists.{IsRoomyAt}
 use Rattle.txn_engine.specs.Lists.{IsRoomy, IsRoomyOnceCollected, IsFull}
 use Rattle.txn_engine.specs.Pass.{EngineView, PassView, frame, IsIdle, IsAlone, begun, meaning_of_pass, engine_of, desk_of, observing, removing, with_met}
 use Rattle.seat_post.specs.Logs.{IsAbove}
-use Rattle.seat_post.specs.Seats.{Known}
-use Rattle.seat_post.specs.Spare.{is_on}
+use Rattle.seat_post.specs.Seats.{Bounds}
+use Rattle.spare_numbers.specs.Spare.{is_on}
 use Rattle.txn_engine.proofs.Accounting.{absent_stays}
 use Rattle.lane_runner.specs.Rows.{stands}
 use Rattle.lane_runner.specs.Adds.{Adds}
@@ -30,11 +30,11 @@ use Rattle.lane_runner.proofs.Begun.{undone_reads}
 use Rattle.lane_runner.proofs.Within.{left_agrees}
 
 -- the seat that is alone keeps nothing in its queue
-pub collected_alone : (p q : PassView) → q ≡ removing (observing (collected p q.met q.known q.queue) q.observed) q.gone → q.queue ≡ [] → q ≡ removing (observing (collected p q.met q.known []) q.observed) q.gone
-collected_alone p q after none = after ∙ ap (λ queue. removing (observing (collected p q.met q.known queue) q.observed) q.gone) none
+pub collected_alone : (p q : PassView) → q ≡ removing (observing (collected p q.met q.bounds q.queue) q.observed) q.gone → q.queue ≡ [] → q ≡ removing (observing (collected p q.met q.bounds []) q.observed) q.gone
+collected_alone p q after none = after ∙ ap (λ queue. removing (observing (collected p q.met q.bounds queue) q.observed) q.gone) none
 
 -- it has told that its log is lawful, and has collected
-module _ (r w : PassView) (met met' : ℕ) (known : Known) (is : w ≡ removing (observing (collected (with_met r met) met' known []) w.observed) w.gone) (idle : IsIdle r) where
+module _ (r w : PassView) (met met' : ℕ) (known : Bounds) (is : w ≡ removing (observing (collected (with_met r met) met' known []) w.observed) w.gone) (idle : IsIdle r) where
   pub Holds-collected : Lawful (StandsForSome stands) r.shared.size.records r.log → IsAbove r.log w.published → HoldsAbsent r → IsRoomy w → Holds w
   Holds-collected lawful above absent roomy = record {
     idle = ap desk_of is ∙ idle;
@@ -65,15 +65,15 @@ Commits-then commands placed outcome p r w first second = record {
 
 -- one version at most lies outside each inline place, also of what a transaction has begun to read and write
 pub roomy_open : (p q : PassView) (clock : ℕ) → frame q ≡ frame (begun p clock) → IsRoomy p → IsRoomy q
-roomy_open p q clock kept roomy = subst (λ (f : PassView). IsRoomyAt f.shared.size f.known) (sym kept) roomy
+roomy_open p q clock kept roomy = subst (λ (f : PassView). IsRoomyAt f.shared.size f.bounds) (sym kept) roomy
 
 pub roomy_once : (q : PassView) → IsRoomy q → IsRoomyOnceCollected q
 roomy_once q roomy r below = inl (roomy r below)
 
-pub roomy_same : (p q : PassView) → engine_of q ≡ engine_of p → q.known ≡ p.known → IsRoomy p → IsRoomy q
+pub roomy_same : (p q : PassView) → engine_of q ≡ engine_of p → q.bounds ≡ p.bounds → IsRoomy p → IsRoomy q
 roomy_same p q engine known roomy =
-    let at_known : IsRoomyAt p.shared.size q.known = subst (λ (k : Known). IsRoomyAt p.shared.size k) (sym known) roomy in
-    subst (λ (e : EngineView). IsRoomyAt e.size q.known) (sym engine) at_known
+    let at_known : IsRoomyAt p.shared.size q.bounds = subst (λ (k : Bounds). IsRoomyAt p.shared.size k) (sym known) roomy in
+    subst (λ (e : EngineView). IsRoomyAt e.size q.bounds) (sym engine) at_known
 
 pub absent_same : (p q : PassView) → engine_of q ≡ engine_of p → q.given ≡ p.given → q.spare ≡ p.spare → q.log ≡ p.log → HoldsAbsent p → HoldsAbsent q
 absent_same p q engine given spare log absent r from within =

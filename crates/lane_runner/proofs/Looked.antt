@@ -146,7 +146,7 @@ module _ (p t s0 s1 f : PassView) (clock : ℕ) (begins : Begins t s0) (g : Snap
       (absent_snapshot p (entry_of_snapshot g) refl absent)
 
   pub roomy_looked : IsRoomy p → IsRoomy f
-  roomy_looked roomy = roomy_same p f same_engine (ap (λ (x : PassView). x.known) ends ∙ ap (λ (x : PassView). x.known) whole) roomy
+  roomy_looked roomy = roomy_same p f same_engine (ap (λ (x : PassView). x.bounds) ends ∙ ap (λ (x : PassView). x.bounds) whole) roomy
 
   pub log_looked : f.log ≡ p.log ++ entry_of_snapshot g ∷ []
   log_looked = grown

@@ -14,7 +14,7 @@ use Rattle.seat_post.specs.Logs.{IsAbove}
 use Rattle.seat_post.specs.Post.{PostView, observing}
 use Rattle.seat_post.specs.Promoting.{rewritten_at, PromotesPost, FailsPost}
 use Rattle.seat_post.specs.Rewriting.{rewriting}
-use Rattle.seat_post.specs.Seats.{Known, Observed, Placed}
+use Rattle.seat_post.specs.Seats.{Bounds, Observed, Placed}
 use Rattle.seat_post.specs.declared.promoting.Promotion.{Promotion}
 use Rattle.seat_post.specs.declared.promoting.Promotion.TheVariants.{Promoted, Inline, Absent, Occupied}
 use Rattle.seat_post.specs.declared.promoting.PromoteFault.{PromoteFault}
@@ -65,11 +65,11 @@ pub record Leaves (p q : PassView) (clock : ℕ) : Type 0 where
   pub at_most : q.clock ≤ clock
 
 -- no entry was added
-leaves_none : (p q : PassView) (clock now published boost : ℕ) (known : Known) (snapshot : Option SnapshotView) (observed : Observed) (placed : List Placed) → IsIdle p → p.clock ≤ now → now ≤ clock → q ≡ record p { post = record p.post { clock = now; published = published; known = known; snapshot = snapshot; observed = observed; placed = placed }; boost = boost } → Leaves p q clock
+leaves_none : (p q : PassView) (clock now published boost : ℕ) (known : Bounds) (snapshot : Option SnapshotView) (observed : Observed) (placed : List Placed) → IsIdle p → p.clock ≤ now → now ≤ clock → q ≡ record p { post = record p.post { clock = now; published = published; bounds = known; snapshot = snapshot; observed = observed; placed = placed }; boost = boost } → Leaves p q clock
 leaves_none p q clock now published boost known snapshot observed placed idle later low is = rw is (record {
   others = record {
     entries = [];
-    adds = Adds-no_entry p (record p { post = record p.post { clock = now; published = published; known = known; snapshot = snapshot; observed = observed; placed = placed }; boost = boost }) refl refl refl idle refl later (omega arith) (omega arith);
+    adds = Adds-no_entry p (record p { post = record p.post { clock = now; published = published; bounds = known; snapshot = snapshot; observed = observed; placed = placed }; boost = boost }) refl refl refl idle refl later (omega arith) (omega arith);
     keep = λ entry among. absurd among;
   };
   refusals = refl;
@@ -104,11 +104,11 @@ over p q post boost beside is = beside ∙ ap (λ (x : PostView). record p { pos
 
 leaves_told : (kept : State → Type 0) (p q : PassView) (rid clock : ℕ) (told : Result Promotion PromoteFault) → IsIdle p → p.clock < clock → IfOk told (PromotesPost kept rid clock p.post q.post) → IfErr told (FailsPost rid clock p.post q.post) → OnOk told (IsAbove p.log (stamp_of clock p.seat)) → q ≡ record p { post = q.post; boost = boost_after told p.boost } → Leaves p q clock
 leaves_told kept p q rid clock (Ok (Promoted stamp)) idle later ok err above beside = leaves_one p q rid clock ok.words q.observed idle later above (over p q _ 0 beside ok.after)
-leaves_told kept p q rid clock (Ok Inline) idle later ok err above beside = leaves_none p q clock clock (stamp_of clock p.seat) p.boost p.known None q.observed [] idle (omega arith) (omega arith) (over p q _ p.boost beside ok)
-leaves_told kept p q rid clock (Ok Absent) idle later ok err above beside = leaves_none p q clock clock (stamp_of clock p.seat) p.boost p.known None q.observed [] idle (omega arith) (omega arith) (over p q _ p.boost beside ok)
-leaves_told kept p q rid clock (Ok Occupied) idle later ok err above beside = leaves_none p q clock clock (stamp_of clock p.seat) p.boost p.known None q.observed [] idle (omega arith) (omega arith) (over p q _ p.boost beside ok)
-leaves_told kept p q rid clock (Err fault.ClockOut) idle later ok err above beside = leaves_none p q clock p.clock p.published p.boost p.known p.snapshot p.observed p.placed idle (omega arith) (omega arith) (over p q p.post p.boost beside err)
-leaves_told kept p q rid clock (Err (fault.Conflict conflict)) idle later ok err above beside = leaves_none p q clock clock (stamp_of clock p.seat) 1024 q.known None q.observed q.placed idle (omega arith) (omega arith) (over p q _ 1024 beside err.after)
+leaves_told kept p q rid clock (Ok Inline) idle later ok err above beside = leaves_none p q clock clock (stamp_of clock p.seat) p.boost p.bounds None q.observed [] idle (omega arith) (omega arith) (over p q _ p.boost beside ok)
+leaves_told kept p q rid clock (Ok Absent) idle later ok err above beside = leaves_none p q clock clock (stamp_of clock p.seat) p.boost p.bounds None q.observed [] idle (omega arith) (omega arith) (over p q _ p.boost beside ok)
+leaves_told kept p q rid clock (Ok Occupied) idle later ok err above beside = leaves_none p q clock clock (stamp_of clock p.seat) p.boost p.bounds None q.observed [] idle (omega arith) (omega arith) (over p q _ p.boost beside ok)
+leaves_told kept p q rid clock (Err fault.ClockOut) idle later ok err above beside = leaves_none p q clock p.clock p.published p.boost p.bounds p.snapshot p.observed p.placed idle (omega arith) (omega arith) (over p q p.post p.boost beside err)
+leaves_told kept p q rid clock (Err (fault.Conflict conflict)) idle later ok err above beside = leaves_none p q clock clock (stamp_of clock p.seat) 1024 q.bounds None q.observed q.placed idle (omega arith) (omega arith) (over p q _ 1024 beside err.after)
 
 pub leaves_promoted : (kept : State → Type 0) (p q : PassView) (rid clock : ℕ) (told : Result Promotion PromoteFault) → IsIdle p → p.clock < clock → Promotes kept rid clock p q told → Leaves p q clock
 leaves_promoted kept p q rid clock told idle later is = leaves_told kept p q rid clock told idle later is.ok is.err is.above is.beside

@@ -23,10 +23,10 @@ use Rattle.replay_model.specs.TableMap.{TableMap}
 use Rattle.seat_post.specs.Leaves.{AreLeft}
 use Rattle.txn_engine.specs.Leaves.{HoldsAbsent, NoneLeft}
 use Rattle.txn_engine.specs.Lists.{IsRoomy}
-use Rattle.txn_engine.specs.Pass.{EngineView, PassView, frame, IsIdle, IsAlone, begun, committed, knowing, entry_of, store_of, meaning_of_pass, engine_of, desk_of, observing, placing}
+use Rattle.txn_engine.specs.Pass.{EngineView, PassView, frame, IsIdle, IsAlone, begun, committed, with_bounds, entry_of, store_of, meaning_of_pass, engine_of, desk_of, observing, placing}
 use Rattle.seat_post.specs.Logs.{IsAbove}
 use Rattle.txn_engine.specs.Accounts.{accounted}
-use Rattle.seat_post.specs.Seats.{Known}
+use Rattle.seat_post.specs.Seats.{Bounds}
 use Rattle.lane_runner.specs.Rows.{stands}
 use Rattle.lane_runner.specs.Room.{clock_after}
 use Rattle.lane_runner.specs.Adds.{Adds}
@@ -150,7 +150,7 @@ never_out p b q o commands asks left lawful reads has known fixed may fewer writ
     (known_at p b q o.clock o.began o.rest state (each_at p b q o.clock o.began o.rest (λ s _ _. WritesKnown (meaning_of_pass b) (meaning_of_pass q) s) written state has.leaves.places has.tables agrees has.leaves.stands_for))
 
 -- it has committed
-module _ (p b q r : PassView) (known : Known) (o : Opened p b q) (ends : r ≡ observing (placing (committed (knowing q known)) r.placed) r.observed) where
+module _ (p b q r : PassView) (known : Bounds) (o : Opened p b q) (ends : r ≡ observing (placing (committed (with_bounds q known)) r.placed) r.observed) where
   pub adds_entered : Adds p r (entry_of q ∷ [])
   adds_entered = Adds-committed p q r o.clock known o.later o.above (kept_frame p b q o.clock o.began o.rest) ends
 

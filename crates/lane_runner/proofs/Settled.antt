@@ -12,8 +12,8 @@ use Rattle.txn_engine.specs.Lists.{IsRoomy}
 use Rattle.txn_engine.specs.Pass.{EngineView, PassView, IsIdle, engine_of, desk_of, observing, removing, with_met}
 use Rattle.seat_post.specs.Logs.{IsAbove}
 use Rattle.txn_engine.specs.Rescan.{rescanned}
-use Rattle.seat_post.specs.Seats.{Known}
-use Rattle.seat_post.specs.Spare.{is_on}
+use Rattle.seat_post.specs.Seats.{Bounds}
+use Rattle.spare_numbers.specs.Spare.{is_on}
 use Rattle.seat_post.proofs.Leaving.{present_all}
 use Rattle.lane_runner.specs.declared.done.LaneDone.{LaneDone}
 use Rattle.lane_runner.specs.Rows.{stands}
@@ -35,7 +35,7 @@ listed : (b : Bool) (log : List Entry) (r limit : ℕ) (spare : List ℕ) → is
 listed true log r limit spare is above left = inl is
 listed false log r limit spare is above left = inr (present_all log r limit above left)
 
-module _ (p c d t : PassView) (met met' : ℕ) (known : Known) (spare : List ℕ) (first : c ≡ removing (observing (collected p met known []) c.observed) c.gone) (second : d ≡ observing (rescanned c spare) d.observed) (third : t ≡ observing (with_met d met') t.observed) (idle : IsIdle p) where
+module _ (p c d t : PassView) (met met' : ℕ) (known : Bounds) (spare : List ℕ) (first : c ≡ removing (observing (collected p met known []) c.observed) c.gone) (second : d ≡ observing (rescanned c spare) d.observed) (third : t ≡ observing (with_met d met') t.observed) (idle : IsIdle p) where
   whole : t ≡ removing (observing (with_met (rescanned (collected p met known []) spare) met') t.observed) c.gone
   whole = third ∙ ap (λ (x : PassView). observing (with_met x met') t.observed) (second ∙ ap (λ (x : PassView). observing (rescanned x spare) d.observed) first)
 
@@ -55,7 +55,7 @@ module _ (p c d t : PassView) (met met' : ℕ) (known : Known) (spare : List ℕ
         (ap (λ (x : PassView). x.log) third ∙ ap (λ (x : PassView). x.log) second)
         (λ r from within. listed (is_on spare r) c.log r d.published spare refl
         (subst (λ (log : List Entry). IsAbove log d.published) (sym (ap (λ (x : PassView). x.log) first)) (above_settled above)) (absent.each r from within));
-    roomy = roomy_same c t (ap engine_of third ∙ ap engine_of second) (ap (λ (x : PassView). x.known) third ∙ ap (λ (x : PassView). x.known) second) roomy;
+    roomy = roomy_same c t (ap engine_of third ∙ ap engine_of second) (ap (λ (x : PassView). x.bounds) third ∙ ap (λ (x : PassView). x.bounds) second) roomy;
   }
 
   pub clock_settled : t.clock ≡ p.clock

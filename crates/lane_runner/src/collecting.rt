@@ -9,7 +9,7 @@ ghost use Rattle.lane_runner.specs.Blocks.{IsRefused};
 ghost use Rattle.lane_runner.specs.Ready.{IsReady, IsReadyOnceCollected};
 
 use stored_tables::RowsLawful;
-use txn_engine::{Engine, Pass};
+use txn_engine::{Engine, Pass, Seat};
 
 /// Collects below what the pass has queued. What cannot be collected yet stays for the next time; of a pass that is alone nothing
 /// stays, and its log is told to be lawful.

@@ -17,7 +17,7 @@ use histories::next_state_is_overlay;
 use replay_model::{Block, NoMemory, Outcome, Placed};
 use std::alloc::Global;
 use stored_tables::{RowsLawful, adds_after};
-use txn_engine::{Alone, Engine};
+use txn_engine::{Alone, Engine, Seat};
 
 /// The results of lanes and the blocks that remain, lane behind lane.
 fn take_apart(

@@ -185,7 +185,10 @@ room_beside engine (p ∷ ps) lanes tries due alone done earlier some are both r
 -- ---- and what was met since
 
 -- one load of the minimum changes what was met alone
-module _ (alone told : AloneView) (is : told ≡ with_pass alone (observing (with_met alone.pass told.pass.met) told.pass.observed)) (not_back : alone.pass.met ≤ told.pass.met) where
+module _ (alone told : AloneView) (pass : told.pass ≡ observing (with_met alone.pass told.pass.met) told.pass.observed) (beside : told.beside ≡ alone.beside) (not_back : alone.pass.met ≤ told.pass.met) where
+  is : told ≡ with_pass alone (observing (with_met alone.pass told.pass.met) told.pass.observed)
+  is = λ i. record { pass = pass i; beside = beside i }
+
   pub runs_told : (engine : EngineView) (passes : List PassView) (lanes : List (List Block)) (tries due : ℕ) (done : List LaneDone) → RunsAll engine passes lanes tries due alone done → RunsAll engine passes lanes tries due told done
   runs_told engine passes lanes tries due done runs = subst (λ (a : AloneView). RunsAll engine passes lanes tries due a done) (sym is) (record {
     together = record {

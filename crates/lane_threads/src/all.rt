@@ -23,7 +23,7 @@ use std::sync::Wait;
 use std::thread;
 use std::thread::Threads;
 use stored_tables::RowsLawful;
-use txn_engine::{Alone, Engine, Pass};
+use txn_engine::{Alone, Engine, Pass, Seat};
 
 /// Runs each of these workers in a thread of its own, or behind another where none can be made, and joins them.
 fn run_others<R: Threads + Wait + Sync, C: Clock, G: Gate, W: Work<C, G>>(

@@ -365,7 +365,7 @@ pub fn give_out_all<R: process::Abort>(
 
 #[test]
 fn every_spare_number_is_given_out(rt: HostRuntime) -> Result<(), Fail> {
-    // One place for each writing, and the kept one.
+    // One place for each writing, and the reserved one.
     let size = (MOST_RECORDS, FIXED, 20_001);
     play(&rt, rt.alloc(), 1, size, Piece::Spare)
 }

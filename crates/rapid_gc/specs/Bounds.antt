@@ -6,15 +6,15 @@ use Rattle.core_rule.specs.Searching.{known_of, newest_stamp}
 use Rattle.rapid_gc.specs.declared.queue.Queued.{Queued}
 
 -- at most one version is linked
-pub record IsOneLeft (known : Option Bound) : Type 0 where
+pub record IsSingle (known : Option Bound) : Type 0 where
   pub bound : Bound
   pub is : known ≡ Some bound
   pub linked : bound.linked ≡ 1
   pub outside : bound.outside ≤ 1
 
 -- what is known of a list is as before, or that at most one version is linked
-abbrev pub IsKept : Option Bound → Option Bound → Type 0
-IsKept before after' = (after' ≡ before) ⊎ IsOneLeft after'
+abbrev pub IsAsBefore : Option Bound → Option Bound → Type 0
+IsAsBefore before after' = (after' ≡ before) ⊎ IsSingle after'
 
 -- no version of the item's record is above its stamp, as it is known
 pub record IsNewest (tops : List Top) (i : Queued) : Type 0 where
@@ -27,9 +27,9 @@ abbrev pub IsApart : ℕ → List Queued → Type 0
 IsApart r is = (i : Queued) → Among i is → i.rid ≢ r
 
 -- what is known of the list of each record, before and after
-abbrev pub AreKept : List Queued → Counted → Counted → Type 0
-AreKept is before after' = (r : ℕ) → IsKept (known_of before r) (known_of after' r) × (IsApart r is → known_of after' r ≡ known_of before r)
+abbrev pub AreAsBefore : List Queued → Counted → Counted → Type 0
+AreAsBefore is before after' = (r : ℕ) → IsAsBefore (known_of before r) (known_of after' r) × (IsApart r is → known_of after' r ≡ known_of before r)
 
 -- where no version is above that of an item, at most one is left
-abbrev pub LeavesOne : List Queued → List Top → Counted → Type 0
-LeavesOne is tops after' = (i : Queued) → Among i is → IsNewest tops i → IsOneLeft (known_of after' i.rid)
+abbrev pub MakesSingle : List Queued → List Top → Counted → Type 0
+MakesSingle is tops after' = (i : Queued) → Among i is → IsNewest tops i → IsSingle (known_of after' i.rid)

@@ -27,7 +27,7 @@ pub has_any : (s : ℕ) (xs : List ℕ) → list_any (eqb s) xs ≡ true → Has
 has_any s [] on = cc
 has_any s (x ∷ xs) on = elim (either (eqb s x) (list_any (eqb s) xs) on) as (λ _. Has s (x ∷ xs)) [ inl e ↦ inl (sym (is_equal s x e)) | inr more ↦ inr (has_any s xs more) ]
 
-or_true : (b : Bool) → (b || true) ≡ true
+pub or_true : (b : Bool) → (b || true) ≡ true
 or_true true = refl
 or_true false = refl
 
@@ -49,7 +49,7 @@ taken_told (suc m) seat taken_in on s below =
 pub alone_told : (v : View) → IsAloneAt v.size v.number (others_of v) → IsAlone v
 alone_told v on = taken_told (made_within v.size.seats v.splitting) v.number v.clock.taken_in on
 
-or_of : (a b : Bool) → (a ≡ true) ⊎ (b ≡ true) → (a || b) ≡ true
+pub or_of : (a b : Bool) → (a ≡ true) ⊎ (b ≡ true) → (a || b) ≡ true
 or_of true b is = refl
 or_of false b (inl on) = cc
 or_of false b (inr on) = on

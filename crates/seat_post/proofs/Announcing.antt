@@ -5,10 +5,10 @@ use mathlib.Core.Logic.{dite}
 use native.Mathlib.Decide.{dec_lt}
 use Rattle.word_layout.specs.Name.{published_write, min_write}
 use Rattle.stamp_base.specs.Stamp.{bound_of_clock}
-use Rattle.core_rule.specs.View.{View, Flight, Work, Kept, Raises as Raised, Seen, resting, no_work, no_scan, nothing_kept}
+use Rattle.core_rule.specs.View.{View, Flight, Work, Reserved, Raises as Raised, Seen, resting, no_work, no_scan, nothing_reserved}
 use Rattle.core_rule.specs.Views.{IsAlone}
 use Rattle.core_rule.specs.Hands.{Shared, Seated, IsReady}
-use Rattle.core_rule.specs.Searching.{Ends, kept_by_both}
+use Rattle.core_rule.specs.Searching.{Ends, reserved_by_both}
 use Rattle.core_rule.specs.Snapshots.{AreAllWhole}
 use Rattle.clock_stamps.specs.Clocks.{rests}
 use Rattle.clock_stamps.specs.Minima.{Raises, raised_write}
@@ -21,9 +21,9 @@ use Rattle.seat_post.specs.Seats.{IsAloneAt}
 use Rattle.seat_post.proofs.AloneSeats.{others_of, alone_told}
 use Rattle.seat_post.proofs.Posts.{post_idle}
 
--- two seats that have nothing in the kept place have nothing there together
-pub nothing_joined : (a b : Kept) → a ≡ nothing_kept → b ≡ nothing_kept → kept_by_both a b ≡ a
-nothing_joined a b first second = ap (λ (k : Kept). kept_by_both k b) first ∙ ap (λ (k : Kept). kept_by_both nothing_kept k) second ∙ sym first
+-- two seats that have nothing in the reserved place have nothing there together
+pub nothing_joined : (a b : Reserved) → a ≡ nothing_reserved → b ≡ nothing_reserved → reserved_by_both a b ≡ a
+nothing_joined a b first second = ap (λ (k : Reserved). reserved_by_both k b) first ∙ ap (λ (k : Reserved). reserved_by_both nothing_reserved k) second ∙ sym first
 
 -- nothing was to be done
 pub ended : (w : Work) → w ≡ no_work → Ends w
@@ -105,7 +105,7 @@ pub announced_view : (hand hand' : Seated) (phase : Phase) (stamp : ℕ) (sets :
 announced_view hand hand' phase stamp sets table is = rw (table, is.only) refl
 
 -- an idle post whose hand has nothing to be done
-pub post_ended : (core : Shared) (phase : Phase) (hand hand' : Seated) (stamp : ℕ) (sets : SetsView) → phase ≡ Idle → IsPost hand phase stamp sets → IsReady core hand' → hand'.view.size ≡ hand.view.size → hand'.view.places.held ≡ hand.view.places.held → hand'.view.counts.in_kept ≡ hand.view.counts.in_kept → Ends hand'.view.work → (hand'.view.flight ≡ resting → AreAllWhole hand'.view.work.reads) → IsPost hand' phase stamp sets
+pub post_ended : (core : Shared) (phase : Phase) (hand hand' : Seated) (stamp : ℕ) (sets : SetsView) → phase ≡ Idle → IsPost hand phase stamp sets → IsReady core hand' → hand'.view.size ≡ hand.view.size → hand'.view.places.held ≡ hand.view.places.held → hand'.view.counts.in_reserved ≡ hand.view.counts.in_reserved → Ends hand'.view.work → (hand'.view.flight ≡ resting → AreAllWhole hand'.view.work.reads) → IsPost hand' phase stamp sets
 post_ended core phase hand hand' stamp sets idle is ready size held kept ends whole =
     let at = subst (λ (p : Phase). IsAt p hand stamp sets) idle is.at in
     post_idle core phase hand' stamp sets idle ready (rw size is.size) (held ∙ is.holds_none) (kept ∙ is.keeps_none) (record {

@@ -22,7 +22,7 @@ use Rattle.seat_post.specs.declared.settled.Settled.{Settled}
 use Rattle.seat_post.specs.Seats.{observed_of}
 use Rattle.seat_post.specs.Observing.{WasLost, MeetsNoPlace}
 use Rattle.seat_post.specs.Collecting.{trail_in}
-use Rattle.seat_post.specs.Settling.{FindsOther, IsHidden, LooksFirst, IsDue, CutsOf, SettlesOne, none_yet, one_more, SettlesFirst, RunsOut, WantsKept}
+use Rattle.seat_post.specs.Settling.{FindsOther, IsHidden, LooksFirst, IsDue, CutsOf, SettlesOne, none_yet, one_more, SettlesFirst, RunsOut, WantsReserved}
 use Rattle.seat_post.proofs.Observed.{lost_before}
 
 -- ---- whether a writing again is due
@@ -113,9 +113,9 @@ one_cut reached i _ _ _ (goes_on es e v w x goes became) alone newest one none =
     let fits : IsNewest v.tops e.item = subst (λ (j : Queued). IsNewest v.tops j) (sym item) newest in
     subst (λ (j : Queued). CutsOf j.rid 1 v.gone.cuts x.gone.cuts) item (cut_became reached e.item e.end v x alone fits off here)
 
--- ---- the kept place
+-- ---- the reserved place
 
-pub no_place : (z : Size) (rid : ℕ) (u v w x : View) → growing.Grows u.seen v.seen → WantsKept z rid v w → growing.Grows w.seen x.seen → MeetsNoPlace z rid (observed_of u) (observed_of x)
+pub no_place : (z : Size) (rid : ℕ) (u v w x : View) → growing.Grows u.seen v.seen → WantsReserved z rid v w → growing.Grows w.seen x.seen → MeetsNoPlace z rid (observed_of u) (observed_of x)
 no_place z rid u v w x before wants behind = record {
   inline_met = lost_behind rid (lost_before rid u v w w before wants.inline_met refl);
   usable_met = λ p usable. lost_behind p (lost_before p u v w w before (wants.usable_met p usable) refl);
@@ -163,13 +163,13 @@ cut_some true n cut off is = cc
 cut_some false n cut off is = is
 
 pub settles_one : (z : Size) (rid : ℕ) (done : Settled) (first : First) (v f w : View) → Looked rid first.place first.wts first.decided first.single v.seen.loads f.seen.loads → f.seen.lost ≡ v.seen.lost → growing.Grows f.seen w.seen → done.cut ≡ cond first.single 0 (max done.rewritten 1) → CutsOf rid done.cut v.gone.cuts w.gone.cuts → FreesCounted done.places v w → (0 < done.rewritten → IsDue rid v.seen.loads w.seen.loads) → (1 < done.rewritten → MeetsNoPlace z rid (observed_of v) (observed_of w)) → SettlesOne z rid done (trail_in v) (trail_in w)
-settles_one z rid done first v f w look same g cut cuts freed due kept = record {
+settles_one z rid done first v f w look same g cut cuts freed due twice = record {
   grows = let all = grows_both v.seen f.seen w.seen (grows_loads v.seen f.seen _ look.loads same) g in record { loaded = all.loaded; missed = all.missed; loads = all.loads; lost = all.lost };
   as_due = record { first = first; looked = f.seen.loads; looks = looks_first rid first v.seen.loads f.seen.loads f.seen w.seen look refl g; cut = cut };
   cuts = cuts;
   places = record { freed = freed.freed; gone = freed.gone; count = freed.count };
   due = due;
-  kept = kept;
+  twice = twice;
 }
 
 pub settles_none : (z : Size) (all : Settled) (v : View) → all.rewritten ≡ 0 → all.cut ≡ 0 → FreesCounted all.places v v → SettlesFirst z 0 all (trail_in v) (trail_in v)

@@ -27,7 +27,8 @@ use Rattle.seat_post.specs.declared.phase.Phase.TheVariants.{Idle, Open, Install
 use Rattle.seat_post.proofs.Observed.{were_found}
 use Rattle.seat_post.proofs.Posts.{own_ready}
 use Rattle.seat_post.proofs.WriteMore.{written_in}
-use Rattle.seat_post.proofs.Listed.{few, once_distinct, some_or, among_written}
+use Rattle.spare_numbers.proofs.Written.{some_or}
+use Rattle.seat_post.proofs.Listed.{few, once_distinct, among_written}
 use Rattle.seat_post.proofs.Placed.{each_counted, each_fits, placed_kept}
 
 -- ---- what stands in the sets stands in the lists
@@ -46,7 +47,7 @@ same_values (u ∷ us) (w ∷ ws) same = let rest = same_values us ws same.2 in 
 
 -- ---- installing
 
-pub post_installed : (core : Shared) (hand hand' : Seated) (stamp : ℕ) (sets sets' : SetsView) → IsPost hand Open stamp sets → SameSets sets sets' → Installs hand.view.size sets' hand.view hand'.view → validating.Stands hand.view hand'.view → hand'.view.counts.in_kept ≡ hand.view.counts.in_kept → IsReady core hand' → IsPost hand' Installed stamp sets'
+pub post_installed : (core : Shared) (hand hand' : Seated) (stamp : ℕ) (sets sets' : SetsView) → IsPost hand Open stamp sets → SameSets sets sets' → Installs hand.view.size sets' hand.view hand'.view → validating.Stands hand.view hand'.view → hand'.view.counts.in_reserved ≡ hand.view.counts.in_reserved → IsReady core hand' → IsPost hand' Installed stamp sets'
 post_installed core hand hand' stamp sets sets' is same installs stands kept ready =
     let size : hand'.view.size ≡ hand.view.size = ap (λ (v : View). v.size) stands.others in
     record {
@@ -115,7 +116,7 @@ post_decided core kept records hand hand' stamp sets is ready decides =
       ready = own_ready core hand' ready;
       size = rw size is.size;
       holds_none = held ∙ is.holds_none;
-      keeps_none = ap (λ (v : View). v.counts.in_kept) decides.only ∙ is.keeps_none;
+      keeps_none = ap (λ (v : View). v.counts.in_reserved) decides.only ∙ is.keeps_none;
       at = record {
         decided = decides.decided;
         inside = rw size is.at.inside;

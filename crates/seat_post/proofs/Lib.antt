@@ -6,14 +6,11 @@ pub mod Bounds
 pub mod EndMore
 pub mod FreedPlaces
 pub mod SnapshotReads
-pub mod KeptPlace
+pub mod ReservedPlace
 pub mod Leaving
 pub mod Linked
 pub mod Listed
 pub mod SnapshotPosts
-pub mod MarkWords
-pub mod Marked
-pub mod NumberLists
 pub mod Observed
 pub mod Over
 pub mod Placed
@@ -25,7 +22,6 @@ pub mod Renewed
 pub mod Rescanning
 pub mod Searching
 pub mod Settlement
-pub mod Shares
 pub mod Steady
 pub mod Stopped
 pub mod Stuck

@@ -12,14 +12,14 @@ use Rattle.record_store.specs.Meaning.{value_at}
 use Rattle.validate_core.specs.Sets.{SetsView, Once}
 use Rattle.validate_core.specs.Installing.{LinksEach, none_yet, one_more as one_more_linked, FindsNoPlace, IsFullFor}
 use Rattle.validate_core.proofs.Placing.{one_view}
-use Rattle.seat_post.specs.Seats.{Known}
+use Rattle.seat_post.specs.Seats.{Bounds}
 use Rattle.seat_post.specs.Lists.{HasOutside, IsOneMore, AreLinked, IsRoomyAt, IsFullAt}
 use Rattle.seat_post.proofs.Listed.{written_values-append, unheld, eqb_not, known_tail}
 use Rattle.core_rule.proofs.Among.{Among-last, Among-left}
 
 -- what a view knows of lists
-abbrev pub known_by : View → Known
-known_by v = record { counts = v.counts; tops = v.tops }
+abbrev pub bounds_by : View → Bounds
+bounds_by v = record { counts = v.counts; tops = v.tops }
 
 abbrev pub number_of : Write → ℕ
 number_of u = u.record_number
@@ -88,7 +88,7 @@ some_end [] w none = let h = ap (λ (b : Bool). cond b (Some w.1) None) (eq-eqb 
 some_end (v ∷ ws) w none = some_end ws w (known_tail (eqb w.0 v.0) v.1 (value_at (ws ++ w ∷ []) w.0) none)
 
 -- a version was linked of one more record
-pub linked_more : (z : Size) (stamp : ℕ) (ws : List (ℕ × Option (List ℕ))) (value : Option (List ℕ)) (u : Write) (before mid after' : Known) → AreLinked ws stamp before mid → value_at ws u.record_number ≡ None → after'.counts ≡ counted_more z u.record_number u.stamp u.place mid.counts → after'.tops ≡ record { record_number = u.record_number; stamp = u.stamp } ∷ mid.tops → u.stamp ≡ stamp → AreLinked (ws ++ (u.record_number, value) ∷ []) stamp before after'
+pub linked_more : (z : Size) (stamp : ℕ) (ws : List (ℕ × Option (List ℕ))) (value : Option (List ℕ)) (u : Write) (before mid after' : Bounds) → AreLinked ws stamp before mid → value_at ws u.record_number ≡ None → after'.counts ≡ counted_more z u.record_number u.stamp u.place mid.counts → after'.tops ≡ record { record_number = u.record_number; stamp = u.stamp } ∷ mid.tops → u.stamp ≡ stamp → AreLinked (ws ++ (u.record_number, value) ∷ []) stamp before after'
 linked_more z stamp ws value u before mid after' are new counts tops at =
     let rid = u.record_number in
     let counted : (r : ℕ) → known_of after'.counts r ≡ known_of (counted_more z rid u.stamp u.place mid.counts) r = λ r. ap (λ (k : Counted). known_of k r) counts in
@@ -112,31 +112,31 @@ linked_more z stamp ws value u before mid after' are new counts tops at =
 
 -- ---- all of them
 
-pub none_linked : (stamp : ℕ) (k : Known) → AreLinked [] stamp k k
+pub none_linked : (stamp : ℕ) (k : Bounds) → AreLinked [] stamp k k
 none_linked stamp k = record { written = λ r some. (let e : false ≡ true = some in cc); others = λ r none. (refl, refl) }
 
-pub each_linked : (z : Size) (stamp : ℕ) (us : List Write) (v w : View) → LinksEach z stamp us v w → Once number_of us → AreLinked (written_values us) stamp (known_by v) (known_by w)
-each_linked z stamp _ _ _ (none_yet v) once = none_linked stamp (known_by v)
+pub each_linked : (z : Size) (stamp : ℕ) (us : List Write) (v w : View) → LinksEach z stamp us v w → Once number_of us → AreLinked (written_values us) stamp (bounds_by v) (bounds_by w)
+each_linked z stamp _ _ _ (none_yet v) once = none_linked stamp (bounds_by v)
 each_linked z stamp _ _ _ (one_more_linked us u v w x each l) once =
     let before = each_linked z stamp us v w each (once_front us u once) in
     let new = not_written us u.record_number (once_end us u once) in
     let seen = one_view z stamp u w x l in
-    subst (λ ws. AreLinked ws stamp (known_by v) (known_by x)) (sym (written_values-append us u))
-    (linked_more w.size stamp (written_values us) (value_of u.cells) u (known_by v) (known_by w) (known_by x) before new (ap (λ (y : View). y.counts) seen) (ap (λ (y : View). y.tops) seen) l.at)
+    subst (λ ws. AreLinked ws stamp (bounds_by v) (bounds_by x)) (sym (written_values-append us u))
+    (linked_more w.size stamp (written_values us) (value_of u.cells) u (bounds_by v) (bounds_by w) (bounds_by x) before new (ap (λ (y : View). y.counts) seen) (ap (λ (y : View). y.tops) seen) l.at)
 
 -- ---- at a post
 
 -- the writes of a post are linked
-pub post_linked : (z : Size) (stamp : ℕ) (us : List Write) (v w : View) (writes : List (ℕ × Option (List ℕ))) (at : ℕ) (before : Known) → LinksEach z stamp us v w → Once number_of us → written_values us ≡ writes → stamp ≡ at → known_by v ≡ before → AreLinked writes at before (known_by w)
+pub post_linked : (z : Size) (stamp : ℕ) (us : List Write) (v w : View) (writes : List (ℕ × Option (List ℕ))) (at : ℕ) (before : Bounds) → LinksEach z stamp us v w → Once number_of us → written_values us ≡ writes → stamp ≡ at → bounds_by v ≡ before → AreLinked writes at before (bounds_by w)
 post_linked z stamp us v w writes at before each once values same known =
-    subst (λ k. AreLinked writes at k (known_by w)) known
-    (subst (λ n. AreLinked writes n (known_by v) (known_by w)) same (subst (λ ws. AreLinked ws stamp (known_by v) (known_by w)) values (each_linked z stamp us v w each once)))
+    subst (λ k. AreLinked writes at k (bounds_by w)) known
+    (subst (λ n. AreLinked writes n (bounds_by v) (bounds_by w)) same (subst (λ ws. AreLinked ws stamp (bounds_by v) (bounds_by w)) values (each_linked z stamp us v w each once)))
 
 -- the first few of them are, where there was no place for one more
-pub post_stuck : (z : Size) (s : SetsView) (v w : View) (writes : List (ℕ × Option (List ℕ))) (at : ℕ) (before : Known) → Once number_of s.writes → written_values s.writes ≡ writes → v.published.write ≡ at → known_by v ≡ before → (stuck : FindsNoPlace z s v w) → AreLinked (take stuck.number writes) at before (known_by w)
+pub post_stuck : (z : Size) (s : SetsView) (v w : View) (writes : List (ℕ × Option (List ℕ))) (at : ℕ) (before : Bounds) → Once number_of s.writes → written_values s.writes ≡ writes → v.published.write ≡ at → bounds_by v ≡ before → (stuck : FindsNoPlace z s v w) → AreLinked (take stuck.number writes) at before (bounds_by w)
 post_stuck z s v w writes at before once values same known stuck =
-    let searched : known_by stuck.searched ≡ known_by stuck.installed = ap known_by stuck.none.view in
-    let over : known_by w ≡ known_by stuck.searched = ap known_by stuck.works.only in
+    let searched : bounds_by stuck.searched ≡ bounds_by stuck.installed = ap bounds_by stuck.none.view in
+    let over : bounds_by w ≡ bounds_by stuck.searched = ap bounds_by stuck.works.only in
     let linked = post_linked z v.published.write (take stuck.number s.writes) v stuck.installed (take stuck.number writes) at before stuck.each (once_take stuck.number s.writes once) (written_values-take stuck.number s.writes ∙ ap (take stuck.number) values) same known in
     subst (λ k. AreLinked (take stuck.number writes) at before k) (sym (over ∙ searched)) linked
 
@@ -150,11 +150,11 @@ outside_within : (o : Option Bound) → HasOutside 1 o → IsWithin o 1
 outside_within None h = h
 outside_within (Some b) h = h
 
-pub most_roomy : (size : Size) (known : Known) → IsRoomyAt size known → AtMost size.records (known_of known.counts) size.records
+pub most_roomy : (size : Size) (known : Bounds) → IsRoomyAt size known → AtMost size.records (known_of known.counts) size.records
 most_roomy size known roomy = record { bounds = λ r. 1; within = λ r lt. outside_within (known_of known.counts r) (roomy r (omega arith)); sum = ones size.records }
 
-pub post_full : (size : Size) (v : View) (known : Known) (writes n : ℕ) → IsFullFor size n v → IsAlone v → v.places.held ≡ [] → n ≡ writes → known_by v ≡ known → IsFullAt size known writes
+pub post_full : (size : Size) (v : View) (known : Bounds) (writes n : ℕ) → IsFullFor size n v → IsAlone v → v.places.held ≡ [] → n ≡ writes → bounds_by v ≡ known → IsFullAt size known writes
 post_full size v known writes n full alone held same is =
     let few : (m : ℕ) → AtMost size.records (known_of known.counts) m → usable_places size < m + writes =
-    λ m most. let h = full alone m (subst (λ (k : Known). AtMost size.records (known_of k.counts) m) (sym is) most) in let none = ap length held in omega arith in
+    λ m most. let h = full alone m (subst (λ (k : Bounds). AtMost size.records (known_of k.counts) m) (sym is) most) in let none = ap length held in omega arith in
     record { by_bounds = few; roomy = λ roomy. let h = few size.records (most_roomy size known roomy) in omega arith }

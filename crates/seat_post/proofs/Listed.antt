@@ -1,18 +1,18 @@
 -- Lists of records with values: how lists of versions and maps agree with them.
-use Rattle.std.proofs.Common.{◌||◌, ◌<◌, ◌≤◌, ◌+◌, zero, suc, take, drop, add-one, take-suc, drop-cons, ◌⊎◌, arith, length, ◌≡◌, ◌≢◌, ℕ, true, false, cond, Bool, eqb, List, [], ◌∷◌, ◌++◌, Option, None, Some, refl, sym, ap, ◌∙◌, eq-eqb, inl, inr, subst}
+use Rattle.std.proofs.Common.{◌||◌, ◌<◌, ◌≤◌, ◌+◌, suc, take, add-one, take-suc, arith, length, ◌≡◌, ◌≢◌, ℕ, true, false, cond, Bool, eqb, List, [], ◌∷◌, ◌++◌, Option, None, Some, refl, sym, ap, ◌∙◌, eq-eqb, inl, inr, subst}
 use Rattle.std.specs.Prelude.{is_some, IsSome, IfSome, slice_get}
 use Rattle.std.specs.List.{list_any, IsDistinct, AllByRecursion}
 use Rattle.std.specs.Map.{keys_of}
 use Rattle.std.proofs.lemmas.Option.{slice_get_within, get_or_from_slice_get}
 use Rattle.std.proofs.lemmas.Bool.Decides.{eqb_tells}
 use Rattle.std.proofs.lemmas.Map.Steps.{length-le_from_distinct_below}
-use Rattle.seat_post.specs.Spare.{holds}
 use Rattle.record_store.specs.Meaning.{value_at, with_value}
 use Rattle.core_rule.specs.Versions.{read_version, cells_of}
 use Rattle.core_rule.specs.View.{Read, Write}
 use Rattle.core_rule.specs.Views.{Among}
 use Rattle.validate_core.specs.Sets.{Once}
 use Rattle.core_rule.specs.Deciding.{read_values, read_value, written_values, value_of}
+use Rattle.spare_numbers.proofs.Written.{some_or}
 
 -- what is among the reads is known by them
 pub known_head : (b : Bool) (x : Option (List ℕ)) (found : Option (Option (List ℕ))) → b ≡ true → cond b (Some x) found ≡ None → ⊥
@@ -86,10 +86,6 @@ longer (e ∷ es) rid value = longer_step (eqb rid e.0) (e.0, value) e es (with_
 
 -- ---- versions to be written
 
-pub length-written : (us : List Write) → length (written_values us) ≡ length us
-length-written [] = refl
-length-written (u ∷ us) = ap suc (length-written us)
-
 pub written_values-append : (us : List Write) (u : Write) → written_values (us ++ u ∷ []) ≡ written_values us ++ (u.record_number, value_of u.cells) ∷ []
 written_values-append [] u = refl
 written_values-append (w ∷ us) u = ap (λ vs. (w.record_number, value_of w.cells) ∷ vs) (written_values-append us u)
@@ -113,39 +109,11 @@ take_more es i e at =
     let h : i < length es = slice_get_within es i e at in
     rw (add-one, take-suc es i e h) (ap (λ x. take i es ++ x ∷ []) (get_or_from_slice_get es i e e at))
 
-pub some_or : (b : Bool) (x : Option (List ℕ)) (found : Option (Option (List ℕ))) → (b ≡ true) ⊎ IsSome found → IsSome (cond b (Some x) found)
-some_or true x found some = refl
-some_or false x found (inl off) = cc
-some_or false x found (inr some) = some
-
--- a record with a write, at its place
-pub some_at : (es : List (ℕ × Option (List ℕ))) (i : ℕ) (e : ℕ × Option (List ℕ)) → slice_get es i ≡ Some e → IsSome (value_at es e.0)
-some_at [] i e at = cc
-some_at (x ∷ es) zero e at = let same : x ≡ e = cc in some_or (eqb e.0 x.0) x.1 (value_at es e.0) (inl (eq-eqb e.0 x.0 (ap (λ (y : ℕ × Option (List ℕ)). y.0) (sym same))))
-some_at (x ∷ es) (suc i) e at = some_or (eqb e.0 x.0) x.1 (value_at es e.0) (inr (some_at es i e at))
-
--- the entries from one on
-pub drop_one : (es : List (ℕ × Option (List ℕ))) (i : ℕ) (e : ℕ × Option (List ℕ)) → slice_get es i ≡ Some e → drop i es ≡ e ∷ drop (i + 1) es
-drop_one es i e at =
-    let h : i < length es = slice_get_within es i e at in
-    rw (add-one) (drop-cons es i e h ∙ ap (λ x. x ∷ drop (suc i) es) (get_or_from_slice_get es i e e at))
-
-pub held : (value : Option (List ℕ)) → is_some value ≡ holds (Some value)
-held None = refl
-held (Some words) = refl
-
 -- a write that is listed has a value there
 pub among_written : (us : List Write) (u : Write) → Among u us → IsSome (value_at (written_values us) u.record_number)
 among_written [] u among = absurd among
 among_written (w ∷ us) u (inl same) = some_or (eqb u.record_number w.record_number) _ (value_at (written_values us) u.record_number) (inl (eq-eqb u.record_number w.record_number (ap (λ (x : Write). x.record_number) (sym same))))
 among_written (w ∷ us) u (inr among) = some_or (eqb u.record_number w.record_number) _ (value_at (written_values us) u.record_number) (inr (among_written us u among))
-
--- the value of a write, at its number
-pub turn_get : (i : ℕ) (us : List Write) (u : Write) → us ≡ take i us ++ u ∷ drop (suc i) us → slice_get (written_values us) i ≡ Some (u.record_number, value_of u.cells)
-turn_get zero [] u splits = let h = ap length splits in absurd (omega arith)
-turn_get (suc i) [] u splits = let h = ap length splits in absurd (omega arith)
-turn_get zero (w ∷ us) u splits = let same : w ≡ u = cc in rw same refl
-turn_get (suc i) (w ∷ us) u splits = turn_get i us u (ap (drop 1) splits)
 
 -- no record twice
 unequal : (n : ℕ) (us : List Write) → ((u : Write) → Among u us → u.record_number ≢ n) → AllByRecursion (λ k. eqb n k ≡ false) (keys_of (written_values us))

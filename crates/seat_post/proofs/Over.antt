@@ -10,9 +10,9 @@ use Rattle.validate_core.specs.Installing.{SameSets}
 use Rattle.validate_core.specs.Validating.{Stands, Works}
 use Rattle.core_rule.specs.Versions.{read_version}
 use Rattle.seat_post.specs.Searched.{Finds, Stops}
-use Rattle.seat_post.specs.Seats.{Known, placed_of}
+use Rattle.seat_post.specs.Seats.{Bounds, placed_of}
 use Rattle.seat_post.specs.Snapshot.{snapshot_view}
-use Rattle.seat_post.specs.Post.{PostView, IsPost, post_of, noted, closed, in_phase, knowing, placing, observing, observed_in}
+use Rattle.seat_post.specs.Post.{PostView, IsPost, post_of, noted, closed, in_phase, with_bounds, placing, observing, observed_in}
 use Rattle.seat_post.specs.declared.phase.Phase.{Phase}
 use Rattle.seat_post.specs.declared.phase.Phase.TheVariants.{Idle, Installed}
 use Rattle.seat_post.proofs.Posts.{own_ready}
@@ -31,7 +31,7 @@ still_flying : (v w : View) (t : ℕ) → Stands v w → v.flight ≡ writing t 
 still_flying v w t stands flight = ap (λ (x : View). x.flight) stands.others ∙ flight
 
 -- the post of a transaction that has ended, as a word of the post before
-pub view_over : (hand hand' : Seated) (phase : Phase) (stamp stamp' t : ℕ) (sets sets' : SetsView) → hand'.table ≡ hand.table → Stands hand.view hand'.view → hand.view.flight ≡ writing t → hand'.view.log ≡ hand.view.log → stamp' ≡ 0 → sets'.reads ≡ [] → sets'.writes ≡ [] → post_of hand' Idle stamp' sets' ≡ observing (placing (closed (knowing (post_of hand phase stamp sets) record { counts = hand'.view.counts; tops = hand'.view.tops })) (placed_of hand'.view.work.linked)) (observed_in hand')
+pub view_over : (hand hand' : Seated) (phase : Phase) (stamp stamp' t : ℕ) (sets sets' : SetsView) → hand'.table ≡ hand.table → Stands hand.view hand'.view → hand.view.flight ≡ writing t → hand'.view.log ≡ hand.view.log → stamp' ≡ 0 → sets'.reads ≡ [] → sets'.writes ≡ [] → post_of hand' Idle stamp' sets' ≡ observing (placing (closed (with_bounds (post_of hand phase stamp sets) record { counts = hand'.view.counts; tops = hand'.view.tops })) (placed_of hand'.view.work.linked)) (observed_in hand')
 view_over hand hand' phase stamp stamp' t sets sets' table stands flight log none none_read none_written =
     let size : hand'.view.size ≡ hand.view.size = ap (λ (v : View). v.size) stands.others in
     let number : hand'.view.number ≡ hand.view.number = ap (λ (v : View). v.number) stands.others in
@@ -48,7 +48,7 @@ view_over_all hand hand' phase stamp stamp' t sets sets' table stands works link
     let tops : hand'.view.tops ≡ hand.view.tops = ap (λ (v : View). v.tops) works.only in
     let known : record { counts = hand'.view.counts; tops = hand'.view.tops } ≡ record { counts = hand.view.counts; tops = hand.view.tops } = rw (counts, tops) refl in
     view_over hand hand' phase stamp stamp' t sets sets' table stands flight log none none_read none_written
-    ∙ ap (λ (k : Known). observing (placing (closed (knowing (post_of hand phase stamp sets) k)) (placed_of hand'.view.work.linked)) (observed_in hand')) known
+    ∙ ap (λ (k : Bounds). observing (placing (closed (with_bounds (post_of hand phase stamp sets) k)) (placed_of hand'.view.work.linked)) (observed_in hand')) known
     ∙ ap (λ (us : List Write). observing (placing (closed (post_of hand phase stamp sets)) (placed_of us)) (observed_in hand')) linked
 
 -- where nothing was loaded and lost
@@ -58,7 +58,7 @@ view_over_same hand hand' phase stamp stamp' t sets sets' table stands works lin
     ∙ ap (λ (s : Seen). observing (closed (post_of hand phase stamp sets)) (record { loads = s.loads; lost = s.lost })) seen
 
 -- the post of a transaction whose versions are linked
-pub view_installed : (hand hand' : Seated) (phase : Phase) (stamp t : ℕ) (sets sets' : SetsView) → hand'.table ≡ hand.table → Stands hand.view hand'.view → hand.view.flight ≡ writing t → hand'.view.log ≡ hand.view.log → SameSets sets sets' → post_of hand' Installed stamp sets' ≡ observing (placing (in_phase (knowing (post_of hand phase stamp sets) record { counts = hand'.view.counts; tops = hand'.view.tops }) Installed) (placed_of hand'.view.work.linked)) (observed_in hand')
+pub view_installed : (hand hand' : Seated) (phase : Phase) (stamp t : ℕ) (sets sets' : SetsView) → hand'.table ≡ hand.table → Stands hand.view hand'.view → hand.view.flight ≡ writing t → hand'.view.log ≡ hand.view.log → SameSets sets sets' → post_of hand' Installed stamp sets' ≡ observing (placing (in_phase (with_bounds (post_of hand phase stamp sets) record { counts = hand'.view.counts; tops = hand'.view.tops }) Installed) (placed_of hand'.view.work.linked)) (observed_in hand')
 view_installed hand hand' phase stamp t sets sets' table stands flight log same =
     let size : hand'.view.size ≡ hand.view.size = ap (λ (v : View). v.size) stands.others in
     let number : hand'.view.number ≡ hand.view.number = ap (λ (v : View). v.number) stands.others in
@@ -69,7 +69,7 @@ view_installed hand hand' phase stamp t sets sets' table stands flight log same 
     rw (snapshot', snapshot, table, size, number, splitting, stands.clock, stands.published, log, gone, same.reads, same_values sets.writes sets'.writes same.writes) refl
 
 -- it keeps what an idle post keeps
-pub post_over : (core : Shared) (hand hand' : Seated) (phase : Phase) (stamp stamp' t : ℕ) (sets sets' : SetsView) → IsPost hand phase stamp sets → Stands hand.view hand'.view → hand'.view.counts.in_kept ≡ hand.view.counts.in_kept → hand.view.flight ≡ writing t → IsReady core hand' → Ends hand'.view.work → stamp' ≡ 0 → sets'.reads ≡ [] → sets'.writes ≡ [] → IsPost hand' Idle stamp' sets'
+pub post_over : (core : Shared) (hand hand' : Seated) (phase : Phase) (stamp stamp' t : ℕ) (sets sets' : SetsView) → IsPost hand phase stamp sets → Stands hand.view hand'.view → hand'.view.counts.in_reserved ≡ hand.view.counts.in_reserved → hand.view.flight ≡ writing t → IsReady core hand' → Ends hand'.view.work → stamp' ≡ 0 → sets'.reads ≡ [] → sets'.writes ≡ [] → IsPost hand' Idle stamp' sets'
 post_over core hand hand' phase stamp stamp' t sets sets' is stands kept flight ready ends none none_read none_written =
     let size : hand'.view.size ≡ hand.view.size = ap (λ (v : View). v.size) stands.others in
     let whole = none_resting hand'.view.flight t hand'.view.work.reads (still_flying hand.view hand'.view t stands flight) in

@@ -2,7 +2,7 @@
 use Rattle.std.proofs.Common.{◌≡◌, ℕ, ◌+◌, suc, true, false, Bool, cond, not, List, [], ◌∷◌, ◌++◌, Option, None, Some, refl, sym, ap, ◌∙◌, subst, inl, inr, arith, length, length-append, lt-ltb, le-ltb, eqb, eq-eqb, ne_eqb, ◌<◌, map}
 use Rattle.std.specs.Prelude.{IsSome, nat_lt}
 use Rattle.word_layout.specs.Size.{Size}
-use Rattle.core_rule.specs.View.{View, Write, Bound, Counted, Kept}
+use Rattle.core_rule.specs.View.{View, Write, Bound, Counted, Reserved}
 use Rattle.core_rule.specs.Views.{Among}
 use Rattle.core_rule.specs.Searching.{known_of, one_more, counted_more}
 use Rattle.core_rule.specs.Deciding.{written_values, value_of}
@@ -11,17 +11,18 @@ use Rattle.core_rule.specs.Hands.{Seated}
 use Rattle.validate_core.specs.Sets.{Once, count_below}
 use Rattle.validate_core.specs.Installing.{IsFor, LinksEach, none_yet, one_more as one_more_linked}
 use Rattle.validate_core.proofs.Placing.{one_view}
-use Rattle.seat_post.specs.Seats.{Known, Placed as PlacedAt, placed_of}
+use Rattle.seat_post.specs.Seats.{Bounds, Placed as PlacedAt, placed_of}
 use Rattle.seat_post.specs.Placing.{is_inline, count_inline, HavePlaces}
-use Rattle.seat_post.specs.Lists.{known_before, AreKnown, is_raised, count_raised}
-use Rattle.seat_post.specs.Post.{known_in, ArePlaced}
-use Rattle.seat_post.proofs.Listed.{among_written, length-written}
+use Rattle.seat_post.specs.Lists.{bounds_before, AreBounded, is_raised, count_raised}
+use Rattle.seat_post.specs.Post.{bounds_in, ArePlaced}
+use Rattle.spare_numbers.proofs.Written.{length-written}
+use Rattle.seat_post.proofs.Listed.{among_written}
 use Rattle.core_rule.proofs.Among.{Among-split}
-use Rattle.seat_post.proofs.Linked.{known_by, number_of, once_front, once_end, not_written, known_here, known_there, each_linked}
+use Rattle.seat_post.proofs.Linked.{bounds_by, number_of, once_front, once_end, not_written, known_here, known_there, each_linked}
 
--- what is known, with this of the kept place
-abbrev keeping : Kept → Known → Known
-keeping k known = record { counts = record known.counts { in_kept = k }; tops = known.tops }
+-- what is known, with this of the reserved place
+abbrev keeping : Reserved → Bounds → Bounds
+keeping k known = record { counts = record known.counts { in_reserved = k }; tops = known.tops }
 
 module _ (z : Size) (stamp : ℕ) where
   each_sized : (us : List Write) (v w : View) → LinksEach z stamp us v w → w.size ≡ v.size
@@ -29,18 +30,18 @@ module _ (z : Size) (stamp : ℕ) where
   each_sized _ _ _ (one_more_linked us u v w x each l) = ap (λ (y : View). y.size) (one_view z stamp u w x l) ∙ each_sized us v w each
 
   -- what was known of lists before
-  each_known : (us : List Write) (v w : View) → LinksEach z stamp us v w → known_before (length us) (known_by w) ≡ keeping w.counts.in_kept (known_by v)
+  each_known : (us : List Write) (v w : View) → LinksEach z stamp us v w → bounds_before (length us) (bounds_by w) ≡ keeping w.counts.in_reserved (bounds_by v)
   each_known _ _ _ (none_yet v) = refl
   each_known _ _ _ (one_more_linked us u v w x each l) =
       let long : length (us ++ u ∷ []) ≡ suc (length us) = let h = length-append us (u ∷ []) in omega arith in
       let one = one_view z stamp u w x l in
-      ap (λ n. known_before n (known_by x)) long
-      ∙ ap (λ (y : View). keeping x.counts.in_kept (known_before (suc (length us)) (known_by y))) one
-      ∙ ap (λ k. keeping x.counts.in_kept k) (each_known us v w each)
+      ap (λ n. bounds_before n (bounds_by x)) long
+      ∙ ap (λ (y : View). keeping x.counts.in_reserved (bounds_before (suc (length us)) (bounds_by y))) one
+      ∙ ap (λ k. keeping x.counts.in_reserved k) (each_known us v w each)
 
-  -- and of the kept place, where nothing was linked there
-  pub each_before : (us : List Write) (v w : View) → LinksEach z stamp us v w → w.counts.in_kept ≡ v.counts.in_kept → known_before (length us) (known_by w) ≡ known_by v
-  each_before us v w each same = each_known us v w each ∙ ap (λ (k : Kept). keeping k (known_by v)) same
+  -- and of the reserved place, where nothing was linked there
+  pub each_before : (us : List Write) (v w : View) → LinksEach z stamp us v w → w.counts.in_reserved ≡ v.counts.in_reserved → bounds_before (length us) (bounds_by w) ≡ bounds_by v
+  each_before us v w each same = each_known us v w each ∙ ap (λ (k : Reserved). keeping k (bounds_by v)) same
 
   -- the bounds after it
   each_more : (us : List Write) (v w : View) → LinksEach z stamp us v w → Once number_of us → (u : Write) → Among u us → known_of w.counts u.record_number ≡ one_more v.size u.place (known_of v.counts u.record_number)
@@ -76,7 +77,7 @@ sum_step a b x y l true false first second same rest = omega arith
 sum_step a b x y l false true first second same rest = omega arith
 sum_step a b x y l false false first second same rest = cc
 
-all_counted : (records : ℕ) (before after' : Known) (us : List Write) → ((u : Write) → Among u us → is_raised (known_of before.counts u.record_number) (known_of after'.counts u.record_number) ≡ not (nat_lt u.place records)) → count_below records us + count_raised before after' (written_values us) ≡ length us
+all_counted : (records : ℕ) (before after' : Bounds) (us : List Write) → ((u : Write) → Among u us → is_raised (known_of before.counts u.record_number) (known_of after'.counts u.record_number) ≡ not (nat_lt u.place records)) → count_below records us + count_raised before after' (written_values us) ≡ length us
 all_counted records before after' [] each = refl
 all_counted records before after' (u ∷ us) each =
     sum_step _ _ (count_below records us) (count_raised before after' (written_values us)) (length us) (is_raised (known_of before.counts u.record_number) (known_of after'.counts u.record_number)) (nat_lt u.place records)
@@ -84,18 +85,18 @@ all_counted records before after' (u ∷ us) each =
     (sum_by-cons (λ (w : ℕ × Option (List ℕ)). cond (is_raised (known_of before.counts w.0) (known_of after'.counts w.0)) 1 0) (u.record_number, value_of u.cells) (written_values us)) (each u (inl refl))
     (all_counted records before after' us (λ c among. each c (inr among)))
 
-pub each_counted : (z : Size) (stamp : ℕ) (us : List Write) (hand hand' : Seated) → LinksEach z stamp us hand.view hand'.view → hand'.view.counts.in_kept ≡ hand.view.counts.in_kept → Once number_of us → ArePlaced hand' us
+pub each_counted : (z : Size) (stamp : ℕ) (us : List Write) (hand hand' : Seated) → LinksEach z stamp us hand.view hand'.view → hand'.view.counts.in_reserved ≡ hand.view.counts.in_reserved → Once number_of us → ArePlaced hand' us
 each_counted z stamp us hand hand' each kept once = λ known.
-    let before : known_before (length us) (known_in hand') ≡ known_in hand = each_before z stamp us hand.view hand'.view each kept in
-    let had : AreKnown (known_in hand) (written_values us) = subst (λ (k : Known). AreKnown k (written_values us)) before known in
+    let before : bounds_before (length us) (bounds_in hand') ≡ bounds_in hand = each_before z stamp us hand.view hand'.view each kept in
+    let had : AreBounded (bounds_in hand) (written_values us) = subst (λ (k : Bounds). AreBounded k (written_values us)) before known in
     let size = each_sized z stamp us hand.view hand'.view each in
-    let all : count_below hand.view.size.records us + count_raised (known_in hand) (known_in hand') (written_values us) ≡ length us =
-    all_counted hand.view.size.records (known_in hand) (known_in hand') us
+    let all : count_below hand.view.size.records us + count_raised (bounds_in hand) (bounds_in hand') (written_values us) ≡ length us =
+    all_counted hand.view.size.records (bounds_in hand) (bounds_in hand') us
     (λ u among.
     let o = known_of hand.view.counts u.record_number in
     ap (λ after'. is_raised o after') (each_more z stamp us hand.view hand'.view each once u among) ∙ raised_one hand.view.size u.place o (had u.record_number (among_written us u among))) in
-    subst (λ (s : Size). count_below s.records us + count_raised (known_before (length us) (known_in hand')) (known_in hand') (written_values us) ≡ length us) (sym size)
-    (subst (λ (k : Known). count_below hand.view.size.records us + count_raised k (known_in hand') (written_values us) ≡ length us) (sym before) all)
+    subst (λ (s : Size). count_below s.records us + count_raised (bounds_before (length us) (bounds_in hand')) (bounds_in hand') (written_values us) ≡ length us) (sym size)
+    (subst (λ (k : Bounds). count_below hand.view.size.records us + count_raised k (bounds_in hand') (written_values us) ≡ length us) (sym before) all)
 
 -- ---- each in a place for its record
 
@@ -142,12 +143,12 @@ pub placed_kept : (hand hand' : Seated) (us : List Write) → hand'.view.size �
 placed_kept hand hand' us size counts is = rw (size, counts) is
 
 -- as a post shows it
-pub placed_shown : (hand : Seated) (us : List Write) (records inlined : ℕ) (writes : List (ℕ × Option (List ℕ))) (known : Known) → ArePlaced hand us → written_values us ≡ writes → known_in hand ≡ known → records ≡ hand.view.size.records → inlined ≡ count_below records us
-    → AreKnown (known_before (length writes) known) writes → inlined + count_raised (known_before (length writes) known) known writes ≡ length writes
+pub placed_shown : (hand : Seated) (us : List Write) (records inlined : ℕ) (writes : List (ℕ × Option (List ℕ))) (known : Bounds) → ArePlaced hand us → written_values us ≡ writes → bounds_in hand ≡ known → records ≡ hand.view.size.records → inlined ≡ count_below records us
+    → AreBounded (bounds_before (length writes) known) writes → inlined + count_raised (bounds_before (length writes) known) known writes ≡ length writes
 placed_shown hand us records inlined writes known placed values is size count =
-    let P : ℕ → Type 0 = λ n. AreKnown (known_before n (known_in hand)) (written_values us) → count_below hand.view.size.records us + count_raised (known_before n (known_in hand)) (known_in hand) (written_values us) ≡ n in
+    let P : ℕ → Type 0 = λ n. AreBounded (bounds_before n (bounds_in hand)) (written_values us) → count_below hand.view.size.records us + count_raised (bounds_before n (bounds_in hand)) (bounds_in hand) (written_values us) ≡ n in
     let long : P (length (written_values us)) = subst P (sym (length-written us)) placed in
-    let Q : List (ℕ × Option (List ℕ)) → Known → Type 0 = λ ws k. AreKnown (known_before (length ws) k) ws → inlined + count_raised (known_before (length ws) k) k ws ≡ length ws in
+    let Q : List (ℕ × Option (List ℕ)) → Bounds → Type 0 = λ ws k. AreBounded (bounds_before (length ws) k) ws → inlined + count_raised (bounds_before (length ws) k) k ws ≡ length ws in
     let counted : inlined ≡ count_below hand.view.size.records us = count ∙ ap (λ n. count_below n us) size in
-    let first : Q (written_values us) (known_in hand) = λ had. ap (λ n. n + count_raised (known_before (length (written_values us)) (known_in hand)) (known_in hand) (written_values us)) counted ∙ long had in
-    subst (λ k. Q writes k) is (subst (λ ws. Q ws (known_in hand)) values first)
+    let first : Q (written_values us) (bounds_in hand) = λ had. ap (λ n. n + count_raised (bounds_before (length (written_values us)) (bounds_in hand)) (bounds_in hand) (written_values us)) counted ∙ long had in
+    subst (λ k. Q writes k) is (subst (λ ws. Q ws (bounds_in hand)) values first)

@@ -7,7 +7,7 @@ use Rattle.std.proofs.lemmas.List.Elements.{All-nil}
 use Rattle.seat_post.specs.Logs.{IsAbove}
 use Rattle.seat_post.specs.Leaves.{LeavesValue}
 use Rattle.clock_stamps.specs.Clocks.{drawn}
-use Rattle.core_rule.specs.View.{resting, writing, nothing_kept, View, Clock, Seen, Read, Write}
+use Rattle.core_rule.specs.View.{resting, writing, nothing_reserved, View, Clock, Seen, Read, Write}
 use Rattle.core_rule.specs.Hands.{Shared, Seated, IsReady}
 use Rattle.word_layout.specs.Size.{Size, IsSize}
 use Rattle.validate_core.specs.Sets.{SetsView, MayInstall}
@@ -133,7 +133,7 @@ begun_drawn z s v clock no_reads no_writes stamp = record {
 }
 
 -- a transaction begins at the stamp that was drawn
-pub post_opened : (core : Shared) (hand hand' : Seated) (stamp t clock : ℕ) (sets : SetsView) → IsIdleAt hand stamp sets → hand.view.places.held ≡ [] → hand.view.counts.in_kept ≡ nothing_kept → IsSize hand.view.size → IsReady core hand' → hand'.view ≡ drawn hand.view clock → IsStamp t → t ≡ stamp_of clock hand.view.number → IsAbove (map entry_of hand.view.log) (stamp_of clock hand.view.number) → IsPost hand' Open t sets
+pub post_opened : (core : Shared) (hand hand' : Seated) (stamp t clock : ℕ) (sets : SetsView) → IsIdleAt hand stamp sets → hand.view.places.held ≡ [] → hand.view.counts.in_reserved ≡ nothing_reserved → IsSize hand.view.size → IsReady core hand' → hand'.view ≡ drawn hand.view clock → IsStamp t → t ≡ stamp_of clock hand.view.number → IsAbove (map entry_of hand.view.log) (stamp_of clock hand.view.number) → IsPost hand' Open t sets
 post_opened core hand hand' stamp t clock sets idle held kept size ready view is_stamp at above = record {
   ready = own_ready core hand' ready;
   size = rw view size;
@@ -159,7 +159,7 @@ post_ticked hand hand' stamp clock sets idle view = record {
 }
 
 -- a call that leaves the post idle
-pub post_idle : (core : Shared) (phase : Phase) (hand' : Seated) (stamp : ℕ) (sets : SetsView) → phase ≡ Idle → IsReady core hand' → IsSize hand'.view.size → hand'.view.places.held ≡ [] → hand'.view.counts.in_kept ≡ nothing_kept → IsIdleAt hand' stamp sets → IsPost hand' phase stamp sets
+pub post_idle : (core : Shared) (phase : Phase) (hand' : Seated) (stamp : ℕ) (sets : SetsView) → phase ≡ Idle → IsReady core hand' → IsSize hand'.view.size → hand'.view.places.held ≡ [] → hand'.view.counts.in_reserved ≡ nothing_reserved → IsIdleAt hand' stamp sets → IsPost hand' phase stamp sets
 post_idle core phase hand' stamp sets same ready size held kept is = record {
   ready = own_ready core hand' ready;
   size = size;

@@ -1,8 +1,8 @@
 -- What a promotion leaves of a hand, of a post and of a pass.
 use Rattle.std.proofs.Common.{◌≡◌, ◌≢◌, ℕ, ◌<◌, List, [], ◌∷◌, ◌++◌, length, Option, Some, None, refl, sym, ap, ◌∙◌, subst, inl, inr, ⊎_elim, eq-eqb, ne_eqb, eqb, Bool, cond, arith}
 use Rattle.std.specs.Prelude.{IfSome}
-use Rattle.word_layout.specs.Size.{Size, IsSize, kept_place}
-use Rattle.core_rule.specs.View.{View, Work, Write, Load, no_work, still, writing, version_kept}
+use Rattle.word_layout.specs.Size.{Size, IsSize, reserved_place}
+use Rattle.core_rule.specs.View.{View, Work, Write, Load, no_work, still, writing, version_reserved}
 use Rattle.core_rule.specs.Versions.{read_version}
 use Rattle.core_rule.specs.Views.{Among}
 use Rattle.core_rule.specs.Searching.{Ends, Rests, counted_more}
@@ -107,31 +107,31 @@ pub record Holds (place : ℕ) (v w : View) : Type 0 where
   pub only : w ≡ record v { places = w.places; work = w.work; seen = w.seen }
   pub held : w.places.held ≡ place ∷ v.places.held
 
--- nothing is in flight, no place is held, and no version more stands in the kept one; of the log nothing is said
+-- nothing is in flight, no place is held, and no version more stands in the reserved one; of the log nothing is said
 pub record Rested (v w : View) : Type 0 where
   pub only : w ≡ record v { places = w.places; work = w.work; counts = w.counts; tops = w.tops; front = w.front; log = w.log; seen = w.seen }
   pub held : w.places.held ≡ []
-  pub in_kept : w.counts.in_kept ≡ v.counts.in_kept
+  pub in_reserved : w.counts.in_reserved ≡ v.counts.in_reserved
   pub ends : Ends w.work
 
 pub without_only : (place : ℕ) → without place (place ∷ []) ≡ []
 without_only place = rw (eq-eqb place place refl) refl
 
--- an inline place is not the kept one
-pub inline_apart : (z : Size) (rid : ℕ) → IsSize z → rid < z.records → rid ≢ kept_place z
+-- an inline place is not the reserved one
+pub inline_apart : (z : Size) (rid : ℕ) → IsSize z → rid < z.records → rid ≢ reserved_place z
 inline_apart z rid size lt same = let spare = size.has_spare in omega arith
 
 -- the one place that was held was linked
-linked_since : (rid place stamp : ℕ) (v l w : View) → place ≢ kept_place v.size → v.places.held ≡ [] → Holds place v l → LinksOne rid place stamp l w → Rested v w
+linked_since : (rid place stamp : ℕ) (v l w : View) → place ≢ reserved_place v.size → v.places.held ≡ [] → Holds place v l → LinksOne rid place stamp l w → Rested v w
 linked_since rid place stamp v l w apart none holds links =
     let held : l.places.held ≡ place ∷ [] = holds.held ∙ ap (λ ps. place ∷ ps) none in
     record {
       only = subst (λ (y : View). y ≡ record v { places = y.places; work = y.work; counts = y.counts; tops = y.tops; front = y.front; log = y.log; seen = y.seen })
           (sym (links.only ∙ ap (λ (y : View). record y { places = w.places; work = w.work; counts = counted_more y.size rid stamp place y.counts; tops = record { record_number = rid; stamp = stamp } ∷ y.tops; front = w.front; log = w.log; seen = w.seen }) holds.only)) refl;
       held = links.held ∙ ap (λ ps. without place ps) held ∙ without_only place;
-      in_kept = ap (λ (y : View). y.counts.in_kept) links.only
-          ∙ ap (λ (y : View). cond (eqb place (kept_place y.size)) (version_kept rid stamp) y.counts.in_kept) holds.only
-          ∙ ap (λ (b : Bool). cond b (version_kept rid stamp) v.counts.in_kept) (ne_eqb place (kept_place v.size) apart);
+      in_reserved = ap (λ (y : View). y.counts.in_reserved) links.only
+          ∙ ap (λ (y : View). cond (eqb place (reserved_place y.size)) (version_reserved rid stamp) y.counts.in_reserved) holds.only
+          ∙ ap (λ (b : Bool). cond b (version_reserved rid stamp) v.counts.in_reserved) (ne_eqb place (reserved_place v.size) apart);
       ends = links.ends;
     }
 
@@ -157,7 +157,7 @@ works_rested : (v w : View) → v.places.held ≡ [] → w ≡ worked v w.work w
 works_rested v w none only ends = record {
   only = subst (λ (y : View). y ≡ record v { places = y.places; work = y.work; counts = y.counts; tops = y.tops; front = y.front; log = y.log; seen = y.seen }) (sym only) refl;
   held = ap (λ (y : View). y.places.held) only ∙ none;
-  in_kept = ap (λ (y : View). y.counts.in_kept) only;
+  in_reserved = ap (λ (y : View). y.counts.in_reserved) only;
   ends = ends;
 }
 
@@ -170,19 +170,19 @@ lost_ends stamp rid v w drawn f = subst (λ (x : Work). Ends x) (sym (ap (λ (y 
 
 -- ---- each answer
 
-written_inline : (kept : State → Type 0) (records stamp rid : ℕ) (v w : View) → rid ≢ kept_place v.size → IsDrawn stamp v → WritesInline kept records stamp rid v w → Rested v w
+written_inline : (kept : State → Type 0) (records stamp rid : ℕ) (v w : View) → rid ≢ reserved_place v.size → IsDrawn stamp v → WritesInline kept records stamp rid v w → Rested v w
 written_inline kept records stamp rid v w apart drawn wrote = linked_since rid rid stamp v wrote.loaded w apart drawn.holds_none (loaded_since stamp rid wrote.words v wrote.loaded wrote.loads) wrote.rewrites.links
 
-pub promotes_rested : (kept : State → Type 0) (records stamp rid : ℕ) (v w : View) (told : Promotion) → rid ≢ kept_place v.size → IsDrawn stamp v → PromotesAt kept records stamp rid v w told → Rested v w
+pub promotes_rested : (kept : State → Type 0) (records stamp rid : ℕ) (v w : View) (told : Promotion) → rid ≢ reserved_place v.size → IsDrawn stamp v → PromotesAt kept records stamp rid v w told → Rested v w
 promotes_rested kept records stamp rid v w (Promoted at) apart drawn told = written_inline kept records stamp rid v w apart drawn told.1
 promotes_rested kept records stamp rid v w Inline apart drawn found = works_rested v w drawn.holds_none (worked_since stamp rid rid found.wts 3 v w found.found) (searched_since stamp rid rid found.wts 3 v w drawn found.found)
 promotes_rested kept records stamp rid v w Absent apart drawn found = works_rested v w drawn.holds_none (worked_since stamp rid found.place found.wts 4 v w found.found) (searched_since stamp rid found.place found.wts 4 v w drawn found.found)
 promotes_rested kept records stamp rid v w Occupied apart drawn found = works_rested v w drawn.holds_none (lost_works stamp rid v w found) (lost_ends stamp rid v w drawn found)
 
-stopped_linked : (stamp rid : ℕ) (v w : View) (conflict : Conflict) → rid ≢ kept_place v.size → IsDrawn stamp v → IsStoppedWriting stamp rid v w conflict → Rested v w
+stopped_linked : (stamp rid : ℕ) (v w : View) (conflict : Conflict) → rid ≢ reserved_place v.size → IsDrawn stamp v → IsStoppedWriting stamp rid v w conflict → Rested v w
 stopped_linked stamp rid v w conflict apart drawn stops = linked_since rid rid stamp v stops.loaded w apart drawn.holds_none (loaded_since stamp rid stops.words v stops.loaded stops.loads) stops.stops.links
 
-pub fails_rested : (stamp rid : ℕ) (v w : View) (conflict : Conflict) → rid ≢ kept_place v.size → IsDrawn stamp v → FailsAt stamp rid v w conflict → Rested v w
+pub fails_rested : (stamp rid : ℕ) (v w : View) (conflict : Conflict) → rid ≢ reserved_place v.size → IsDrawn stamp v → FailsAt stamp rid v w conflict → Rested v w
 fails_rested stamp rid v w conflict apart drawn (inl met) = works_rested v w drawn.holds_none met.only met.ends
 fails_rested stamp rid v w conflict apart drawn (inr stops) = stopped_linked stamp rid v w conflict apart drawn stops
 
@@ -246,7 +246,7 @@ pub post_rested : (core : Shared) (phase : Phase) (hand hand' : Seated) (v : Vie
 post_rested core phase hand hand' v clock stamp sets same is view rested ready =
     let idle = at_phase phase Idle hand stamp sets is same in
     let size : hand'.view.size ≡ hand.view.size = ap (λ (y : View). y.size) rested.only ∙ ap (λ (y : View). y.size) view in
-    post_idle core phase hand' stamp sets same ready (rw size is.size) rested.held (rested.in_kept ∙ ap (λ (y : View). y.counts.in_kept) view ∙ is.keeps_none) (record {
+    post_idle core phase hand' stamp sets same ready (rw size is.size) rested.held (rested.in_reserved ∙ ap (λ (y : View). y.counts.in_reserved) view ∙ is.keeps_none) (record {
       ends = rested.ends;
       whole = none_resting hand'.view.flight (stamp_of clock hand.view.number) hand'.view.work.reads (still_drawn hand hand' v clock view rested);
       no_stamp = idle.no_stamp;
@@ -290,7 +290,7 @@ module _ (hand hand' : Seated) (phase : Phase) (ps : ℕ) (sets : SetsView) (v :
   met_post met =
       let is : hand'.view ≡ worked (drawn hand.view clock) hand'.view.work hand'.view.seen = met.only ∙ ap (λ (y : View). worked y hand'.view.work hand'.view.seen) drew in record {
         after = rw (table, is) refl;
-        linked = inl (record { known = rw is refl; placed = ap placed_of met.none_linked });
+        linked = inl (record { bounds = rw is refl; placed = ap placed_of met.none_linked });
         shown = shown_drawn met.shown;
         loaded = loaded_drawn (inl met);
       }
@@ -304,7 +304,7 @@ module _ (hand hand' : Seated) (phase : Phase) (ps : ℕ) (sets : SetsView) (v :
       ∙ ap (λ (y : View). record y { places = w.places; work = w.work; counts = counted_more y.size rid stamp rid y.counts; tops = record { record_number = rid; stamp = stamp } ∷ y.tops; front = w.front; seen = w.seen }) drew in
       record {
         after = rw (table, is) refl;
-        linked = inr (record { known = rw (is, at) refl; placed = stops.stops.links.placed });
+        linked = inr (record { bounds = rw (is, at) refl; placed = stops.stops.links.placed });
         shown = shown_drawn (subst (λ (y : View). ShowsOf rid y.size y.number (others_in y) stamp conflict) holds.only stops.stops.shown);
         loaded = loaded_drawn (inr stops);
       }

@@ -4,7 +4,7 @@ use Rattle.std.proofs.lemmas.List.{length-map}
 use Rattle.plain_data.specs.declared.entry.Entry.{Entry}
 use Rattle.plain_data.specs.State.{State}
 use Rattle.stamp_base.specs.Stamp.{stamp_of, bound_of_clock}
-use Rattle.word_layout.specs.Size.{Size, kept_place}
+use Rattle.word_layout.specs.Size.{Size, reserved_place}
 use Rattle.core_rule.specs.View.{View, Work, Write, no_work, Logged, Load, Seen, still}
 use Rattle.core_rule.specs.Views.{Has, Among, IsAlone}
 use Rattle.core_rule.specs.Versions.{read_version}
@@ -28,7 +28,7 @@ use Rattle.seat_post.specs.Rewriting.{rewriting, Rewritings, none_yet, one_more,
 use Rattle.seat_post.specs.Searched.{Finds}
 use Rattle.seat_post.specs.Settling.{entries_of, IsSettling, Settles, IsRewrittenAt, HasSpare, TakesAfter, LosesAll}
 use Rattle.seat_post.proofs.AloneSeats.{alone_shown}
-use Rattle.seat_post.proofs.Bounds.{above_more}
+use Rattle.seat_post.proofs.Bounds.{above_later, above_more}
 use Rattle.seat_post.proofs.Promotions.{without_only}
 use Rattle.seat_post.proofs.ReadMore.{found_at}
 use Rattle.seat_post.proofs.Steady.{alone_same}
@@ -68,10 +68,6 @@ found_ends rid place wts value v w clock u drew found = record {
   settled = λ x among. absurd (subst (λ (us : List Write). Among x us) (ap (λ (y : View). y.work.linked) found.view ∙ ap (λ (y : View). y.work.linked) drew) among);
   collected = ap (λ (y : View). y.work.item) found.view ∙ ap (λ (y : View). y.work.item) drew;
 }
-
--- a later clock is above
-above_later : (log : List Entry) (clock later : ℕ) → clock ≤ later → IsAbove log (bound_of_clock clock) → IsAbove log (bound_of_clock later)
-above_later log clock later le above e among commit = let h = above e among commit in omega arith
 
 -- no place was taken
 pub none_taken : (kept : State → Type 0) (u v w x : View) (clock rid place wts : ℕ) (value : Option (List ℕ)) → IsSettling u → u.clock.clock ≤ clock → v ≡ drawn u clock → Finds rid place wts value v w → LosesAll w x → IsSettling x × Settles kept u x
@@ -208,10 +204,10 @@ free_found u v w clock rid place wts p value drew found is spare =
     let at : w ≡ record (drawn u clock) { work = record no_work { reads = read_version rid place wts value ∷ [] }; seen = w.seen } = found.view ∙ ap (λ (y : View). record y { work = record y.work { search = still; reads = read_version rid place wts value ∷ y.work.reads }; seen = w.seen }) drew in
     subst (λ (y : View). KnowsFree y p) (sym at) (record { alone = is.alone; rests = tt; collected = refl; not_held = λ has. subst (λ (ps : List ℕ). Has p ps) is.holds_none has; spare = spare })
 
-pub spare_found : (u v w : View) (z : Size) (clock rid place wts : ℕ) (value : Option (List ℕ)) → v ≡ drawn u clock → Finds rid place wts value v w → IsSettling u → z ≡ u.size → rid < u.size.records → HasSpare rid u.counts → KnowsFree w (kept_place z) ⊎ KnowsFree w rid
+pub spare_found : (u v w : View) (z : Size) (clock rid place wts : ℕ) (value : Option (List ℕ)) → v ≡ drawn u clock → Finds rid place wts value v w → IsSettling u → z ≡ u.size → rid < u.size.records → HasSpare rid u.counts → KnowsFree w (reserved_place z) ⊎ KnowsFree w rid
 spare_found u v w z clock rid place wts value drew found is size within spare =
-    elim spare as (λ _. KnowsFree w (kept_place z) ⊎ KnowsFree w rid) [
-      | inl none ↦ inl (free_found u v w clock rid place wts (kept_place z) value drew found is (inl (ap kept_place size, none)))
+    elim spare as (λ _. KnowsFree w (reserved_place z) ⊎ KnowsFree w rid) [
+      | inl none ↦ inl (free_found u v w clock rid place wts (reserved_place z) value drew found is (inl (ap reserved_place size, none)))
       | inr stands ↦ inr (free_found u v w clock rid place wts rid value drew found is (inr (within, stands)))
     ]
 

@@ -16,10 +16,10 @@ use Rattle.seat_post.specs.Leaves.{LeavesAs, AreAbsent}
 use Rattle.seat_post.specs.Rescan.{Looks, looked_over}
 use Rattle.seat_post.specs.declared.phase.Phase.{Phase}
 use Rattle.seat_post.specs.Post.{post_of, observing, observed_in}
-use Rattle.seat_post.specs.Spare.{NumbersView, is_on, added}
+use Rattle.spare_numbers.specs.Spare.{NumbersView, is_on, added}
 use Rattle.seat_post.proofs.Announcing.{word, Announces}
 use Rattle.version_search.proofs.Grown.{grows_none, grows_both}
-use Rattle.seat_post.proofs.NumberLists.{or_off, or_true, on_either}
+use Rattle.spare_numbers.proofs.NumberLists.{or_off, or_true, on_either}
 use Rattle.seat_post.proofs.Observed.{reads_grow}
 
 -- ---- searches

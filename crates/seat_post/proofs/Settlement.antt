@@ -15,7 +15,7 @@ use Rattle.core_rule.specs.Deciding as deciding
 use Rattle.clock_stamps.specs.Minima.{bounded}
 use Rattle.version_search.specs.Finding.{Reads}
 use Rattle.version_search.proofs.Grown.{grows_both}
-use Rattle.rapid_gc.specs.Bounds.{IsOneLeft}
+use Rattle.rapid_gc.specs.Bounds.{IsSingle}
 use Rattle.validate_core.specs.Sets.{SetsView}
 use Rattle.seat_post.specs.declared.phase.Phase.{Phase}
 use Rattle.seat_post.specs.Snapshot.{first_snapshot}
@@ -49,13 +49,13 @@ entry_below v rid stamp is entry = let h = is.above (deciding.entry_of entry.ent
 
 -- what is known of other lists stays, so those settled before are settled still
 pub settled_still : (count rid : ℕ) (v w : View) → count ≤ rid → AreSettled count v.counts → KeepsOthers rid v w → AreSettled count w.counts
-settled_still count rid v w within before others r below = subst (λ (b : Option Bound). IsOneLeft b) (sym (others r (λ same. omega arith))) (before r below)
+settled_still count rid v w within before others r below = subst (λ (b : Option Bound). IsSingle b) (sym (others r (λ same. omega arith))) (before r below)
 
-settled_last : (rid r : ℕ) (w : View) → (r < rid) ⊎ (rid ≤ r) → r < rid + 1 → (r < rid → IsOneLeft (known_of w.counts r)) → IsOneLeft (known_of w.counts rid) → IsOneLeft (known_of w.counts r)
+settled_last : (rid r : ℕ) (w : View) → (r < rid) ⊎ (rid ≤ r) → r < rid + 1 → (r < rid → IsSingle (known_of w.counts r)) → IsSingle (known_of w.counts rid) → IsSingle (known_of w.counts r)
 settled_last rid r w (inl less) below before last = before less
-settled_last rid r w (inr most) below before last = let same : rid ≡ r = omega arith in subst (λ (n : ℕ). IsOneLeft (known_of w.counts n)) same last
+settled_last rid r w (inr most) below before last = let same : rid ≡ r = omega arith in subst (λ (n : ℕ). IsSingle (known_of w.counts n)) same last
 
-pub settled_more : (rid : ℕ) (v w : View) → AreSettled rid v.counts → KeepsOthers rid v w → IsOneLeft (known_of w.counts rid) → AreSettled (rid + 1) w.counts
+pub settled_more : (rid : ℕ) (v w : View) → AreSettled rid v.counts → KeepsOthers rid v w → IsSingle (known_of w.counts rid) → AreSettled (rid + 1) w.counts
 settled_more rid v w before others last r below = settled_last rid r w (cases_lt r rid) below (λ less. settled_still rid rid v w (omega arith) before others r less) last
 
 pub draws_both : (a b : ℕ) (u v w : View) → Draws a u v → Draws b v w → Draws (a + b) u w
@@ -89,7 +89,7 @@ settles_post kept hand hand' last phase stamp bound sets table table' settles se
     let linked : last.view.work.linked ≡ [] = ap (λ (v : View). v.work.linked) view in
     let is : bound ≡ bound + 1 - 1 = omega arith in
     let snapshot : after'.snapshot ≡ first_snapshot (last.view.clock.met - 1) = rw view (ap first_snapshot is) in
-    let rest : record after' { snapshot = first_snapshot (last.view.clock.met - 1) } ≡ record before { clock = after'.clock; published = after'.published; met = after'.met; known = after'.known; log = after'.log; observed = after'.observed; gone = after'.gone; placed = []; snapshot = first_snapshot (after'.met - 1) } = rw (table' ∙ table, number, size, splitting, taken, linked) refl in
+    let rest : record after' { snapshot = first_snapshot (last.view.clock.met - 1) } ≡ record before { clock = after'.clock; published = after'.published; met = after'.met; bounds = after'.bounds; log = after'.log; observed = after'.observed; gone = after'.gone; placed = []; snapshot = first_snapshot (after'.met - 1) } = rw (table' ∙ table, number, size, splitting, taken, linked) refl in
     record {
       only = ap (λ g. record after' { snapshot = g }) snapshot ∙ rest;
       later = omega arith;

@@ -38,7 +38,7 @@ in_snapshot_of hand stamp sets idle some =
     record { rests = rests; ends = idle.ends; whole = idle.whole rests }
 
 -- an idle post at another hand that reads for a snapshot
-pub post_in_snapshot : (core : Shared) (phase : Phase) (hand hand' : Seated) (stamp : ℕ) (sets : SetsView) → IsPost hand phase stamp sets → IsIdleAt hand stamp sets → phase ≡ Idle → IsReady core hand' → hand'.view.size ≡ hand.view.size → hand'.view.places.held ≡ hand.view.places.held → hand'.view.counts.in_kept ≡ hand.view.counts.in_kept → IsInSnapshot hand'.view → IsPost hand' phase stamp sets
+pub post_in_snapshot : (core : Shared) (phase : Phase) (hand hand' : Seated) (stamp : ℕ) (sets : SetsView) → IsPost hand phase stamp sets → IsIdleAt hand stamp sets → phase ≡ Idle → IsReady core hand' → hand'.view.size ≡ hand.view.size → hand'.view.places.held ≡ hand.view.places.held → hand'.view.counts.in_reserved ≡ hand.view.counts.in_reserved → IsInSnapshot hand'.view → IsPost hand' phase stamp sets
 post_in_snapshot core phase hand hand' stamp sets is idle same ready size held kept in_snapshot =
     post_idle core phase hand' stamp sets same ready (rw size is.size) (held ∙ is.holds_none) (kept ∙ is.keeps_none) (record {
       ends = in_snapshot.ends;
@@ -52,7 +52,7 @@ post_in_snapshot core phase hand hand' stamp sets is idle same ready size held k
 pub post_ended : (core : Shared) (phase : Phase) (hand hand' : Seated) (stamp : ℕ) (sets : SetsView) → IsPost hand phase stamp sets → IsIdleAt hand stamp sets → phase ≡ Idle → IsReady core hand' → hand'.view ≡ snapshot_ended hand.view hand'.view.seen → IsPost hand' phase stamp sets
 post_ended core phase hand hand' stamp sets is idle same ready view =
     let work : hand'.view.work ≡ no_work = ap (λ (v : View). v.work) view in
-    post_idle core phase hand' stamp sets same ready (rw view is.size) (ap (λ (v : View). v.places.held) view ∙ is.holds_none) (ap (λ (v : View). v.counts.in_kept) view ∙ is.keeps_none) (record {
+    post_idle core phase hand' stamp sets same ready (rw view is.size) (ap (λ (v : View). v.places.held) view ∙ is.holds_none) (ap (λ (v : View). v.counts.in_reserved) view ∙ is.keeps_none) (record {
       ends = rw work (record { rests = tt; settled = λ u among. absurd among; collected = refl });
       whole = λ at. rw work (λ d among. absurd among);
       no_stamp = idle.no_stamp;
@@ -66,8 +66,8 @@ opened_size stamp v w opens = ap (λ (x : View). x.size) opens.bound ∙ ap (λ 
 pub opened_held : (stamp : ℕ) (v w : View) → Opens stamp v w → w.places.held ≡ v.places.held
 opened_held stamp v w opens = ap (λ (x : View). x.places.held) opens.bound ∙ ap (λ (x : View). x.places.held) opens.raised
 
-pub opened_kept : (stamp : ℕ) (v w : View) → Opens stamp v w → w.counts.in_kept ≡ v.counts.in_kept
-opened_kept stamp v w opens = ap (λ (x : View). x.counts.in_kept) opens.bound ∙ ap (λ (x : View). x.counts.in_kept) opens.raised
+pub opened_kept : (stamp : ℕ) (v w : View) → Opens stamp v w → w.counts.in_reserved ≡ v.counts.in_reserved
+opened_kept stamp v w opens = ap (λ (x : View). x.counts.in_reserved) opens.bound ∙ ap (λ (x : View). x.counts.in_reserved) opens.raised
 
 -- of a seat that is alone the stamp is at least one less than what it has published
 pub opened_alone : (stamp : ℕ) (v w : View) → Opens stamp v w → IsAlone v → v.published.write ≤ stamp + 1

@@ -50,9 +50,9 @@ either false any x None same = same
 either false any x (Some y) same = same
 
 -- a record was read where the first reads know it
-known_first : (r : ℕ) (ds : List Read) → is_read r ds ≡ is_some (value_at (read_values (firsts ds)) r)
-known_first r [] = refl
-known_first r (d ∷ ds) = by_test (known_first r ds) (is_read d.record_number ds) refl where
+bounds_first : (r : ℕ) (ds : List Read) → is_read r ds ≡ is_some (value_at (read_values (firsts ds)) r)
+bounds_first r [] = refl
+bounds_first r (d ∷ ds) = by_test (bounds_first r ds) (is_read d.record_number ds) refl where
   by_test : is_read r ds ≡ is_some (value_at (read_values (firsts ds)) r) → (b : Bool) → is_read d.record_number ds ≡ b
       → cond (eqb r d.record_number) true (is_read r ds) ≡ is_some (value_at (read_values (cond b (firsts ds) (firsts ds ++ d ∷ []))) r)
   by_test same true e =
@@ -78,7 +78,7 @@ first_value : (ds : List Read) (r : ℕ) (x : Option (List ℕ)) → is_read r d
     → ((c : Read) → Among c ds → c.record_number ≡ r → read_value c ≡ x) → value_at (read_values (firsts ds)) r ≡ Some x
 first_value ds r x was alike = by_found (value_at (read_values (firsts ds)) r) refl where
   by_found : (found : Option (Option (List ℕ))) → value_at (read_values (firsts ds)) r ≡ found → found ≡ Some x
-  by_found None is = absurd (let h : true ≡ false = sym was ∙ known_first r ds ∙ ap is_some is in cc)
+  by_found None is = absurd (let h : true ≡ false = sym was ∙ bounds_first r ds ∙ ap is_some is in cc)
   by_found (Some y) is = let c = read_of (firsts ds) r y is in ap Some (sym c.3 ∙ alike c.0 (first_among ds c.0 c.1) c.2)
 
 module _ (ds : List Read) (d : Read) where
@@ -87,8 +87,8 @@ module _ (ds : List Read) (d : Read) where
   snapshot_reads_more = by_test (is_read d.record_number ds) refl where
     by_test : (b : Bool) → is_read d.record_number ds ≡ b
         → read_values (cond b (firsts ds) (firsts ds ++ d ∷ [])) ≡ with_read (read_values (firsts ds)) d.record_number (read_value d)
-    by_test true e = rw (sym (known_first d.record_number ds) ∙ e) refl
-    by_test false e = rw (sym (known_first d.record_number ds) ∙ e) (read_values-append (firsts ds) d)
+    by_test true e = rw (sym (bounds_first d.record_number ds) ∙ e) refl
+    by_test false e = rw (sym (bounds_first d.record_number ds) ∙ e) (read_values-append (firsts ds) d)
 
   -- and its value is known afterwards
   pub snapshot_reads_answer : ((c : Read) → Among c ds → c.record_number ≡ d.record_number → read_value c ≡ read_value d)
@@ -98,7 +98,7 @@ module _ (ds : List Read) (d : Read) where
         → value_at (read_values (cond b (firsts ds) (firsts ds ++ d ∷ []))) d.record_number ≡ Some (read_value d)
     by_test true e = first_value ds d.record_number (read_value d) e alike
     by_test false e = value_at-push (firsts ds) d d.record_number
-        ∙ rw (sym (known_first d.record_number ds) ∙ e, eq-eqb d.record_number d.record_number refl) refl
+        ∙ rw (sym (bounds_first d.record_number ds) ∙ e, eq-eqb d.record_number d.record_number refl) refl
 
 -- ---- a read at the hand
 

@@ -3,7 +3,7 @@ use Rattle.std.proofs.Common.{◌≡◌, ℕ, ◌<◌, true, false, Bool, cond, 
 use Rattle.std.specs.Prelude.{IsSome}
 use Rattle.std.proofs.lemmas.Bool.Decides.{eqb_tells}
 use Rattle.word_layout.specs.Size.{Size, IsSize}
-use Rattle.core_rule.specs.View.{Write, resting, nothing_kept}
+use Rattle.core_rule.specs.View.{Write, resting, nothing_reserved}
 use Rattle.core_rule.specs.Snapshots.{AreAllWhole}
 use Rattle.core_rule.specs.Views.{Among}
 use Rattle.core_rule.specs.Hands.{Seated, IsReady}
@@ -47,7 +47,7 @@ pub view_put : (hand : Seated) (phase : Phase) (stamp : ℕ) (sets sets' : SetsV
 view_put hand phase stamp sets sets' rid value reads put = rw (reads, put) refl
 
 -- nothing is left of the transaction
-pub post_closed : (hand : Seated) (sets : SetsView) → IsReady (shared_of hand) hand → IsSize hand.view.size → hand.view.places.held ≡ [] → hand.view.counts.in_kept ≡ nothing_kept → Ends hand.view.work → (hand.view.flight ≡ resting → AreAllWhole hand.view.work.reads) → sets.reads ≡ [] → sets.writes ≡ [] → IsPost hand Idle 0 sets
+pub post_closed : (hand : Seated) (sets : SetsView) → IsReady (shared_of hand) hand → IsSize hand.view.size → hand.view.places.held ≡ [] → hand.view.counts.in_reserved ≡ nothing_reserved → Ends hand.view.work → (hand.view.flight ≡ resting → AreAllWhole hand.view.work.reads) → sets.reads ≡ [] → sets.writes ≡ [] → IsPost hand Idle 0 sets
 post_closed hand sets ready size held kept ends whole none_read none_written = record {
   ready = ready;
   size = size;

@@ -3,7 +3,7 @@ use Rattle.std.specs.Prelude.{◌≡◌, ℕ, ◌<◌, ◌≤◌, List, Bool, tr
 use Rattle.std.specs.List.Sorted.{IsStrictlyIncreasing}
 use Rattle.plain_data.specs.declared.entry.Entry.{Entry}
 use Rattle.histories.specs.History.{IsValue}
-use Rattle.seat_post.specs.Spare.{is_on}
+use Rattle.spare_numbers.specs.Spare.{is_on}
 
 -- the entries of a log that are stamped below a limit
 abbrev pub StampedBelow : List Entry → (limit : ℕ) → Entry → Type 0

@@ -5,8 +5,6 @@ pub mod Observing
 pub mod Conflicts
 pub mod Logs
 pub mod Leaves
-pub mod Marks
-pub mod Spare
 pub mod Ends
 pub mod Reading
 pub mod Searched

@@ -31,6 +31,6 @@ pub record WantsPlaceAt (before after' : PostView) : Type 0 where
   pub count : ℕ
   pub write : ℕ × Option (List ℕ)
   pub next : take (suc count) before.writes ≡ take count before.writes ++ write ∷ []
-  pub linked : AreLinked (take count before.writes) before.stamp before.known after'.known
+  pub linked : AreLinked (take count before.writes) before.stamp before.bounds after'.bounds
   pub have : HavePlaces before.shared.size (take count before.writes) after'.placed
   pub no_place : MeetsNoPlace before.shared.size write.0 before.observed after'.observed

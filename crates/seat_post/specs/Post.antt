@@ -5,7 +5,7 @@ use Rattle.plain_data.specs.declared.entry.Entry.{Entry}
 use Rattle.stamp_base.specs.Stamp.{stamp_of, bound_of_clock}
 use Rattle.word_layout.specs.Size.{IsSize}
 use Rattle.core_rule.specs.Hands.{Shared, Seated, IsReady}
-use Rattle.core_rule.specs.View.{Write, resting, nothing_kept}
+use Rattle.core_rule.specs.View.{Write, resting, nothing_reserved}
 use Rattle.core_rule.specs.Views.{IsAlone, Among}
 use Rattle.core_rule.specs.Searching.{Ends}
 use Rattle.core_rule.specs.Deciding.{read_values, written_values}
@@ -16,11 +16,11 @@ use Rattle.validate_core.specs.Validating as validating
 use Rattle.validate_core.specs.declared.conflict.Conflict.{Conflict}
 use Rattle.core_rule.specs.Snapshots.{AreAllWhole}
 use Rattle.seat_post.specs.Snapshot.{SnapshotView, snapshot_view, first_snapshot, with_read}
-use Rattle.seat_post.specs.Seats.{Others, Known, Observed, Removed, Placed, IsAloneAt, observed_of, removed_of, placed_of}
+use Rattle.seat_post.specs.Seats.{Others, Bounds, Observed, Removed, Placed, IsAloneAt, observed_of, removed_of, placed_of}
 use Rattle.seat_post.specs.Conflicts.{Shows, WereFound}
 use Rattle.seat_post.specs.Logs.{IsAbove}
 use Rattle.seat_post.specs.Leaves.{AreLeft}
-use Rattle.seat_post.specs.Lists.{known_before, AreKnown, count_raised}
+use Rattle.seat_post.specs.Lists.{bounds_before, AreBounded, count_raised}
 use Rattle.seat_post.specs.declared.phase.Phase.{Phase}
 use Rattle.seat_post.specs.declared.phase.Phase.TheVariants.{Idle, Open, Installed, Decided}
 
@@ -34,7 +34,7 @@ pub record PostView : Type 0 where
   pub clock : ℕ
   pub published : ℕ
   pub others : Others
-  pub known : Known
+  pub bounds : Bounds
   pub met : ℕ
   pub log : List Entry
   pub observed : Observed
@@ -55,8 +55,8 @@ abbrev pub shared_of : Seated → Shared
 shared_of hand = record { table = hand.table; size = hand.view.size }
 
 -- what it knows of lists
-abbrev pub known_in : Seated → Known
-known_in hand = record { counts = hand.view.counts; tops = hand.view.tops }
+abbrev pub bounds_in : Seated → Bounds
+bounds_in hand = record { counts = hand.view.counts; tops = hand.view.tops }
 
 -- what its steps came upon
 abbrev pub observed_in : Seated → Observed
@@ -69,7 +69,7 @@ post_view hand phase stamp reads writes = record {
   clock = hand.view.clock.clock;
   published = hand.view.published.write;
   others = record { splitting = hand.view.splitting; taken_in = hand.view.clock.taken_in };
-  known = known_in hand;
+  bounds = bounds_in hand;
   met = hand.view.clock.met;
   log = map deciding.entry_of hand.view.log;
   observed = observed_in hand;
@@ -111,8 +111,8 @@ AllFit hand us = (u : Write) → Among u us → IsFor hand.view.size u.record_nu
 -- as many of the writes stand in inline places as what is known of lists tells
 abbrev pub ArePlaced : Seated → List Write → Type 0
 ArePlaced hand us =
-    AreKnown (known_before (length us) (known_in hand)) (written_values us)
-    → count_below hand.view.size.records us + count_raised (known_before (length us) (known_in hand)) (known_in hand) (written_values us)
+    AreBounded (bounds_before (length us) (bounds_in hand)) (written_values us)
+    → count_below hand.view.size.records us + count_raised (bounds_before (length us) (bounds_in hand)) (bounds_in hand) (written_values us)
     ≡ length us
 
 pub record IsInstalledAt (hand : Seated) (stamp : ℕ) (sets : SetsView) : Type 0 where
@@ -134,12 +134,12 @@ IsAt Open = IsOpenAt
 IsAt Installed = IsInstalledAt
 IsAt Decided = IsDecidedAt
 
--- the hand may make its calls, holds no place, and has nothing in the kept one
+-- the hand may make its calls, holds no place, and has nothing in the reserved one
 pub record IsPost (hand : Seated) (phase : Phase) (stamp : ℕ) (sets : SetsView) : Type 0 where
   pub ready : IsReady (shared_of hand) hand
   pub size : IsSize hand.view.size
   pub holds_none : hand.view.places.held ≡ []
-  pub keeps_none : hand.view.counts.in_kept ≡ nothing_kept
+  pub keeps_none : hand.view.counts.in_reserved ≡ nothing_reserved
   pub at : IsAt phase hand stamp sets
 
 -- ---- what its calls make of it
@@ -163,8 +163,8 @@ abbrev pub opened : PostView → ℕ → PostView
 opened p clock = record (drawn_at p clock) { phase = Open; stamp = stamp_of clock p.seat }
 
 -- the bound of its clock is published, a greater `min_wts` was met, and this is known of lists
-abbrev pub collected_at : PostView → (met : ℕ) → Known → PostView
-collected_at p met known = record p { published = max p.published (bound_of_clock p.clock); met = met; known = known; placed = []; snapshot = first_snapshot (met - 1) }
+abbrev pub collected_at : PostView → (met : ℕ) → Bounds → PostView
+collected_at p met bounds = record p { published = max p.published (bound_of_clock p.clock); met = met; bounds = bounds; placed = []; snapshot = first_snapshot (met - 1) }
 
 -- a snapshot begins, reads one more record, and ends
 abbrev pub snapshot_begun_at : PostView → ℕ → PostView
@@ -196,8 +196,8 @@ unwritten p = record p { writes = [] }
 abbrev pub known_at : PostView → ℕ → Option (Option (List ℕ))
 known_at p rid = if is_some (value_at p.writes rid) then value_at p.writes rid else value_at p.reads rid
 
-abbrev pub knowing : PostView → Known → PostView
-knowing p known = record p { known = known }
+abbrev pub with_bounds : PostView → Bounds → PostView
+with_bounds p bounds = record p { bounds = bounds }
 
 abbrev pub in_phase : PostView → Phase → PostView
 in_phase p phase = record p { phase = phase }

@@ -14,7 +14,7 @@ use Rattle.seat_post.specs.declared.promoting.Promotion.{Promotion}
 use Rattle.seat_post.specs.declared.promoting.Promotion.TheVariants.{Promoted, Inline, Absent, Occupied}
 use Rattle.seat_post.specs.declared.promoting.PromoteFault.{PromoteFault}
 use Rattle.seat_post.specs.declared.promoting.PromoteFault.TheVariants as fault
-use Rattle.seat_post.specs.Seats.{Known, Observed}
+use Rattle.seat_post.specs.Seats.{Bounds, Observed}
 use Rattle.seat_post.specs.Observing.{WasLost}
 use Rattle.seat_post.specs.Conflicts.{ShowsOf, IsLoaded}
 use Rattle.seat_post.specs.Ends.{Stood}
@@ -50,12 +50,12 @@ CameUpon stamp rid before after' Occupied = MeetsElsewhere stamp rid before afte
 abbrev pub rewritten_at : PostView → (clock rid place : ℕ) → Option (List ℕ) → PostView
 rewritten_at p clock rid place value = record (drawn_at p clock) {
   placed = record { rid = rid; place = place } ∷ [];
-  known = linked_in p.shared.size rid place (stamp_of clock p.seat) p.known;
+  bounds = linked_in p.shared.size rid place (stamp_of clock p.seat) p.bounds;
   log = p.log ++ rewriting (stamp_of clock p.seat) rid value ∷ [];
 }
 
-abbrev pub stopped_at : PostView → (clock : ℕ) → Known → PostView
-stopped_at p clock known = record (drawn_at p clock) { known = known }
+abbrev pub stopped_at : PostView → (clock : ℕ) → Bounds → PostView
+stopped_at p clock bounds = record (drawn_at p clock) { bounds = bounds }
 
 pub record IsRewritten (kept : State → Type 0) (rid place clock : ℕ) (before after' : PostView) (stamp : ℕ) : Type 0 where
   pub at : stamp ≡ stamp_of clock before.seat
@@ -65,15 +65,15 @@ pub record IsRewritten (kept : State → Type 0) (rid place clock : ℕ) (before
 
 -- no version was linked; one was, in the inline place of the record
 pub record LinksNone (before after' : PostView) : Type 0 where
-  pub known : after'.known ≡ before.known
+  pub bounds : after'.bounds ≡ before.bounds
   pub placed : after'.placed ≡ []
 
 pub record LinksInline (rid stamp : ℕ) (before after' : PostView) : Type 0 where
-  pub known : after'.known ≡ linked_in before.shared.size rid rid stamp before.known
+  pub bounds : after'.bounds ≡ linked_in before.shared.size rid rid stamp before.bounds
   pub placed : after'.placed ≡ record { rid = rid; place = rid } ∷ []
 
 pub record IsStoppedPost (rid clock : ℕ) (before after' : PostView) (conflict : Conflict) : Type 0 where
-  pub after : after' ≡ observing (placing (stopped_at before clock after'.known) after'.placed) after'.observed
+  pub after : after' ≡ observing (placing (stopped_at before clock after'.bounds) after'.placed) after'.observed
   pub linked : LinksNone before after' ⊎ LinksInline rid (stamp_of clock before.seat) before after'
   pub shown : ShowsOf rid before.shared.size before.seat before.others (stamp_of clock before.seat) conflict
   pub loaded : IsLoaded (stamp_of clock before.seat) conflict before.observed after'.observed

@@ -15,7 +15,7 @@ use Rattle.version_search.specs.Growing.{Grows}
 use Rattle.rapid_gc.specs.Queues.{Waiting}
 use Rattle.seat_post.specs.Leaves.{LeavesValue}
 use Rattle.seat_post.specs.Logs.{IsAbove}
-use Rattle.seat_post.specs.Seats.{Others, Known, observed_of, placed_of}
+use Rattle.seat_post.specs.Seats.{Others, Bounds, observed_of, placed_of}
 use Rattle.seat_post.specs.Conflicts.{ShowsOf, IsLoaded, WasFound}
 use Rattle.seat_post.specs.Ends.{Stood}
 
@@ -44,10 +44,10 @@ pub data Rewritings (kept : State → Type 0) (records : ℕ) (before : List Ent
       → Rewritings kept records before (log ++ rewriting stamp rid value ∷ [])
 
 -- what is known of lists after one more version of the record was linked, in this place and at this stamp
-abbrev pub linked_in : Size → (rid place stamp : ℕ) → Known → Known
-linked_in size rid place stamp known = record {
-  counts = counted_more size rid stamp place known.counts;
-  tops = record { record_number = rid; stamp = stamp } ∷ known.tops;
+abbrev pub linked_in : Size → (rid place stamp : ℕ) → Bounds → Bounds
+linked_in size rid place stamp bounds = record {
+  counts = counted_more size rid stamp place bounds.counts;
+  tops = record { record_number = rid; stamp = stamp } ∷ bounds.tops;
 }
 
 -- a transaction is in flight at this stamp that has found this version, and has done nothing else

@@ -25,7 +25,7 @@ IsAloneAt size seat others = is_alone_at size seat others ≡ true
 
 -- bounds on how many versions of each record are linked, and on those outside its inline place; and numbers that no version of a
 -- record is stamped above
-pub record Known : Type 0 where
+pub record Bounds : Type 0 where
   pub counts : Counted
   pub tops : List Top
 

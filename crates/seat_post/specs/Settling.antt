@@ -5,18 +5,18 @@ use Rattle.plain_data.specs.State.{State}
 use Rattle.stamp_base.specs.Stamp.{stamp_of, bound_of_clock}
 use Rattle.word_layout.specs.Size.{Size, IsUsable}
 use Rattle.word_layout.specs.Name.{min_write}
-use Rattle.core_rule.specs.View.{View, Counted, Load, Cut, nothing_kept}
+use Rattle.core_rule.specs.View.{View, Counted, Load, Cut, nothing_reserved}
 use Rattle.core_rule.specs.Paths.{EndsAt, load}
 use Rattle.core_rule.specs.Views.{IsAlone, Among}
 use Rattle.core_rule.specs.Searching.{Ends, known_of, newest_stamp}
 use Rattle.core_rule.specs.Collecting.{HasEntry}
-use Rattle.core_rule.specs.Spares.{StandsKept}
+use Rattle.core_rule.specs.Spares.{StandsReserved}
 use Rattle.core_rule.specs.Deciding as deciding
 use Rattle.version_pool.specs.Takes.{TakesFree, WasMet, after_losing}
 use Rattle.version_search.specs.declared.fronts.First.{First}
 use Rattle.version_search.specs.Growing.{Grows}
 use Rattle.version_search.specs.Looking.{Looked}
-use Rattle.rapid_gc.specs.Bounds.{IsOneLeft}
+use Rattle.rapid_gc.specs.Bounds.{IsSingle}
 use Rattle.seat_post.specs.declared.settled.Settled.{Settled}
 use Rattle.seat_post.specs.Snapshot.{first_snapshot}
 use Rattle.seat_post.specs.Logs.{IsAbove}
@@ -29,7 +29,7 @@ use Rattle.seat_post.specs.Rewriting.{Rewritings}
 
 -- of each record below this number one version is left, which may lie outside its inline place
 abbrev pub AreSettled : (count : ℕ) → Counted → Type 0
-AreSettled count counts = (r : ℕ) → r < count → IsOneLeft (known_of counts r)
+AreSettled count counts = (r : ℕ) → r < count → IsSingle (known_of counts r)
 
 -- each entry that a log has beside those of an earlier one is stamped at this number or above it
 abbrev pub AreLater : (before log : List Entry) → ℕ → Type 0
@@ -44,7 +44,7 @@ pub record SettlesPost (kept : State → Type 0) (before after' : PostView) : Ty
     clock = after'.clock;
     published = after'.published;
     met = after'.met;
-    known = after'.known;
+    bounds = after'.bounds;
     log = after'.log;
     observed = after'.observed;
     gone = after'.gone;
@@ -155,14 +155,14 @@ pub record CutsOf (rid count : ℕ) (before after' : List Cut) : Type 0 where
   pub of_record : (c : Cut) → Among c cuts → c.record_number ≡ rid
 
 -- What was done for a record: it was cut as often as is told, and so many places were freed. It was written again only where that was due,
--- and twice only where the kept place had to serve, since its inline place and each usable one were met not free.
+-- and twice only where the reserved place had to serve, since its inline place and each usable one were met not free.
 pub record SettlesOne (size : Size) (rid : ℕ) (done : Settled) (before after' : Trail) : Type 0 where
   pub grows : observing.Grows before.observed after'.observed
   pub as_due : CutsAsDue rid done before.observed.loads after'.observed.loads
   pub cuts : CutsOf rid done.cut before.gone.cuts after'.gone.cuts
   pub places : Frees done.places before.gone after'.gone
   pub due : 0 < done.rewritten → IsDue rid before.observed.loads after'.observed.loads
-  pub kept : 1 < done.rewritten → MeetsNoPlace size rid before.observed after'.observed
+  pub twice : 1 < done.rewritten → MeetsNoPlace size rid before.observed after'.observed
 
 -- this was done for the records from the first one on, for each before the next one
 pub data SettlesEach (size : Size) : List Settled → Trail → Trail → Type 0 where
@@ -189,14 +189,14 @@ pub record IsRewrittenAt (rid stamp : ℕ) (v w : View) : Type 0 where
 pub record IsCut (rid : ℕ) (v w : View) : Type 0 where
   pub clock : w.clock.clock ≡ v.clock.clock
   pub log : w.log ≡ v.log
-  pub one : IsOneLeft (known_of w.counts rid)
+  pub one : IsSingle (known_of w.counts rid)
   pub once : CutsOf rid 1 v.gone.cuts w.gone.cuts
 
 -- ---- a place
 
--- the kept place, or the inline place of the record, is known to be free
+-- the reserved place, or the inline place of the record, is known to be free
 abbrev pub HasSpare : (rid : ℕ) → Counted → Type 0
-HasSpare rid counts = (counts.in_kept ≡ nothing_kept) ⊎ StandsKept rid counts
+HasSpare rid counts = (counts.in_reserved ≡ nothing_reserved) ⊎ StandsReserved rid counts
 
 -- exchanges were lost, and then this place was taken; they were lost, and none was taken
 pub record TakesAfter (place : ℕ) (v w : View) : Type 0 where
@@ -207,14 +207,14 @@ pub record LosesAll (v w : View) : Type 0 where
   pub lost : List Load
   pub view : w ≡ after_losing v lost
 
--- the kept place has to serve: the record's inline place and each usable one were met not free
-pub record WantsKept (z : Size) (rid : ℕ) (v w : View) : Type 0 where
+-- the reserved place has to serve: the record's inline place and each usable one were met not free
+pub record WantsReserved (z : Size) (rid : ℕ) (v w : View) : Type 0 where
   pub inline_met : WasMet rid v w
   pub usable_met : (p : ℕ) → IsUsable z p → WasMet p v w
 
 -- ---- where the clock comes to its end
 
--- no clock was left to write the record again; or one, which was drawn, and the kept place would have had to serve
+-- no clock was left to write the record again; or one, which was drawn, and the reserved place would have had to serve
 abbrev pub RunsOut : (size : Size) (rid clock clock' : ℕ) (before after' : Observed) → Type 0
 RunsOut size rid clock clock' before after' = (clock' ≡ clock) ⊎ ((clock' ≡ clock + 1) × MeetsNoPlace size rid before after')
 
@@ -249,7 +249,7 @@ pub record SettlesAll (before after' : PostView) (all : Settled) : Type 0 where
 pub record StopsPost (before after' : PostView) : Type 0 where
   pub rid : ℕ
   pub within : rid < before.shared.size.records
-  pub settled : AreSettled rid after'.known.counts
+  pub settled : AreSettled rid after'.bounds.counts
   pub all : Settled
   pub between : Trail
   pub first : SettlesFirst before.shared.size rid all (trail_of before) between

@@ -5,11 +5,11 @@ use Rattle.core_rule.specs.View.{sharing, shared, nothing_known}
 use Rattle.core_rule.specs.Offers.{made_of}
 use Rattle.seat_post.specs.declared.phase.Phase.TheVariants.{Idle}
 use Rattle.seat_post.specs.Post.{PostView}
-use Rattle.seat_post.specs.Seats.{Known, nothing_observed, nothing_removed}
+use Rattle.seat_post.specs.Seats.{Bounds, nothing_observed, nothing_removed}
 
 -- nothing is known of lists
-abbrev pub no_knowledge : Known
-no_knowledge = record { counts = nothing_known; tops = [] }
+abbrev pub no_bounds : Bounds
+no_bounds = record { counts = nothing_known; tops = [] }
 
 -- the bound of its clock is published and is the greatest minimum met
 abbrev pub announced_at : PostView → PostView
@@ -17,7 +17,7 @@ announced_at p = record p { published = max p.published (bound_of_clock p.clock)
 
 -- one more seat was made; and the post of that one
 abbrev pub one_more : PostView → PostView
-one_more p = record p { others = record p.others { splitting = sharing (made_of p.others.splitting + 1) }; known = no_knowledge; placed = [] }
+one_more p = record p { others = record p.others { splitting = sharing (made_of p.others.splitting + 1) }; bounds = no_bounds; placed = [] }
 
 abbrev pub made_next : PostView → PostView
 made_next p = record {
@@ -26,7 +26,7 @@ made_next p = record {
   clock = p.clock;
   published = p.published;
   others = record { splitting = shared; taken_in = [] };
-  known = no_knowledge;
+  bounds = no_bounds;
   met = p.met;
   log = [];
   observed = nothing_observed;

@@ -1,7 +1,7 @@
 //! Taking back the versions that no reader can reach any more, at a post.
 ghost use Rattle.std.specs.Prelude.{◌≡◌, ◌≤◌, []};
 ghost use Rattle.stamp_base.specs.Stamp.{bound_of_clock};
-ghost use Rattle.rapid_gc.specs.Bounds.{AreKept, LeavesOne};
+ghost use Rattle.rapid_gc.specs.Bounds.{AreAsBefore, MakesSingle};
 ghost use Rattle.rapid_gc.specs.Queues.{AllBelow};
 ghost use Rattle.seat_post.specs.Collecting.{AreQueued, CollectsPost};
 ghost use Rattle.seat_post.specs.Observing.{Grows};
@@ -19,18 +19,18 @@ impl<J: Keeps> Post<J> {
         requires idle { self.old.phase ≡ Phase.Idle }
         requires queued { AreQueued self.old.shared.size.records self.old.log queue.old.items }
         requires below { AllBelow (bound_of_clock self.old.clock) queue.old.items }
-        ensures after { self.new ≡ removing (observing (collected_at self.old self.new.met self.new.known) self.new.observed) self.new.gone }
+        ensures after { self.new ≡ removing (observing (collected_at self.old self.new.met self.new.bounds) self.new.observed) self.new.gone }
         ensures grows { Grows self.old.observed self.new.observed }
         ensures met { self.old.met ≤ self.new.met }
         ensures within { self.new.met ≤ self.new.published }
         ensures collects { CollectsPost self.old self.new queue.old.items queue.new.items result }
         ensures room { queue.old.room ≤ queue.new.room }
-        ensures known { AreKept queue.old.items self.old.known.counts self.new.known.counts }
-        ensures tops { self.new.known.tops ≡ self.old.known.tops }
+        ensures bounds { AreAsBefore queue.old.items self.old.bounds.counts self.new.bounds.counts }
+        ensures tops { self.new.bounds.tops ≡ self.old.bounds.tops }
         // A post that is alone meets what it has published, keeps no item, and leaves one version where the newest is queued.
         ensures seen { IsAlonePost self.old → self.new.met ≡ self.new.published }
         ensures alone { IsAlonePost self.old → queue.new.items ≡ [] }
-        ensures one_left { IsAlonePost self.old → LeavesOne queue.old.items self.old.known.tops self.new.known.counts }
+        ensures single { IsAlonePost self.old → MakesSingle queue.old.items self.old.bounds.tops self.new.bounds.counts }
     {
         collect(core, &mut self.hand, queue)
     }

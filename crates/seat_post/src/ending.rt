@@ -6,10 +6,10 @@ ghost use Rattle.seat_post.specs.Ends.{Stood};
 ghost use Rattle.seat_post.specs.Seats.{IsAloneAt};
 ghost use Rattle.seat_post.specs.Leaves.{AreLeft};
 ghost use Rattle.seat_post.specs.Logs.{IsAbove};
-ghost use Rattle.seat_post.specs.Lists.{AreLinked, known_before, AreKnown, count_raised, IsFullAt};
+ghost use Rattle.seat_post.specs.Lists.{AreLinked, bounds_before, AreBounded, count_raised, IsFullAt};
 ghost use Rattle.seat_post.specs.Observing.{Grows};
 ghost use Rattle.seat_post.specs.Placing.{HavePlaces, CountsPlaces, WantsPlaceAt};
-ghost use Rattle.seat_post.specs.Post.{knowing, placing, in_phase, closed, entered, entry_at, observing, IsShownAt};
+ghost use Rattle.seat_post.specs.Post.{with_bounds, placing, in_phase, closed, entered, entry_at, observing, IsShownAt};
 
 use crate::phase::Phase;
 use crate::post::Post;
@@ -23,18 +23,18 @@ impl<J: Keeps> Post<J> {
     pub fn install(&mut self, core: &Core<J>) -> Result<Installed, PlacesOut>
         requires core { self.old.shared ≡ core.now }
         requires open { self.old.phase ≡ Phase.Open }
-        ensures ok { OnOk result (self.new ≡ observing (placing (in_phase (knowing self.old self.new.known) Phase.Installed) self.new.placed) self.new.observed) }
+        ensures ok { OnOk result (self.new ≡ observing (placing (in_phase (with_bounds self.old self.new.bounds) Phase.Installed) self.new.placed) self.new.observed) }
         ensures places { OnOk result (HavePlaces self.old.shared.size self.old.writes self.new.placed) }
         ensures stamp { IfOk result (λ installed. installed.stamp ≡ self.old.stamp) }
-        ensures err { OnErr result (self.new ≡ observing (placing (closed (knowing self.old self.new.known)) self.new.placed) self.new.observed) }
+        ensures err { OnErr result (self.new ≡ observing (placing (closed (with_bounds self.old self.new.bounds)) self.new.placed) self.new.observed) }
         ensures grows { Grows self.old.observed self.new.observed }
         ensures wants { OnErr result (WantsPlaceAt self.old self.new) }
         ensures written { OnErr result (self.old.writes ≢ []) }
         ensures above { IsAbove self.old.log self.old.stamp }
         ensures read_left { IsAloneAt self.old.shared.size self.old.seat self.old.others → AreLeft self.old.log self.old.stamp self.old.reads }
-        ensures before { OnOk result (known_before (length self.old.writes) self.new.known ≡ self.old.known) }
-        ensures linked { OnOk result (AreLinked self.old.writes self.old.stamp self.old.known self.new.known) }
-        ensures full { OnErr result (IsAloneAt self.old.shared.size self.old.seat self.old.others → IsFullAt self.old.shared.size self.old.known (length self.old.writes)) }
+        ensures before { OnOk result (bounds_before (length self.old.writes) self.new.bounds ≡ self.old.bounds) }
+        ensures linked { OnOk result (AreLinked self.old.writes self.old.stamp self.old.bounds self.new.bounds) }
+        ensures full { OnErr result (IsAloneAt self.old.shared.size self.old.seat self.old.others → IsFullAt self.old.shared.size self.old.bounds (length self.old.writes)) }
     {
         match install(core, &mut self.hand, &mut self.sets) {
             Ok(installed) => {
@@ -100,7 +100,7 @@ impl<J: Keeps> Post<J> {
         ensures closed { self.new ≡ closed self.old }
         ensures places { CountsPlaces self.old.shared.size self.old.writes self.old.placed result }
         ensures count { result ≤ length self.old.writes }
-        ensures placed { AreKnown (known_before (length self.old.writes) self.old.known) self.old.writes → result + count_raised (known_before (length self.old.writes) self.old.known) self.old.known self.old.writes ≡ length self.old.writes }
+        ensures placed { AreBounded (bounds_before (length self.old.writes) self.old.bounds) self.old.writes → result + count_raised (bounds_before (length self.old.writes) self.old.bounds) self.old.bounds self.old.writes ≡ length self.old.writes }
     {
         let inlined = self.sets.count_below(core.layout().records());
         decided.publish(core, &mut self.hand, &self.sets);

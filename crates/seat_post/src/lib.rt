@@ -1,4 +1,4 @@
-//! The post of a seat: its hand, and what the transaction in flight there has read and written; and the spare record numbers.
+//! The post of a seat: its hand, and what the transaction in flight there has read and written.
 //!
 //! Each call steps on the table by the hand alone, and says what it makes of the post, whatever other seats do meanwhile.
 #![tactic(auto)]
@@ -6,8 +6,6 @@
 mod collecting;
 mod ending;
 mod joining;
-mod marks;
-mod numbers;
 mod phase;
 mod post;
 mod promoting;
@@ -23,7 +21,6 @@ mod snapshots;
 mod telling;
 mod writing;
 
-pub use numbers::Numbers;
 pub use phase::Phase;
 pub use post::Post;
 pub use promoting::{PromoteFault, Promotion};

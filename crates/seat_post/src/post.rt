@@ -5,7 +5,7 @@ ghost use Rattle.stamp_base.specs.Limits.{greatest_clock};
 ghost use Rattle.word_layout.specs.Size.{IsSize};
 ghost use Rattle.record_store.specs.Limits.{record_limit};
 ghost use Rattle.record_store.specs.Meaning.{value_at};
-ghost use Rattle.core_rule.specs.View.{resting, nothing_kept};
+ghost use Rattle.core_rule.specs.View.{resting, nothing_reserved};
 ghost use Rattle.core_rule.specs.Snapshots.{AreAllWhole};
 ghost use Rattle.core_rule.specs.Deciding.{written_values};
 ghost use Rattle.core_rule.specs.Hands.{IsReady};
@@ -56,7 +56,7 @@ impl<J> Post<J> {
     pub fn new(alloc: Global, hand: Hand<J>, room: Room) -> Self
         requires ready { IsReady (shared_of hand) hand }
         requires holds_none { hand.view.places.held ≡ [] }
-        requires keeps_none { hand.view.counts.in_kept ≡ nothing_kept }
+        requires keeps_none { hand.view.counts.in_reserved ≡ nothing_reserved }
         requires ends { Ends hand.view.work }
         requires whole { hand.view.flight ≡ resting → AreAllWhole hand.view.work.reads }
         ensures { result ≡ post_view hand Phase.Idle 0 [] [] }

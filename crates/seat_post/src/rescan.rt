@@ -11,11 +11,11 @@ ghost use Rattle.seat_post.specs.Post.{observing};
 ghost use Rattle.seat_post.specs.Rescan.{Looks, looked_over};
 ghost use Rattle.seat_post.specs.Seats.{IsAloneAt};
 
-use crate::numbers::Numbers;
 use crate::phase::Phase;
 use crate::post::Post;
 use clock_stamps::{idle, publish_read, raise_min_write};
 use core_rule::{Core, Hand, Keeps};
+use spare_numbers::Numbers;
 use version_search::{Found, find};
 
 // Whether a record is absent up to the read stamp that is published.

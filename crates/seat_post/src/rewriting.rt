@@ -5,10 +5,10 @@ ghost use Rattle.stamp_base.specs.Stamp.{bound_of_clock};
 ghost use Rattle.core_rule.specs.Views.{Has, IsAlone};
 ghost use Rattle.core_rule.specs.Searching.{Ends, FitsPlace, known_of};
 ghost use Rattle.core_rule.specs.Collecting.{HasEntry};
-ghost use Rattle.rapid_gc.specs.Bounds.{AreKept, IsNewest, IsOneLeft};
+ghost use Rattle.rapid_gc.specs.Bounds.{AreAsBefore, IsNewest, IsSingle};
 ghost use Rattle.rapid_gc.specs.Collections.{after_collecting};
 ghost use Rattle.rapid_gc.specs.Ends.{FreesCounted};
-ghost use Rattle.rapid_gc.specs.InKept.{Remains, CutsOff};
+ghost use Rattle.rapid_gc.specs.InReserved.{Remains, CutsOff};
 ghost use Rattle.core_rule.specs.Versions.{read_version, written_version};
 ghost use Rattle.core_rule.specs.Hands.{IsReady, StaysReady};
 ghost use Rattle.version_search.specs.Growing.{Grows};
@@ -73,11 +73,11 @@ impl Room {
         ensures met { hand.old.view.clock.met ≤ hand.new.view.clock.met }
         ensures grows { Grows hand.old.view.seen hand.new.view.seen }
         ensures ends { Ends hand.new.view.work }
-        ensures kept { AreKept (record { rid = rid; stamp = stamp } ∷ []) hand.old.view.counts hand.new.view.counts }
+        ensures bounds { AreAsBefore (record { rid = rid; stamp = stamp } ∷ []) hand.old.view.counts hand.new.view.counts }
         ensures freed { FreesCounted result hand.old.view hand.new.view }
-        ensures in_kept { Remains (record { rid = rid; stamp = stamp } ∷ []) hand.old.view.counts.in_kept hand.new.view.counts.in_kept }
-        ensures cut_off { CutsOff (record { rid = rid; stamp = stamp } ∷ []) hand.old.view.tops hand.old.view.counts.in_kept hand.new.view.counts.in_kept }
-        ensures one { IsNewest hand.old.view.tops (record { rid = rid; stamp = stamp }) → IsOneLeft (known_of hand.new.view.counts rid) }
+        ensures in_reserved { Remains (record { rid = rid; stamp = stamp } ∷ []) hand.old.view.counts.in_reserved hand.new.view.counts.in_reserved }
+        ensures cut_off { CutsOff (record { rid = rid; stamp = stamp } ∷ []) hand.old.view.tops hand.old.view.counts.in_reserved hand.new.view.counts.in_reserved }
+        ensures one { IsNewest hand.old.view.tops (record { rid = rid; stamp = stamp }) → IsSingle (known_of hand.new.view.counts rid) }
         ensures once { IsNewest hand.old.view.tops (record { rid = rid; stamp = stamp }) → CutsOf rid 1 hand.old.view.gone.cuts hand.new.view.gone.cuts }
         ensures stays { StaysReady core.now hand.old hand.new }
     {

@@ -2,13 +2,13 @@
 ghost use Rattle.std.specs.Prelude.{◌≡◌, ◌+◌, ◌*◌, ◌<◌, ◌≤◌, true, false, Some, [], ◌∷◌, IfOk, OnOk, OnErr};
 ghost use Rattle.stamp_base.specs.Limits.{greatest_clock};
 ghost use Rattle.stamp_base.specs.Stamp.{bound_of_clock};
-ghost use Rattle.core_rule.specs.View.{nothing_kept};
+ghost use Rattle.core_rule.specs.View.{nothing_reserved};
 ghost use Rattle.core_rule.specs.Hands.{IsReady, StaysReady};
 ghost use Rattle.core_rule.specs.Searching.{newest_stamp, known_of};
 ghost use Rattle.core_rule.specs.Collecting.{HasEntry};
-ghost use Rattle.rapid_gc.specs.Bounds.{IsOneLeft};
+ghost use Rattle.rapid_gc.specs.Bounds.{IsSingle};
 ghost use Rattle.rapid_gc.specs.Ends.{FreesCounted};
-ghost use Rattle.rapid_gc.specs.InKept.{IsBelow, Remains};
+ghost use Rattle.rapid_gc.specs.InReserved.{IsBelow, Remains};
 ghost use Rattle.seat_post.specs.Logs.{IsAbove};
 ghost use Rattle.seat_post.specs.Seats.{IsAloneAt, observed_of};
 ghost use Rattle.seat_post.specs.Settling.{AreSettled, SettlesPost, IsDrawnFor, IsSettling, Settles, KeepsOthers, Draws, OnlySearches, IsHidden, IsDue, IsCut, RunsOut, SettlesOne, SettlesFirst, SettlesAll, StopsSome, StopsPost};
@@ -36,7 +36,7 @@ impl<J: Keeps> Post<J> {
         requires alone { IsAloneAt self.old.shared.size self.old.seat self.old.others }
         requires above { IsAbove self.old.log (bound_of_clock self.old.clock) }
         ensures settles { SettlesPost J.kept self.old self.new }
-        ensures settled { OnOk result (AreSettled self.old.shared.size.records self.new.known.counts) }
+        ensures settled { OnOk result (AreSettled self.old.shared.size.records self.new.bounds.counts) }
         ensures draws { IfOk result (λ all. IsDrawnFor all.rewritten self.old.clock self.new.clock self.old.log self.new.log) }
         ensures counts { IfOk result (λ all. (all.rewritten ≤ all.cut) × (all.cut ≤ 2 * self.old.shared.size.records)) }
         ensures done { IfOk result (SettlesAll self.old self.new) }
@@ -59,9 +59,9 @@ fn settle_all<J: Keeps>(
 ) -> Result<Settled, ClockOut>
     requires ready { IsReady core.now hand.old }
     requires settling { IsSettling hand.old.view }
-    requires keeps_none { hand.old.view.counts.in_kept ≡ nothing_kept }
+    requires keeps_none { hand.old.view.counts.in_reserved ≡ nothing_reserved }
     ensures settling { IsSettling hand.new.view }
-    ensures keeps_none { hand.new.view.counts.in_kept ≡ nothing_kept }
+    ensures keeps_none { hand.new.view.counts.in_reserved ≡ nothing_reserved }
     ensures settles { Settles J.kept hand.old.view hand.new.view }
     ensures settled { OnOk result (AreSettled core.now.size.records hand.new.view.counts) }
     ensures draws { IfOk result (λ all. Draws all.rewritten hand.old.view hand.new.view) }
@@ -79,7 +79,7 @@ fn settle_all<J: Keeps>(
     Ok(all)
 }
 
-// Brings one record's list to one version. What was written again in the kept place is at once written again, in a place that was
+// Brings one record's list to one version. What was written again in the reserved place is at once written again, in a place that was
 // freed.
 fn settle_record<J: Keeps>(
     core: &Core<J>,
@@ -90,12 +90,12 @@ fn settle_record<J: Keeps>(
     requires ready { IsReady core.now hand.old }
     requires rid { rid < core.now.size.records }
     requires settling { IsSettling hand.old.view }
-    requires keeps_none { hand.old.view.counts.in_kept ≡ nothing_kept }
+    requires keeps_none { hand.old.view.counts.in_reserved ≡ nothing_reserved }
     ensures settling { IsSettling hand.new.view }
-    ensures keeps_none { hand.new.view.counts.in_kept ≡ nothing_kept }
+    ensures keeps_none { hand.new.view.counts.in_reserved ≡ nothing_reserved }
     ensures settles { Settles J.kept hand.old.view hand.new.view }
     ensures others { KeepsOthers rid hand.old.view hand.new.view }
-    ensures one { OnOk result (IsOneLeft (known_of hand.new.view.counts rid)) }
+    ensures one { OnOk result (IsSingle (known_of hand.new.view.counts rid)) }
     ensures draws { IfOk result (λ done. Draws done.rewritten hand.old.view hand.new.view) }
     ensures counts { IfOk result (λ done. (done.rewritten ≤ done.cut) × (done.cut ≤ 2)) }
     ensures freed { IfOk result (λ done. FreesCounted done.places hand.old.view hand.new.view) }
@@ -122,7 +122,7 @@ fn settle_record<J: Keeps>(
     }
     let once = renew(core, hand, room, rid)?;
     let places = cut_below(core, hand, room, rid, once.stamp);
-    if !once.kept {
+    if !once.reserved {
         return Ok(Settled {
             rewritten: 1,
             cut: 1,
@@ -181,8 +181,8 @@ fn cut_below<J: Keeps>(
     ensures settles { Settles J.kept hand.old.view hand.new.view }
     ensures others { KeepsOthers rid hand.old.view hand.new.view }
     ensures cut { IsCut rid hand.old.view hand.new.view }
-    ensures in_kept { Remains (record { rid = rid; stamp = stamp } ∷ []) hand.old.view.counts.in_kept hand.new.view.counts.in_kept }
-    ensures cut_off { IsBelow (record { rid = rid; stamp = stamp }) hand.old.view.counts.in_kept → hand.new.view.counts.in_kept ≡ nothing_kept }
+    ensures in_reserved { Remains (record { rid = rid; stamp = stamp } ∷ []) hand.old.view.counts.in_reserved hand.new.view.counts.in_reserved }
+    ensures cut_off { IsBelow (record { rid = rid; stamp = stamp }) hand.old.view.counts.in_reserved → hand.new.view.counts.in_reserved ≡ nothing_reserved }
     ensures freed { FreesCounted result hand.old.view hand.new.view }
     ensures stays { StaysReady core.now hand.old hand.new }
 {

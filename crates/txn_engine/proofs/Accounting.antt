@@ -3,7 +3,7 @@ use Rattle.std.proofs.Common.{◌≡◌, ℕ, ◌+◌, ◌-◌, ⊎_elim, zero, 
 use Rattle.std.specs.Prelude.{IsSome, is_some, nat_lt, nat_le, ◌&&◌, ◌||◌, slice_get}
 use Rattle.std.specs.List.{list_any, range_with_len}
 use Rattle.std.proofs.lemmas.List.Elements.{Contains-push, Contains-append_left, Contains-push_cases}
-use Rattle.std.proofs.lemmas.Bool.{le-leb, le-ltb, ltb-false}
+use Rattle.std.proofs.lemmas.Bool.{le-leb, le-ltb, ltb-false, not-true, not_from_false, cases_Bool}
 use Rattle.std.proofs.lemmas.Bool.Decides.{eqb_tells}
 use Rattle.std.proofs.lemmas.List.Folds.{list_any-append, Any-from_list_any, list_any-from_Any}
 use Rattle.std.proofs.lemmas.Map.Views.{any-filter_same}
@@ -13,39 +13,17 @@ use Rattle.histories.specs.History.{Lawful, Leaves, Writes, IsLastWrite, IsValue
 use Rattle.histories.proofs.States.{IsValue-same}
 use Rattle.histories.proofs.Lists.{Contains-nil, Contains-head, Contains-tail, Contains-cases}
 use Rattle.record_store.specs.Meaning.{value_at}
-use Rattle.seat_post.specs.Seats.{Known, is_alone_at}
-use Rattle.seat_post.specs.Spare.{is_on, holds, is_deletion, unused, added, with_deleted, spare_after}
+use Rattle.seat_post.specs.Seats.{Bounds, is_alone_at}
+use Rattle.spare_numbers.specs.Spare.{is_on, holds, is_deletion, unused, added, with_deleted, spare_after}
 use Rattle.txn_engine.specs.Fresh.{AreWritten}
-use Rattle.txn_engine.specs.Pass.{PassView, IsAlone, first_pass, with_log, frame, knowing, entry_of, decided, published, committed, EngineView, engine_of}
+use Rattle.txn_engine.specs.Pass.{PassView, IsAlone, first_pass, with_log, frame, with_bounds, entry_of, decided, published, committed, EngineView, engine_of}
 use Rattle.seat_post.specs.Logs.{IsAbove}
 use Rattle.seat_post.specs.Leaves.{IsPresent}
 use Rattle.txn_engine.specs.Leaves.{HoldsAbsent, NoneLeft}
 use Rattle.txn_engine.specs.Accounts.{writes_at, gives_at, is_present, accounted}
-use Rattle.seat_post.proofs.AloneSeats.{both, either, and_of}
+use Rattle.seat_post.proofs.AloneSeats.{both, either, and_of, or_of}
 use Rattle.seat_post.proofs.Listed.{known_head, known_tail}
 use Rattle.seat_post.proofs.Leaving.{among_of, leaves_one}
-
--- ---- booleans
-
-or_right : (a b : Bool) → b ≡ true → (a || b) ≡ true
-or_right true b on = refl
-or_right false b on = on
-
-or_left : (a b : Bool) → a ≡ true → (a || b) ≡ true
-or_left true b on = refl
-or_left false b on = cc
-
-not_on : (b : Bool) → not b ≡ true → b ≡ false
-not_on true on = cc
-not_on false on = refl
-
-not_off : (b : Bool) → b ≡ false → not b ≡ true
-not_off true off = cc
-not_off false off = refl
-
-on_or_off : (b : Bool) → (b ≡ true) ⊎ (b ≡ false)
-on_or_off true = inl refl
-on_or_off false = inr refl
 
 -- ---- the log, as it is computed and as it stands
 
@@ -60,12 +38,12 @@ writes_told : (r : ℕ) (e : Entry) → writes_at r e ≡ true → Writes r e
 writes_told r e on =
     let h = both (not e.snapshot) _ on in
     let w = any_found (λ (write : ℕ × Option (List ℕ)). eqb r write.0) e.writes h.1 in
-    record { commit = not_on e.snapshot h.0; at = (w.1.0, w.0, w.1.1, w.1.2, sym (eqb-true r w.0.0 w.2)) }
+    record { commit = not-true e.snapshot h.0; at = (w.1.0, w.0, w.1.1, w.1.2, sym (eqb-true r w.0.0 w.2)) }
 
 writes_shown : (r : ℕ) (e : Entry) → Writes r e → writes_at r e ≡ true
 writes_shown r e w =
     let at = w.at in
-    and_of (not e.snapshot) _ (not_off e.snapshot w.commit) (any_shown (λ (write : ℕ × Option (List ℕ)). eqb r write.0) e.writes at.1 (at.0, at.2, at.3) (eq-eqb r at.1.0 (sym at.4)))
+    and_of (not e.snapshot) _ (not_from_false e.snapshot w.commit) (any_shown (λ (write : ℕ × Option (List ℕ)). eqb r write.0) e.writes at.1 (at.0, at.2, at.3) (eq-eqb r at.1.0 (sym at.4)))
 
 some_of : (value : Option (List ℕ)) → is_some value ≡ true → (words : List ℕ) × (value ≡ Some words)
 some_of None on = cc
@@ -78,18 +56,18 @@ gives_told r e on =
     let at = both (eqb r w.0.0) _ w.2 in
     let some = some_of w.0.1 at.1 in
     let number = eqb-true r w.0.0 at.0 in
-    (not_on e.snapshot h.0, (some.0, subst (λ (x : ℕ × Option (List ℕ)). Contains e.writes x) (λ i. (sym number i, some.1 i)) w.1))
+    (not-true e.snapshot h.0, (some.0, subst (λ (x : ℕ × Option (List ℕ)). Contains e.writes x) (λ i. (sym number i, some.1 i)) w.1))
 
 gives_shown : (r : ℕ) (e : Entry) (words : List ℕ) → e.snapshot ≡ false → Contains e.writes (r, Some words) → gives_at r e ≡ true
 gives_shown r e words commit there =
-    and_of (not e.snapshot) _ (not_off e.snapshot commit) (any_shown (λ (write : ℕ × Option (List ℕ)). eqb r write.0 && is_some write.1) e.writes (r, Some words) there (and_of (eqb r r) true (eq-eqb r r refl) refl))
+    and_of (not e.snapshot) _ (not_from_false e.snapshot commit) (any_shown (λ (write : ℕ × Option (List ℕ)). eqb r write.0 && is_some write.1) e.writes (r, Some words) there (and_of (eqb r r) true (eq-eqb r r refl) refl))
 
 pub present_told : (log : List Entry) (r : ℕ) → is_present log r ≡ true → IsPresent log r
 present_told log r on =
     let e = any_found (λ (e : Entry). gives_at r e && not (list_any (λ (later : Entry). writes_at r later && nat_lt e.stamp later.stamp) log)) log on in
     let h = both (gives_at r e.0) _ e.2 in
     let gives = gives_told r e.0 h.0 in
-    let none = not_on _ h.1 in (
+    let none = not-true _ h.1 in (
       gives.1.0,
       inl (
         e.0,
@@ -97,7 +75,7 @@ present_told log r on =
           there = e.1;
           commit = gives.0;
           value = gives.1.1;
-          last = λ other there writes. elim (on_or_off (nat_lt e.0.stamp other.stamp)) as (λ _. other.stamp ≤ e.0.stamp) [
+          last = λ other there writes. elim (cases_Bool (nat_lt e.0.stamp other.stamp)) as (λ _. other.stamp ≤ e.0.stamp) [
             | inl later ↦ (let found = any_shown (λ (x : Entry). writes_at r x && nat_lt e.0.stamp x.stamp) log other there (and_of (writes_at r other) _ (writes_shown r other writes) later) in let bad : true ≡ false = sym found ∙ none in cc)
             | inr off ↦ ltb-false e.0.stamp other.stamp off
           ];
@@ -110,9 +88,9 @@ present_shown log r present = by_value present.1 where
   by_value : IsValue (Contains log) r (Some present.0) → is_present log r ≡ true
   by_value (inr none) = absurd (let e : Some present.0 ≡ None = none.0 in cc)
   by_value (inl found) = any_shown (λ (e : Entry). gives_at r e && not (list_any (λ (later : Entry). writes_at r later && nat_lt e.stamp later.stamp) log)) log found.0 found.1.there
-      (and_of (gives_at r found.0) _ (gives_shown r found.0 present.0 found.1.commit found.1.value) (not_off _ (none_later found.0 found.1))) where
+      (and_of (gives_at r found.0) _ (gives_shown r found.0 present.0 found.1.commit found.1.value) (not_from_false _ (none_later found.0 found.1))) where
         none_later : (e : Entry) → IsLastWrite (Contains log) r (Some present.0) e → list_any (λ (later : Entry). writes_at r later && nat_lt e.stamp later.stamp) log ≡ false
-        none_later e last = elim (on_or_off (list_any (λ (later : Entry). writes_at r later && nat_lt e.stamp later.stamp) log)) as (λ _. list_any (λ (later : Entry). writes_at r later && nat_lt e.stamp later.stamp) log ≡ false) [
+        none_later e last = elim (cases_Bool (list_any (λ (later : Entry). writes_at r later && nat_lt e.stamp later.stamp) log)) as (λ _. list_any (λ (later : Entry). writes_at r later && nat_lt e.stamp later.stamp) log ≡ false) [
           | inr off ↦ off
           | inl on ↦ (
               let x = any_found (λ (later : Entry). writes_at r later && nat_lt e.stamp later.stamp) log on in
@@ -146,7 +124,7 @@ struck_bools : (a x e y p : Bool) → (a ≡ true → e ≡ true → p ≡ true)
 struck_bools false x e y p here = refl
 struck_bools true x false y p here = refl
 struck_bools true true true y p here = refl
-struck_bools true false true y p here = let on : p ≡ true = here refl refl in or_right y p on ∙ refl
+struck_bools true false true y p here = let on : p ≡ true = here refl refl in or_of y p (inr on)
 
 each_same : (f g : ℕ → Bool) → ((r : ℕ) → f r ≡ g r) → f ≡ g
 each_same f g same = λ j. λ r. same r j
@@ -173,8 +151,7 @@ told_bools true b p alone on = either b p on
 told_bools false b p alone on = cc
 
 shown_bools : (a b p : Bool) → (b ≡ true) ⊎ (p ≡ true) → (not a || (b || p)) ≡ true
-shown_bools a b p (inl on) = or_right (not a) _ (or_left b p on)
-shown_bools a b p (inr on) = or_right (not a) _ (or_right b p on)
+shown_bools a b p on = or_of (not a) _ (inr (or_of b p on))
 
 -- a pass that is alone holds the absent records after each call of a transaction
 pub absent_stays : (p q : PassView) → frame q ≡ frame p → accounted q ≡ accounted p → IsAlone p → HoldsAbsent p → HoldsAbsent q
@@ -210,11 +187,11 @@ none_left p absent written r from within = elim (absent r from within) as (λ _.
 
 -- ---- at the ends of a transaction
 
-range_on : (a n r : ℕ) → a ≤ r → r < a + n → is_on (range_with_len a n) r ≡ true
+pub range_on : (a n r : ℕ) → a ≤ r → r < a + n → is_on (range_with_len a n) r ≡ true
 range_on a zero r from below = absurd (omega arith)
 range_on a (suc n) r from below = elim (eqb_tells r a) as (λ _. is_on (range_with_len a (suc n)) r ≡ true) [
-  | inl t ↦ or_left (eqb r a) (is_on (range_with_len (a + 1) n) r) t.0
-  | inr t ↦ or_right (eqb r a) (is_on (range_with_len (a + 1) n) r) (let apart = t.1 in range_on (a + 1) n r (omega arith) (omega arith))
+  | inl t ↦ or_of (eqb r a) (is_on (range_with_len (a + 1) n) r) (inl t.0)
+  | inr t ↦ or_of (eqb r a) (is_on (range_with_len (a + 1) n) r) (inr (let apart = t.1 in range_on (a + 1) n r (omega arith) (omega arith)))
 ]
 
 -- the first pass holds all records from `fixed` on
@@ -225,13 +202,13 @@ kept_added : (xs : List ℕ) (y r : ℕ) → is_on xs r ≡ true → is_on (adde
 kept_added xs y r on = by_bool (is_on xs y) where
   by_bool : (b : Bool) → is_on (cond b xs (xs ++ y ∷ [])) r ≡ true
   by_bool true = on
-  by_bool false = list_any-append (eqb r) xs (y ∷ []) ∙ or_left (is_on xs r) (is_on (y ∷ []) r) on
+  by_bool false = list_any-append (eqb r) xs (y ∷ []) ∙ or_of (is_on xs r) (is_on (y ∷ []) r) (inl on)
 
 on_added : (xs : List ℕ) (r : ℕ) → is_on (added xs r) r ≡ true
 on_added xs r = by_bool (is_on xs r) refl where
   by_bool : (b : Bool) → is_on xs r ≡ b → is_on (cond b xs (xs ++ r ∷ [])) r ≡ true
   by_bool true on = on
-  by_bool false off = list_any-append (eqb r) xs (r ∷ []) ∙ or_right (is_on xs r) (is_on (r ∷ []) r) (or_left (eqb r r) false (eq-eqb r r refl))
+  by_bool false off = list_any-append (eqb r) xs (r ∷ []) ∙ or_of (is_on xs r) (is_on (r ∷ []) r) (inr (or_of (eqb r r) false (inl (eq-eqb r r refl))))
 
 kept_step : (b : Bool) (xs : List ℕ) (y r : ℕ) → is_on xs r ≡ true → is_on (cond b (added xs y) xs) r ≡ true
 kept_step true xs y r on = kept_added xs y r on
@@ -347,8 +324,8 @@ absent_published p before log above absent r from within = by_write (value_at p.
   by_write (Some None) at = inl (on_deleted p.fixed (unused p.writes p.given ++ p.spare) p.writes r from at)
   by_write (Some (Some words)) at = inr (now (now_present before (entry_of p) refl above r words at))
 
-pub absent_committed : (p : PassView) (known : Known) → IsAbove p.log p.stamp → HoldsAbsent p → HoldsAbsent (committed (knowing p known))
-absent_committed p known above absent = absent_published (decided (knowing p known)) p.log refl above absent
+pub absent_committed : (p : PassView) (known : Bounds) → IsAbove p.log p.stamp → HoldsAbsent p → HoldsAbsent (committed (with_bounds p known))
+absent_committed p known above absent = absent_published (decided (with_bounds p known)) p.log refl above absent
 
 -- where the log stands in a lawful history, a record of which it leaves no value is a spare one or given out
 pub absent_on : (kept : State → Type 0) (records : ℕ) (history : List Entry) (p : PassView) → Lawful kept records history → ((e : Entry) → Contains p.log e → Contains history e) → HoldsAbsent p

@@ -1,7 +1,7 @@
 -- Asking for new record numbers.
-use Rattle.std.proofs.Common.{◌≡◌, ℕ, ◌<◌, ◌+◌, ◌-◌, zero, suc, true, false, Bool, ◌||◌, cond, List, [], ◌∷◌, Option, None, Some, refl, sym, ap, subst, ◌∙◌, arith, length, remove, eqb, eq-eqb, inl, inr}
+use Rattle.std.proofs.Common.{◌≡◌, ℕ, ◌<◌, ◌≤◌, ◌+◌, ◌-◌, zero, suc, true, false, Bool, ◌||◌, cond, List, [], ◌∷◌, ◌++◌, Option, None, Some, refl, sym, ap, subst, ◌∙◌, arith, length, remove, eqb, eq-eqb, inl, inr}
 use Rattle.std.proofs.lemmas.Bool.Decides.{eqb_tells}
-use Rattle.std.specs.Prelude.{IsSome, slice_get, Result, Ok, Err, IfErr, IsErrAnd}
+use Rattle.std.specs.Prelude.{IsSome, slice_get}
 use Rattle.std.proofs.lemmas.Option.{slice_get_within}
 use Rattle.std.proofs.lemmas.List.Edits.{length-remove}
 use Rattle.rapid_gc.specs.Queues.{Waiting}
@@ -12,7 +12,7 @@ use Rattle.seat_post.specs.declared.phase.Phase.TheVariants.{Open}
 use Rattle.seat_post.specs.Seats.{Observed}
 use Rattle.txn_engine.specs.Pass.{PassView, observing}
 use Rattle.seat_post.specs.Post.{PostView, noted}
-use Rattle.seat_post.specs.Spare.{NumbersView, is_on}
+use Rattle.spare_numbers.specs.Spare.{NumbersView, is_on}
 use Rattle.txn_engine.specs.declared.faults.TxnFault.{TxnFault}
 use Rattle.txn_engine.specs.declared.faults.TxnFault.TheVariants as txn
 use Rattle.txn_engine.specs.Faults.{IfConflict, MeetsAt, MeetsAmong}
@@ -20,13 +20,14 @@ use Rattle.txn_engine.specs.Fresh.{AreWritten, Asks}
 use Rattle.txn_engine.specs.declared.fresh.Asked.{Asked}
 use Rattle.txn_engine.specs.declared.fresh.Asked.TheVariants.{Next}
 use Rattle.txn_engine.specs.Inside.{IsPass}
-use Rattle.txn_engine.proofs.Passes.{pass_read}
+use Rattle.seat_post.proofs.AloneSeats.{or_of}
+use Rattle.txn_engine.proofs.Passes.{pass_noted}
 use Rattle.txn_engine.proofs.Accounting.{on_removed}
 
 -- a record was read, and noted where it is absent
-pub pass_asked : (p : PostView) (rid : ℕ) (absent : Bool) (q : Waiting) (n : NumbersView) (most : ℕ) (dead : Option Conflict) (counted : Bool) → IsPass p q n most dead counted → p.phase ≡ Open → IsPass (cond absent (noted p rid None) p) q n most dead counted
-pass_asked p rid true q n most dead counted is phase = pass_read p rid None q n most dead counted is phase
-pass_asked p rid false q n most dead counted is phase = is
+pub pass_asked : (p : PostView) (rid : ℕ) (absent : Bool) (q : Waiting) (n : NumbersView) (most : ℕ) (dead : Option Conflict) → IsPass p q n most dead → p.phase ≡ Open → IsPass (cond absent (noted p rid None) p) q n most dead
+pass_asked p rid true q n most dead is phase = pass_noted p (p.reads ++ (rid, None) ∷ []) p.writes q n most dead is phase is.room
+pass_asked p rid false q n most dead is phase = is
 
 -- the number at this place is written, and so is each before the one behind it
 written_behind : (p : PassView) (i rid : ℕ) → slice_get p.spare i ≡ Some rid → IsSome (value_at p.writes rid) → AreWritten p i → AreWritten p (i + 1)
@@ -46,13 +47,9 @@ kept_below (x ∷ xs) zero k r below at = absurd (omega arith)
 kept_below (x ∷ xs) (suc i) zero r below at = at
 kept_below (x ∷ xs) (suc i) (suc k) r below at = kept_below xs i k r (omega arith) at
 
-on_more : (b any : Bool) → any ≡ true → (b || any) ≡ true
-on_more true any on = refl
-on_more false any on = on
-
 -- what is on the list without one number was on the list, and so was that number
 kept_on : (xs : List ℕ) (i rid r : ℕ) → slice_get xs i ≡ Some rid → is_on (remove xs i) r ≡ true → is_on xs r ≡ true
-kept_on xs i rid r at on = on_removed xs i rid r at ∙ on_more (eqb r rid) (is_on (remove xs i) r) on
+kept_on xs i rid r at on = on_removed xs i rid r at ∙ or_of (eqb r rid) (is_on (remove xs i) r) (inr on)
 
 pub on_at : (xs : List ℕ) (i rid : ℕ) → slice_get xs i ≡ Some rid → is_on xs rid ≡ true
 on_at xs i rid at = on_removed xs i rid rid at ∙ ap (λ (b : Bool). b || is_on (remove xs i) rid) (eq-eqb rid rid refl)
@@ -90,19 +87,15 @@ asks_left before after' i rid next told at is asks = elim (subst (λ (a : Asked)
   | inr s ↦ subst (λ (x : PassView). LeftToAsk before x i next) (sym s.0) (subst (λ (n : ℕ). LeftToAsk before (observing (record before { spare = remove before.spare i }) after'.observed) i n) (sym s.1) (left_struck before i rid after'.observed at))
 ]
 
-past : (xs : List ℕ) (i k : ℕ) → slice_get xs i ≡ None → k < length xs → k < i
-past [] i k none below = absurd (omega arith)
-past (x ∷ xs) zero k none below = cc
-past (x ∷ xs) (suc i) zero none below = omega arith
-past (x ∷ xs) (suc i) (suc k) none below = let h = past xs i k none (omega arith) in omega arith
+-- a place where nothing stands is behind the list
+pub past : (xs : List ℕ) (i : ℕ) → slice_get xs i ≡ None → length xs ≤ i
+past [] i none = omega arith
+past (x ∷ xs) zero none = cc
+past (x ∷ xs) (suc i) none = let h = past xs i none in omega arith
 
 -- the end of the list was reached
 pub all_written : (p : PassView) (i : ℕ) → AreWritten p i → slice_get p.spare i ≡ None → AreWritten p (length p.spare)
-all_written p i before none k rid below here = before k rid (past p.spare i k none below) here
-
-pub none_there : (found : Option ℕ) → ((x : ℕ) → found ≡ Some x → ⊥) → found ≡ None
-none_there None none = refl
-none_there (Some x) none = absurd (none x refl)
+all_written p i before none k rid below here = before k rid (let end = past p.spare i none in omega arith) here
 
 -- a conflict at a number of the list
 pub meets_among : (rids : List ℕ) (rid : ℕ) (fault : TxnFault) → is_on rids rid ≡ true → IfConflict fault (MeetsAt rid) → IfConflict fault (MeetsAmong rids)
@@ -111,8 +104,3 @@ meets_among rids rid (txn.Conflict (ReadLater at wts rts)) on meets = meets
 meets_among rids rid (txn.Conflict (Overtaken at seen now)) on meets = meets
 meets_among rids rid txn.RecordsOut on meets = tt
 meets_among rids rid txn.NoMemory on meets = tt
-
--- a call that is refused by the fault of another one
-pub refused_by : {T F : Type 0} (P : F → Type 0) (fault : F) (answer : Result T F) → IsErrAnd answer (λ f. f ≡ fault) → P fault → IfErr answer P
-refused_by P fault (Ok value) is holds = tt
-refused_by P fault (Err f) is holds = subst P (sym is) holds

@@ -10,7 +10,7 @@ use Rattle.core_rule.specs.Views.{Among}
 use Rattle.core_rule.specs.Offers.{MayOffer, made_of}
 use Rattle.txn_engine.specs.Pass.{PassView, IsIdle, IsIdleOf, with_snapshot, bare, engine_of, desk_of}
 use Rattle.seat_post.specs.Seats.{Others}
-use Rattle.seat_post.specs.Sharing.{no_knowledge, one_more}
+use Rattle.seat_post.specs.Sharing.{no_bounds, one_more}
 use Rattle.txn_engine.specs.Sharing.{others_made, with_made, share_at, first_share, announced, shares, shares_of}
 
 -- ---- making seats
@@ -35,8 +35,8 @@ pub made_more : (made : ℕ) (p : PassView) → 1 ≤ made → p.others.splittin
 made_more made p some plain =
     let on : ltb 1 (made + 1) ≡ true = lt-ltb 1 (made + 1) (omega arith) in
     let count = (may_make made p.others some plain).1 in
-    ap (λ (o : Others). record p { post = record p.post { others = o; known = no_knowledge; placed = [] } }) (ap (λ (n : ℕ). record (others_made made p.others) { splitting = sharing (n + 1) }) count ∙ others_over (ltb 1 made) p.others made (made + 1))
-    ∙ ap (λ (b : Bool). record p { post = record p.post { others = cond b (record p.others { splitting = sharing (made + 1) }) p.others; known = cond b no_knowledge p.known; placed = cond b [] p.placed } }) (sym on)
+    ap (λ (o : Others). record p { post = record p.post { others = o; bounds = no_bounds; placed = [] } }) (ap (λ (n : ℕ). record (others_made made p.others) { splitting = sharing (n + 1) }) count ∙ others_over (ltb 1 made) p.others made (made + 1))
+    ∙ ap (λ (b : Bool). record p { post = record p.post { others = cond b (record p.others { splitting = sharing (made + 1) }) p.others; bounds = cond b no_bounds p.bounds; placed = cond b [] p.placed } }) (sym on)
 
 -- one more pass is there
 pub pushed_share : (p : PassView) (passes passes' : List PassView) (seat : ℕ) (made : PassView) → 1 ≤ seat → map bare passes ≡ map (share_at p) (range_with_len 1 (seat - 1)) → bare made ≡ share_at p seat → passes' ≡ passes ++ made ∷ [] → map bare passes' ≡ map (share_at p) (range_with_len 1 (seat + 1 - 1))
@@ -64,16 +64,6 @@ among_bare (x ∷ xs) q (inr more) = inr (among_bare xs q more)
 
 pub met_shared : (p q : PassView) (passes : List PassView) → map bare passes ≡ shares_of p → Among q passes → q.met ≡ p.met
 met_shared p q passes are among = met_among p (bare q) (subst (λ xs. Among (bare q) xs) are (among_bare passes q among))
-
--- what holds of each of a list holds with one more
-pub each_more : {A : Type 0} (P : A → Type 0) (xs ys : List A) (y : A) → ((x : A) → Among x xs → P x) → P y → ys ≡ xs ++ y ∷ [] → (x : A) → Among x ys → P x
-each_more P xs ys y each last same x among = each_pushed P xs y each last x (subst (λ zs. Among x zs) same among)
-  where
-    each_pushed : {A : Type 0} (P : A → Type 0) (xs : List A) (y : A) → ((x : A) → Among x xs → P x) → P y → (x : A) → Among x (xs ++ y ∷ []) → P x
-    each_pushed P [] y each last x (inl is) = subst P is last
-    each_pushed P [] y each last x (inr none) = absurd none
-    each_pushed P (z ∷ xs) y each last x (inl is) = each x (inl is)
-    each_pushed P (z ∷ xs) y each last x (inr more) = each_pushed P xs y (λ w a. each w (inr a)) last x more
 
 -- the pass that is made for the next seat
 pub next_share : (p q r : PassView) (made : ℕ) → 1 ≤ made → p.others.splitting ≡ single → q ≡ with_snapshot (with_made made p) q.snapshot → bare r ≡ share_at q (made_of q.others.splitting) → bare r ≡ share_at p made

@@ -1,12 +1,14 @@
 -- The numbers of a spare list that were passed.
 use Rattle.std.proofs.Common.{◌≡◌, ℕ, zero, suc, List, [], ◌∷◌, ◌++◌, None, Some, refl, sym, ap, subst, ◌∙◌, inl, inr, arith, take, drop, remove, append_assoc, append-nil}
 use Rattle.std.specs.Prelude.{IsSome, slice_get}
+use Rattle.std.proofs.lemmas.List.{take_all, drop_all, take-append-drop}
 use Rattle.record_store.specs.Meaning.{value_at}
 use Rattle.seat_post.specs.Observing.{Grows}
 use Rattle.txn_engine.specs.Pass.{PassView, observing}
 use Rattle.txn_engine.specs.Fresh.{IsMetAbsent, IsMetPresent, PassesOver, none_yet, one_stays, one_leaves, GivesFirst, PassesSome, PassesAll, Asks}
 use Rattle.txn_engine.specs.declared.fresh.Asked.{Asked}
 use Rattle.txn_engine.specs.declared.fresh.Asked.TheVariants.{Given, Next}
+use Rattle.txn_engine.proofs.Asking.{past}
 
 -- ---- lists
 
@@ -31,24 +33,6 @@ drop_removed [] zero = refl
 drop_removed [] (suc i) = refl
 drop_removed (x ∷ xs) zero = refl
 drop_removed (x ∷ xs) (suc i) = drop_removed xs i
-
-take_all : (xs : List ℕ) (i : ℕ) → slice_get xs i ≡ None → take i xs ≡ xs
-take_all [] zero none = refl
-take_all [] (suc i) none = refl
-take_all (x ∷ xs) zero none = cc
-take_all (x ∷ xs) (suc i) none = ap (λ (ys : List ℕ). x ∷ ys) (take_all xs i none)
-
-drop_all : (xs : List ℕ) (i : ℕ) → slice_get xs i ≡ None → drop i xs ≡ []
-drop_all [] zero none = refl
-drop_all [] (suc i) none = refl
-drop_all (x ∷ xs) zero none = cc
-drop_all (x ∷ xs) (suc i) none = drop_all xs i none
-
-take_then_drop : (xs : List ℕ) (i : ℕ) → take i xs ++ drop i xs ≡ xs
-take_then_drop [] zero = refl
-take_then_drop [] (suc i) = refl
-take_then_drop (x ∷ xs) zero = refl
-take_then_drop (x ∷ xs) (suc i) = ap (λ (ys : List ℕ). x ∷ ys) (take_then_drop xs i)
 
 -- ---- passing them
 
@@ -94,8 +78,8 @@ gives_first p q r i rid h at less given later absent = record {
 
 pub all_passed : (p q : PassView) (i : ℕ) → HasPassed i p q → slice_get q.spare i ≡ None → PassesAll p q
 all_passed p q i h none =
-    let whole : h.numbers ≡ p.spare = sym (append-nil h.numbers) ∙ ap (λ (ys : List ℕ). h.numbers ++ ys) (sym (drop_all q.spare i none)) ∙ sym h.list in
-    subst (λ (xs : List ℕ). PassesOver p xs q.spare p.observed q.observed) whole (subst (λ (ys : List ℕ). PassesOver p h.numbers ys p.observed q.observed) (take_all q.spare i none) h.over)
+    let whole : h.numbers ≡ p.spare = sym (append-nil h.numbers) ∙ ap (λ (ys : List ℕ). h.numbers ++ ys) (sym (drop_all i q.spare (past q.spare i none))) ∙ sym h.list in
+    subst (λ (xs : List ℕ). PassesOver p xs q.spare p.observed q.observed) whole (subst (λ (ys : List ℕ). PassesOver p h.numbers ys p.observed q.observed) (take_all i q.spare (past q.spare i none)) h.over)
 
 pub some_passed : (p q r : PassView) (i : ℕ) → HasPassed i p q → r.spare ≡ q.spare → Grows q.observed r.observed → PassesSome p r
 some_passed p q r i h same later = record {
@@ -106,7 +90,7 @@ some_passed p q r i h same later = record {
   between = q.observed;
   over = h.over;
   later = later;
-  left = same ∙ sym (take_then_drop q.spare i);
+  left = same ∙ sym (take-append-drop i q.spare);
 }
 
 -- a call that changes no list

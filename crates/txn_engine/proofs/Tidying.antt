@@ -6,17 +6,16 @@ use Rattle.core_rule.specs.View.{Bound}
 use Rattle.core_rule.specs.Views.{Among}
 use Rattle.core_rule.specs.Searching.{known_of}
 use Rattle.record_store.specs.Meaning.{value_at}
-use Rattle.seat_post.specs.Seats.{Known}
+use Rattle.seat_post.specs.Seats.{Bounds}
 use Rattle.seat_post.specs.Lists.{HasLinked, HasOutside, AreLinked, AreSomeLinked, IsRoomyAt}
 use Rattle.txn_engine.specs.Lists.{IsQueuedNewest, IsTidy, IsRoomy, IsTidyOnceCollected, IsRoomyOnceCollected}
-use Rattle.txn_engine.specs.Pass.{PassView, EngineView, first_pass, knowing, queued, decided, published, committed}
-use Rattle.txn_engine.specs.Accounts.{Stays}
+use Rattle.txn_engine.specs.Pass.{PassView, EngineView, first_pass, with_bounds, queued, decided, published, committed}
 use Rattle.core_rule.proofs.Among.{Among-left, Among-right}
 
 -- ---- at a post
 
 -- all of them are some
-pub all_linked : (writes : List (ℕ × Option (List ℕ))) (stamp : ℕ) (before after' : Known) → AreLinked writes stamp before after' → AreSomeLinked writes stamp before after'
+pub all_linked : (writes : List (ℕ × Option (List ℕ))) (stamp : ℕ) (before after' : Bounds) → AreLinked writes stamp before after' → AreSomeLinked writes stamp before after'
 all_linked writes stamp before after' are = record { count = length writes; linked = subst (λ ws. AreLinked ws stamp before after') (sym (take_all (length writes) writes (omega arith))) are }
 
 -- ---- what is queued
@@ -33,8 +32,8 @@ among_queued stamp (w ∷ ws) r some = elim (eqb_tells r w.0) as (λ _. Among (r
 ]
 
 -- what holds of each record but those whose newest version is queued, after a commit
-collectable : (P : Option Bound → Type 0) (p : PassView) (before : Known) (r : ℕ) → AreLinked p.writes p.stamp before p.known → P (known_of before.counts r) ⊎ IsQueuedNewest p.queue before r → P (known_of p.known.counts r) ⊎ IsQueuedNewest (published p).queue p.known r
-collectable P p before r are was = elim (value_or (value_at p.writes r)) as (λ _. P (known_of p.known.counts r) ⊎ IsQueuedNewest (published p).queue p.known r) [
+collectable : (P : Option Bound → Type 0) (p : PassView) (before : Bounds) (r : ℕ) → AreLinked p.writes p.stamp before p.bounds → P (known_of before.counts r) ⊎ IsQueuedNewest p.queue before r → P (known_of p.bounds.counts r) ⊎ IsQueuedNewest (published p).queue p.bounds r
+collectable P p before r are was = elim (value_or (value_at p.writes r)) as (λ _. P (known_of p.bounds.counts r) ⊎ IsQueuedNewest (published p).queue p.bounds r) [
   | inr some ↦ inr (record {
     item = record { rid = r; stamp = p.stamp };
     among = Among-right (record { rid = r; stamp = p.stamp }) p.queue (queued p.stamp p.writes) (among_queued p.stamp p.writes r some);
@@ -45,23 +44,23 @@ collectable P p before r are was = elim (value_or (value_at p.writes r)) as (λ 
   })
   | inl none ↦ (
       let same = are.others r none in
-      elim was as (λ _. P (known_of p.known.counts r) ⊎ IsQueuedNewest (published p).queue p.known r) [
+      elim was as (λ _. P (known_of p.bounds.counts r) ⊎ IsQueuedNewest (published p).queue p.bounds r) [
         | inl has ↦ inl (subst P (sym same.0) has)
         | inr q ↦ inr (record { item = q.item; among = Among-left q.item p.queue (queued p.stamp p.writes) q.among; of_record = q.of_record; stamp = q.stamp; newest = same.1 ∙ q.newest; low = q.low })
       ])
 ]
 
-pub tidy_published : (p : PassView) (before : Known) → AreLinked p.writes p.stamp before p.known → IsTidyOnceCollected (knowing p before) → IsTidyOnceCollected (published p)
+pub tidy_published : (p : PassView) (before : Bounds) → AreLinked p.writes p.stamp before p.bounds → IsTidyOnceCollected (with_bounds p before) → IsTidyOnceCollected (published p)
 tidy_published p before are tidy r within = collectable (HasLinked 1) p before r are (tidy r within)
 
-pub roomy_published : (p : PassView) (before : Known) → AreLinked p.writes p.stamp before p.known → IsRoomyOnceCollected (knowing p before) → IsRoomyOnceCollected (published p)
+pub roomy_published : (p : PassView) (before : Bounds) → AreLinked p.writes p.stamp before p.bounds → IsRoomyOnceCollected (with_bounds p before) → IsRoomyOnceCollected (published p)
 roomy_published p before are roomy r within = collectable (HasOutside 1) p before r are (roomy r within)
 
-pub tidy_committed : (p : PassView) (known : Known) → AreLinked p.writes p.stamp p.known known → IsTidyOnceCollected p → IsTidyOnceCollected (committed (knowing p known))
-tidy_committed p known are tidy = tidy_published (decided (knowing p known)) p.known are tidy
+pub tidy_committed : (p : PassView) (known : Bounds) → AreLinked p.writes p.stamp p.bounds known → IsTidyOnceCollected p → IsTidyOnceCollected (committed (with_bounds p known))
+tidy_committed p known are tidy = tidy_published (decided (with_bounds p known)) p.bounds are tidy
 
-pub roomy_committed : (p : PassView) (known : Known) → AreLinked p.writes p.stamp p.known known → IsRoomyOnceCollected p → IsRoomyOnceCollected (committed (knowing p known))
-roomy_committed p known are roomy = roomy_published (decided (knowing p known)) p.known are roomy
+pub roomy_committed : (p : PassView) (known : Bounds) → AreLinked p.writes p.stamp p.bounds known → IsRoomyOnceCollected p → IsRoomyOnceCollected (committed (with_bounds p known))
+roomy_committed p known are roomy = roomy_published (decided (with_bounds p known)) p.bounds are roomy
 
 -- ---- lists that no call has changed
 
@@ -70,10 +69,3 @@ tidy_first e r within = omega arith
 
 pub roomy_first : (e : EngineView) → IsRoomy (first_pass e)
 roomy_first e r within = omega arith
-
-pub tidy_stays : (p q : PassView) → Stays p q → IsTidy p → IsTidy q
-tidy_stays p q stays tidy =
-    subst (λ (f : PassView). (r : ℕ) → suc r ≤ f.shared.size.records → HasLinked 1 (known_of f.known.counts r)) (sym stays.same_frame) tidy
-
-pub roomy_stays : (p q : PassView) → Stays p q → IsRoomy p → IsRoomy q
-roomy_stays p q stays roomy = subst (λ (f : PassView). IsRoomyAt f.shared.size f.known) (sym stays.same_frame) roomy

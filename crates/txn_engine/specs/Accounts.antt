@@ -4,7 +4,7 @@ use Rattle.std.specs.List.{list_any}
 use Rattle.plain_data.specs.declared.entry.Entry.{Entry}
 use Rattle.seat_post.specs.Observing.{Grows}
 use Rattle.seat_post.specs.Seats.{is_alone_at}
-use Rattle.seat_post.specs.Spare.{is_on}
+use Rattle.spare_numbers.specs.Spare.{is_on}
 use Rattle.txn_engine.specs.Pass.{PassView, frame}
 
 -- a commit entry writes the record; and writes a value there

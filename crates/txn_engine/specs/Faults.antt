@@ -9,7 +9,7 @@ use Rattle.txn_engine.specs.declared.faults.CommitFault.TheVariants as commit
 use Rattle.seat_post.specs.Conflicts.{ShowsPending, Touches, IsLoaded}
 use Rattle.seat_post.specs.Placing.{WantsPlaceAt}
 use Rattle.seat_post.specs.Post.{IsShownAt}
-use Rattle.seat_post.specs.Spare.{is_on}
+use Rattle.spare_numbers.specs.Spare.{is_on}
 use Rattle.txn_engine.specs.Pass.{PassView}
 
 -- want of memory is no refusal

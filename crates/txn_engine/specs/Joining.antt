@@ -6,9 +6,9 @@ use Rattle.plain_data.specs.declared.entry.Entry.{Entry}
 use Rattle.word_layout.specs.Size.{Size}
 use Rattle.txn_engine.specs.Pass.{EngineView, PassView}
 use Rattle.txn_engine.specs.Retired.{RetiredView}
-use Rattle.seat_post.specs.Seats.{Known, Placed}
-use Rattle.seat_post.specs.Sharing.{no_knowledge}
-use Rattle.seat_post.specs.Spare.{with_all}
+use Rattle.seat_post.specs.Seats.{Bounds, Placed}
+use Rattle.seat_post.specs.Sharing.{no_bounds}
+use Rattle.spare_numbers.specs.Spare.{with_all}
 
 -- ---- what they leave together
 
@@ -47,9 +47,9 @@ abbrev pub taken_of : List ℕ → List RetiredView → List ℕ
 taken_of taken_in [] = taken_in
 taken_of taken_in (r ∷ rs) = taken_of (taken_in ++ r.seat ∷ r.others.taken_in) rs
 
-abbrev pub known_of : Known → List RetiredView → Known
-known_of known [] = known
-known_of known (r ∷ rs) = no_knowledge
+abbrev pub bounds_joined : Bounds → List RetiredView → Bounds
+bounds_joined bounds [] = bounds
+bounds_joined bounds (r ∷ rs) = no_bounds
 
 abbrev pub placed_of : List Placed → List RetiredView → List Placed
 placed_of placed [] = placed
@@ -61,7 +61,7 @@ joined p r = record p {
   post = record p.post {
     clock = max p.clock r.clock;
     others = record p.others { taken_in = p.others.taken_in ++ r.seat ∷ r.others.taken_in };
-    known = no_knowledge;
+    bounds = no_bounds;
     log = p.log ++ r.log;
     placed = [];
     met = max p.met r.met;
@@ -75,7 +75,7 @@ come_together p rs = record p {
   post = record p.post {
     clock = greatest_clock_of p.clock rs;
     others = record p.others { taken_in = taken_of p.others.taken_in rs };
-    known = known_of p.known rs;
+    bounds = bounds_joined p.bounds rs;
     log = p.log ++ logs_of rs;
     placed = placed_of p.placed rs;
     met = greatest_met_of p.met rs;

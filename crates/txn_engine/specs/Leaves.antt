@@ -1,7 +1,7 @@
 -- What the log of a pass leaves: what a seat that is alone reads, and which records it holds as absent.
 use Rattle.std.specs.Prelude.{◌≡◌, ◌⊎◌, ℕ, ◌<◌, ◌≤◌, List, ◌++◌, true, Option, None, IsSome}
 use Rattle.record_store.specs.Meaning.{value_at}
-use Rattle.seat_post.specs.Spare.{is_on}
+use Rattle.spare_numbers.specs.Spare.{is_on}
 use Rattle.txn_engine.specs.Pass.{PassView, IsAlone}
 use Rattle.seat_post.specs.Leaves.{IsPresent, LeavesValue}
 

@@ -1,4 +1,4 @@
--- What snapshot_begun for the absent records makes of a pass.
+-- What looking for the absent records makes of a pass.
 use Rattle.std.specs.Prelude.{ℕ, List, []}
 use Rattle.seat_post.specs.Rescan.{looked_over}
 use Rattle.txn_engine.specs.Pass.{PassView}

@@ -7,7 +7,7 @@ use Rattle.core_rule.specs.Hands.{Seated}
 use Rattle.txn_engine.specs.Pass.{EngineView, PassView, engine_of}
 use Rattle.seat_post.specs.Logs.{IsAbove, AreBelow}
 use Rattle.seat_post.specs.Seats.{Others}
-use Rattle.seat_post.specs.Spare.{NumbersView}
+use Rattle.spare_numbers.specs.Spare.{NumbersView}
 use Rattle.seat_post.specs.Joining.{IsDone}
 
 -- a seat that has retired: what a pass leaves, and which seats it took as open

@@ -3,9 +3,9 @@ use Rattle.std.specs.Prelude.{ℕ, None, ◌-◌, nat_lt, false, List, [], ◌�
 use Rattle.std.specs.List.{range_with_len}
 use Rattle.core_rule.specs.View.{sharing}
 use Rattle.txn_engine.specs.Pass.{PassView, bare}
-use Rattle.seat_post.specs.Seats.{Others, Known, Placed}
-use Rattle.seat_post.specs.Sharing.{no_knowledge, announced_at, made_next}
-use Rattle.seat_post.specs.Spare.{every}
+use Rattle.seat_post.specs.Seats.{Others, Bounds, Placed}
+use Rattle.seat_post.specs.Sharing.{no_bounds, announced_at, made_next}
+use Rattle.spare_numbers.specs.Spare.{every}
 
 -- ---- the pass before it makes others
 
@@ -20,14 +20,14 @@ announced p = record p { post = announced_at p.post; spare = p.given ++ p.spare;
 abbrev pub others_made : (made : ℕ) → Others → Others
 others_made made others = if nat_lt 1 made then record others { splitting = sharing made } else others
 
-abbrev pub known_made : (made : ℕ) → Known → Known
-known_made made known = if nat_lt 1 made then no_knowledge else known
+abbrev pub bounds_made : (made : ℕ) → Bounds → Bounds
+bounds_made made bounds = if nat_lt 1 made then no_bounds else bounds
 
 abbrev pub placed_made : (made : ℕ) → List Placed → List Placed
 placed_made made placed = if nat_lt 1 made then [] else placed
 
 abbrev pub with_made : (made : ℕ) → PassView → PassView
-with_made made p = record p { post = record p.post { others = others_made made p.others; known = known_made made p.known; placed = placed_made made p.placed } }
+with_made made p = record p { post = record p.post { others = others_made made p.others; bounds = bounds_made made p.bounds; placed = placed_made made p.placed } }
 
 -- the pass of another seat, with its share of the spare numbers, but for its snapshot
 abbrev pub share_at : PassView → (seat : ℕ) → PassView

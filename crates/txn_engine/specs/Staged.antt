@@ -5,29 +5,29 @@ use Rattle.plain_data.specs.State.{State}
 use Rattle.validate_core.specs.declared.conflict.Conflict.{Conflict}
 use Rattle.seat_post.specs.Ends.{Stood}
 use Rattle.seat_post.specs.Leaves.{AreLeft}
-use Rattle.seat_post.specs.Lists.{AreLinked, AreSomeLinked, known_before, AreKnown, count_raised}
+use Rattle.seat_post.specs.Lists.{AreLinked, AreSomeLinked, bounds_before, AreBounded, count_raised}
 use Rattle.seat_post.specs.Logs.{IsAbove}
 use Rattle.seat_post.specs.Observing.{Grows}
 use Rattle.seat_post.specs.Placing.{HavePlaces, CountsPlaces}
-use Rattle.seat_post.specs.Seats.{Known}
+use Rattle.seat_post.specs.Seats.{Bounds}
 use Rattle.txn_engine.specs.declared.faults.CommitFault.{CommitFault}
 use Rattle.txn_engine.specs.declared.faults.CommitFault.TheVariants as fault
 use Rattle.txn_engine.specs.declared.transacting.Committed.{Committed}
 use Rattle.txn_engine.specs.Faults.{IsShown, IsTouched, MatchStopped, WasLoaded, WantsPlace}
 use Rattle.txn_engine.specs.Leaves.{HoldsAbsent}
 use Rattle.txn_engine.specs.Lists.{IsFull, IsTidyOnceCollected, IsRoomyOnceCollected}
-use Rattle.txn_engine.specs.Pass.{PassView, IsAlone, knowing, observing, placing, with_log, entry_of, installed, decided, refused, published}
+use Rattle.txn_engine.specs.Pass.{PassView, IsAlone, with_bounds, observing, placing, with_log, entry_of, installed, decided, refused, published}
 
 -- its versions are linked as pending ones, each in a place for its record
 pub record Installs (before after' : PassView) : Type 0 where
-  pub after : after' ≡ observing (placing (installed (knowing before after'.known)) after'.placed) after'.observed
+  pub after : after' ≡ observing (placing (installed (with_bounds before after'.bounds)) after'.placed) after'.observed
   pub grows : Grows before.observed after'.observed
   pub alive : before.dead ≡ None
   pub have : HavePlaces before.shared.size before.writes after'.placed
   pub above : IsAbove before.log before.stamp
   pub read_left : IsAlone before → AreLeft before.log before.stamp before.reads
-  pub first : known_before (length before.writes) after'.known ≡ before.known
-  pub linked : AreLinked before.writes before.stamp before.known after'.known
+  pub first : bounds_before (length before.writes) after'.bounds ≡ before.bounds
+  pub linked : AreLinked before.writes before.stamp before.bounds after'.bounds
 
 -- why they are not: it has met a conflict, or there is no place for one of them
 pub record MayRefuseInstall (before : PassView) (why : CommitFault) : Type 0 where
@@ -41,15 +41,15 @@ pub record MayRefuseInstall (before : PassView) (why : CommitFault) : Type 0 whe
 pub record RefusesInstall (before after' : PassView) (why : CommitFault) : Type 0 where
   pub may : MayRefuseInstall before why
   pub open may use *
-  pub after : after' ≡ observing (placing (refused (knowing before after'.known)) after'.placed) after'.observed
+  pub after : after' ≡ observing (placing (refused (with_bounds before after'.bounds)) after'.placed) after'.observed
   pub grows : Grows before.observed after'.observed
   pub none_placed : IfSome before.dead (λ conflict. after'.placed ≡ before.placed)
-  pub some_linked : AreSomeLinked before.writes before.stamp before.known after'.known
+  pub some_linked : AreSomeLinked before.writes before.stamp before.bounds after'.bounds
   pub places : why ≡ fault.PlacesOut → WantsPlace before after'
 
 -- what was known of lists before its versions were linked
-abbrev pub known_first : PassView → Known
-known_first p = known_before (length p.writes) p.known
+abbrev pub bounds_first : PassView → Bounds
+bounds_first p = bounds_before (length p.writes) p.bounds
 
 -- it is valid: its entry stands at the end of the log, and a kept state of the history agrees with its reads
 pub record Decides (kept : State → Type 0) (before after' : PassView) : Type 0 where
@@ -71,11 +71,11 @@ pub record Publishes (before after' : PassView) (told : Committed) : Type 0 wher
   pub stamp : told.stamp ≡ before.stamp
   pub counts : told.inlined + told.pooled ≡ length before.writes
   pub inlined : CountsPlaces before.shared.size before.writes before.placed told.inlined
-  pub pooled : AreKnown (known_first before) before.writes → told.pooled ≡ count_raised (known_first before) before.known before.writes
+  pub pooled : AreBounded (bounds_first before) before.writes → told.pooled ≡ count_raised (bounds_first before) before.bounds before.writes
 
 -- Where each record but those whose newest version is queued had one version, or one at most outside its inline place, before the versions
 -- were linked, so it is now; and where each absent record was held before the entry stood in the log, so it is now.
 pub record StillHolds (before after' : PassView) : Type 0 where
-  pub tidy : (first : Known) → AreLinked before.writes before.stamp first before.known → IsTidyOnceCollected (knowing before first) → IsTidyOnceCollected after'
-  pub roomy : (first : Known) → AreLinked before.writes before.stamp first before.known → IsRoomyOnceCollected (knowing before first) → IsRoomyOnceCollected after'
+  pub tidy : (first : Bounds) → AreLinked before.writes before.stamp first before.bounds → IsTidyOnceCollected (with_bounds before first) → IsTidyOnceCollected after'
+  pub roomy : (first : Bounds) → AreLinked before.writes before.stamp first before.bounds → IsRoomyOnceCollected (with_bounds before first) → IsRoomyOnceCollected after'
   pub absent : (log : List Entry) → before.log ≡ log ++ entry_of before ∷ [] → IsAbove log before.stamp → HoldsAbsent (with_log before log) → HoldsAbsent after'

@@ -4,10 +4,10 @@ use crate::engine::Engine;
 use crate::faults::{BeginFault, CommitFault, TxnFault};
 use crate::pass::Pass;
 use crate::seat_calls::SeatCalls;
-use crate::transacting::{Committed, boost_left, one_if};
+use crate::transacting::{Committed, boost_after_end, one_if};
 use core_rule::Keeps;
 use plain_data::Cells;
-use seat_post::Phase;
+use seat_post::{Phase, ReadFault};
 
 impl<J: Keeps> SeatCalls for Pass<J> {
     type Kept = J;
@@ -43,7 +43,18 @@ impl<J: Keeps> SeatCalls for Pass<J> {
     }
 
     fn read(&mut self, engine: &Engine<J>, rid: u32) -> Result<Option<Cells>, TxnFault> {
-        self.read(engine, rid)
+        self.stopped()?;
+        if let Some(value) = self.post.written(rid) {
+            return Ok(*value);
+        }
+        if let Some(version) = self.post.version_read(rid) {
+            return Ok(version.value());
+        }
+        match self.post.read(&engine.core, rid) {
+            Ok(()) => Ok(self.post.last_read()),
+            Err(ReadFault::Pending { wts }) => Err(self.doom(rid, wts)),
+            Err(ReadFault::NoMemory) => Err(TxnFault::NoMemory),
+        }
     }
 
     fn write(&mut self, rid: u32, value: &Option<Cells>) -> Result<(), TxnFault> {
@@ -78,7 +89,7 @@ impl<J: Keeps> SeatCalls for Pass<J> {
         // The count is below the clock, which fits.
         self.post.clock();
         self.refusals += one_if(self.counted);
-        self.boost = boost_left(&self.dead, self.boost);
+        self.boost = boost_after_end(&self.dead, self.boost);
         self.counted = false;
         self.dead = None;
         self.numbers.take_back();

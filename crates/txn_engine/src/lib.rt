@@ -4,7 +4,6 @@
 mod alone;
 mod at_alone;
 mod at_pass;
-mod collecting;
 mod engine;
 mod faults;
 mod fresh;
@@ -21,7 +20,6 @@ mod settling;
 mod sharing;
 mod snapshot;
 mod staged;
-mod telling;
 mod transacting;
 mod txn;
 

@@ -1,11 +1,12 @@
 //! What the passes are made of that a share gives.
 ghost use Rattle.std.specs.Prelude.{◌≡◌, ◌<◌, IfOk};
 ghost use Rattle.txn_engine.specs.Alone.{HasParts};
-ghost use Rattle.seat_post.specs.Spare.{no_numbers};
+ghost use Rattle.spare_numbers.specs.Spare.{no_numbers};
 
 use crate::pass::Pass;
 use plain_data::NoMemory;
-use seat_post::{Numbers, Room};
+use seat_post::Room;
+use spare_numbers::Numbers;
 use std::alloc::Global;
 use std::marker::Model;
 
@@ -17,7 +18,7 @@ pub(crate) struct Part {
 }
 
 impl Model for Part {
-    ghost use Rattle.seat_post.specs.Spare.{NumbersView};
+    ghost use Rattle.spare_numbers.specs.Spare.{NumbersView};
 
     ghost Value = { NumbersView };
 

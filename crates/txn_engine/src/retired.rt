@@ -4,7 +4,7 @@ ghost use Rattle.stamp_base.specs.Stamp.{stamp_of};
 ghost use Rattle.txn_engine.specs.Retired.{RetiredView};
 
 use core_rule::Hand;
-use seat_post::Numbers;
+use spare_numbers::Numbers;
 use stamp_base::Stamp;
 use std::marker::Model;
 

@@ -28,7 +28,7 @@ impl<J: Keeps> Alone<J> {
     /// the rest is cut off; else the value that is visible is written again, at a stamp of the next clock, and the rest is cut off.
     /// Each such writing adds one entry to the log. After `Ok` each record has one linked version. No memory is asked for.
     ///
-    /// Where neither the record's inline place nor a usable one is free, the writing takes the kept place, which is free between
+    /// Where neither the record's inline place nor a usable one is free, the writing takes the reserved place, which is free between
     /// calls, and the record is at once written again into its inline place, which has been freed by then.
     ///
     /// `ClockOut` comes only where the clock has come to its end and a writing again is due for a record; the records before that

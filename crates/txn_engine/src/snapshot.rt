@@ -34,7 +34,8 @@ impl<S: SeatCalls> SnapshotOver<'_, S> {
     pub fn stamp(&self) -> u64
         ensures { IfSome (S.pass self.now.seat.now).snapshot (λ g. result ≡ g.stamp) }
     {
-        self.seat.pass().snapshot_stamp()
+        let pass = self.seat.pass();
+        pass.post.snapshot_stamp()
     }
 
     /// Ends the snapshot, and gives its stamp. One entry with all that was read stands at the end of the log, and a kept state of

@@ -1,8 +1,8 @@
 -- Writes installed one by one.
 use Rattle.std.proofs.Common.{◌≡◌, ◌≢◌, ℕ, ◌+◌, ◌<◌, ◌≤◌, false, Bool, cond, eqb, eq-eqb, ne_eqb, List, [], ◌∷◌, ◌++◌, refl, sym, ap, ◌∙◌, subst, ⊎_elim, take, take_all, length, arith}
 use Rattle.std.proofs.lemmas.List.{take_more_set}
-use Rattle.word_layout.specs.Size.{Size, places, kept_place}
-use Rattle.core_rule.specs.View.{View, writing, Read, Write, Seen, still, no_front, no_item, version_kept}
+use Rattle.word_layout.specs.Size.{Size, places, reserved_place}
+use Rattle.core_rule.specs.View.{View, writing, Read, Write, Seen, still, no_front, no_item, version_reserved}
 use Rattle.core_rule.specs.Views.{Among, AllOf}
 use Rattle.core_rule.specs.Holding.{without, without_fill}
 use Rattle.core_rule.specs.Searching.{Rests, Ends, IsNotLinked, counted_more}
@@ -65,11 +65,11 @@ pub each_grows : (z : Size) (stamp : ℕ) (us : List Write) (v w : View) → Lin
 each_grows z stamp _ _ _ (none_yet v) = grows_none v.seen
 each_grows z stamp _ _ _ (one_more us u v x w each l) = grows_both v.seen x.seen w.seen (each_grows z stamp us v x each) (one_grows z stamp u x w l)
 
--- a version that is linked in a place other than the kept one
-pub linked_in_kept : (z : Size) (u : Write) (v w : View) → v.size ≡ z → u.place ≢ kept_place z → IsLinked u v w → w.counts.in_kept ≡ v.counts.in_kept
-linked_in_kept z u v w size ne l =
-    ap (λ (x : View). x.counts.in_kept) l.view
-    ∙ ap (λ (b : Bool). cond b (version_kept u.record_number u.stamp) v.counts.in_kept) (ap (λ (x : Size). eqb u.place (kept_place x)) size ∙ ne_eqb u.place (kept_place z) ne)
+-- a version that is linked in a place other than the reserved one
+pub linked_in_reserved : (z : Size) (u : Write) (v w : View) → v.size ≡ z → u.place ≢ reserved_place z → IsLinked u v w → w.counts.in_reserved ≡ v.counts.in_reserved
+linked_in_reserved z u v w size ne l =
+    ap (λ (x : View). x.counts.in_reserved) l.view
+    ∙ ap (λ (b : Bool). cond b (version_reserved u.record_number u.stamp) v.counts.in_reserved) (ap (λ (x : Size). eqb u.place (reserved_place x)) size ∙ ne_eqb u.place (reserved_place z) ne)
 
 -- ---- the sets, and what is in flight
 
@@ -102,7 +102,7 @@ pub record Placing (core : Shared) (before : Seated) (s0 : SetsView) (i : ℕ) (
   pub inside : (u : Write) → Among u (take i s.writes) → u.place < places core.size
   pub only : now.view ≡ installed_in before.view now.view
   pub held : now.view.places.held ≡ before.view.places.held
-  pub in_kept : now.view.counts.in_kept ≡ before.view.counts.in_kept
+  pub in_reserved : now.view.counts.in_reserved ≡ before.view.counts.in_reserved
   pub rests : Rests now.view.work.search
   pub linked : now.view.work.linked ≡ take i s.writes
   pub each : LinksEach core.size before.view.published.write (take i s.writes) before.view now.view
@@ -115,7 +115,7 @@ placing_starts core before s ready begun = record {
   inside = λ u h. absurd h;
   only = refl;
   held = refl;
-  in_kept = refl;
+  in_reserved = refl;
   rests = begun.rests;
   linked = begun.linked;
   each = none_yet before.view;
@@ -145,8 +145,8 @@ module _ (core : Shared) (before : Seated) (s0 : SetsView) (i : ℕ) (s : SetsVi
   placing_new u t c h = once_turn (λ (w : Write). w.record_number) i s.writes u placing_once t c (subst (Among c) p.linked h)
 
   -- one write more
-  pub placing_next : (stamp : ℕ) (s' : SetsView) (at : Seated) → stamp ≡ before.view.published.write → i < length s.writes → InstallsOne core.size stamp i s s' now.view at.view → at.view.counts.in_kept ≡ now.view.counts.in_kept → (s.read_room ≤ s'.read_room) × (s.write_room ≤ s'.write_room) → StaysReady core now at → Placing core before s0 (i + 1) s' at
-  placing_next stamp s' at same lt o in_kept room stays =
+  pub placing_next : (stamp : ℕ) (s' : SetsView) (at : Seated) → stamp ≡ before.view.published.write → i < length s.writes → InstallsOne core.size stamp i s s' now.view at.view → at.view.counts.in_reserved ≡ now.view.counts.in_reserved → (s.read_room ≤ s'.read_room) × (s.write_room ≤ s'.write_room) → StaysReady core now at → Placing core before s0 (i + 1) s' at
+  placing_next stamp s' at same lt o in_reserved room stays =
       let u : Write = record o.puts.write { place = o.place; stamp = stamp } in
       let l : LinksOne core.size before.view.published.write u now.view at.view = record { at = same; fits = o.fits; taken = o.taken; takes = o.takes; value = o.puts.value; value_is = o.puts.value_is; linked = o.puts.linked } in
       let more : take (i + 1) s'.writes ≡ take i s.writes ++ u ∷ [] = ap (λ (ws : List Write). take (i + 1) ws) o.puts.writes ∙ take_more_set s.writes i u lt in
@@ -162,7 +162,7 @@ module _ (core : Shared) (before : Seated) (s0 : SetsView) (i : ℕ) (s : SetsVi
             (among_last c u (take i s.writes) (subst (Among c) more h));
         only = one_only core.size before.view.published.write u now.view at.view l ∙ ap (λ (x : View). installed_in x at.view) p.only;
         held = one_held core.size before.view.published.write u now.view at.view l ∙ p.held;
-        in_kept = in_kept ∙ p.in_kept;
+        in_reserved = in_reserved ∙ p.in_reserved;
         rests = one_rests core.size before.view.published.write u now.view at.view l;
         linked = one_linked core.size before.view.published.write u now.view at.view l ∙ ap (λ (ws : List Write). ws ++ u ∷ []) p.linked ∙ sym more;
         each = subst (λ (ws : List Write). LinksEach core.size before.view.published.write ws before.view at.view) (sym more) (one_more (take i s.writes) u before.view now.view at.view p.each l);
@@ -209,8 +209,8 @@ module _ (core : Shared) (before : Seated) (s0 : SetsView) (i : ℕ) (s : SetsVi
         (works_stands now.view x.view record { only = subst (λ (y : View). y ≡ worked now.view y.work y.seen) (sym f.none.view) refl; grows = grows_lost now.view.seen x.view.seen f.none.lost (ap (λ (y : View). y.seen.loads) f.none.view) (ap (λ (y : View). y.seen.lost) f.none.view) })
         (works_stands x.view w a))
 
-    pub none_in_kept : (w : View) → Works x.view w → w.counts.in_kept ≡ before.view.counts.in_kept
-    none_in_kept w a = ap (λ (y : View). y.counts.in_kept) a.only ∙ ap (λ (y : View). y.counts.in_kept) f.none.view ∙ p.in_kept
+    pub none_in_reserved : (w : View) → Works x.view w → w.counts.in_reserved ≡ before.view.counts.in_reserved
+    none_in_reserved w a = ap (λ (y : View). y.counts.in_reserved) a.only ∙ ap (λ (y : View). y.counts.in_reserved) f.none.view ∙ p.in_reserved
 
     pub none_log : (w : View) → Works x.view w → w.log ≡ before.view.log
     none_log w a = ap (λ (y : View). y.log) a.only ∙ ap (λ (y : View). y.log) f.none.view ∙ ap (λ (y : View). y.log) p.only

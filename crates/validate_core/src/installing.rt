@@ -35,8 +35,8 @@ pub fn install<J: Keeps>(
     ensures ok { OnOk result (Installs core.now.size sets.new hand.old.view hand.new.view) }
     ensures err { OnErr result (FindsNoPlace core.now.size sets.new hand.old.view hand.new.view) }
     ensures full { OnErr result (IsFullFor core.now.size (length sets.old.writes) hand.old.view) }
-    // No version of it stands in the kept place.
-    ensures in_kept { hand.new.view.counts.in_kept ≡ hand.old.view.counts.in_kept }
+    // No version of it stands in the reserved place.
+    ensures in_reserved { hand.new.view.counts.in_reserved ≡ hand.old.view.counts.in_reserved }
     ensures room { (sets.old.read_room ≤ sets.new.read_room) × (sets.old.write_room ≤ sets.new.write_room) }
     ensures stays { StaysReady core.now hand.old hand.new }
 {
@@ -94,7 +94,7 @@ fn install_one<J: Keeps>(
     ensures err { OnErr result (FindsNoneFor core.now.size i sets.old hand.old.view hand.new.view) }
     ensures full { OnErr result (IsFull core.now.size hand.old.view) }
     ensures same { OnErr result (sets.new ≡ sets.old) }
-    ensures in_kept { hand.new.view.counts.in_kept ≡ hand.old.view.counts.in_kept }
+    ensures in_reserved { hand.new.view.counts.in_reserved ≡ hand.old.view.counts.in_reserved }
     ensures room { (sets.old.read_room ≤ sets.new.read_room) × (sets.old.write_room ≤ sets.new.write_room) }
     ensures stays { StaysReady core.now hand.old hand.new }
 {

@@ -4,7 +4,7 @@ use Rattle.std.proofs.lemmas.List.{append-nil}
 use Rattle.std.proofs.lemmas.Bool.Decides.{leb_tells, nat_tests}
 use Rattle.std.specs.List.{range_with_len}
 use Rattle.word_layout.specs.Name.{status}
-use Rattle.word_layout.specs.Size.{Size, IsUsable, places, kept_place}
+use Rattle.word_layout.specs.Size.{Size, IsUsable, places, reserved_place}
 use Rattle.core_rule.specs.View.{View, Load}
 use Rattle.core_rule.specs.Views.{Has}
 use Rattle.core_rule.specs.Holding.{is_usable}
@@ -49,14 +49,14 @@ Has-append_right p [] ys h = h
 Has-append_right p (x ∷ xs) ys h = inr (Has-append_right p xs ys h)
 
 -- each usable place has its turn
-pub Has-usable_from : (z : Size) (start p : ℕ) → z.records ≤ start → start ≤ kept_place z → IsUsable z p → Has p (usable_from z start)
+pub Has-usable_from : (z : Size) (start p : ℕ) → z.records ≤ start → start ≤ reserved_place z → IsUsable z p → Has p (usable_from z start)
 Has-usable_from z start p low high usable =
     elim (leb_tells start p) [
-      | inl above ↦ let at : start ≤ p = above.1 in Has-append_left p upper lower (Has-range_with_len p start (kept_place z - start) at (omega arith))
+      | inl above ↦ let at : start ≤ p = above.1 in Has-append_left p upper lower (Has-range_with_len p start (reserved_place z - start) at (omega arith))
       | inr below ↦ let at : p < start = below.1 in Has-append_right p upper lower (Has-range_with_len p z.records (start - z.records) usable.0 (omega arith))
     ] where
       upper : List ℕ
-      upper = range_with_len start (kept_place z - start)
+      upper = range_with_len start (reserved_place z - start)
 
       lower : List ℕ
       lower = range_with_len z.records (start - z.records)
@@ -219,7 +219,7 @@ pub usable_from-by : (z layout : Size) (start all records : ℕ) → layout ≡ 
     → range_with_len start (all - 1 - start) ++ range_with_len records (start - records) ≡ usable_from z start
 usable_from-by z layout start all records same all_is records_is =
     ap (λ (n : ℕ). range_with_len start (n - 1 - start) ++ range_with_len records (start - records)) (all_is ∙ ap places same)
-    ∙ ap (λ (r : ℕ). range_with_len start (kept_place z - start) ++ range_with_len r (start - r)) (records_is ∙ ap (λ (x : Size). x.records) same)
+    ∙ ap (λ (r : ℕ). range_with_len start (reserved_place z - start) ++ range_with_len r (start - r)) (records_is ∙ ap (λ (x : Size). x.records) same)
 
 pub usable_in_turn-by : (z layout : Size) (last own : Option ℕ) (start : ℕ) → layout ≡ z → start ≡ first_in_turn layout last → last ≡ own → usable_from z start ≡ usable_in_turn z own
 usable_in_turn-by z layout last own start same start_is last_is =

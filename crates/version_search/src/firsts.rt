@@ -18,9 +18,9 @@ pub fn first<J: Keeps>(core: &Core<J>, hand: &mut Hand<J>, rid: u32) -> First
     ensures single { result.single ≡ true → known_of hand.new.view.counts rid ≡ Some record { linked = 1; outside = if nat_lt result.place core.now.size.records then 0 else 1 } }
     ensures known { result.single ≡ false → hand.new.view.counts ≡ hand.old.view.counts }
     ensures newest { newest_stamp hand.new.view.tops rid ≡ Some result.wts }
-    // What it knows of the other lists and of the kept place is as before, and so is all else but the loads.
+    // What it knows of the other lists and of the reserved place is as before, and so is all else but the loads.
     ensures others { (r : ℕ) → r ≢ rid → known_of hand.new.view.counts r ≡ known_of hand.old.view.counts r }
-    ensures in_kept { hand.new.view.counts.in_kept ≡ hand.old.view.counts.in_kept }
+    ensures in_reserved { hand.new.view.counts.in_reserved ≡ hand.old.view.counts.in_reserved }
     ensures lost { hand.new.view.seen.lost ≡ hand.old.view.seen.lost }
     ensures view { hand.new.view ≡ record hand.old.view { counts = hand.new.view.counts; tops = hand.new.view.tops; front = hand.new.view.front; seen = hand.new.view.seen } }
     ensures stays { StaysReady core.now hand.old hand.new }

@@ -38,12 +38,12 @@ abbrev pub IsPool : Size → ℕ → Type 0
 IsPool z p = (z.records ≤ p) × (p < places z)
 
 -- the last pool place, which is kept for settling
-abbrev pub kept_place : Size → ℕ
-kept_place z = places z - 1
+abbrev pub reserved_place : Size → ℕ
+reserved_place z = places z - 1
 
--- place p is a pool place other than the kept one
+-- place p is a pool place other than the reserved one
 abbrev pub IsUsable : Size → ℕ → Type 0
-IsUsable z p = (z.records ≤ p) × (p < kept_place z)
+IsUsable z p = (z.records ≤ p) × (p < reserved_place z)
 
 -- how many pool places are usable
 abbrev pub usable_places : Size → ℕ

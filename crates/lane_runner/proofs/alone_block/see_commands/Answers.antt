@@ -1,6 +1,6 @@
 use Rattle.std.proofs.Common.{rules, ◌≡◌, ℕ, ◌≤◌, true, Option, IfSome, sym, ap, subst, ◌∙◌}
 use Rattle.history_replay.specs.Results.{StandsForSome}
-use Rattle.txn_engine.specs.Alone.{AloneView, Beside}
+use Rattle.txn_engine.specs.Alone.{Beside}
 use Rattle.txn_engine.specs.Snapshot.{SnapshotRest}
 use Rattle.seat_post.specs.Ends.{Stood}
 use Rattle.seat_post.specs.Snapshot.{SnapshotView}
@@ -25,8 +25,8 @@ sight c =
     let s1 = c.exec_snap-told.new.store.seat.now.pass in
     let f = c.finish-stamp.new.self.0 in
     sought p c.tick.new.self.pass c.snapshot-snapshot.result.seat.now.pass s1 f.pass (next_clock p 0) c.finish-stamp.result c.snapshot-snapshot.ensures.begins (clock_later p 0) (clock_drawn p 0) c.requires.holds.idle
-    (ap (λ (a : AloneView). a.pass) c.in-Ok.ensures.ok) (ap (λ (x : SnapshotRest Beside). x.of_pass) c.exec_snap-told.ensures.rest) c.finish-stamp.ensures.finishes.after c.finish-stamp.ensures.finishes.stamp c.shared.ensures.alone
-    (subst (λ (n : ℕ). IsAbove p.log n) (c.in-Ok.ensures.stamp ∙ sym (ap (λ (a : AloneView). a.pass.published) c.in-Ok.ensures.ok)) c.in-Ok.ensures.above)
+    c.in-Ok.ensures.ok (ap (λ (x : SnapshotRest Beside). x.of_pass) c.exec_snap-told.ensures.rest) c.finish-stamp.ensures.finishes.after c.finish-stamp.ensures.finishes.stamp c.shared.ensures.alone
+    (subst (λ (n : ℕ). IsAbove p.log n) (c.in-Ok.ensures.stamp ∙ sym (ap (λ (x : PassView). x.published) c.in-Ok.ensures.ok)) c.in-Ok.ensures.above)
 
 pub untorn-requires : goal.untorn-requires
 untorn-requires c =
@@ -35,7 +35,7 @@ untorn-requires c =
     let s1 = c.exec_snap-told.new.store.seat.now.pass in
     let t = c.tick.new.self.pass in
     let begins = c.snapshot-snapshot.ensures.begins in
-    let tick = ap (λ (a : AloneView). a.pass) c.in-Ok.ensures.ok in
+    let tick = c.in-Ok.ensures.ok in
     let o = sight (goal.at.untorn-requires c).After-finish-stamp in
     let records : s1.shared.size.records ≡ p.shared.size.records = ap (λ (x : SnapshotRest Beside). x.of_pass.shared.size.records) c.exec_snap-told.ensures.rest ∙ ap (λ (x : PassView). x.shared.size.records) begins.pass ∙ ap (λ (x : PassView). x.shared.size.records) tick in
     let stood = subst (λ (g : Option SnapshotView). IfSome g (λ g. Stood (StandsForSome stands) s1.shared.size.records s1.log (entry_of_snapshot g))) o.seen c.finish-stamp.ensures.finishes.stood in
@@ -50,7 +50,7 @@ enters c =
     let s1 = c.exec_snap-told.new.store.seat.now.pass in
     let t = c.tick.new.self.pass in
     let begins = c.snapshot-snapshot.ensures.begins in
-    let tick = ap (λ (a : AloneView). a.pass) c.in-Ok.ensures.ok in
+    let tick = c.in-Ok.ensures.ok in
     let o = sight (goal.at.returns-clause-enters c).After-finish-stamp in
     record {
       committed = λ placed stamp kind. record {

@@ -17,7 +17,7 @@ returns-clause-queue c = λ alone. c.collect.ensures.collects.alone (subst (λ (
 pub returns-clause-ready : goal.returns-clause-ready
 returns-clause-ready c = λ ready.
     let r = c.collect.new.self in
-    let is : r ≡ removing (observing (collected (with_met c.args.pass.now c.tell.new.self.met) r.met r.known r.queue) r.observed) r.gone = c.collect.ensures.collects.after ∙ ap (λ (x : PassView). removing (observing (collected x r.met r.known r.queue) r.observed) r.gone) c.tell.ensures.value in
+    let is : r ≡ removing (observing (collected (with_met c.args.pass.now c.tell.new.self.met) r.met r.bounds r.queue) r.observed) r.gone = c.collect.ensures.collects.after ∙ ap (λ (x : PassView). removing (observing (collected x r.met r.bounds r.queue) r.observed) r.gone) c.tell.ensures.value in
     let told = c.tell.ensures.value in
     ready_collected c.args.pass.now r (ap engine_of is) (ap (λ (x : PassView). x.seat) is) (ap (λ (x : PassView). x.others) is) (ap (λ (x : PassView). x.given) is) (ap (λ (x : PassView). x.spare) is) (ap (λ (x : PassView). x.log) is)
     ready (c.collect.ensures.collects.roomy (subst (λ (x : PassView). IsAlone x) (sym told) ready.alone) (subst (λ (x : PassView). IsRoomyOnceCollected x) (sym told) ready.roomy))

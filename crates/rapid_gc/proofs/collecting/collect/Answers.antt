@@ -9,7 +9,7 @@ use Rattle.rapid_gc.specs.Collections.{idled, Prepares, GoesThrough, after_colle
 use Rattle.rapid_gc.proofs.Alone.{idled_alone, nothing_stays}
 use Rattle.rapid_gc.proofs.Bounds.{are_kept, leaves_one}
 use Rattle.rapid_gc.proofs.Grown.{collects_adds}
-use Rattle.rapid_gc.proofs.InKept.{is_left, cuts_off}
+use Rattle.rapid_gc.proofs.InReserved.{is_left, cuts_off}
 use Rattle.rapid_gc.proofs.Prepared.{idled_is, ends_idled, collects_view}
 use Rattle.rapid_gc.proofs.collecting.collect.Goals as goal
 
@@ -60,11 +60,11 @@ returns-clause-alone g c = nothing_stays c.args.hand.now.view c.args.queue.now.i
 pub returns-clause-known : goal.returns-clause-known
 returns-clause-known g c = are_kept c.args.hand.now.view c.args.queue.now.items c.go_through.new.items.items c.go_through.new.hand.view c.go_through.result (returns-clause-collects g c)
 
-pub returns-clause-one_left : goal.returns-clause-one_left
-returns-clause-one_left g c = leaves_one c.args.hand.now.view c.args.queue.now.items c.go_through.new.items.items c.go_through.new.hand.view c.go_through.result (returns-clause-collects g c)
+pub returns-clause-single : goal.returns-clause-single
+returns-clause-single g c = leaves_one c.args.hand.now.view c.args.queue.now.items c.go_through.new.items.items c.go_through.new.hand.view c.go_through.result (returns-clause-collects g c)
 
-pub returns-clause-in_kept : goal.returns-clause-in_kept
-returns-clause-in_kept g c = is_left c.args.hand.now.view c.args.queue.now.items c.go_through.new.items.items c.go_through.new.hand.view c.go_through.result (returns-clause-collects g c)
+pub returns-clause-in_reserved : goal.returns-clause-in_reserved
+returns-clause-in_reserved g c = is_left c.args.hand.now.view c.args.queue.now.items c.go_through.new.items.items c.go_through.new.hand.view c.go_through.result (returns-clause-collects g c)
 
 pub returns-clause-cut_off : goal.returns-clause-cut_off
 returns-clause-cut_off g c = cuts_off c.args.hand.now.view c.args.queue.now.items c.go_through.new.items.items c.go_through.new.hand.view c.go_through.result (returns-clause-collects g c)

@@ -2,8 +2,8 @@ use Rattle.std.specs.Prelude.{if◌then◌else◌}
 use Rattle.std.proofs.Common.{rules, ◌≡◌, ◌≢◌, ◌<◌, ◌+◌, ℕ, sym, ap, ◌∙◌, subst, inr, arith}
 use Rattle.stamp_base.specs.Stamp.{stamp_of}
 use Rattle.core_rule.specs.Hands.{Seated}
-use Rattle.core_rule.specs.View.{View, Counted, version_kept}
-use Rattle.word_layout.specs.Size.{Size, kept_place}
+use Rattle.core_rule.specs.View.{View, Counted, version_reserved}
+use Rattle.word_layout.specs.Size.{Size, reserved_place}
 use Rattle.clock_stamps.specs.Clocks.{drawn_clock}
 use Rattle.seat_post.specs.Rewriting.{Rewrites}
 use Rattle.version_search.proofs.Grown.{grows_none, grows_both}
@@ -13,7 +13,7 @@ use Rattle.seat_post.proofs.Observed.{drawn_grows}
 use Rattle.seat_post.proofs.Answered.{not_ok, on_err}
 use Rattle.seat_post.proofs.Bounds.{drawn_later, less_is_most, seat_below}
 use Rattle.seat_post.proofs.Steady.{steady_same, steady_settles}
-use Rattle.seat_post.proofs.KeptPlace.{kept_in}
+use Rattle.seat_post.proofs.ReservedPlace.{reserved_in}
 use Rattle.seat_post.proofs.Renewed.{drew_found, drew_taking, alone_drawn, none_taken, taken_alone, was_found, rewritten_settling, rewritten_settles, rewritten_at, none_stops, spare_found, free_found}
 use Rattle.seat_post.proofs.renewing.renew.Goals as goal
 
@@ -38,8 +38,8 @@ returns-in_err-taken-clause-settles g c =
 pub returns-in_err-taken-clause-ok : goal.returns-in_err-taken-clause-ok
 returns-in_err-taken-clause-ok g c = not_ok c.from_residual-in_err-taken.result _ _ c.from_residual-in_err-taken.ensures.1
 
-pub returns-in_err-taken-clause-in_kept : goal.returns-in_err-taken-clause-in_kept
-returns-in_err-taken-clause-in_kept g c = not_ok c.from_residual-in_err-taken.result _ _ c.from_residual-in_err-taken.ensures.1
+pub returns-in_err-taken-clause-in_reserved : goal.returns-in_err-taken-clause-in_reserved
+returns-in_err-taken-clause-in_reserved g c = not_ok c.from_residual-in_err-taken.result _ _ c.from_residual-in_err-taken.ensures.1
 
 pub returns-in_err-taken-clause-left : goal.returns-in_err-taken-clause-left
 returns-in_err-taken-clause-left g c = not_ok c.from_residual-in_err-taken.result _ _ c.from_residual-in_err-taken.ensures.1
@@ -68,7 +68,7 @@ pub returns-clause-wants : goal.returns-clause-wants
 returns-clause-wants g c = λ on.
     let v = c.args.hand.now.view in
     let before = grows_both v.seen c.draw.new.hand.view.seen c.search.new.hand.view.seen (drawn_grows v c.draw.new.hand.view _ c.in_ok-stamp.ensures.view) c.in-Ok.ensures.ok.grows in
-    no_place c.args.core.now.size c.args.rid v c.search.new.hand.view c.take_place.new.hand.view c.rewrite.new.hand.view before (c.in_ok-taken.ensures.kept on).1 c.in-Ok-rewrite.ensures.ok.links.grows
+    no_place c.args.core.now.size c.args.rid v c.search.new.hand.view c.take_place.new.hand.view c.rewrite.new.hand.view before (c.in_ok-taken.ensures.reserved on).1 c.in-Ok-rewrite.ensures.ok.links.grows
 
 pub rewrite-requires-clause-read : goal.rewrite-requires-clause-read
 rewrite-requires-clause-read g c =
@@ -130,7 +130,7 @@ returns-clause-ok g c =
     subst (λ (n : ℕ). IsRewrittenAt c.args.rid n v c.rewrite.new.hand.view) stamp
     (rewritten_at v c.draw.new.hand.view c.search.new.hand.view c.take_place.new.hand.view (drawn_clock v.clock.clock 0) c.args.rid r.place r.wts c.in_ok-taken.taken.place r.value c.in_ok-stamp.ensures.view c.in-Ok.ensures.ok c.in_ok-taken.ensures.takes g.J.Keeps.kept c.rewrite.new.hand.view c.requires.settling seat (drawn_later v.clock.clock 0) rewrites next)
 
--- the inline place of a record whose only version stands in the kept place
+-- the inline place of a record whose only version stands in the reserved place
 pub returns-in_err-taken-clause-inline : goal.returns-in_err-taken-clause-inline
 returns-in_err-taken-clause-inline g c = λ stands less.
     let v = c.args.hand.now.view in
@@ -145,8 +145,8 @@ returns-clause-inline g c = λ stands less.
     let within : c.args.rid < v.size.records = rw c.requires.ready.hand_of.same_size c.requires.rid in
     c.in_ok-taken.ensures.inline (free_found v c.draw.new.hand.view c.search.new.hand.view (drawn_clock v.clock.clock 0) c.args.rid r.place r.wts c.args.rid r.value c.in_ok-stamp.ensures.view c.in-Ok.ensures.ok c.requires.settling (inr (within, stands)))
 
-pub returns-clause-in_kept : goal.returns-clause-in_kept
-returns-clause-in_kept g c =
+pub returns-clause-in_reserved : goal.returns-clause-in_reserved
+returns-clause-in_reserved g c =
     let v = c.args.hand.now.view in
     let t = c.take_place.new.hand.view in
     let r = c.in-Ok.read in
@@ -158,7 +158,7 @@ returns-clause-in_kept g c =
     let size : c.args.core.now.size ≡ t.size = sym (drew.size ∙ c.requires.ready.hand_of.same_size) in
     let counts : t.counts ≡ v.counts = ap (λ (y : View). y.counts) e.takes.takes.view ∙ ap (λ (y : View). y.counts) c.in-Ok.ensures.ok.view ∙ ap (λ (y : View). y.counts) c.in_ok-stamp.ensures.view in
     let stamp : t.published.write ≡ c.number-in-Ok-rewrite.result = drew.published ∙ sym (c.number-in-Ok-rewrite.ensures.value ∙ c.in_ok-stamp.ensures.stamp) in
-    ap (λ (y : View). y.counts.in_kept) c.in-Ok-rewrite.ensures.ok.links.only
-    ∙ kept_in taken.kept taken.place (kept_place t.size) (version_kept c.args.rid t.published.write) t.counts.in_kept (λ here. (e.kept here).0 ∙ ap kept_place size) (λ off. subst (λ (z : Size). taken.place ≢ kept_place z) size (e.apart off))
-    ∙ ap (λ (n : ℕ). if taken.kept then version_kept c.args.rid n else t.counts.in_kept) stamp
-    ∙ ap (λ (k : Counted). if taken.kept then version_kept c.args.rid c.number-in-Ok-rewrite.result else k.in_kept) counts
+    ap (λ (y : View). y.counts.in_reserved) c.in-Ok-rewrite.ensures.ok.links.only
+    ∙ reserved_in taken.reserved taken.place (reserved_place t.size) (version_reserved c.args.rid t.published.write) t.counts.in_reserved (λ here. (e.reserved here).0 ∙ ap reserved_place size) (λ off. subst (λ (z : Size). taken.place ≢ reserved_place z) size (e.apart off))
+    ∙ ap (λ (n : ℕ). if taken.reserved then version_reserved c.args.rid n else t.counts.in_reserved) stamp
+    ∙ ap (λ (k : Counted). if taken.reserved then version_reserved c.args.rid c.number-in-Ok-rewrite.result else k.in_reserved) counts

@@ -1,5 +1,5 @@
 use Rattle.std.proofs.Common.{◌≡◌, true, false, inl, inr}
-use Rattle.word_layout.specs.Size.{kept_place}
+use Rattle.word_layout.specs.Size.{reserved_place}
 use Rattle.seat_post.proofs.Renewed.{met_taking, still_free}
 use Rattle.seat_post.proofs.renewing.take_place.Goals as goal
 
@@ -9,18 +9,18 @@ unreachable-requires g c =
     let e = c.in_default.ensures in
     let lost = e.places_out in
     elim c.requires.spare as (λ _. ⊥) [
-      | inl kept ↦ (let some : false ≡ true = c.in_default-take_kept.ensures.free (still_free (kept_place c.args.core.now.size) c.args.hand.now.view c.take.new.hand.view lost.lost lost.view kept) in cc)
+      | inl kept ↦ (let some : false ≡ true = c.in_default-take_reserved.ensures.free (still_free (reserved_place c.args.core.now.size) c.args.hand.now.view c.take.new.hand.view lost.lost lost.view kept) in cc)
       | inr inline ↦ e.free inline
     ]
 
-pub returns-clause-kept : goal.returns-clause-kept
-returns-clause-kept g c = λ here.
+pub returns-clause-reserved : goal.returns-clause-reserved
+returns-clause-reserved g c = λ here.
     let v = c.args.hand.now.view in
     let e = c.in_default.ensures in
     let k = c.in-Some.ensures in (
-      k.kept,
+      k.reserved,
       record {
-        inline_met = met_taking c.args.rid c.in-Some.place v c.take.new.hand.view c.take_kept.new.hand.view e.inline_met k.taken;
-        usable_met = λ p usable. met_taking p c.in-Some.place v c.take.new.hand.view c.take_kept.new.hand.view (e.usable_met p usable) k.taken;
+        inline_met = met_taking c.args.rid c.in-Some.place v c.take.new.hand.view c.take_reserved.new.hand.view e.inline_met k.taken;
+        usable_met = λ p usable. met_taking p c.in-Some.place v c.take.new.hand.view c.take_reserved.new.hand.view (e.usable_met p usable) k.taken;
       },
     )

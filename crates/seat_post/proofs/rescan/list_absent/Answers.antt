@@ -3,7 +3,7 @@ use Rattle.plain_data.specs.declared.entry.Entry.{Entry}
 use Rattle.core_rule.specs.Deciding.{entry_of}
 use Rattle.core_rule.specs.View.{View}
 use Rattle.seat_post.specs.Leaves.{AreAbsent, LeavesAs}
-use Rattle.seat_post.specs.Spare.{NumbersView, added}
+use Rattle.spare_numbers.specs.Spare.{NumbersView, added}
 use Rattle.seat_post.proofs.Rescanning.{looks_none, none_absent, looks_more, looks_alone, absent_more, present_more, added_same}
 use Rattle.seat_post.proofs.rescan.list_absent.Goals as goal
 use Rattle.seat_post.proofs.rescan.list_absent.Goals.{then-is_absent, else-is_absent}

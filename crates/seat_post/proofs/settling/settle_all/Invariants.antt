@@ -1,5 +1,5 @@
 use Rattle.std.proofs.Common.{◌≡◌, ◌≤◌, ◌*◌}
-use Rattle.core_rule.specs.View.{nothing_kept}
+use Rattle.core_rule.specs.View.{nothing_reserved}
 use Rattle.core_rule.specs.Hands.{StaysReady}
 use Rattle.rapid_gc.specs.Ends.{FreesCounted}
 use Rattle.seat_post.specs.Collecting.{trail_in}
@@ -11,7 +11,7 @@ invariant-loop-rid g l = record {
   stays : StaysReady l.core l.fn.hand l.hand;
   settling : IsSettling l.hand.view;
   settles : Settles g.J.Keeps.kept l.fn.hand.view l.hand.view;
-  keeps_none : l.hand.view.counts.in_kept ≡ nothing_kept;
+  keeps_none : l.hand.view.counts.in_reserved ≡ nothing_reserved;
   settled : AreSettled l.rid l.hand.view.counts;
   draws : Draws l.all.rewritten l.fn.hand.view l.hand.view;
   freed : FreesCounted l.all.places l.fn.hand.view l.hand.view;

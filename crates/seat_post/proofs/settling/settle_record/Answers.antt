@@ -6,7 +6,7 @@ use Rattle.seat_post.specs.Settling.{CutsOf}
 use Rattle.seat_post.proofs.Answered.{not_ok, on_err}
 use Rattle.seat_post.proofs.Dues.{settles_one, due_at, cuts_none, cuts_from, cuts_both, cut_none, cut_some, no_place_from, out_from}
 use Rattle.version_search.proofs.Grown.{grows_loads, grows_none, grows_both}
-use Rattle.seat_post.proofs.KeptPlace.{not_off, kept_once, kept_twice, stands_kept, below_later}
+use Rattle.seat_post.proofs.ReservedPlace.{not_off, reserved_once, reserved_twice, stands_reserved, below_later}
 use Rattle.seat_post.proofs.Steady.{steady_first, steady_settling, steady_settles, settles_both}
 use Rattle.seat_post.proofs.settling.settle_record.Goals as goal
 
@@ -66,8 +66,8 @@ renew-requires-2-clause-spare g c =
     let once = c.in_ok-once.once in
     let e = c.in_ok-once.ensures in
     let cut = c.cut_below-places-2 in
-    let kept = kept_once c.args.rid once.stamp once.kept _ _ _ (not_off once.kept c.if-not-once.false) e.in_kept cut.ensures.in_kept in
-    inr (stands_kept c.args.rid once.stamp cut.new.hand.view.counts kept cut.ensures.cut.one)
+    let kept = reserved_once c.args.rid once.stamp once.reserved _ _ _ (not_off once.reserved c.if-not-once.false) e.in_reserved cut.ensures.in_reserved in
+    inr (stands_reserved c.args.rid once.stamp cut.new.hand.view.counts kept cut.ensures.cut.one)
 
 pub returns-clause-freed : goal.returns-clause-freed
 returns-clause-freed g c =
@@ -81,17 +81,17 @@ returns-clause-freed g c =
     let behind = freed_from more.result cut.new.hand.view twice more.new.hand.view c.renew-2.ensures.gone more.ensures.freed in
     frees_more cut.result more.result c.saturating_add.result v cut.new.hand.view more.new.hand.view before behind (let e = c.saturating_add.ensures in omega arith)
 
--- where the kept place has served, the record is written again in its inline place
+-- where the reserved place has served, the record is written again in its inline place
 pub unreachable-requires : goal.unreachable-requires
 unreachable-requires g c =
     let once = c.in_ok-once.once in
     let e = c.in_ok-once.ensures in
     let cut = c.cut_below-places-2 in
-    let on = not_off once.kept c.if-not-once.false in
-    let kept = kept_once c.args.rid once.stamp once.kept _ _ _ on e.in_kept cut.ensures.in_kept in
+    let on = not_off once.reserved c.if-not-once.false in
+    let kept = reserved_once c.args.rid once.stamp once.reserved _ _ _ on e.in_reserved cut.ensures.in_reserved in
     let left = e.left on in
     let clock = cut.ensures.cut.clock in
-    c.in_default.ensures.inline (stands_kept c.args.rid once.stamp cut.new.hand.view.counts kept cut.ensures.cut.one) (omega arith)
+    c.in_default.ensures.inline (stands_reserved c.args.rid once.stamp cut.new.hand.view.counts kept cut.ensures.cut.one) (omega arith)
 
 pub returns-clause-keeps_none : goal.returns-clause-keeps_none
 returns-clause-keeps_none g c =
@@ -99,17 +99,17 @@ returns-clause-keeps_none g c =
     let twice = c.in-Ok.twice in
     let e = c.in_ok-once.ensures in
     let cut = c.cut_below-places-2 in
-    let on = not_off once.kept c.if-not-once.false in
-    let kept = kept_once c.args.rid once.stamp once.kept _ _ _ on e.in_kept cut.ensures.in_kept in
+    let on = not_off once.reserved c.if-not-once.false in
+    let kept = reserved_once c.args.rid once.stamp once.reserved _ _ _ on e.in_reserved cut.ensures.in_reserved in
     let left = e.left on in
     let clock = cut.ensures.cut.clock in
-    let off = c.in-Ok.ensures.inline (stands_kept c.args.rid once.stamp cut.new.hand.view.counts kept cut.ensures.cut.one) (omega arith) in
-    let there = kept_twice twice.kept cut.new.hand.view.counts.in_kept c.renew-2.new.hand.view.counts.in_kept _ _ off c.in-Ok.ensures.in_kept kept in
+    let off = c.in-Ok.ensures.inline (stands_reserved c.args.rid once.stamp cut.new.hand.view.counts kept cut.ensures.cut.one) (omega arith) in
+    let there = reserved_twice twice.reserved cut.new.hand.view.counts.in_reserved c.renew-2.new.hand.view.counts.in_reserved _ _ off c.in-Ok.ensures.in_reserved kept in
     let number = cut.ensures.settles.number ∙ c.renew.ensures.settles.number in
     let first = e.ok.at in
     let second = c.in-Ok.ensures.ok.at in
     let drawn = e.ok.draws.clock in
-    c.cut_below-more.ensures.cut_off (below_later (record { rid = c.args.rid; stamp = twice.stamp }) once.stamp c.renew-2.new.hand.view.counts.in_kept there (omega arith))
+    c.cut_below-more.ensures.cut_off (below_later (record { rid = c.args.rid; stamp = twice.stamp }) once.stamp c.renew-2.new.hand.view.counts.in_reserved there (omega arith))
 
 -- ---- what was done
 
@@ -171,7 +171,7 @@ returns-clause-done g c =
     let behind = grows_both f.new.hand.view.seen s.new.hand.view.seen w.seen s.ensures.settles.grows rest in
     let due = due_at rid f.result v f.new.hand.view s.new.hand.view w f.ensures.looked c.if-found.false (s.ensures.hidden c.if-is_visible.false) s.ensures.settles.grows rest in
     let before = grows_both v.seen f.new.hand.view.seen s.new.hand.view.seen (grows_loads v.seen f.new.hand.view.seen _ f.ensures.looked.loads f.ensures.lost) s.ensures.settles.grows in
-    let wants = c.in_ok-once.ensures.wants (not_off c.in_ok-once.once.kept c.if-not-once.false) in
+    let wants = c.in_ok-once.ensures.wants (not_off c.in_ok-once.once.reserved c.if-not-once.false) in
     let kept = no_place_from c.args.core.now.size rid v s.new.hand.view once w before wants after in
     let first = cuts_from rid 1 v once k.new.hand.view gone k.ensures.cut.once in
     let second = cuts_from rid 1 k.new.hand.view twice w c.renew-2.ensures.gone m.ensures.cut.once in

@@ -4,7 +4,7 @@ use Rattle.txn_engine.specs.Alone.{PartsView}
 use Rattle.txn_engine.specs.Pass.{PassView, EngineView, bare, engine_of}
 use Rattle.txn_engine.specs.Sharing.{with_made, share_at, first_share}
 use Rattle.seat_post.specs.Seats.{Others}
-use Rattle.seat_post.specs.Spare.{NumbersView, no_numbers, every}
+use Rattle.spare_numbers.specs.Spare.{NumbersView, no_numbers, every}
 use Rattle.std.specs.List.{range_with_len}
 use Rattle.txn_engine.proofs.Making.{next_share, next_made, pushed_share, count_shares}
 use Rattle.core_rule.proofs.Among.{Among-last, Among-left}
@@ -99,8 +99,8 @@ returns-clause-passes g c =
     let last = c.loop-seat.auto._seat-end in
     omega arith in
     let at : c.loop-seat._seat ≡ p.shared.size.seats = over ∙ seats in
-    let first : bare c.keep_share.new.self ≡ first_share p =
-    ap bare c.keep_share.ensures
+    let first : bare c.retain_share.new.self ≡ first_share p =
+    ap bare c.retain_share.ensures
     ∙ ap (λ (n : ℕ). bare (record x { spare = every n 0 x.spare })) (c.seats.ensures.value ∙ seats)
     ∙ ap (λ (y : PassView). bare (record y { spare = every p.shared.size.seats 0 y.spare })) i.pass
     ∙ ap (λ (n : ℕ). bare (record (with_made n p) { spare = every p.shared.size.seats 0 p.spare })) at in

@@ -2,7 +2,7 @@ use Rattle.std.proofs.Common.{◌≡◌, ◌+◌, ◌-◌, ◌≤◌, length, ma
 use Rattle.std.specs.List.{range_with_len}
 use Rattle.std.specs.Vec.{vec_capacity}
 use Rattle.core_rule.specs.Views.{Among}
-use Rattle.seat_post.specs.Spare.{no_numbers, NumbersView}
+use Rattle.spare_numbers.specs.Spare.{no_numbers, NumbersView}
 use Rattle.txn_engine.specs.Pass.{with_snapshot, bare}
 use Rattle.txn_engine.specs.Sharing.{with_made, share_at}
 use Rattle.txn_engine.proofs.sharing.share_out.Given as goal

@@ -5,7 +5,7 @@ use Rattle.validate_core.specs.Sets.{SetsView, Once}
 use Rattle.validate_core.specs.Installing.{FindsNoPlace}
 use Rattle.validate_core.proofs.Writes.{same_length}
 use Rattle.validate_core.proofs.Bounds.{none_full}
-use Rattle.validate_core.proofs.Placing.{placing_starts, placing_record, placing_new, placing_once, placing_next, placing_all, placing_stands, none_stands, none_in_kept, finds_no_place}
+use Rattle.validate_core.proofs.Placing.{placing_starts, placing_record, placing_new, placing_once, placing_next, placing_all, placing_stands, none_stands, none_in_reserved, finds_no_place}
 use Rattle.validate_core.proofs.installing.install.Goals as goal
 
 pub loop-i-init : goal.loop-i-init
@@ -44,7 +44,7 @@ pub loop-i-preserved : goal.loop-i-preserved
 loop-i-preserved g c =
     let long = same_length c.args.sets.now.writes c.loop-i.sets.writes c.loop-i.invariant.same.writes in let lt = c.loop-i-test.true in let count = c.count_writes-i-end.ensures in
     let number : c.loop-i.i < length c.loop-i.sets.writes = omega arith in
-    placing_next c.args.core.now c.args.hand.now c.args.sets.now c.loop-i.i c.loop-i.sets c.loop-i.hand c.loop-i.invariant c.requires.begun c.published_write-stamp.result c.install_one.new.sets c.install_one.new.hand c.published_write-stamp.ensures number c.in_default.ensures.ok c.install_one.ensures.in_kept c.in_default.ensures.room c.in_default.ensures.stays
+    placing_next c.args.core.now c.args.hand.now c.args.sets.now c.loop-i.i c.loop-i.sets c.loop-i.hand c.loop-i.invariant c.requires.begun c.published_write-stamp.result c.install_one.new.sets c.install_one.new.hand c.published_write-stamp.ensures number c.in_default.ensures.ok c.install_one.ensures.in_reserved c.in_default.ensures.room c.in_default.ensures.stays
 
 pub returns-clause-stands : goal.returns-clause-stands
 returns-clause-stands g c = placing_stands c.args.core.now c.args.hand.now c.args.sets.now c.loop-i.i c.loop-i.sets c.loop-i.hand c.loop-i.invariant c.requires.begun
@@ -59,6 +59,6 @@ returns-clause-ok g c =
     let over : length c.loop-i.sets.writes ≤ c.loop-i.i = omega arith in
     placing_all c.args.core.now c.args.hand.now c.args.sets.now c.loop-i.i c.loop-i.sets c.loop-i.hand c.loop-i.invariant c.requires.begun over
 
-pub returns-in-Err-clause-in_kept : goal.returns-in-Err-clause-in_kept
-returns-in-Err-clause-in_kept g c =
-    none_in_kept c.args.core.now c.args.hand.now c.args.sets.now c.loop-i.i c.loop-i.sets c.loop-i.hand c.loop-i.invariant c.requires.begun c.install_one.new.hand c.in-Err.ensures.err c.store_first.new.hand.view c.store_first.ensures.works
+pub returns-in-Err-clause-in_reserved : goal.returns-in-Err-clause-in_reserved
+returns-in-Err-clause-in_reserved g c =
+    none_in_reserved c.args.core.now c.args.hand.now c.args.sets.now c.loop-i.i c.loop-i.sets c.loop-i.hand c.loop-i.invariant c.requires.begun c.install_one.new.hand c.in-Err.ensures.err c.store_first.new.hand.view c.store_first.ensures.works

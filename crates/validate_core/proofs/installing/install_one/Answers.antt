@@ -6,7 +6,7 @@ use Rattle.core_rule.specs.View.{View, Write}
 use Rattle.core_rule.specs.Views.{Among}
 use Rattle.version_pool.specs.Takes.{usable_in_turn, TakesFirst}
 use Rattle.validate_core.specs.Installing.{IsFor}
-use Rattle.validate_core.proofs.Placing.{linked_in_kept}
+use Rattle.validate_core.proofs.Placing.{linked_in_reserved}
 use Rattle.validate_core.proofs.Writes.{turn_same}
 use Rattle.validate_core.proofs.installing.install_one.Goals as goal
 
@@ -31,8 +31,8 @@ returns-in-Ok-clause-ok g c =
       takes = subst (λ (r : ℕ). TakesFirst (r ∷ usable_in_turn c.args.core.now.size before.places.last_pool) before c.in-Ok.place c.take.new.hand.view) same c.in-Ok.ensures.first;
     }
 
-pub returns-in-Ok-clause-in_kept : goal.returns-in-Ok-clause-in_kept
-returns-in-Ok-clause-in_kept g c =
+pub returns-in-Ok-clause-in_reserved : goal.returns-in-Ok-clause-in_reserved
+returns-in-Ok-clause-in_reserved g c =
     let taken = c.in-Ok.ensures.first.takes.view in
-    linked_in_kept c.args.core.now.size _ _ c.put.new.hand.view (ap (λ (v : View). v.size) taken ∙ c.requires.ready.hand_of.same_size) c.in-Ok.ensures.not_kept c.put.ensures.puts.linked
-    ∙ ap (λ (v : View). v.counts.in_kept) taken
+    linked_in_reserved c.args.core.now.size _ _ c.put.new.hand.view (ap (λ (v : View). v.size) taken ∙ c.requires.ready.hand_of.same_size) c.in-Ok.ensures.not_reserved c.put.ensures.puts.linked
+    ∙ ap (λ (v : View). v.counts.in_reserved) taken

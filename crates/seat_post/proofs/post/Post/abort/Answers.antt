@@ -23,7 +23,7 @@ invariant_of-self g c =
     let is = at_known _ _ _ _ _ (ap (λ (p : PostView). p.phase) c.self.view_is ∙ c.requires.phase) c.self.invariant in
     let a = c.abort.ensures in
     let e = c.clear.ensures in
-    post_over c.args.core.now _ _ _ _ _ _ _ _ is a.stands (ap (λ (v : View). v.counts.in_kept) a.as_before.only) is.at.installed.in_flight a.stays.ready a.aborted.ends c.make-self-inside.ensures.number e.reads e.writes
+    post_over c.args.core.now _ _ _ _ _ _ _ _ is a.stands (ap (λ (v : View). v.counts.in_reserved) a.as_before.only) is.at.installed.in_flight a.stays.ready a.aborted.ends c.make-self-inside.ensures.number e.reads e.writes
 
 pub returns : goal.returns
 returns g c =

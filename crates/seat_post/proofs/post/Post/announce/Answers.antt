@@ -20,7 +20,7 @@ invariant_of-self g c =
     let at = (at_phase _ Idle i.hand i.stamp i.sets c.self.invariant phase) in
     let alone = subst (λ (p : PostView). IsAloneAt p.shared.size p.seat p.others) (sym c.self.view_is) c.requires.alone in
     let is = announces i.hand c.idle.new.hand c.raise_min_write.new.hand c.raise_min_write.result at.ends at.whole c.idle.ensures.rises c.idle.ensures.unchanged alone c.raise_min_write.ensures.raises c.raise_min_write.ensures.view in
-    post_ended c.args.core.now i.phase i.hand c.raise_min_write.new.hand i.stamp i.sets phase c.self.invariant c.raise_min_write.ensures.ready.ready (ap (λ (v : View). v.size) is.only) (ap (λ (v : View). v.places.held) is.only) (ap (λ (v : View). v.counts.in_kept) is.only) is.ends is.whole
+    post_ended c.args.core.now i.phase i.hand c.raise_min_write.new.hand i.stamp i.sets phase c.self.invariant c.raise_min_write.ensures.ready.ready (ap (λ (v : View). v.size) is.only) (ap (λ (v : View). v.places.held) is.only) (ap (λ (v : View). v.counts.in_reserved) is.only) is.ends is.whole
 
 pub returns-clause-value : goal.returns-clause-value
 returns-clause-value g c =

@@ -5,7 +5,7 @@ use Rattle.core_rule.specs.View.{View, Read}
 use Rattle.core_rule.specs.Views.{Among}
 use Rattle.core_rule.specs.Deciding.{entry_of}
 use Rattle.core_rule.specs.Hands.{Shared}
-use Rattle.rapid_gc.specs.Bounds.{AreKept, LeavesOne}
+use Rattle.rapid_gc.specs.Bounds.{AreAsBefore, MakesSingle}
 use Rattle.rapid_gc.specs.Queues.{AreCommitted, AllBelow}
 use Rattle.seat_post.specs.declared.phase.Phase.TheVariants.{Idle}
 use Rattle.seat_post.specs.Collecting.{AreQueued, CollectsPost}
@@ -33,7 +33,7 @@ invariant_of-self g c =
     let e = c.collect.ensures in
     let size : c.collect.new.hand.view.size ≡ c.self.inside.hand.view.size = ap (λ (v : View). v.size) e.view in
     let held : c.collect.new.hand.view.places.held ≡ c.self.inside.hand.view.places.held = ap (λ (v : View). v.places.held) e.view in
-    post_idle c.args.core.now _ _ _ _ phase e.stays.ready (rw size c.self.invariant.size) (held ∙ c.self.invariant.holds_none) (nothing_left _ _ _ e.in_kept c.self.invariant.keeps_none) (record {
+    post_idle c.args.core.now _ _ _ _ phase e.stays.ready (rw size c.self.invariant.size) (held ∙ c.self.invariant.holds_none) (nothing_left _ _ _ e.in_reserved c.self.invariant.keeps_none) (record {
       ends = e.ends;
       whole = λ at. λ d among. absurd (subst (λ (ds : List Read). Among d ds) (ap (λ (v : View). v.work.reads) e.view) among);
       no_stamp = idle.no_stamp;
@@ -41,11 +41,11 @@ invariant_of-self g c =
       none_written = idle.none_written;
     })
 
-pub returns-clause-known : goal.returns-clause-known
-returns-clause-known g c = subst (λ (p : PostView). AreKept c.args.queue.now.items p.known.counts c.collect.new.hand.view.counts) c.self.view_is c.collect.ensures.known
+pub returns-clause-bounds : goal.returns-clause-bounds
+returns-clause-bounds g c = subst (λ (p : PostView). AreAsBefore c.args.queue.now.items p.bounds.counts c.collect.new.hand.view.counts) c.self.view_is c.collect.ensures.known
 
 pub returns-clause-tops : goal.returns-clause-tops
-returns-clause-tops g c = ap (λ (v : View). v.tops) c.collect.ensures.view ∙ ap (λ (p : PostView). p.known.tops) c.self.view_is
+returns-clause-tops g c = ap (λ (v : View). v.tops) c.collect.ensures.view ∙ ap (λ (p : PostView). p.bounds.tops) c.self.view_is
 
 pub returns-clause-seen : goal.returns-clause-seen
 returns-clause-seen g c = λ alone. c.collect.ensures.seen (alone_told c.self.inside.hand.view (subst IsAlonePost (sym c.self.view_is) alone))
@@ -55,11 +55,11 @@ returns-clause-alone g c = λ alone.
     let is = alone_told c.self.inside.hand.view (subst IsAlonePost (sym c.self.view_is) alone) in
     c.collect.ensures.alone is (subst (λ (p : PostView). AllBelow (bound_of_clock p.clock) c.args.queue.now.items) (sym c.self.view_is) c.requires.below)
 
-pub returns-clause-one_left : goal.returns-clause-one_left
-returns-clause-one_left g c = λ alone.
+pub returns-clause-single : goal.returns-clause-single
+returns-clause-single g c = λ alone.
     let is = alone_told c.self.inside.hand.view (subst IsAlonePost (sym c.self.view_is) alone) in
-    let one = c.collect.ensures.one_left is (subst (λ (p : PostView). AllBelow (bound_of_clock p.clock) c.args.queue.now.items) (sym c.self.view_is) c.requires.below) in
-    subst (λ (p : PostView). LeavesOne c.args.queue.now.items p.known.tops c.collect.new.hand.view.counts) c.self.view_is one
+    let one = c.collect.ensures.single is (subst (λ (p : PostView). AllBelow (bound_of_clock p.clock) c.args.queue.now.items) (sym c.self.view_is) c.requires.below) in
+    subst (λ (p : PostView). MakesSingle c.args.queue.now.items p.bounds.tops c.collect.new.hand.view.counts) c.self.view_is one
 
 pub returns-clause-grows : goal.returns-clause-grows
 returns-clause-grows g c =

@@ -88,7 +88,7 @@ invariant_of-self-in-Err g c =
     let is = at_known _ _ _ _ _ (ap (λ (p : PostView). p.phase) c.self.view_is ∙ c.requires.phase) c.self.invariant in
     let d = c.decide.ensures in
     let e = c.clear.ensures in
-    post_over c.args.core.now _ _ _ _ _ _ _ _ is d.stands (ap (λ (v : View). v.counts.in_kept) c.in-Err.ensures.as_before.only) is.at.installed.in_flight d.stays.ready c.in-Err.ensures.aborted.ends c.make-self-inside.ensures.number e.reads e.writes
+    post_over c.args.core.now _ _ _ _ _ _ _ _ is d.stands (ap (λ (v : View). v.counts.in_reserved) c.in-Err.ensures.as_before.only) is.at.installed.in_flight d.stays.ready c.in-Err.ensures.aborted.ends c.make-self-inside.ensures.number e.reads e.writes
 
 pub returns-in-Err-clause-err : goal.returns-in-Err-clause-err
 returns-in-Err-clause-err g c =

@@ -3,17 +3,17 @@ use Rattle.core_rule.specs.Deciding.{value_of}
 use Rattle.core_rule.specs.Hands.{Shared}
 use Rattle.validate_core.specs.Installing.{IsBegun, Installs}
 use Rattle.seat_post.specs.Observing.{MeetsNoPlace}
-use Rattle.seat_post.specs.Post.{PostView, in_phase, closed, knowing, placing, known_in, observing, observed_in}
+use Rattle.seat_post.specs.Post.{PostView, in_phase, closed, with_bounds, placing, bounds_in, observing, observed_in}
 use Rattle.seat_post.specs.declared.phase.Phase.TheVariants.{Installed}
 use Rattle.seat_post.proofs.EndMore.{at_known, post_installed, turned_written, same_values}
 use Rattle.seat_post.proofs.Over.{view_over, view_installed, post_over}
 use Rattle.seat_post.specs.Seats.{IsAloneAt, placed_of}
 use Rattle.seat_post.specs.Placing.{HavePlaces}
-use Rattle.seat_post.specs.Lists.{known_before, IsFullAt}
+use Rattle.seat_post.specs.Lists.{bounds_before, IsFullAt}
 use Rattle.validate_core.proofs.Writes.{same_once}
 use Rattle.seat_post.proofs.ReadMore.{open_left, open_above}
 use Rattle.seat_post.proofs.AloneSeats.{alone_told}
-use Rattle.seat_post.proofs.Listed.{length-written}
+use Rattle.spare_numbers.proofs.Written.{length-written}
 use Rattle.seat_post.proofs.Placed.{each_before, each_fits, have_places}
 use Rattle.seat_post.proofs.Linked.{written_values-take, post_linked, post_stuck, post_full}
 use Rattle.seat_post.proofs.Observed.{post_grows}
@@ -30,7 +30,7 @@ invariant_of-self g c =
     let is = at_known _ _ _ _ _ (ap (λ (p : PostView). p.phase) c.self.view_is ∙ c.requires.open) c.self.invariant in
     let n = c.install.ensures in
     let installs = subst (λ (x : Shared). Installs x.size c.install.new.sets c.self.inside.hand.view c.install.new.hand.view) (sym (ap (λ (p : PostView). p.shared) c.self.view_is ∙ c.requires.core)) c.in-Ok.ensures.ok in
-    post_installed c.args.core.now _ _ _ _ _ is n.same installs n.stands n.in_kept n.stays.ready
+    post_installed c.args.core.now _ _ _ _ _ is n.same installs n.stands n.in_reserved n.stays.ready
 
 pub returns-in-Ok-clause-ok : goal.returns-in-Ok-clause-ok
 returns-in-Ok-clause-ok g c =
@@ -39,7 +39,7 @@ returns-in-Ok-clause-ok g c =
     let n = c.install.ensures in
     let w = c.install.new.hand.view in
     view_installed i.hand c.install.new.hand i.phase i.stamp _ i.sets c.install.new.sets n.stays.seat.same_table n.stands is.at.begun.in_flight n.log n.same
-    ∙ ap (λ (p : PostView). observing (placing (in_phase (knowing p record { counts = w.counts; tops = w.tops }) Installed) (placed_of w.work.linked)) (observed_in c.install.new.hand)) c.self.view_is
+    ∙ ap (λ (p : PostView). observing (placing (in_phase (with_bounds p record { counts = w.counts; tops = w.tops }) Installed) (placed_of w.work.linked)) (observed_in c.install.new.hand)) c.self.view_is
 
 pub returns-in-Ok-clause-stamp : goal.returns-in-Ok-clause-stamp
 returns-in-Ok-clause-stamp g c =
@@ -56,7 +56,7 @@ invariant_of-self-in-Err g c =
     let is = at_known _ _ _ _ _ (ap (λ (p : PostView). p.phase) c.self.view_is ∙ c.requires.open) c.self.invariant in
     let n = c.install.ensures in
     let e = c.clear.ensures in
-    post_over c.args.core.now _ _ _ _ _ _ _ _ is n.stands n.in_kept is.at.begun.in_flight n.stays.ready c.in-Err.ensures.err.ends c.make-self-inside.ensures.number e.reads e.writes
+    post_over c.args.core.now _ _ _ _ _ _ _ _ is n.stands n.in_reserved is.at.begun.in_flight n.stays.ready c.in-Err.ensures.err.ends c.make-self-inside.ensures.number e.reads e.writes
 
 pub returns-in-Err-clause-err : goal.returns-in-Err-clause-err
 returns-in-Err-clause-err g c =
@@ -65,7 +65,7 @@ returns-in-Err-clause-err g c =
     let n = c.install.ensures in
     let e = c.clear.ensures in
     view_over i.hand c.install.new.hand i.phase i.stamp _ _ i.sets c.clear.new.self n.stays.seat.same_table n.stands is.at.begun.in_flight n.log c.make-self-inside.ensures.number e.reads e.writes
-    ∙ ap (λ (p : PostView). observing (placing (closed (knowing p record { counts = c.install.new.hand.view.counts; tops = c.install.new.hand.view.tops })) (placed_of c.install.new.hand.view.work.linked)) (observed_in c.install.new.hand)) c.self.view_is
+    ∙ ap (λ (p : PostView). observing (placing (closed (with_bounds p record { counts = c.install.new.hand.view.counts; tops = c.install.new.hand.view.tops })) (placed_of c.install.new.hand.view.work.linked)) (observed_in c.install.new.hand)) c.self.view_is
 
 pub returns-in-Ok-clause-grows : goal.returns-in-Ok-clause-grows
 returns-in-Ok-clause-grows g c = let i = c.self.inside in post_grows i.hand c.install.new.hand i.phase i.stamp i.sets c.args.self.now c.self.view_is c.install.ensures.stands.grows
@@ -79,7 +79,7 @@ returns-in-Ok-clause-linked g c =
     let n = c.install.ensures in
     let once = same_once c.self.inside.sets.writes c.install.new.sets.writes n.same.writes is.at.begun.inside.once in
     let values = same_values c.self.inside.sets.writes c.install.new.sets.writes n.same.writes ∙ ap (λ (p : PostView). p.writes) c.self.view_is in
-    post_linked c.args.core.now.size c.self.inside.hand.view.published.write c.install.new.sets.writes c.self.inside.hand.view c.install.new.hand.view c.args.self.now.writes c.args.self.now.stamp c.args.self.now.known c.in-Ok.ensures.ok.each once values (sym is.at.at ∙ ap (λ (p : PostView). p.stamp) c.self.view_is) (ap (λ (p : PostView). p.known) c.self.view_is)
+    post_linked c.args.core.now.size c.self.inside.hand.view.published.write c.install.new.sets.writes c.self.inside.hand.view c.install.new.hand.view c.args.self.now.writes c.args.self.now.stamp c.args.self.now.bounds c.in-Ok.ensures.ok.each once values (sym is.at.at ∙ ap (λ (p : PostView). p.stamp) c.self.view_is) (ap (λ (p : PostView). p.bounds) c.self.view_is)
 
 pub returns-in-Err-clause-wants : goal.returns-in-Err-clause-wants
 returns-in-Err-clause-wants g c =
@@ -100,7 +100,7 @@ returns-in-Err-clause-wants g c =
       count = f.number;
       write = (f.write.record_number, value_of f.write.cells);
       next = next_written f.number us p.writes f.write f.turn values;
-      linked = post_stuck z c.install.new.sets i.hand.view w p.writes p.stamp p.known once values (sym is.at.at ∙ ap (λ (q : PostView). q.stamp) c.self.view_is) (ap (λ (q : PostView). q.known) c.self.view_is) f;
+      linked = post_stuck z c.install.new.sets i.hand.view w p.writes p.stamp p.bounds once values (sym is.at.at ∙ ap (λ (q : PostView). q.stamp) c.self.view_is) (ap (λ (q : PostView). q.bounds) c.self.view_is) f;
       have = subst (λ (x : Shared). HavePlaces x.size few (placed_of w.work.linked)) (sym c.requires.core) (subst (λ ws. HavePlaces z few (placed_of ws)) (sym f.linked) have);
       no_place = subst (λ (q : PostView). MeetsNoPlace q.shared.size f.write.record_number q.observed (observed_in c.install.new.hand)) c.self.view_is
           (subst (λ (x : Shared). MeetsNoPlace x.size f.write.record_number (observed_in i.hand) (observed_in c.install.new.hand)) (sym (ap (λ (q : PostView). q.shared) c.self.view_is ∙ c.requires.core)) no_place);
@@ -112,8 +112,8 @@ returns-in-Err-clause-full g c = λ on.
     let us = i.sets.writes in
     let alone = alone_told i.hand.view (subst (λ (p : PostView). IsAloneAt p.shared.size p.seat p.others) (sym c.self.view_is) on) in
     let same : length us ≡ length c.args.self.now.writes = sym (length-written us) ∙ ap (λ (p : PostView). length p.writes) c.self.view_is in
-    let at = post_full c.args.core.now.size i.hand.view c.args.self.now.known (length c.args.self.now.writes) (length us) c.in-Err.ensures.full alone c.self.invariant.holds_none same (ap (λ (p : PostView). p.known) c.self.view_is) in
-    subst (λ (x : Shared). IsFullAt x.size c.args.self.now.known (length c.args.self.now.writes)) (sym c.requires.core) at
+    let at = post_full c.args.core.now.size i.hand.view c.args.self.now.bounds (length c.args.self.now.writes) (length us) c.in-Err.ensures.full alone c.self.invariant.holds_none same (ap (λ (p : PostView). p.bounds) c.self.view_is) in
+    subst (λ (x : Shared). IsFullAt x.size c.args.self.now.bounds (length c.args.self.now.writes)) (sym c.requires.core) at
 
 pub returns-in-Ok-clause-read_left : goal.returns-in-Ok-clause-read_left
 returns-in-Ok-clause-read_left g c = let i = c.self.inside in open_left i.hand i.phase i.stamp i.sets c.args.self.now c.self.invariant c.self.view_is c.requires.open
@@ -133,7 +133,7 @@ returns-in-Ok-clause-before g c =
     let us = c.install.new.sets.writes in
     let values = same_values c.self.inside.sets.writes us n.same.writes ∙ ap (λ (p : PostView). p.writes) c.self.view_is in
     let long : length us ≡ length c.args.self.now.writes = sym (length-written us) ∙ ap length values in
-    ap (λ k. known_before k (known_in c.install.new.hand)) (sym long) ∙ each_before c.args.core.now.size c.self.inside.hand.view.published.write us c.self.inside.hand.view c.install.new.hand.view c.in-Ok.ensures.ok.each c.install.ensures.in_kept ∙ ap (λ (p : PostView). p.known) c.self.view_is
+    ap (λ k. bounds_before k (bounds_in c.install.new.hand)) (sym long) ∙ each_before c.args.core.now.size c.self.inside.hand.view.published.write us c.self.inside.hand.view c.install.new.hand.view c.in-Ok.ensures.ok.each c.install.ensures.in_reserved ∙ ap (λ (p : PostView). p.bounds) c.self.view_is
 
 pub returns-in-Ok-clause-places : goal.returns-in-Ok-clause-places
 returns-in-Ok-clause-places g c =

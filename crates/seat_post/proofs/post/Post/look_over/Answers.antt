@@ -46,7 +46,7 @@ invariant_of-self g c =
     let last = c.publish_read.ensures in
     let end = overlooked i.hand.view c.list_absent.new.hand.view c.publish_read.new.hand.view c.publish_read-stamp.result c.publish_read.result over last.view last.met last.below in
     let work = ap (λ (v : View). v.work) end.only in
-    post_ended c.args.core.now i.phase i.hand c.publish_read.new.hand i.stamp i.sets phase c.self.invariant last.ready.ready (ap (λ (v : View). v.size) end.only) (ap (λ (v : View). v.places.held) end.only) (ap (λ (v : View). v.counts.in_kept) end.only) (ended _ work) (λ rests. none_read _ work)
+    post_ended c.args.core.now i.phase i.hand c.publish_read.new.hand i.stamp i.sets phase c.self.invariant last.ready.ready (ap (λ (v : View). v.size) end.only) (ap (λ (v : View). v.places.held) end.only) (ap (λ (v : View). v.counts.in_reserved) end.only) (ended _ work) (λ rests. none_read _ work)
 
 pub returns-clause-value : goal.returns-clause-value
 returns-clause-value g c =

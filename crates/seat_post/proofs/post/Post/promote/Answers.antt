@@ -3,7 +3,7 @@ use Rattle.std.proofs.Common.{◌≡◌, ◌≢◌, ◌<◌, ℕ, ap, ◌∙◌,
 use Rattle.stamp_base.specs.Stamp.{stamp_of}
 use Rattle.core_rule.specs.Hands.{Seated}
 use Rattle.clock_stamps.specs.Clocks.{drawn_clock}
-use Rattle.word_layout.specs.Size.{Size, kept_place}
+use Rattle.word_layout.specs.Size.{Size, reserved_place}
 use Rattle.core_rule.specs.View.{View, Seen}
 use Rattle.seat_post.specs.Post.{PostView, post_of, observed_in}
 use Rattle.seat_post.specs.Promoting.{CameUpon, IsStoppedPost}
@@ -26,7 +26,7 @@ invariant_of-self-in_err-told g c =
     let e = c.in_ok-stamp.ensures in
     let drew = is_drawn c.in_ok-stamp.stamp _ i.hand.view c.draw.new.hand.view c.self.invariant.holds_none e.view e.published in
     let lt : c.args.rid < i.hand.view.size.records = subst (λ (p : PostView). c.args.rid < p.shared.size.records) (sym c.self.view_is) c.requires.rid in
-    let apart : c.args.rid ≢ kept_place c.draw.new.hand.view.size = subst (λ (z : Size). c.args.rid ≢ kept_place z) (sym (ap (λ (v : View). v.size) e.view)) (inline_apart i.hand.view.size c.args.rid c.self.invariant.size lt) in
+    let apart : c.args.rid ≢ reserved_place c.draw.new.hand.view.size = subst (λ (z : Size). c.args.rid ≢ reserved_place z) (sym (ap (λ (v : View). v.size) e.view)) (inline_apart i.hand.view.size c.args.rid c.self.invariant.size lt) in
     let rested = fails_rested c.in_ok-stamp.stamp c.args.rid c.draw.new.hand.view c.promote_at.new.hand.view c.in_err-told.field-0.0 apart drew c.in_err-told.ensures.err in
     post_rested c.args.core.now i.phase i.hand c.promote_at.new.hand c.draw.new.hand.view _ i.stamp i.sets phase c.self.invariant e.view rested c.promote_at.ensures.stays.ready
 
@@ -37,7 +37,7 @@ invariant_of-self-2 g c =
     let e = c.in_ok-stamp.ensures in
     let drew = is_drawn c.in_ok-stamp.stamp _ i.hand.view c.draw.new.hand.view c.self.invariant.holds_none e.view e.published in
     let lt : c.args.rid < i.hand.view.size.records = subst (λ (p : PostView). c.args.rid < p.shared.size.records) (sym c.self.view_is) c.requires.rid in
-    let apart : c.args.rid ≢ kept_place c.draw.new.hand.view.size = subst (λ (z : Size). c.args.rid ≢ kept_place z) (sym (ap (λ (v : View). v.size) e.view)) (inline_apart i.hand.view.size c.args.rid c.self.invariant.size lt) in
+    let apart : c.args.rid ≢ reserved_place c.draw.new.hand.view.size = subst (λ (z : Size). c.args.rid ≢ reserved_place z) (sym (ap (λ (v : View). v.size) e.view)) (inline_apart i.hand.view.size c.args.rid c.self.invariant.size lt) in
     let rested = promotes_rested g.J.Keeps.kept c.args.core.now.size.records c.in_ok-stamp.stamp c.args.rid c.draw.new.hand.view c.promote_at.new.hand.view c.in_ok-told.told apart drew c.in_ok-told.ensures.ok in
     post_rested c.args.core.now i.phase i.hand c.promote_at.new.hand c.draw.new.hand.view _ i.stamp i.sets phase c.self.invariant e.view rested c.promote_at.ensures.stays.ready
 

@@ -11,7 +11,7 @@ use Rattle.seat_post.specs.Post.{PostView, closed}
 use Rattle.seat_post.specs.Seats.{placed_of}
 use Rattle.seat_post.specs.Placing.{CountsPlaces}
 use Rattle.seat_post.proofs.Placed.{placed_shown, have_places, count_placed}
-use Rattle.seat_post.proofs.Listed.{length-written}
+use Rattle.spare_numbers.proofs.Written.{length-written}
 use Rattle.seat_post.proofs.EndMore.{at_known}
 use Rattle.seat_post.proofs.Over.{view_over_same, post_over}
 use Rattle.seat_post.proofs.post.Post.publish.Goals as goal
@@ -39,7 +39,7 @@ invariant_of-self g c =
     let is = at_known _ _ _ _ _ (ap (λ (p : PostView). p.phase) c.self.view_is ∙ c.requires.phase) c.self.invariant in
     let p = c.publish.ensures in
     let e = c.clear.ensures in
-    post_over c.args.core.now _ _ _ _ _ _ _ _ is p.stands (ap (λ (v : View). v.counts.in_kept) p.as_before.only) is.at.decided.in_flight p.stays.ready p.published.ends c.make-self-inside.ensures.number e.reads e.writes
+    post_over c.args.core.now _ _ _ _ _ _ _ _ is p.stands (ap (λ (v : View). v.counts.in_reserved) p.as_before.only) is.at.decided.in_flight p.stays.ready p.published.ends c.make-self-inside.ensures.number e.reads e.writes
 
 pub returns-clause-closed : goal.returns-clause-closed
 returns-clause-closed g c =
@@ -53,7 +53,7 @@ returns-clause-closed g c =
 pub returns-clause-placed : goal.returns-clause-placed
 returns-clause-placed g c =
     let is = at_known _ _ _ _ _ (ap (λ (p : PostView). p.phase) c.self.view_is ∙ c.requires.phase) c.self.invariant in
-    placed_shown c.self.inside.hand c.self.inside.sets.writes c.records.result c.count_below-inlined.result c.args.self.now.writes c.args.self.now.known is.at.placed (ap (λ (p : PostView). p.writes) c.self.view_is) (ap (λ (p : PostView). p.known) c.self.view_is)
+    placed_shown c.self.inside.hand c.self.inside.sets.writes c.records.result c.count_below-inlined.result c.args.self.now.writes c.args.self.now.bounds is.at.placed (ap (λ (p : PostView). p.writes) c.self.view_is) (ap (λ (p : PostView). p.bounds) c.self.view_is)
     (c.records.ensures.count ∙ ap (λ (z : Size). z.records) c.layout.ensures ∙ sym (ap (λ (p : PostView). p.shared.size.records) c.self.view_is ∙ ap (λ (x : Shared). x.size.records) c.requires.core)) c.count_below-inlined.ensures
 
 pub returns-clause-places : goal.returns-clause-places

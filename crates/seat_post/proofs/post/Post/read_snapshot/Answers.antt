@@ -22,7 +22,7 @@ invariant_of-self g c =
     let idle = at_phase _ Idle _ _ _ c.self.invariant phase in
     let e = c.read_snapshot.ensures in
     let view = e.finds_alike.finds.view in
-    post_in_snapshot c.args.core.now _ _ _ _ _ c.self.invariant idle phase e.stays.ready (ap (λ (v : View). v.size) view) (ap (λ (v : View). v.places.held) view) (ap (λ (v : View). v.counts.in_kept) view) e.in_snapshot
+    post_in_snapshot c.args.core.now _ _ _ _ _ c.self.invariant idle phase e.stays.ready (ap (λ (v : View). v.size) view) (ap (λ (v : View). v.places.held) view) (ap (λ (v : View). v.counts.in_reserved) view) e.in_snapshot
 
 pub returns-clause-left : goal.returns-clause-left
 returns-clause-left g c =

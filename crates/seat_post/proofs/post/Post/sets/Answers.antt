@@ -2,7 +2,7 @@ use Rattle.std.proofs.Common.{◌<◌, ◌≤◌, sym, ap, ◌∙◌, subst, len
 use Rattle.std.specs.Prelude.{IsSome}
 use Rattle.record_store.specs.Meaning.{value_at}
 use Rattle.seat_post.specs.Post.{PostView}
-use Rattle.seat_post.proofs.Listed.{length-written}
+use Rattle.spare_numbers.proofs.Written.{length-written}
 use Rattle.seat_post.proofs.EndMore.{written_below, written_few}
 use Rattle.seat_post.proofs.WriteMore.{written_in}
 use Rattle.seat_post.proofs.post.Post.sets.Goals as goal

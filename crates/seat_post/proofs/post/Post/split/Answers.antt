@@ -14,4 +14,4 @@ invariant_of-self g c =
     let i = c.self.inside in
     let phase = ap (λ (p : PostView). p.phase) c.self.view_is ∙ c.requires.idle in
     let left = c.split-hand.ensures.split.left in
-    post_ended c.args.core.now i.phase i.hand c.split-hand.new.hand i.stamp i.sets phase c.self.invariant c.split-hand.ensures.stays.ready (ap (λ (v : View). v.size) left) (ap (λ (v : View). v.places.held) left) (ap (λ (v : View). v.counts.in_kept) left) (ended _ (ap (λ (v : View). v.work) left)) (λ at. none_read _ (ap (λ (v : View). v.work) left))
+    post_ended c.args.core.now i.phase i.hand c.split-hand.new.hand i.stamp i.sets phase c.self.invariant c.split-hand.ensures.stays.ready (ap (λ (v : View). v.size) left) (ap (λ (v : View). v.places.held) left) (ap (λ (v : View). v.counts.in_reserved) left) (ended _ (ap (λ (v : View). v.work) left)) (λ at. none_read _ (ap (λ (v : View). v.work) left))

@@ -23,7 +23,7 @@ invariant_of-self g c =
     let at = at_phase _ Idle i.hand i.stamp i.sets c.self.invariant phase in
     let view = c.load_min_write.ensures.view in
     let ready = ready_same (shared_of i.hand) i.hand c.load_min_write.new.hand c.self.invariant.ready c.load_min_write.ensures.seat.same_table (ap (λ (v : View). v.size) view) (ap (λ (v : View). v.number) view) (ap (λ (v : View). v.published) view) in
-    post_ended (shared_of i.hand) i.phase i.hand c.load_min_write.new.hand i.stamp i.sets phase c.self.invariant ready (ap (λ (v : View). v.size) view) (ap (λ (v : View). v.places.held) view) (ap (λ (v : View). v.counts.in_kept) view) (subst (λ (w : Work). Ends w) (sym (ap (λ (v : View). v.work) view)) at.ends) (λ rests. subst (λ (w : Work). AreAllWhole w.reads) (sym (ap (λ (v : View). v.work) view)) (at.whole (sym (ap (λ (v : View). v.flight) view) ∙ rests)))
+    post_ended (shared_of i.hand) i.phase i.hand c.load_min_write.new.hand i.stamp i.sets phase c.self.invariant ready (ap (λ (v : View). v.size) view) (ap (λ (v : View). v.places.held) view) (ap (λ (v : View). v.counts.in_reserved) view) (subst (λ (w : Work). Ends w) (sym (ap (λ (v : View). v.work) view)) at.ends) (λ rests. subst (λ (w : Work). AreAllWhole w.reads) (sym (ap (λ (v : View). v.work) view)) (at.whole (sym (ap (λ (v : View). v.flight) view) ∙ rests)))
 
 pub returns-clause-lawful : goal.returns-clause-lawful
 returns-clause-lawful g c = λ on.

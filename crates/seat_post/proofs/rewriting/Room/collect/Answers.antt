@@ -1,8 +1,8 @@
 use Rattle.std.proofs.Common.{◌≡◌, ◌<◌, ℕ, List, [], ◌∷◌, ◌++◌, ap, ◌∙◌, sym, subst, refl, inl, inr}
 use Rattle.stamp_base.specs.Stamp.{bound_of_clock}
 use Rattle.rapid_gc.specs.declared.queue.Queued.{Queued}
-use Rattle.rapid_gc.specs.Bounds.{AreKept, LeavesOne, IsNewest}
-use Rattle.rapid_gc.specs.InKept.{CutsOff}
+use Rattle.rapid_gc.specs.Bounds.{AreAsBefore, MakesSingle, IsNewest}
+use Rattle.rapid_gc.specs.InReserved.{CutsOff}
 use Rattle.rapid_gc.specs.Queues.{AllBelow}
 use Rattle.core_rule.specs.View.{View}
 use Rattle.rapid_gc.proofs.Alone.{prepared_alone}
@@ -17,17 +17,17 @@ one_below : (i : Queued) (bound : ℕ) → i.stamp < bound → AllBelow bound (i
 one_below i bound below x (inl same) = subst (λ (y : Queued). y.stamp < bound) same below
 one_below i bound below x (inr none) = absurd none
 
-pub returns-clause-kept : goal.returns-clause-kept
-returns-clause-kept g c =
+pub returns-clause-bounds : goal.returns-clause-bounds
+returns-clause-bounds g c =
     let items = one_item c.add.new.self.items c.self.inside.queue.items _ c.add.ensures.items c.self.invariant.1.none in
-    subst (λ is. AreKept is c.args.hand.now.view.counts c.collect-collected.new.hand.view.counts) items c.collect-collected.ensures.known
+    subst (λ is. AreAsBefore is c.args.hand.now.view.counts c.collect-collected.new.hand.view.counts) items c.collect-collected.ensures.known
 
 pub returns-clause-one : goal.returns-clause-one
 returns-clause-one g c = λ newest.
     let v = c.args.hand.now.view in
     let items = one_item c.add.new.self.items c.self.inside.queue.items _ c.add.ensures.items c.self.invariant.1.none in
     let below = subst (λ is. AllBelow (bound_of_clock v.clock.clock) is) (sym items) (one_below (record { rid = c.args.rid; stamp = c.args.stamp }) (bound_of_clock v.clock.clock) c.requires.below) in
-    let left = subst (λ is. LeavesOne is v.tops c.collect-collected.new.hand.view.counts) items (c.collect-collected.ensures.one_left c.requires.alone below) in
+    let left = subst (λ is. MakesSingle is v.tops c.collect-collected.new.hand.view.counts) items (c.collect-collected.ensures.single c.requires.alone below) in
     left (record { rid = c.args.rid; stamp = c.args.stamp }) (inl refl) newest
 
 pub returns-clause-freed : goal.returns-clause-freed
@@ -38,7 +38,7 @@ returns-clause-cut_off g c =
     let v = c.args.hand.now.view in
     let items = one_item c.add.new.self.items c.self.inside.queue.items _ c.add.ensures.items c.self.invariant.1.none in
     let below = subst (λ is. AllBelow (bound_of_clock v.clock.clock) is) (sym items) (one_below (record { rid = c.args.rid; stamp = c.args.stamp }) (bound_of_clock v.clock.clock) c.requires.below) in
-    subst (λ is. CutsOff is v.tops v.counts.in_kept c.collect-collected.new.hand.view.counts.in_kept) items (c.collect-collected.ensures.cut_off c.requires.alone below)
+    subst (λ is. CutsOff is v.tops v.counts.in_reserved c.collect-collected.new.hand.view.counts.in_reserved) items (c.collect-collected.ensures.cut_off c.requires.alone below)
 
 pub returns-clause-grows : goal.returns-clause-grows
 returns-clause-grows g c = let e = c.collect-collected.ensures in record { loaded = e.loads.0; missed = e.lost.0; loads = e.loads.1; lost = e.lost.1 }

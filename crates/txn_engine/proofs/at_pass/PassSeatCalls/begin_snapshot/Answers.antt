@@ -1,14 +1,16 @@
-use Rattle.std.proofs.Common.{ap, subst}
+use Rattle.std.proofs.Common.{ap, subst, arith}
 use Rattle.txn_engine.specs.Pass.{PassView}
 use Rattle.txn_engine.specs.Inside.{pass_view}
 use Rattle.seat_post.specs.Post.{PostView}
 use Rattle.txn_engine.specs.Snapshot.{Begins}
-use Rattle.txn_engine.proofs.Snapshots.{pass_snapshot_begun}
-use Rattle.txn_engine.proofs.Passes.{pass_observing}
+use Rattle.txn_engine.proofs.Passes.{pass_later}
 use Rattle.txn_engine.proofs.at_pass.PassSeatCalls.begin_snapshot.Goals as goal
 
 pub invariant_of-self : goal.invariant_of-self
-invariant_of-self g c = let e = c.begin_snapshot.ensures in rw e.after (pass_observing _ _ _ _ _ _ _ (pass_snapshot_begun c.self.inside.post _ _ _ _ _ _ c.self.invariant e.snapshots))
+invariant_of-self g c =
+    let i = c.self.inside in
+    let e = c.begin_snapshot.ensures in
+    rw e.after (pass_later i.post i.post.clock _ i.post.log i.queue i.numbers _ _ c.self.invariant (omega arith) c.self.invariant.clock.commits e.snapshots (λ x among. among))
 
 pub returns-clause-begins : goal.returns-clause-begins
 returns-clause-begins g c =

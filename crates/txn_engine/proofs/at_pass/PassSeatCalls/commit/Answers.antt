@@ -3,16 +3,16 @@ use Rattle.std.specs.Result.{IsErrAnd}
 use Rattle.plain_data.specs.State.{Fits}
 use Rattle.seat_post.specs.Observing.{Grows}
 use Rattle.seat_post.specs.Placing.{HavePlaces, CountsPlaces}
-use Rattle.seat_post.specs.Seats.{Known, Observed, Placed}
-use Rattle.seat_post.specs.Lists.{AreKnown, count_raised, AreSomeLinked}
+use Rattle.seat_post.specs.Seats.{Bounds, Observed, Placed}
+use Rattle.seat_post.specs.Lists.{AreBounded, count_raised, AreSomeLinked}
 use Rattle.seat_post.proofs.Answered.{on_err, err_told}
 use Rattle.seat_post.specs.Conflicts.{IsLoaded}
 use Rattle.txn_engine.specs.Faults.{MatchStopped, WasLoaded, told_by}
 use Rattle.txn_engine.specs.declared.faults.CommitFault.TheVariants as fault
 use Rattle.std.specs.Prelude.{⊤}
 use Rattle.txn_engine.specs.Lists.{IsTidyOnceCollected, IsRoomyOnceCollected}
-use Rattle.txn_engine.specs.Pass.{PassView, entry_of, knowing, observing, placing, decided, published, committed, refused as refused_at}
-use Rattle.txn_engine.specs.Staged.{known_first}
+use Rattle.txn_engine.specs.Pass.{PassView, entry_of, with_bounds, observing, placing, decided, published, committed, refused as refused_at}
+use Rattle.txn_engine.specs.Staged.{bounds_first}
 use Rattle.txn_engine.specs.Leaves.{HoldsAbsent}
 use Rattle.txn_engine.proofs.Accounting.{absent_committed}
 use Rattle.txn_engine.proofs.Growing.{grows_both, loaded_earlier}
@@ -32,12 +32,12 @@ returns-in_err-entered-clause-commits g c =
     let p = c.args.self.now in
     let linked = c.in_ok-linked.ensures.ok in
     let refused = c.in_err-entered.ensures.err in
-    let known = ap (λ (q : PassView). q.known) refused.after in
+    let known = ap (λ (q : PassView). q.bounds) refused.after in
     let placed = ap (λ (q : PassView). q.placed) refused.after in
     let conflict = c.in_err-entered.field-0.0 in
     let told = told_too c.from_residual-in_err-entered.result _ c.from_residual-in_err-entered.ensures.1 in
     let stopped = refused.after ∙ ap (λ (q : PassView). observing (refused_at q) c.check.new.self.observed) linked.after in
-    let some = all_linked p.writes p.stamp p.known c.install.new.self.known linked.linked in
+    let some = all_linked p.writes p.stamp p.bounds c.install.new.self.bounds linked.linked in
     record {
       ok = search rules;
       stood = search rules;
@@ -45,7 +45,7 @@ returns-in_err-entered-clause-commits g c =
       counts = search rules;
       inlined = search rules;
       pooled = search rules;
-      err = on_err _ (subst (λ (x : PassView). x ≡ observing (placing (refused_at (knowing p x.known)) x.placed) x.observed) (sym stopped) refl);
+      err = on_err _ (subst (λ (x : PassView). x ≡ observing (placing (refused_at (with_bounds p x.bounds)) x.placed) x.observed) (sym stopped) refl);
       grows = grows_both _ _ _ linked.grows refused.grows;
       dead = search rules;
       cause = search rules;
@@ -58,7 +58,7 @@ returns-in_err-entered-clause-commits g c =
           (subst (λ (x : List Placed). HavePlaces p.shared.size p.writes x) (sym placed) linked.have);
       read_left = search rules;
       linked = search rules;
-      some_linked = on_err _ (subst (λ (k : Known). AreSomeLinked p.writes p.stamp p.known k) (sym known) some);
+      some_linked = on_err _ (subst (λ (k : Bounds). AreSomeLinked p.writes p.stamp p.bounds k) (sym known) some);
       full = search rules;
       tidy = search rules;
       roomy = search rules;
@@ -68,22 +68,22 @@ returns-in_err-entered-clause-commits g c =
 pub returns-clause-commits : goal.returns-clause-commits
 returns-clause-commits g c =
     let p = c.args.self.now in
-    let known = c.install.new.self.known in
+    let known = c.install.new.self.bounds in
     let o = c.check.new.self.observed in
     let linked = c.in_ok-linked.ensures.ok in
     let entered = c.in_ok-entered.ensures.ok in
     let publishes = c.publish.ensures.publishes in
     let same = entered.after ∙ ap (λ (q : PassView). observing (decided q) o) linked.after in
     let after = publishes.after ∙ ap published same in
-    let told = subst (λ (q : PassView). AreKnown (known_first q) q.writes → c.publish.result.pooled ≡ count_raised (known_first q) q.known q.writes) same publishes.pooled in
-    let then' = subst (λ (k : Known). AreKnown k p.writes → c.publish.result.pooled ≡ count_raised k known p.writes) linked.first told in
+    let told = subst (λ (q : PassView). AreBounded (bounds_first q) q.writes → c.publish.result.pooled ≡ count_raised (bounds_first q) q.bounds q.writes) same publishes.pooled in
+    let then' = subst (λ (k : Bounds). AreBounded k p.writes → c.publish.result.pooled ≡ count_raised k known p.writes) linked.first told in
     record {
-      ok = subst (λ (x : PassView). x ≡ observing (placing (committed (knowing p x.known)) x.placed) x.observed) (sym after) refl;
+      ok = subst (λ (x : PassView). x ≡ observing (placing (committed (with_bounds p x.bounds)) x.placed) x.observed) (sym after) refl;
       stood = search rules;
       stamp = search rules;
       counts = search rules;
       inlined = subst (λ (x : List Placed). CountsPlaces p.shared.size p.writes x c.publish.result.inlined) (sym (ap (λ (q : PassView). q.placed) after)) (subst (λ (q : PassView). CountsPlaces q.shared.size q.writes q.placed c.publish.result.inlined) same publishes.inlined);
-      pooled = subst (λ (k : Known). AreKnown p.known p.writes → c.publish.result.pooled ≡ count_raised p.known k p.writes) (sym (ap (λ (q : PassView). q.known) after)) then';
+      pooled = subst (λ (k : Bounds). AreBounded p.bounds p.writes → c.publish.result.pooled ≡ count_raised p.bounds k p.writes) (sym (ap (λ (q : PassView). q.bounds) after)) then';
       err = search rules;
       grows = subst (λ (x : Observed). Grows p.observed x) (sym (ap (λ (q : PassView). q.observed) publishes.after)) (grows_both _ _ _ linked.grows entered.grows);
       dead = search rules;

@@ -2,12 +2,10 @@ use Rattle.std.proofs.Common.{subst}
 use Rattle.txn_engine.specs.Inside.{pass_view}
 use Rattle.txn_engine.specs.Pass.{PassView}
 use Rattle.txn_engine.specs.Snapshot.{FindsSeen}
-use Rattle.txn_engine.proofs.Snapshots.{pass_snapshot_read}
-use Rattle.txn_engine.proofs.Passes.{pass_observing}
 use Rattle.txn_engine.proofs.at_pass.PassSeatCalls.read_snapshot.Goals as goal
 
 pub invariant_of-self : goal.invariant_of-self
-invariant_of-self g c = rw c.read_snapshot.ensures.after (pass_observing _ _ _ _ _ _ _ (pass_snapshot_read c.self.inside.post _ _ _ _ _ _ c.self.invariant))
+invariant_of-self g c = rw c.read_snapshot.ensures.after c.self.invariant
 
 pub returns-clause-found : goal.returns-clause-found
 returns-clause-found g c =

@@ -3,16 +3,16 @@ use Rattle.txn_engine.specs.Accounts.{accounted}
 use Rattle.txn_engine.specs.Inside.{pass_view}
 use Rattle.txn_engine.specs.Pass.{PassView}
 use Rattle.seat_post.specs.Post.{PostView}
-use Rattle.seat_post.specs.Spare.{NumbersView}
-use Rattle.txn_engine.proofs.Passes.{pass_written, pass_numbers}
+use Rattle.spare_numbers.specs.Spare.{NumbersView}
+use Rattle.txn_engine.proofs.Passes.{pass_noted}
 use Rattle.txn_engine.proofs.Growing.{grows_none, grows_same}
 use Rattle.txn_engine.proofs.at_pass.PassSeatCalls.undo_if_open.Goals as goal
 
 pub invariant_of-self : goal.invariant_of-self
 invariant_of-self g c =
+    let i = c.self.inside in
     let phase = sym c.phase.ensures ∙ c.in-Open.is in
-    let back = pass_numbers c.self.inside.post c.self.inside.queue c.self.inside.numbers c.take_back.new.self _ _ _ c.self.invariant (ap (λ (n : NumbersView). n.fixed) c.take_back.ensures.after) (ap (λ (n : NumbersView). n.records) c.take_back.ensures.after) in
-    rw c.drop_writes.ensures (pass_written c.self.inside.post [] c.self.inside.queue c.take_back.new.self _ _ _ back phase (let h = c.self.invariant.room in omega arith))
+    rw (c.drop_writes.ensures, c.take_back.ensures.after) (pass_noted i.post i.post.reads [] i.queue i.numbers _ _ c.self.invariant phase (let h = c.self.invariant.room in omega arith))
 
 pub returns-in-Open-clause-undoes : goal.returns-in-Open-clause-undoes
 returns-in-Open-clause-undoes g c =

@@ -5,24 +5,24 @@ use Rattle.txn_engine.specs.Accounts.{accounted}
 use Rattle.txn_engine.specs.Inside.{pass_view}
 use Rattle.txn_engine.specs.Pass.{PassView}
 use Rattle.seat_post.proofs.Listed.{longer}
-use Rattle.txn_engine.proofs.Passes.{pass_written, pass_room}
+use Rattle.txn_engine.proofs.Passes.{pass_noted, pass_room}
 use Rattle.txn_engine.proofs.Growing.{grows_same}
 use Rattle.txn_engine.proofs.at_pass.PassSeatCalls.write.Goals as goal
 
 pub invariant_of-self : goal.invariant_of-self
-invariant_of-self g c = pass_room _ c.self.inside.queue _ _ _ _ _ c.self.invariant c.reserve.ensures.items c.reserve.ensures.not_less
+invariant_of-self g c = let i = c.self.inside in pass_room i.post i.queue c.reserve.new.self i.numbers _ _ c.self.invariant c.reserve.ensures.items c.reserve.ensures.not_less
 
 pub invariant_of-self-in_err-write : goal.invariant_of-self-in_err-write
-invariant_of-self-in_err-write g c = rw c.in_err-write.ensures.err (pass_room _ c.self.inside.queue c.reserve.new.self _ _ _ _ c.self.invariant c.reserve.ensures.items c.reserve.ensures.not_less)
+invariant_of-self-in_err-write g c = let i = c.self.inside in rw c.in_err-write.ensures.err (pass_room i.post i.queue c.reserve.new.self i.numbers _ _ c.self.invariant c.reserve.ensures.items c.reserve.ensures.not_less)
 
 pub invariant_of-self-2 : goal.invariant_of-self-2
 invariant_of-self-2 g c =
-    let p = c.self.inside.post in
+    let i = c.self.inside in
     let phase = ap (λ (x : PassView). x.phase) c.self.view_is ∙ ap (λ (x : PassView). x.phase) c.in_ok-stopped.ensures.ok.0 ∙ c.requires.open in
-    let room = pass_room _ c.self.inside.queue c.reserve.new.self _ _ _ _ c.self.invariant c.reserve.ensures.items c.reserve.ensures.not_less in
-    let enough : length c.reserve.new.self.items + length (with_value p.writes c.args.rid c.args.value.now) ≤ c.reserve.new.self.room =
-    let r = c.in_ok-reserve.ensures.room in let i = ap length c.reserve.ensures.items in let w = c.sets.ensures.count in let l = c.count_writes.ensures.count in let m = longer p.writes c.args.rid c.args.value.now in omega arith in
-    rw c.in_ok-write.ensures.ok (pass_written p _ c.reserve.new.self _ _ _ _ room phase enough)
+    let room = pass_room i.post i.queue c.reserve.new.self i.numbers _ _ c.self.invariant c.reserve.ensures.items c.reserve.ensures.not_less in
+    let enough : length c.reserve.new.self.items + length (with_value i.post.writes c.args.rid c.args.value.now) ≤ c.reserve.new.self.room =
+    let r = c.in_ok-reserve.ensures.room in let i = ap length c.reserve.ensures.items in let w = c.sets.ensures.count in let l = c.count_writes.ensures.count in let m = longer c.self.inside.post.writes c.args.rid c.args.value.now in omega arith in
+    rw c.in_ok-write.ensures.ok (pass_noted i.post i.post.reads _ c.reserve.new.self i.numbers _ _ room phase enough)
 
 pub returns-in_err-stopped-clause-writes : goal.returns-in_err-stopped-clause-writes
 returns-in_err-stopped-clause-writes g c =

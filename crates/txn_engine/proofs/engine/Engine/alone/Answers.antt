@@ -1,10 +1,10 @@
 use Rattle.std.proofs.Common.{◌≡◌, ◌<◌, ◌≤◌, ◌+◌, ◌-◌, ◌*◌, ℕ, [], ◌∷◌, List, length, ap, ◌∙◌, sym, subst, arith, eqb-true}
+use Rattle.std.proofs.lemmas.List.{nil_from_length}
 use Rattle.core_rule.specs.Offers.{made_within}
-use Rattle.core_rule.specs.View.{Splitting}
 use Rattle.txn_engine.specs.Joining.{AreOfEngine, AreOthers, refusals_of, come_together}
 use Rattle.txn_engine.specs.Pass.{PassView, EngineView, engine_of}
 use Rattle.txn_engine.specs.Retired.{RetiredView}
-use Rattle.txn_engine.proofs.Joined.{without_snapshot, count_others, earlier_more, earlier_most, first_out, none_left, rests_joined, together_more, alone_together}
+use Rattle.txn_engine.proofs.Joined.{without_snapshot, count_others, earlier_more, earlier_most, first_out, rests_joined, together_more, alone_together}
 use Rattle.txn_engine.proofs.engine.Engine.alone.Goals as goal
 
 pub overflow_add-earlier : goal.overflow_add-earlier
@@ -57,36 +57,25 @@ returns-clause-alone g c =
     let i = c.loop-pass.invariant in
     let first = c.clear_all.new.self in
     let others = c.args.others.items in
-    let none : c.loop-pass.rest.items ≡ [] = none_left c.loop-pass.rest.items (let e = eqb-true _ 0 (sym c.is_empty.ensures ∙ c.loop-pass-test.false) in let ok = c.loop-pass.rest.ok in omega arith) in
+    let none : c.loop-pass.rest.items ≡ [] = nil_from_length c.loop-pass.rest.items (let e = eqb-true _ 0 (sym c.is_empty.ensures ∙ c.loop-pass-test.false) in let ok = c.loop-pass.rest.ok in omega arith) in
     let all = subst (λ (xs : List RetiredView). without_snapshot (come_together c.loop-pass.pass xs) ≡ without_snapshot (come_together first others)) none i.together in
-    let seat = ap (λ (p : PassView). p.seat) all in
-    let engine = ap engine_of all in
-    let own : engine_of first ≡ c.args.self.now = sym engine ∙ i.engine in
     let inside = subst (λ (p : PassView). made_within p.shared.size.seats p.others.splitting ≤ p.shared.size.seats) c.pass.view_is c.tell_made.ensures in
-    let splitting = ap (λ (p : PassView). p.others.splitting) all in
-    alone_together first c.loop-pass.pass others (ap (λ (p : PassView). p.seat) c.clear_all.ensures ∙ c.requires.first) seat engine (ap (λ (p : PassView). p.others) all)
-    (subst (λ (e : EngineView). AreOthers e.size others) (sym own) c.requires.each_once)
-    (subst (λ (s : Splitting). made_within first.shared.size.seats s ≤ first.shared.size.seats) splitting (subst (λ (e : EngineView). made_within e.size.seats c.loop-pass.pass.others.splitting ≤ e.size.seats) engine inside))
+    alone_together first c.loop-pass.pass others all (ap (λ (p : PassView). p.seat) c.clear_all.ensures ∙ c.requires.first)
+    (subst (λ (e : EngineView). AreOthers e.size others) (sym (sym (ap engine_of all) ∙ i.engine)) c.requires.each_once) inside
 
 pub invariant_of-result : goal.invariant_of-result
 invariant_of-result g c =
     let i = c.loop-pass.invariant in
     let first = c.clear_all.new.self in
     let others = c.args.others.items in
-    let none : c.loop-pass.rest.items ≡ [] = none_left c.loop-pass.rest.items (let e = eqb-true _ 0 (sym c.is_empty.ensures ∙ c.loop-pass-test.false) in let ok = c.loop-pass.rest.ok in omega arith) in
+    let none : c.loop-pass.rest.items ≡ [] = nil_from_length c.loop-pass.rest.items (let e = eqb-true _ 0 (sym c.is_empty.ensures ∙ c.loop-pass-test.false) in let ok = c.loop-pass.rest.ok in omega arith) in
     let all = subst (λ (xs : List RetiredView). without_snapshot (come_together c.loop-pass.pass xs) ≡ without_snapshot (come_together first others)) none i.together in
-    let seat = ap (λ (p : PassView). p.seat) all in
-    let engine = ap engine_of all in
-    let own : engine_of first ≡ c.args.self.now = sym engine ∙ i.engine in
     let inside = subst (λ (p : PassView). made_within p.shared.size.seats p.others.splitting ≤ p.shared.size.seats) c.pass.view_is c.tell_made.ensures in
-    let splitting = ap (λ (p : PassView). p.others.splitting) all in
-    let alone = alone_together first c.loop-pass.pass others (ap (λ (p : PassView). p.seat) c.clear_all.ensures ∙ c.requires.first) seat engine (ap (λ (p : PassView). p.others) all)
-    (subst (λ (e : EngineView). AreOthers e.size others) (sym own) c.requires.each_once)
-    (subst (λ (s : Splitting). made_within first.shared.size.seats s ≤ first.shared.size.seats) splitting (subst (λ (e : EngineView). made_within e.size.seats c.loop-pass.pass.others.splitting ≤ e.size.seats) engine inside)) in
+    let zero_is = ap (λ (p : PassView). p.seat) c.clear_all.ensures ∙ c.requires.first in
     let few = count_others c.args.self.now.size others c.seats.ensures.in_range c.requires.each_once in
     record {
-      alone = alone;
-      first = seat ∙ ap (λ (p : PassView). p.seat) c.clear_all.ensures ∙ c.requires.first;
+      alone = alone_together first c.loop-pass.pass others all zero_is (subst (λ (e : EngineView). AreOthers e.size others) (sym (sym (ap engine_of all) ∙ i.engine)) c.requires.each_once) inside;
+      first = ap (λ (p : PassView). p.seat) all ∙ zero_is;
       counts = earlier_most (length others - length c.loop-pass.rest.items) c.loop-pass.earlier c.loop-pass.pass.clock 63 i.earlier (omega arith);
       unshared = tt;
     }

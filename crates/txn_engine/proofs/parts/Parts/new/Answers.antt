@@ -1,5 +1,5 @@
 use Rattle.std.proofs.Common.{[], ◌∷◌, length, length-append, ap, arith}
-use Rattle.txn_engine.proofs.Making.{each_more}
+use Rattle.seat_post.proofs.Bounds.{each_more}
 use Rattle.txn_engine.proofs.parts.Parts.new.Goals as goal
 
 pub loop-seat-preserved : goal.loop-seat-preserved

@@ -1,6 +1,6 @@
 use Rattle.std.proofs.Common.{◌≡◌, ◌+◌, length}
 use Rattle.core_rule.specs.Views.{Among}
-use Rattle.seat_post.specs.Spare.{no_numbers, NumbersView}
+use Rattle.spare_numbers.specs.Spare.{no_numbers, NumbersView}
 use Rattle.txn_engine.proofs.parts.Parts.new.Given as goal
 
 abbrev pub invariant-loop-seat : goal.invariant-loop-seat

@@ -5,7 +5,7 @@ use Rattle.record_store.specs.Meaning.{value_at}
 use Rattle.txn_engine.specs.Pass.{PassView, observing}
 use Rattle.txn_engine.specs.Inside.{pass_view}
 use Rattle.seat_post.specs.Seats.{Observed}
-use Rattle.seat_post.specs.Spare.{NumbersView}
+use Rattle.spare_numbers.specs.Spare.{NumbersView}
 use Rattle.txn_engine.specs.Fresh.{IsMetPresent}
 use Rattle.txn_engine.specs.Accounts.{accounted}
 use Rattle.txn_engine.proofs.Accounting.{accounted_given, accounted_struck}

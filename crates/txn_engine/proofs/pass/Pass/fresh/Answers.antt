@@ -1,14 +1,15 @@
 use Rattle.std.proofs.Common.{◌≡◌, None, true, refl, sym, ap, ◌∙◌, subst, length, arith}
 use Rattle.std.specs.Prelude.{slice_get}
 use Rattle.seat_post.specs.Conflicts.{IsLoaded}
-use Rattle.seat_post.specs.Spare.{is_on}
+use Rattle.spare_numbers.specs.Spare.{is_on}
 use Rattle.txn_engine.specs.Faults.{IfConflict, MeetsAmong, WasLoaded}
 use Rattle.txn_engine.specs.Fresh.{AreWritten, PassesAll}
 use Rattle.txn_engine.specs.Pass.{PassView, observing}
 use Rattle.txn_engine.specs.Accounts.{accounted}
-use Rattle.txn_engine.proofs.Asking.{asks_left, on_at, meets_among, refused_by, all_written, none_there}
+use Rattle.txn_engine.proofs.Asking.{asks_left, on_at, meets_among, all_written}
+use Rattle.txn_engine.proofs.Passes.{none_found}
 use Rattle.txn_engine.proofs.Accounting.{none_left}
-use Rattle.seat_post.proofs.Answered.{on_err}
+use Rattle.seat_post.proofs.Answered.{on_err, err_told}
 use Rattle.txn_engine.proofs.Passing.{HasPassed, none_passed, none_struck, asks_passed, asks_given, some_passed, all_passed}
 use Rattle.txn_engine.proofs.Growing.{grows_both, grows_same, conflict_earlier}
 use Rattle.txn_engine.proofs.pass.Pass.fresh.Goals as goal
@@ -36,7 +37,7 @@ pub returns-in_err-ask-clause-meets : goal.returns-in_err-ask-clause-meets
 returns-in_err-ask-clause-meets g c =
     let at = sym (ap (λ (p : PassView). slice_get p.spare c.loop-rid.i) c.self.view_is) ∙ sym c.in-Some.ensures.at in
     let on = c.loop-rid.invariant.were_on c.in-Some.rid (on_at c.loop-rid.self.spare c.loop-rid.i c.in-Some.rid at) in
-    refused_by (λ fault. c.args.self.now.dead ≡ None → IfConflict fault (MeetsAmong c.args.self.now.spare)) c.in_err-ask.field-0.0 c.from_residual-in_err-ask.result c.from_residual-in_err-ask.ensures.1
+    err_told c.from_residual-in_err-ask.result c.in_err-ask.field-0.0 (λ fault. c.args.self.now.dead ≡ None → IfConflict fault (MeetsAmong c.args.self.now.spare)) c.from_residual-in_err-ask.ensures.1
     (λ alive. meets_among c.args.self.now.spare c.in-Some.rid c.in_err-ask.field-0.0 on c.in_err-ask.ensures.meets)
 
 pub returns-in_err-ask-clause-accounts : goal.returns-in_err-ask-clause-accounts
@@ -47,7 +48,7 @@ returns-in-Given-clause-accounts g c = c.ask.ensures.accounts ∙ c.loop-rid.inv
 
 pub returns-clause-records_out : goal.returns-clause-records_out
 returns-clause-records_out g c = λ out.
-    let none : slice_get c.loop-rid.self.spare c.loop-rid.i ≡ None = sym (ap (λ (p : PassView). slice_get p.spare c.loop-rid.i) c.self.view_is) ∙ sym c.at.ensures.at ∙ none_there c.at.result c.in_default.not-Some in
+    let none : slice_get c.loop-rid.self.spare c.loop-rid.i ≡ None = sym (ap (λ (p : PassView). slice_get p.spare c.loop-rid.i) c.self.view_is) ∙ sym c.at.ensures.at ∙ none_found c.at.result c.in_default.not-Some in
     subst (λ (p : PassView). AreWritten p (length p.spare)) (sym c.count.ensures) (all_written c.loop-rid.self c.loop-rid.i c.loop-rid.invariant.written none)
 
 pub returns-clause-accounts : goal.returns-clause-accounts
@@ -55,7 +56,7 @@ returns-clause-accounts g c = ap accounted c.count.ensures ∙ c.loop-rid.invari
 
 pub returns-clause-none_left : goal.returns-clause-none_left
 returns-clause-none_left g c = λ out absent.
-    let none : slice_get c.loop-rid.self.spare c.loop-rid.i ≡ None = sym (ap (λ (p : PassView). slice_get p.spare c.loop-rid.i) c.self.view_is) ∙ sym c.at.ensures.at ∙ none_there c.at.result c.in_default.not-Some in
+    let none : slice_get c.loop-rid.self.spare c.loop-rid.i ≡ None = sym (ap (λ (p : PassView). slice_get p.spare c.loop-rid.i) c.self.view_is) ∙ sym c.at.ensures.at ∙ none_found c.at.result c.in_default.not-Some in
     none_left c.count.new.self absent (subst (λ (p : PassView). AreWritten p (length p.spare)) (sym c.count.ensures) (all_written c.loop-rid.self c.loop-rid.i c.loop-rid.invariant.written none))
 
 pub returns-in_err-stopped-clause-grows : goal.returns-in_err-stopped-clause-grows
@@ -78,7 +79,7 @@ returns-in_err-ask-clause-loaded g c = λ alive.
     let p = c.args.self.now in
     let q = c.loop-rid.self in
     let stamp = ap (λ (x : PassView). x.stamp) c.loop-rid.invariant.same in
-    refused_by (λ fault. IfConflict fault (WasLoaded p c.ask.new.self)) c.in_err-ask.field-0.0 c.from_residual-in_err-ask.result c.from_residual-in_err-ask.ensures.1
+    err_told c.from_residual-in_err-ask.result c.in_err-ask.field-0.0 (λ fault. IfConflict fault (WasLoaded p c.ask.new.self)) c.from_residual-in_err-ask.ensures.1
     (conflict_earlier p.stamp p.observed q.observed c.ask.new.self.observed c.in_err-ask.field-0.0 c.loop-rid.invariant.grows (subst (λ n. IfConflict c.in_err-ask.field-0.0 (λ conflict. IsLoaded n conflict q.observed c.ask.new.self.observed)) stamp c.in_err-ask.ensures.loaded))
 
 pub returns-in-Given-clause-first : goal.returns-in-Given-clause-first
@@ -102,5 +103,5 @@ returns-clause-passed g c =
 
 pub returns-clause-passes : goal.returns-clause-passes
 returns-clause-passes g c = λ out.
-    let none : slice_get c.loop-rid.self.spare c.loop-rid.i ≡ None = sym (ap (λ (p : PassView). slice_get p.spare c.loop-rid.i) c.self.view_is) ∙ sym c.at.ensures.at ∙ none_there c.at.result c.in_default.not-Some in
+    let none : slice_get c.loop-rid.self.spare c.loop-rid.i ≡ None = sym (ap (λ (p : PassView). slice_get p.spare c.loop-rid.i) c.self.view_is) ∙ sym c.at.ensures.at ∙ none_found c.at.result c.in_default.not-Some in
     subst (λ (p : PassView). PassesAll c.args.self.now p) (sym c.count.ensures) (all_passed c.args.self.now c.loop-rid.self c.loop-rid.i c.loop-rid.invariant.passed none)

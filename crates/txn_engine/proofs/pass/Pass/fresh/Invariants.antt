@@ -1,5 +1,5 @@
 use Rattle.std.proofs.Common.{◌≡◌, ◌-◌, ℕ, true, length}
-use Rattle.seat_post.specs.Spare.{is_on}
+use Rattle.spare_numbers.specs.Spare.{is_on}
 use Rattle.txn_engine.specs.Fresh.{AreWritten}
 use Rattle.seat_post.specs.Observing.{Grows}
 use Rattle.txn_engine.specs.Pass.{observing}

@@ -8,14 +8,15 @@ use Rattle.seat_post.specs.Post.{known_at}
 use Rattle.seat_post.specs.Reading.{FindsValue}
 use Rattle.seat_post.proofs.Leaving.{some_words, present_all}
 use Rattle.txn_engine.proofs.Asking.{pass_asked}
-use Rattle.txn_engine.proofs.Passes.{pass_observing, known_unwritten}
+use Rattle.txn_engine.proofs.Passes.{known_unwritten}
 use Rattle.txn_engine.proofs.Growing.{grows_none}
 use Rattle.txn_engine.proofs.pass.Pass.is_absent.Goals as goal
 
 pub invariant_of-self : goal.invariant_of-self
 invariant_of-self g c =
     let phase = ap (λ (x : PassView). x.phase) c.self.view_is ∙ c.requires.open in
-    rw c.in-Ok.ensures.ok (pass_observing _ _ _ _ _ _ _ (pass_asked c.self.inside.post c.args.rid c.in-Ok.absent _ _ _ _ _ c.self.invariant phase))
+    let i = c.self.inside in
+    rw c.in-Ok.ensures.ok (pass_asked i.post c.args.rid c.in-Ok.absent i.queue i.numbers _ _ c.self.invariant phase)
 
 pub returns-in-Some-clause-present : goal.returns-in-Some-clause-present
 returns-in-Some-clause-present g c = λ alone off.
@@ -34,10 +35,10 @@ returns-in-Ok-clause-present g c = λ alone off.
     subst (λ (x : PassView). IsPresent x.log c.args.rid) c.self.view_is (present_all p.log c.args.rid p.stamp (c.version_read.ensures.above flying) some)
 
 pub invariant_of-self-in-Err-Pending : goal.invariant_of-self-in-Err-Pending
-invariant_of-self-in-Err-Pending g c = rw c.in-Err-Pending.ensures.err (pass_observing _ _ _ _ _ _ _ c.self.invariant)
+invariant_of-self-in-Err-Pending g c = rw c.in-Err-Pending.ensures.err c.self.invariant
 
 pub invariant_of-self-in-Err-NoMemory : goal.invariant_of-self-in-Err-NoMemory
-invariant_of-self-in-Err-NoMemory g c = rw c.in-Err-NoMemory.ensures.err (pass_observing _ _ _ _ _ _ _ c.self.invariant)
+invariant_of-self-in-Err-NoMemory g c = rw c.in-Err-NoMemory.ensures.err c.self.invariant
 
 pub returns-in-Some-clause-grows : goal.returns-in-Some-clause-grows
 returns-in-Some-clause-grows g c = grows_none c.args.self.now.observed

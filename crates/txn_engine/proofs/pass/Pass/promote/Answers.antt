@@ -1,7 +1,7 @@
-use Rattle.std.proofs.Common.{◌≡◌, ℕ, ◌<◌, ap, ◌∙◌, refl, sym, subst, arith}
+use Rattle.std.proofs.Common.{◌≡◌, ℕ, ◌<◌, refl, sym, subst, arith}
 use Rattle.clock_stamps.specs.Clocks.{drawn_clock}
 use Rattle.txn_engine.specs.Inside.{pass_view}
-use Rattle.txn_engine.specs.Pass.{PassView, next_clock, DeskView}
+use Rattle.txn_engine.specs.Pass.{PassView, next_clock}
 use Rattle.txn_engine.specs.Promoting.{Promotes, boost_after}
 use Rattle.txn_engine.proofs.PromoteMore.{pass_promoted, on_ok_of, roomy_after, absent_after}
 use Rattle.seat_post.proofs.Bounds.{above_drawn, drawn_later, less_is_most, seat_below}
@@ -10,10 +10,9 @@ use Rattle.txn_engine.proofs.pass.Pass.promote.Goals as goal
 pub invariant_of-self : goal.invariant_of-self
 invariant_of-self g c =
     let i = c.self.inside in
-    let phase = ap (λ (p : PassView). p.phase) c.self.view_is ∙ ap (λ (d : DeskView). d.phase) c.requires.idle in
     let seat = seat_below c.number.ensures.size (subst (λ (n : ℕ). n < i.post.shared.size.seats) c.number.ensures.value c.number.ensures.within) in
     let later = less_is_most _ _ (drawn_later i.post.clock c.saturating_add.result) in
-    pass_promoted g.J.Keeps.kept i.post c.promote-told.new.self _ c.args.rid c.promote-told.result i.queue i.numbers _ i.dead i.counted c.self.invariant phase later seat c.promote-told.ensures.ok c.promote-told.ensures.err
+    pass_promoted g.J.Keeps.kept i.post c.promote-told.new.self _ c.args.rid c.promote-told.result i.queue i.numbers _ _ c.self.invariant later seat c.promote-told.ensures.ok c.promote-told.ensures.err
 
 pub returns : goal.returns
 returns g c =
@@ -26,7 +25,7 @@ returns g c =
     let s = c.saturating_add.ensures in
     let same : clock ≡ next_clock view c.args.reading = omega arith in
     let within = subst (λ (p : PassView). c.args.rid < p.shared.size.records) (sym c.self.view_is) c.requires.rid in
-    let above = above_drawn i.post.log i.post.clock c.saturating_add.result i.post.seat c.self.invariant.commits in
+    let above = above_drawn i.post.log i.post.clock c.saturating_add.result i.post.seat c.self.invariant.clock.commits in
     let promotes : Promotes g.J.Keeps.kept c.args.rid clock view (pass_view r (boost_after told i.boost) i.queue i.numbers i.refusals i.commits i.dead i.counted) told = record {
       ok = e.ok;
       err = e.err;

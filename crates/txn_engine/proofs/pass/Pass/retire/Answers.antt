@@ -1,6 +1,6 @@
 use Rattle.std.proofs.Common.{◌≤◌, ap, ◌∙◌, sym, arith}
 use Rattle.seat_post.specs.Post.{PostView}
-use Rattle.seat_post.specs.Spare.{NumbersView}
+use Rattle.spare_numbers.specs.Spare.{NumbersView}
 use Rattle.txn_engine.proofs.pass.Pass.retire.Goals as goal
 
 pub invariant_of-result : goal.invariant_of-result
@@ -14,7 +14,7 @@ invariant_of-result g c =
       records = records ∙ c.self.invariant.records ∙ sym (ap (λ (p : PostView). p.shared.size.records) same);
       fixed = rw (fixed, records) c.self.invariant.fixed;
       none_given = ap (λ (n : NumbersView). n.given) numbers;
-      counts = let few : c.self.inside.refusals ≤ c.self.inside.post.clock = omega (arith, c.self.invariant.counts) in rw (ap (λ (p : PostView). p.clock) same) few;
-      commits = rw (ap (λ (p : PostView). p.clock) same, ap (λ (p : PostView). p.log) same) c.self.invariant.commits;
-      snapshots = rw (ap (λ (p : PostView). p.met) same, ap (λ (p : PostView). p.log) same) c.self.invariant.snapshots;
+      counts = let few : c.self.inside.refusals ≤ c.self.inside.post.clock = omega (arith, c.self.invariant.clock.counts) in rw (ap (λ (p : PostView). p.clock) same) few;
+      commits = rw (ap (λ (p : PostView). p.clock) same, ap (λ (p : PostView). p.log) same) c.self.invariant.clock.commits;
+      snapshots = rw (ap (λ (p : PostView). p.met) same, ap (λ (p : PostView). p.log) same) c.self.invariant.log.snapshots;
     }

@@ -1,7 +1,7 @@
-use Rattle.std.proofs.Common.{ap, refl, subst, ◌∙◌}
+use Rattle.std.proofs.Common.{refl, subst}
 use Rattle.seat_post.specs.Post.{PostView}
 use Rattle.txn_engine.specs.Inside.{pass_view}
-use Rattle.txn_engine.specs.Pass.{PassView, DeskView}
+use Rattle.txn_engine.specs.Pass.{PassView}
 use Rattle.txn_engine.specs.Settling.{SettlesPass}
 use Rattle.txn_engine.proofs.Settlements.{pass_settled, tidy_settled, roomy_settled, on_ok, absent_settled}
 use Rattle.txn_engine.proofs.pass.Pass.settle.Goals as goal
@@ -9,8 +9,7 @@ use Rattle.txn_engine.proofs.pass.Pass.settle.Goals as goal
 pub invariant_of-self : goal.invariant_of-self
 invariant_of-self g c =
     let i = c.self.inside in
-    let phase = ap (λ (p : PassView). p.phase) c.self.view_is ∙ ap (λ (d : DeskView). d.phase) c.requires.idle in
-    pass_settled g.J.Keeps.kept i.post c.settle.new.self i.queue i.numbers _ i.dead i.counted c.self.invariant phase c.settle.ensures.settles
+    pass_settled g.J.Keeps.kept i.post c.settle.new.self i.queue i.numbers _ _ c.self.invariant c.settle.ensures.settles
 
 pub returns : goal.returns
 returns g c =

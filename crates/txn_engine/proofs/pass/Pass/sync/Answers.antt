@@ -1,5 +1,5 @@
-use Rattle.txn_engine.proofs.Passes.{pass_clock, adopted_later, pass_observing}
+use Rattle.txn_engine.proofs.Passes.{pass_clock, adopted_later}
 use Rattle.txn_engine.proofs.pass.Pass.sync.Goals as goal
 
 pub invariant_of-self : goal.invariant_of-self
-invariant_of-self g c = rw c.sync.ensures.value.1 (pass_observing _ _ _ _ _ _ _ (pass_clock c.self.inside.post _ _ _ _ _ _ c.self.invariant (adopted_later c.self.inside.post.clock c.sync.ensures.value.0)))
+invariant_of-self g c = let i = c.self.inside in rw c.sync.ensures.value.1 (pass_clock i.post _ i.queue i.numbers _ _ c.self.invariant (adopted_later i.post.clock c.sync.ensures.value.0))

@@ -1,9 +1,0 @@
-use Rattle.std.proofs.Common.{◌≡◌, drop}
-use Rattle.seat_post.proofs.Shares.{KeepsEvery}
-use Rattle.seat_post.proofs.numbers.Numbers.keep_every.Given as goal
-
-abbrev pub invariant-loop-number : goal.invariant-loop-number
-invariant-loop-number l = record {
-  same : l.self ≡ record l.fn.self { spare = l.self.spare };
-  keeps : KeepsEvery l.step l.left l.fn.self.spare (drop l._number l.fn.self.spare) l.self.spare;
-}

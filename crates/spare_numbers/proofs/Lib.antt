@@ -1,0 +1,4 @@
+pub mod Marked
+pub mod NumberLists
+pub mod Shares
+pub mod Written

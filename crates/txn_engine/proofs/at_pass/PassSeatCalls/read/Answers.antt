@@ -1,0 +1,106 @@
+use Rattle.std.proofs.Common.{rules, ◌≡◌, Option, List, ℕ, None, Some, refl, ap, ◌∙◌, sym, subst}
+use Rattle.std.specs.Prelude.{option_copied}
+use Rattle.record_store.specs.Meaning.{value_at}
+use Rattle.txn_engine.specs.Pass.{PassView, IsAlone}
+use Rattle.seat_post.specs.Leaves.{LeavesValue}
+use Rattle.seat_post.specs.Post.{PostView, known_at}
+use Rattle.seat_post.specs.Reading.{FindsValue}
+use Rattle.txn_engine.proofs.Passes.{pass_noted, none_found, known_written, known_unwritten, known_noted}
+use Rattle.txn_engine.proofs.Growing.{grows_same}
+use Rattle.txn_engine.proofs.at_pass.PassSeatCalls.read.Goals as goal
+
+pub invariant_of-self : goal.invariant_of-self
+invariant_of-self g c =
+    let i = c.self.inside in
+    let phase = ap (λ (x : PassView). x.phase) c.self.view_is ∙ ap (λ (x : PassView). x.phase) c.in_ok-stopped.ensures.ok.0 ∙ c.requires.open in
+    rw c.in-Ok.ensures.ok.after (pass_noted i.post _ i.post.writes i.queue i.numbers _ _ c.self.invariant phase c.self.invariant.room)
+
+pub invariant_of-self-in-Err-Pending : goal.invariant_of-self-in-Err-Pending
+invariant_of-self-in-Err-Pending g c = rw c.in-Err-Pending.ensures.err c.self.invariant
+
+pub invariant_of-self-in-Err-NoMemory : goal.invariant_of-self-in-Err-NoMemory
+invariant_of-self-in-Err-NoMemory g c = rw c.in-Err-NoMemory.ensures.err c.self.invariant
+
+pub returns-in_err-stopped-clause-reads : goal.returns-in_err-stopped-clause-reads
+returns-in_err-stopped-clause-reads g c =
+    record {
+      ok = search rules;
+      answered = search rules;
+      err = search rules;
+      spare = search rules;
+      stays = record { same_frame = search rules; same_accounts = search rules; grows = grows_same c.args.self.now.observed c.stopped.new.self.observed (ap (λ (x : PassView). x.observed) c.in_err-stopped.ensures.err) };
+      refuses = search rules;
+      meets = search rules;
+      never = search rules;
+      left = search rules;
+      found = search rules;
+      again = search rules;
+    }
+
+pub returns-in-Some-clause-reads : goal.returns-in-Some-clause-reads
+returns-in-Some-clause-reads g c =
+    let same = c.self.view_is ∙ c.in_ok-stopped.ensures.ok.0 in
+    let p = c.self.inside.post in
+    let written : Some c.in-Some.value.now ≡ value_at p.writes c.args.rid = sym (ap option_copied c.in-Some.is) ∙ c.written.ensures in
+    let some : known_at c.args.self.now.post c.args.rid ≡ Some c.in-Some.value.now = sym (ap (λ (x : PassView). known_at x.post c.args.rid) same) ∙ known_written p c.args.rid c.in-Some.value.now written in
+    record {
+      ok = search rules;
+      answered = sym (ap (λ (x : PassView). known_at x.post c.args.rid) c.self.view_is) ∙ known_written p c.args.rid c.in-Some.value.now written;
+      err = search rules;
+      spare = search rules;
+      stays = record { same_frame = search rules; same_accounts = search rules; grows = grows_same c.args.self.now.observed c.stopped.new.self.observed (ap (λ (x : PassView). x.observed) c.in_ok-stopped.ensures.ok.0) };
+      refuses = search rules;
+      meets = search rules;
+      never = search rules;
+      left = λ alone unwritten. let none : Some c.in-Some.value.now ≡ None = written ∙ ap (λ (x : PassView). value_at x.writes c.args.rid) same ∙ unwritten in cc;
+      found = λ none. (cc);
+      again = λ alive. rw some (refl, c.in_ok-stopped.ensures.ok.0);
+    }
+
+pub returns-in-Some-version_read-clause-reads : goal.returns-in-Some-version_read-clause-reads
+returns-in-Some-version_read-clause-reads g c =
+    let same = c.self.view_is ∙ c.in_ok-stopped.ensures.ok.0 in
+    let p = c.self.inside.post in
+    let unwritten : value_at p.writes c.args.rid ≡ None = sym c.written.ensures ∙ ap option_copied (none_found c.written.result c.in_default.not-Some) in
+    let read : value_at p.reads c.args.rid ≡ Some c.value.result = c.in-Some-version_read.ensures.found ∙ ap Some (sym c.value.ensures.value) in
+    let known : known_at p c.args.rid ≡ Some c.value.result = known_unwritten p c.args.rid unwritten ∙ read in
+    let some : known_at c.args.self.now.post c.args.rid ≡ Some c.value.result = sym (ap (λ (x : PassView). known_at x.post c.args.rid) same) ∙ known in
+    record {
+      ok = search rules;
+      answered = sym (ap (λ (x : PassView). known_at x.post c.args.rid) c.self.view_is) ∙ known;
+      err = search rules;
+      spare = search rules;
+      stays = record { same_frame = search rules; same_accounts = search rules; grows = grows_same c.args.self.now.observed c.stopped.new.self.observed (ap (λ (x : PassView). x.observed) c.in_ok-stopped.ensures.ok.0) };
+      refuses = search rules;
+      meets = search rules;
+      never = search rules;
+      left = λ alone still.
+          let flying = ap (λ (x : PassView). x.phase) same ∙ c.requires.open in
+          let left = c.in-Some-version_read.ensures.left flying (subst (λ (x : PassView). IsAlone x) (sym same) alone) in
+          subst (λ (x : PassView). LeavesValue x.log c.args.rid x.stamp c.value.result) same (subst (λ (v : Option (List ℕ)). LeavesValue p.log c.args.rid p.stamp v) (sym c.value.ensures.value) left);
+      found = λ none. (cc);
+      again = λ alive. rw some (refl, c.in_ok-stopped.ensures.ok.0);
+    }
+
+pub returns-in-Ok-clause-reads : goal.returns-in-Ok-clause-reads
+returns-in-Ok-clause-reads g c =
+    let p = c.self.inside.post in
+    let same = c.self.view_is ∙ c.in_ok-stopped.ensures.ok.0 in
+    let r = c.in-Ok.ensures.ok in
+    let unwritten : value_at p.writes c.args.rid ≡ None = sym c.written.ensures ∙ ap option_copied (none_found c.written.result c.in_default.not-Some) in
+    let unread : value_at p.reads c.args.rid ≡ None = rw (none_found c.version_read.result c.in_default-version_read.not-Some) at c.version_read.ensures.none in
+    let unknown : known_at p c.args.rid ≡ None = known_unwritten p c.args.rid unwritten ∙ unread in
+    let value : c.last_read.result ≡ r.value = c.last_read.ensures p.reads c.args.rid r.value (ap (λ (x : PostView). x.reads) r.after) in
+    record {
+      ok = search rules;
+      answered = ap (λ (x : PostView). known_at x c.args.rid) r.after ∙ known_noted p c.args.rid r.value unknown ∙ ap Some (sym value);
+      err = search rules;
+      spare = search rules;
+      stays = search rules;
+      refuses = search rules;
+      meets = search rules;
+      never = search rules;
+      left = λ alone unwritten. rw value (subst (λ (x : PassView). LeavesValue x.log c.args.rid x.stamp r.value) same (r.left (subst (λ (x : PassView). IsAlone x) (sym same) alone)));
+      found = λ none. rw value (subst (λ (x : PassView). FindsValue x.stamp c.args.rid x.observed c.read.new.self.observed r.value) same r.found);
+      again = λ alive. rw (sym (ap (λ (x : PassView). known_at x.post c.args.rid) same) ∙ unknown) tt;
+    }

@@ -97,7 +97,10 @@ fn take_place<J: Keeps>(core: &Core<J>, hand: &mut Hand<J>, rid: u32) -> Result<
     // There is a reserved place.
     hand.number();
     if let Ok((place, _)) = take(core, hand, rid) {
-        return Ok(Taken { place, reserved: false });
+        return Ok(Taken {
+            place,
+            reserved: false,
+        });
     }
     if hand.clock() == GREATEST_CLOCK {
         return Err(ClockOut);
@@ -105,5 +108,8 @@ fn take_place<J: Keeps>(core: &Core<J>, hand: &mut Hand<J>, rid: u32) -> Result<
     let Some(place) = take_reserved(core, hand) else {
         unreachable!();
     };
-    Ok(Taken { place, reserved: true })
+    Ok(Taken {
+        place,
+        reserved: true,
+    })
 }

@@ -21,7 +21,7 @@ use Rattle.stored_tables.specs.Plan.{MayAsk, run_plan}
 use Rattle.stored_tables.specs.Tables.{StandsFor, EachTables}
 use Rattle.stored_tables.specs.Weight.{weight, all_add}
 use Rattle.stored_tables.specs.Weights.{AreKnown, RunAdds, RecordLeft}
-use Rattle.txn_engine.specs.Leaves.{NoneLeft}
+use Rattle.txn_engine.specs.Leaves.{NoneRemains}
 use Rattle.txn_engine.specs.Pass.{PassView}
 use Rattle.txn_engine.proofs.Accounting.{absent_taken}
 use Rattle.lane_runner.proofs.Entries.{with_none, refused_stays}
@@ -81,7 +81,7 @@ module _ {S F : Type 0} (read_gives : S → ℕ → Result (Option (List ℕ)) F
 -- Where no number is left, each that is absent is given or written; but one is left, neither present nor given, and a block writes no
 -- other.
 pub no_ask_refused : (kept : State → Type 0) (q : PassView) (commands : List Command) (asked most : ℕ) (state : State) (places : Places) (tables : TableMap)
-    → RecordLeft → NoneLeft q → Lawful kept q.shared.size.records q.log → Leaves (Contains q.log) state → StandsFor q.shared.size.records state places tables → weight places ≤ most
+    → RecordLeft → NoneRemains q → Lawful kept q.shared.size.records q.log → Leaves (Contains q.log) state → StandsFor q.shared.size.records state places tables → weight places ≤ most
     → AreKnown commands → MayAsk (run_plan commands tables) places asked → fixed_records ≤ q.fixed → q.fixed + (most + all_add commands tables) ≤ q.shared.size.records
     → length q.given < asked
     → ((rid : ℕ) → IsSome (value_at q.writes rid) → Contains q.given rid ⊎ ((rid < q.fixed) ⊎ ((words : List ℕ) × (state rid ≡ Some words)))) → ⊥

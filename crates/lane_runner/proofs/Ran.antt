@@ -21,7 +21,7 @@ use Rattle.stored_tables.specs.Weights.{AreKnown, RecordLeft}
 use Rattle.lane_runner.proofs.Asked.{at_most_more, known_writes, few_given, no_ask_refused}
 use Rattle.replay_model.specs.TableMap.{TableMap}
 use Rattle.seat_post.specs.Leaves.{AreLeft}
-use Rattle.txn_engine.specs.Leaves.{HoldsAbsent, NoneLeft}
+use Rattle.txn_engine.specs.Leaves.{HoldsAbsent, NoneRemains}
 use Rattle.txn_engine.specs.Lists.{IsRoomy}
 use Rattle.txn_engine.specs.Pass.{EngineView, PassView, frame, IsIdle, IsAlone, begun, committed, with_bounds, entry_of, store_of, meaning_of_pass, engine_of, desk_of, observing, placing}
 use Rattle.seat_post.specs.Logs.{IsAbove}
@@ -134,7 +134,7 @@ opened p b q clock later drawn began rest above alone accounts absent roomy = re
 -- where what the log leaves finds room with what the commands add, it does not run out of records
 pub never_out : (p b q : PassView) (o : Opened p b q) (commands : List Command) (asks : ℕ) → RecordLeft → Lawful (StandsForSome stands) p.shared.size.records p.log → AreLeft q.log q.stamp q.reads → HasRecords p (all_add commands)
     → AreKnown commands → fixed_records ≤ p.fixed → EachTables (meaning_of_pass b) (meaning_of_pass q) (λ _ places tables. MayAsk (run_plan commands tables) places asks) → GivesFewer asks (meaning_of_pass b) (meaning_of_pass q)
-    → EachTables (meaning_of_pass b) (meaning_of_pass q) (λ state _ _. WritesKnown (meaning_of_pass b) (meaning_of_pass q) state) → NoneLeft q → ⊥
+    → EachTables (meaning_of_pass b) (meaning_of_pass q) (λ state _ _. WritesKnown (meaning_of_pass b) (meaning_of_pass q) state) → NoneRemains q → ⊥
 never_out p b q o commands asks left lawful reads has known fixed may fewer written none =
     let kept = kept_frame p b q o.clock o.began o.rest in
     let engine = ap engine_of kept in

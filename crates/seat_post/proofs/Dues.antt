@@ -43,7 +43,7 @@ found_other v r b w bound rid place found status wts g is reads other =
     }
 
 pub looks_first : (rid : ℕ) (first : First) (before looked : List Load) (f w : Seen) → Looked rid first.place first.wts first.decided first.single before looked → looked ≡ f.loads → growing.Grows f w → LooksFirst rid first before looked w.loads
-looks_first rid first before looked f w look same g = record { look = look; later = g.loaded; rest = g.loads ∙ ap (λ (ls : List Load). ls ++ g.loaded) (sym same) }
+looks_first rid first before looked f w look same g = record { look = look; later = g.loaded; loads = g.loads ∙ ap (λ (ls : List Load). ls ++ g.loaded) (sym same) }
 
 pub due_at : (rid : ℕ) (first : First) (v f s w : View) → Looked rid first.place first.wts first.decided first.single v.seen.loads f.seen.loads → first.single ≡ false → IsHidden rid first f.seen.loads s.seen.loads → growing.Grows f.seen s.seen → growing.Grows s.seen w.seen → IsDue rid v.seen.loads w.seen.loads
 due_at rid first v f s w look more hidden g h = record {
@@ -54,7 +54,7 @@ due_at rid first v f s w look more hidden g h = record {
   searched = s.seen.loads;
   hidden = hidden;
   later = h.loaded;
-  rest = h.loads;
+  loads = h.loads;
 }
 
 -- ---- the cuts

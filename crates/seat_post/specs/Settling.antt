@@ -125,7 +125,7 @@ IsHidden rid first before after' = (first.decided ≡ false) ⊎ FindsOther rid 
 pub record LooksFirst (rid : ℕ) (first : First) (before looked after' : List Load) : Type 0 where
   pub look : Looked rid first.place first.wts first.decided first.single before looked
   pub later : List Load
-  pub rest : after' ≡ looked ++ later
+  pub loads : after' ≡ looked ++ later
 
 -- ---- a record
 
@@ -138,7 +138,7 @@ pub record IsDue (rid : ℕ) (before after' : List Load) : Type 0 where
   pub searched : List Load
   pub hidden : IsHidden rid first looked searched
   pub later : List Load
-  pub rest : after' ≡ searched ++ later
+  pub loads : after' ≡ searched ++ later
 
 -- its list was not cut where the look at its first version showed that it is the only one; else once, or as often as it was written again
 pub record CutsAsDue (rid : ℕ) (done : Settled) (before after' : List Load) : Type 0 where

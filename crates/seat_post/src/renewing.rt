@@ -48,7 +48,7 @@ pub(crate) fn renew<J: Keeps>(
     ensures others { KeepsOthers rid hand.old.view hand.new.view }
     ensures ok { IfOk result (λ renewed. IsRewrittenAt rid renewed.stamp hand.old.view hand.new.view) }
     ensures in_reserved { IfOk result (λ renewed. hand.new.view.counts.in_reserved ≡ (if renewed.reserved then version_reserved rid renewed.stamp else hand.old.view.counts.in_reserved)) }
-    ensures left { IfOk result (λ renewed. renewed.reserved ≡ true → hand.new.view.clock.clock < greatest_clock) }
+    ensures clock { IfOk result (λ renewed. renewed.reserved ≡ true → hand.new.view.clock.clock < greatest_clock) }
     // Where the only version stands in the reserved place, the inline place is free.
     ensures inline { StandsReserved rid hand.old.view.counts → hand.old.view.clock.clock < greatest_clock → IsOkAnd result (λ renewed. renewed.reserved ≡ false) }
     ensures gone { hand.new.view.gone ≡ hand.old.view.gone }
@@ -87,7 +87,7 @@ fn take_place<J: Keeps>(core: &Core<J>, hand: &mut Hand<J>, rid: u32) -> Result<
     ensures others { IfOk result (λ taken. taken.reserved ≡ false → (taken.place ≡ rid) ⊎ IsUsable core.now.size taken.place) }
     ensures apart { IfOk result (λ taken. taken.reserved ≡ false → taken.place ≢ reserved_place core.now.size) }
     ensures reserved { IfOk result (λ taken. taken.reserved ≡ true → (taken.place ≡ reserved_place core.now.size) × WantsReserved core.now.size rid hand.old.view hand.new.view) }
-    ensures left { IfOk result (λ taken. taken.reserved ≡ true → hand.old.view.clock.clock < greatest_clock) }
+    ensures clock { IfOk result (λ taken. taken.reserved ≡ true → hand.old.view.clock.clock < greatest_clock) }
     ensures inline { KnowsFree hand.old.view rid → IsOkAnd result (λ taken. taken.reserved ≡ false) }
     ensures none { OnErr result (LosesAll hand.old.view hand.new.view) }
     ensures wanted { OnErr result (WantsReserved core.now.size rid hand.old.view hand.new.view) }

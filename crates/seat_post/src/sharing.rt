@@ -32,8 +32,8 @@ impl<J: Keeps> Post<J> {
         requires idle { self.old.phase ≡ Phase.Idle }
         requires makes { MayOffer self.old.others.splitting }
         requires room { made_of self.old.others.splitting < core.now.size.seats }
-        ensures left { self.new ≡ record (one_more self.old) { snapshot = self.new.snapshot } }
-        ensures right { result ≡ record (made_next self.old) { snapshot = result.snapshot } }
+        ensures after { self.new ≡ record (one_more self.old) { snapshot = self.new.snapshot } }
+        ensures made { result ≡ record (made_next self.old) { snapshot = result.snapshot } }
     {
         let hand = core.split(&mut self.hand);
         Post::new(alloc, hand, room)

@@ -19,7 +19,7 @@ use Rattle.txn_engine.specs.Fresh.{AreWritten}
 use Rattle.txn_engine.specs.Pass.{PassView, IsAlone, first_pass, with_log, frame, with_bounds, entry_of, decided, published, committed, EngineView, engine_of}
 use Rattle.seat_post.specs.Logs.{IsAbove}
 use Rattle.seat_post.specs.Leaves.{IsPresent}
-use Rattle.txn_engine.specs.Leaves.{HoldsAbsent, NoneLeft}
+use Rattle.txn_engine.specs.Leaves.{HoldsAbsent, NoneRemains}
 use Rattle.txn_engine.specs.Accounts.{writes_at, gives_at, is_present, accounted}
 use Rattle.seat_post.proofs.AloneSeats.{both, either, and_of, or_of}
 use Rattle.seat_post.proofs.Listed.{known_head, known_tail}
@@ -176,8 +176,8 @@ on_at (x ∷ xs) r on = elim (either (eqb r x) (is_on xs r) on) as (λ _. (k : �
 ]
 
 -- where the transaction writes each spare number, none is left
-pub none_left : (p : PassView) → HoldsAbsent p → AreWritten p (length p.spare) → NoneLeft p
-none_left p absent written r from within = elim (absent r from within) as (λ _. (is_on p.given r ≡ true) ⊎ (IsSome (value_at p.writes r) ⊎ IsPresent p.log r)) [
+pub none_remains : (p : PassView) → HoldsAbsent p → AreWritten p (length p.spare) → NoneRemains p
+none_remains p absent written r from within = elim (absent r from within) as (λ _. (is_on p.given r ≡ true) ⊎ (IsSome (value_at p.writes r) ⊎ IsPresent p.log r)) [
   | inr present ↦ inr (inr present)
   | inl on ↦ elim (either (is_on p.given r) (is_on p.spare r) (sym (list_any-append (eqb r) p.given p.spare) ∙ on)) as (λ _. (is_on p.given r ≡ true) ⊎ (IsSome (value_at p.writes r) ⊎ IsPresent p.log r)) [
     | inl given ↦ inl given
@@ -336,7 +336,7 @@ absent_on kept records history p lawful own absent r from within none = elim (ab
 ]
 
 -- where none is left, each record that is absent in the state that such a log leaves is given out or written
-pub absent_taken : (kept : State → Type 0) (records : ℕ) (history : List Entry) (state : State) (p : PassView) → Lawful kept records history → ((e : Entry) → Contains p.log e → Contains history e) → Leaves (Contains p.log) state → NoneLeft p
+pub absent_taken : (kept : State → Type 0) (records : ℕ) (history : List Entry) (state : State) (p : PassView) → Lawful kept records history → ((e : Entry) → Contains p.log e → Contains history e) → Leaves (Contains p.log) state → NoneRemains p
     → (r : ℕ) → p.fixed ≤ r → r < p.shared.size.records → state r ≡ None → (is_on p.given r ≡ true) ⊎ IsSome (value_at p.writes r)
 absent_taken kept records history state p lawful own leaves none r from within absent = elim (none r from within) as (λ _. (is_on p.given r ≡ true) ⊎ IsSome (value_at p.writes r)) [
   | inl given ↦ inl given

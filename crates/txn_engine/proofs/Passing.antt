@@ -66,13 +66,13 @@ pub gives_first : (p q r : PassView) (i rid : ℕ) → HasPassed i p q → slice
 gives_first p q r i rid h at less given later absent = record {
   numbers = h.numbers;
   stayed = take i q.spare;
-  rest = drop (suc i) q.spare;
+  behind = drop (suc i) q.spare;
   list = h.list ∙ ap (λ (ys : List ℕ). h.numbers ++ ys) (drop_at q.spare i rid at);
   between = q.observed;
   over = h.over;
   later = later;
   absent = absent;
-  left = less;
+  spare = less;
   given = given;
 }
 
@@ -85,12 +85,12 @@ pub some_passed : (p q r : PassView) (i : ℕ) → HasPassed i p q → r.spare �
 some_passed p q r i h same later = record {
   numbers = h.numbers;
   stayed = take i q.spare;
-  rest = drop i q.spare;
+  behind = drop i q.spare;
   list = h.list;
   between = q.observed;
   over = h.over;
   later = later;
-  left = same ∙ sym (take-append-drop i q.spare);
+  spare = same ∙ sym (take-append-drop i q.spare);
 }
 
 -- a call that changes no list

@@ -42,25 +42,25 @@ pub data PassesOver (p : PassView) : (numbers stayed : List ℕ) → Observed �
 pub record GivesFirst (before after' : PassView) (rid : ℕ) : Type 0 where
   pub numbers : List ℕ
   pub stayed : List ℕ
-  pub rest : List ℕ
-  pub list : before.spare ≡ numbers ++ rid ∷ rest
+  pub behind : List ℕ
+  pub list : before.spare ≡ numbers ++ rid ∷ behind
   pub between : Observed
   pub over : PassesOver before numbers stayed before.observed between
   pub later : Grows between after'.observed
   pub absent : IsMetAbsent before rid between after'.observed
-  pub left : after'.spare ≡ stayed ++ rest
+  pub spare : after'.spare ≡ stayed ++ behind
   pub given : after'.given ≡ before.given ++ rid ∷ []
 
--- some of them were passed, from the first one on: the others are left behind those that stayed
+-- some of them were passed, from the first one on: the others stand behind those that stayed
 pub record PassesSome (before after' : PassView) : Type 0 where
   pub numbers : List ℕ
   pub stayed : List ℕ
-  pub rest : List ℕ
-  pub list : before.spare ≡ numbers ++ rest
+  pub behind : List ℕ
+  pub list : before.spare ≡ numbers ++ behind
   pub between : Observed
   pub over : PassesOver before numbers stayed before.observed between
   pub later : Grows between after'.observed
-  pub left : after'.spare ≡ stayed ++ rest
+  pub spare : after'.spare ≡ stayed ++ behind
 
 -- all of them were passed
 abbrev pub PassesAll : (before after' : PassView) → Type 0

@@ -15,7 +15,7 @@ abbrev pub HoldsAbsent : PassView → Type 0
 HoldsAbsent p = (r : ℕ) → p.fixed ≤ r → r < p.shared.size.records → (is_on (p.given ++ p.spare) r ≡ true) ⊎ IsPresent p.log r
 
 -- each of them is given out, or the transaction writes it, or the log leaves a value of it
-abbrev pub NoneLeft : PassView → Type 0
-NoneLeft p =
+abbrev pub NoneRemains : PassView → Type 0
+NoneRemains p =
     (r : ℕ) → p.fixed ≤ r → r < p.shared.size.records
     → (is_on p.given r ≡ true) ⊎ (IsSome (value_at p.writes r) ⊎ IsPresent p.log r)

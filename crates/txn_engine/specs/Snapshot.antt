@@ -65,7 +65,7 @@ abbrev pub meaning_of_snapshot : PassView → Meaning
 meaning_of_snapshot p = snapshot_store p p.snapshot
 
 -- what no read changes: at which seat it is, all of its pass but what was read and what its steps came upon, and what the seat has beside
-pub record SnapshotRest (B : Type 0) : Type 0 where
+pub record SnapshotFrame (B : Type 0) : Type 0 where
   pub name : GName
   pub of_pass : PassView
   pub beside : B

@@ -7,7 +7,7 @@ use crate::seat_calls::SeatCalls;
 use crate::transacting::{Committed, boost_after_end, one_if};
 use core_rule::Keeps;
 use plain_data::Cells;
-use seat_post::{Phase, ReadFault};
+use seat_post::Phase;
 
 impl<J: Keeps> SeatCalls for Pass<J> {
     type Kept = J;
@@ -50,11 +50,8 @@ impl<J: Keeps> SeatCalls for Pass<J> {
         if let Some(version) = self.post.version_read(rid) {
             return Ok(version.value());
         }
-        match self.post.read(&engine.core, rid) {
-            Ok(()) => Ok(self.post.last_read()),
-            Err(ReadFault::Pending { wts }) => Err(self.doom(rid, wts)),
-            Err(ReadFault::NoMemory) => Err(TxnFault::NoMemory),
-        }
+        self.note(engine, rid)?;
+        Ok(self.post.last_read())
     }
 
     fn write(&mut self, rid: u32, value: &Option<Cells>) -> Result<(), TxnFault> {

@@ -63,11 +63,11 @@ impl<J: Keeps> Engine<J> {
         // The seats are at most 64.
         self.seats();
         let mut pass = pass;
-        let mut rest = others;
+        let mut remaining = others;
         let mut earlier = 0;
         pass.clear_all();
-        while !rest.is_empty() {
-            earlier += pass.join(self, rest.remove(0));
+        while !remaining.is_empty() {
+            earlier += pass.join(self, remaining.remove(0));
         }
         pass.post.tell_made();
         Alone {

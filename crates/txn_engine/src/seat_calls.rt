@@ -124,7 +124,7 @@ pub trait SeatCalls {
         requires rid { rid < (pass self.old).shared.size.records }
         ensures still { HasSnapshot (pass self.new) }
         ensures meaning { meaning_of_snapshot (pass self.new) ≡ after_read (meaning_of_snapshot (pass self.old)) rid result }
-        ensures rest { unread (pass self.new) ≡ unread (pass self.old) }
+        ensures frame { unread (pass self.new) ≡ unread (pass self.old) }
         ensures after { pass self.new ≡ observing (snapshot_read (pass self.old) rid result) (pass self.new).observed }
         ensures beside { beside self.new ≡ beside self.old }
         ensures grows { Grows (pass self.old).observed (pass self.new).observed }

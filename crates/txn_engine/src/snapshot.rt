@@ -54,11 +54,11 @@ impl<S: SeatCalls> RecordRead for SnapshotOver<'_, S> {
 
     ghost use Rattle.std.specs.Prelude.{IfOk};
     ghost use Rattle.seat_post.specs.Observing.{Grows};
-    ghost use Rattle.txn_engine.specs.Snapshot.{meaning_of_snapshot, SnapshotRest, unread, FindsSeen, ReadsLeft};
+    ghost use Rattle.txn_engine.specs.Snapshot.{meaning_of_snapshot, SnapshotFrame, unread, FindsSeen, ReadsLeft};
 
     ghost meaning = { λ s. meaning_of_snapshot (S.pass s.seat.now) };
 
-    ghost Rest = { SnapshotRest S.Beside };
+    ghost Rest = { SnapshotFrame S.Beside };
 
     ghost rest = { λ s. record { name = s.seat.ghost_name; of_pass = unread (S.pass s.seat.now); beside = S.beside s.seat.now } };
 

@@ -1,5 +1,5 @@
 -- Lists whose first so many items are noted, each of another record.
-use Rattle.std.proofs.Common.{◌≡◌, ◌≢◌, ℕ, zero, suc, ◌+◌, ◌-◌, ◌<◌, ◌≤◌, Bool, true, false, cond, eqb, eq-eqb, List, [], ◌∷◌, ◌++◌, Option, None, Some, refl, sym, ap, ◌∙◌, subst, inl, inr, ⊎_elim, ◌⊎◌, get_or, set, map, ◌||◌, take, drop, take-suc, drop-cons, length, arith, length-append, length-drop, length-set}
+use Rattle.std.proofs.Common.{◌≡◌, ◌≢◌, ℕ, zero, suc, ◌+◌, ◌-◌, ◌%◌, ◌<◌, ◌≤◌, Bool, true, false, cond, eqb, eq-eqb, List, [], ◌∷◌, ◌++◌, Option, None, Some, refl, sym, ap, ◌∙◌, subst, inl, inr, ⊎_elim, ◌⊎◌, get_or, set, map, ◌||◌, take, drop, take-suc, drop-cons, length, arith, length-append, length-drop, length-set}
 use Rattle.std.specs.Prelude.{IfNone, IfSome, slice_get, position, option_map}
 use Rattle.std.specs.List.{list_any}
 use Rattle.std.proofs.lemmas.Bool.Decides.{eqb_tells}
@@ -14,7 +14,7 @@ use Rattle.core_rule.specs.Versions.{cells_of}
 use Rattle.core_rule.proofs.Among.{Among-split, Among-right}
 use Rattle.record_store.specs.Meaning.{value_at, with_value}
 use Rattle.validate_core.specs.declared.noted.Noted.{Noted}
-use Rattle.validate_core.specs.Noted.{noted, IsOf, IsNoted}
+use Rattle.validate_core.specs.Noted.{noted, few, IsMarked, IsOf, IsNoted}
 use Rattle.validate_core.specs.Sets.{Turn, Once}
 use Rattle.validate_core.proofs.Works.{among_turn, among_last}
 use Rattle.validate_core.proofs.Writes.{once_snoc}
@@ -36,6 +36,19 @@ neither false b e f = cc
 second : (a b : Bool) → (a || b) ≡ false → b ≡ false
 second true b f = cc
 second false b f = f
+
+-- a mark that is set stays so where one is set
+still_marked : (i j : ℕ) (marks : List Bool) → slice_get marks j ≡ Some true → slice_get (set marks i true) j ≡ Some true
+still_marked i j [] at = cc
+still_marked zero zero (b ∷ marks) at = refl
+still_marked zero (suc j) (b ∷ marks) at = at
+still_marked (suc i) zero (b ∷ marks) at = at
+still_marked (suc i) (suc j) (b ∷ marks) at = still_marked i j marks at
+
+just_marked : (i : ℕ) (marks : List Bool) → i < length marks → slice_get (set marks i true) i ≡ Some true
+just_marked i [] lt = absurd (omega arith)
+just_marked zero (b ∷ marks) lt = refl
+just_marked (suc i) (b ∷ marks) lt = just_marked i marks (omega arith)
 
 module _ {V : Type 0} where
   -- ---- the element of a number
@@ -132,10 +145,10 @@ module _ {V : Type 0} where
         elim (slice_get xs i) as (λ o. slice_get xs i ≡ o → option_map number o ≡ Some n → (x : V) × (slice_get xs i ≡ Some x) × (number x ≡ rid)) [ None ↦ λ e f. cc | Some x ↦ λ e f. (x, e, (let g : number x ≡ n = cc in g ∙ sym (eqb_same rid n p.1))) ] refl is
 
     -- one that stands behind the first few
-    pub found_behind : (rid i : ℕ) (xs : List V) → position (eqb rid) (map number (drop 16 xs)) ≡ Some i → IsOf number rid xs (16 + i)
+    pub found_behind : (rid i : ℕ) (xs : List V) → position (eqb rid) (map number (drop few xs)) ≡ Some i → IsOf number rid xs (few + i)
     found_behind rid i xs at =
-        let f = found_in rid i (drop 16 xs) at in
-        of_at rid (16 + i) xs f.0 (get_dropped 16 i xs f.0 f.1) f.2
+        let f = found_in rid i (drop few xs) at in
+        of_at rid (few + i) xs f.0 (get_dropped few i xs f.0 f.1) f.2
 
     pub none_in : (rid : ℕ) (xs : List V) → list_any (eqb rid) (map number xs) ≡ false → (x : V) → Among x xs → number x ≢ rid
     none_in rid [] none x among = absurd among
@@ -150,16 +163,23 @@ module _ {V : Type 0} where
     pub none_behind : (n : Noted V) (rid : ℕ) → IsNoted number n → ((x : V) → Among x (noted n) → number x ≢ rid) → list_any (eqb rid) n.behind.keys ≡ false
     none_behind n rid is none =
         ap (list_any (eqb rid)) is.behind
-        ∙ not_any rid (drop 16 (noted n)) (λ x among. none x (subst (Among x) (take-append-drop 16 (noted n)) (Among-right x (take 16 (noted n)) (drop 16 (noted n)) among)))
+        ∙ not_any rid (drop few (noted n)) (λ x among. none x (subst (Among x) (take-append-drop few (noted n)) (Among-right x (take few (noted n)) (drop few (noted n)) among)))
 
-    pub length_behind : (n : Noted V) → IsNoted number n → length n.behind.keys ≡ n.count - 16
+    pub length_behind : (n : Noted V) → IsNoted number n → length n.behind.keys ≡ n.count - few
     length_behind n is =
-        ap length is.behind ∙ length-map (drop 16 (noted n)) number ∙ length-drop 16 (noted n) ∙ ap (λ (k : ℕ). k - 16) (length_noted n is.within)
+        ap length is.behind ∙ length-map (drop few (noted n)) number ∙ length-drop few (noted n) ∙ ap (λ (k : ℕ). k - few) (length_noted n is.within)
 
     -- a record that is neither among the first few nor behind them
-    pub none_at_all : (rid : ℕ) (xs : List V) → ((x : V) → Among x (take 16 xs) → number x ≢ rid) → list_any (eqb rid) (map number (drop 16 xs)) ≡ false → (x : V) → Among x xs → number x ≢ rid
-    none_at_all rid xs few behind x among =
-        ⊎_elim (few x) (none_in rid (drop 16 xs) behind x) (Among-split x (take 16 xs) (drop 16 xs) (subst (Among x) (sym (take-append-drop 16 xs)) among))
+    pub none_at_all : (rid : ℕ) (xs : List V) → ((x : V) → Among x (take few xs) → number x ≢ rid) → list_any (eqb rid) (map number (drop few xs)) ≡ false → (x : V) → Among x xs → number x ≢ rid
+    none_at_all rid xs first behind x among =
+        ⊎_elim (first x) (none_in rid (drop few xs) behind x) (Among-split x (take few xs) (drop few xs) (subst (Among x) (sym (take-append-drop few xs)) among))
+
+    -- a record whose mark is not set is nowhere
+    pub none_marked : (n : Noted V) (rid : ℕ) (mark : Bool) → IsNoted number n → mark ≡ get_or n.marks (rid % 64) mark → mark ≡ false → (x : V) → Among x (noted n) → number x ≢ rid
+    none_marked n rid mark is at unset x among same =
+        let set_there : IsMarked n.marks rid = subst (IsMarked n.marks) same (is.marked x among) in
+        let read : get_or n.marks (rid % 64) mark ≡ true = get_or_from_slice_get n.marks (rid % 64) true mark set_there in
+        let wrong : true ≡ false = sym read ∙ sym at ∙ unset in cc
 
     -- ---- no number twice
 
@@ -180,20 +200,24 @@ module _ {V : Type 0} where
     -- ---- what is noted
 
     -- other items of the same records
-    pub still_noted : (m n : Noted V) → IsNoted number m → n.count ≤ length n.items.items → n.behind.keys ≡ m.behind.keys → map number (noted n) ≡ map number (noted m) → IsNoted number n
-    still_noted m n is within behind same = record {
+    pub still_noted : (m n : Noted V) → IsNoted number m → n.count ≤ length n.items.items → n.behind.keys ≡ m.behind.keys → n.marks ≡ m.marks → map number (noted n) ≡ map number (noted m) → IsNoted number n
+    still_noted m n is within behind marks same = record {
       within = within;
-      behind = behind ∙ is.behind ∙ sym (drop-map number 16 (noted m)) ∙ ap (drop 16) (sym same) ∙ drop-map number 16 (noted n);
+      behind = behind ∙ is.behind ∙ sym (drop-map number few (noted m)) ∙ ap (drop few) (sym same) ∙ drop-map number few (noted n);
       apart = once_numbers (noted m) (noted n) same is.apart;
+      marks = ap length marks ∙ is.marks;
+      marked = λ x among.
+          let there = numbered (noted n) (noted m) same x among in
+          subst (IsMarked n.marks) there.2 (subst (λ (bs : List Bool). IsMarked bs (number there.0)) (sym marks) (is.marked there.0 there.1));
     }
 
     -- another item of the same record
-    pub set_noted : (n m : Noted V) (i : ℕ) (x old : V) → IsNoted number n → slice_get (noted n) i ≡ Some old → number x ≡ number old → m.items.items ≡ set n.items.items i x → m.count ≡ n.count → m.behind.keys ≡ n.behind.keys → IsNoted number m
-    set_noted n m i x old is at same items count behind =
+    pub set_noted : (n m : Noted V) (i : ℕ) (x old : V) → IsNoted number n → slice_get (noted n) i ≡ Some old → number x ≡ number old → m.items.items ≡ set n.items.items i x → m.count ≡ n.count → m.behind.keys ≡ n.behind.keys → m.marks ≡ n.marks → IsNoted number m
+    set_noted n m i x old is at same items count behind marks =
         let lt : i < n.count = let h = slice_get_within (noted n) i old at in let e = length_noted n is.within in omega arith in
         let here : get_or (noted n) i old ≡ old = get_or_from_slice_get (noted n) i old old at in
         let within : m.count ≤ length m.items.items = let h = is.within in let e = ap length items ∙ length-set n.items.items i x in omega arith in
-        still_noted n m is within behind (ap (map number) (noted_set n m i x lt items count) ∙ map-set_same number (noted n) i x old (same ∙ ap number (sym here)))
+        still_noted n m is within behind marks (ap (map number) (noted_set n m i x lt items count) ∙ map-set_same number (noted n) i x old (same ∙ ap number (sym here)))
 
     -- the item that a look found
     pub of_here : (n : Noted V) (rid i : ℕ) (x : V) → IsNoted number n → IsOf number rid (noted n) i → x ≡ get_or n.items.items i x → (slice_get (noted n) i ≡ Some x) × (number x ≡ rid)
@@ -207,8 +231,8 @@ module _ {V : Type 0} where
     of_set rid i xs x lt is = of_at rid i (set xs i x) x (get_set i xs x lt) is
 
     -- one record more, among the first few or behind them
-    pub one_more : (n m : Noted V) (rid : ℕ) → IsNoted number n → IsOf number rid n.items.items n.count → ((x : V) → Among x (noted n) → number x ≢ rid) → m.items ≡ n.items → m.count ≡ n.count + 1 → ((n.count < 16) × (m.behind.keys ≡ n.behind.keys)) ⊎ ((16 ≤ n.count) × (m.behind.keys ≡ n.behind.keys ++ rid ∷ [])) → IsNoted number m
-    one_more n m rid is of first items count keys =
+    pub one_more : (n m : Noted V) (rid : ℕ) → IsNoted number n → IsOf number rid n.items.items n.count → ((x : V) → Among x (noted n) → number x ≢ rid) → m.items ≡ n.items → m.count ≡ n.count + 1 → ((n.count < few) × (m.behind.keys ≡ n.behind.keys)) ⊎ ((few ≤ n.count) × (m.behind.keys ≡ n.behind.keys ++ rid ∷ [])) → m.marks ≡ set n.marks (rid % 64) true → IsNoted number m
+    one_more n m rid is of first items count keys marks =
         let x = of.element in
         let at : slice_get n.items.items n.count ≡ Some x = get_of n.count n.items.items x of.turn in
         let inside : n.count < length n.items.items = slice_get_within n.items.items n.count x at in
@@ -216,15 +240,20 @@ module _ {V : Type 0} where
         let more : noted m ≡ noted n ++ x ∷ [] = noted_more n m x of.turn items count in
         let long = length_noted n is.within in
         let longer : length (noted m) ≡ n.count + 1 = ap length more ∙ length-append (noted n) (x ∷ []) ∙ ap (λ (k : ℕ). k + 1) long in
-        let few : n.count < 16 → m.behind.keys ≡ n.behind.keys → m.behind.keys ≡ map number (drop 16 (noted m)) =
-        λ below kept. kept ∙ is.behind ∙ ap (map number) (drop_all 16 (noted n) (omega arith) ∙ sym (drop_all 16 (noted m) (omega arith))) in
-        let full : 16 ≤ n.count → m.behind.keys ≡ n.behind.keys ++ rid ∷ [] → m.behind.keys ≡ map number (drop 16 (noted m)) =
-        λ above added. added ∙ ap (λ (ks : List ℕ). ks ++ rid ∷ []) is.behind ∙ ap (λ (r : ℕ). map number (drop 16 (noted n)) ++ r ∷ []) (sym of.of_record)
-        ∙ sym (map-append number (drop 16 (noted n)) (x ∷ [])) ∙ ap (map number) (sym (drop-append-le 16 (noted n) (x ∷ []) (omega arith)) ∙ ap (drop 16) (sym more)) in
+        let within_few : n.count < few → m.behind.keys ≡ n.behind.keys → m.behind.keys ≡ map number (drop few (noted m)) =
+        λ below kept. kept ∙ is.behind ∙ ap (map number) (drop_all few (noted n) (omega arith) ∙ sym (drop_all few (noted m) (omega arith))) in
+        let full : few ≤ n.count → m.behind.keys ≡ n.behind.keys ++ rid ∷ [] → m.behind.keys ≡ map number (drop few (noted m)) =
+        λ above added. added ∙ ap (λ (ks : List ℕ). ks ++ rid ∷ []) is.behind ∙ ap (λ (r : ℕ). map number (drop few (noted n)) ++ r ∷ []) (sym of.of_record)
+        ∙ sym (map-append number (drop few (noted n)) (x ∷ [])) ∙ ap (map number) (sym (drop-append-le few (noted n) (x ∷ []) (omega arith)) ∙ ap (drop few) (sym more)) in
         record {
           within = omega arith;
-          behind = ⊎_elim (λ (b : (n.count < 16) × (m.behind.keys ≡ n.behind.keys)). few b.0 b.1) (λ (b : (16 ≤ n.count) × (m.behind.keys ≡ n.behind.keys ++ rid ∷ [])). full b.0 b.1) keys;
+          behind = ⊎_elim (λ (b : (n.count < few) × (m.behind.keys ≡ n.behind.keys)). within_few b.0 b.1) (λ (b : (few ≤ n.count) × (m.behind.keys ≡ n.behind.keys ++ rid ∷ [])). full b.0 b.1) keys;
           apart = subst (Once number) (sym more) (once_snoc number (noted n) x is.apart (λ y among same. first y among (same ∙ of.of_record)));
+          marks = ap length marks ∙ length-set n.marks (rid % 64) true ∙ is.marks;
+          marked = λ y among. subst (λ (bs : List Bool). IsMarked bs (number y)) (sym marks)
+              (⊎_elim (λ (old : Among y (noted n)). still_marked (rid % 64) (number y % 64) n.marks (is.marked y old))
+              (λ (new : x ≡ y). subst (IsMarked (set n.marks (rid % 64) true)) (sym of.of_record ∙ ap number new) (just_marked (rid % 64) n.marks (let long = is.marks in omega arith)))
+              (among_last y x (noted n) (subst (Among y) more among)));
         }
 
   -- ---- values of records

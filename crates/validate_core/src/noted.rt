@@ -1,7 +1,7 @@
 //! Finding a record among what is noted of records.
 ghost use Rattle.std.specs.Prelude.{ℕ, ◌≡◌, ◌≢◌, ◌+◌, ◌<◌, ◌≤◌, min, [], length, take, IfSome, IfNone, OnOk, OnErr};
 ghost use Rattle.core_rule.specs.Views.{Among};
-ghost use Rattle.validate_core.specs.Noted.{IsNoted, IsOf, noted, room};
+ghost use Rattle.validate_core.specs.Noted.{IsNoted, IsOf, noted, few, room};
 
 use core_rule::{ReadVersion, WrittenVersion};
 use indexmap::IndexSet;
@@ -9,7 +9,10 @@ use plain_data::NoMemory;
 use std::alloc::Global;
 
 // So many records are looked through one by one.
-const FEW: usize = 16;
+const FEW: usize = 64;
+
+// So many marks tell of most records that are not noted that they are not.
+const MARKS: usize = 64;
 
 // A set that has room for more gives it back.
 const MANY: usize = 1024;
@@ -57,12 +60,14 @@ impl OfRecord for WrittenVersion {
 
 /// What is noted of records, each once, in the order of noting: the first `count` items. Those behind them are used again.
 ///
-/// The first few records are looked through; of all behind them a set has the numbers, in the same order.
+/// The first few records are looked through; of all behind them a set has the numbers, in the same order. Each record has the mark of
+/// what its number leaves modulo 64: where that is not set, the record is not noted, and nothing is looked through.
 #[derive(Drop)]
 pub(crate) struct Noted<V> {
     pub(crate) items: Vec<V>,
     pub(crate) count: usize,
     behind: IndexSet<u32>,
+    marks: [bool; 64],
 }
 
 impl<V: OfRecord> Noted<V> {
@@ -75,6 +80,7 @@ impl<V: OfRecord> Noted<V> {
             items: Vec::new(alloc),
             count: 0,
             behind: IndexSet::new(alloc),
+            marks: [false; MARKS],
         }
     }
 
@@ -84,6 +90,9 @@ impl<V: OfRecord> Noted<V> {
         ensures found { IfSome result (IsOf V.number rid (noted self.now)) }
         ensures none { IfNone result ((x : V) → Among x (noted self.now) → V.number x ≢ rid) }
     {
+        if !self.marks[rid as usize % MARKS] {
+            return None;
+        }
         match position(&self.items[..self.count.min(FEW)], rid) {
             Some(i) => Some(i),
             None => {
@@ -149,6 +158,7 @@ impl<V: OfRecord> Noted<V> {
                 unreachable!();
             };
         }
+        self.marks[rid as usize % MARKS] = true;
         self.count += 1;
     }
 
@@ -157,9 +167,10 @@ impl<V: OfRecord> Noted<V> {
         requires { IsNoted V.number self.old }
         ensures none { noted self.new ≡ [] }
         ensures noted { IsNoted V.number self.new }
-        ensures room { min 16 (room self.old) ≤ room self.new }
+        ensures room { min few (room self.old) ≤ room self.new }
     {
         self.count = 0;
+        self.marks = [false; MARKS];
         if self.behind.is_empty() {
             return;
         }

@@ -9,6 +9,7 @@ ghost use Rattle.core_rule.specs.Searching.{IsLoading, read_place, read_cells};
 ghost use Rattle.core_rule.specs.Versions.{read_version, written_version};
 ghost use Rattle.record_store.specs.Meaning.{value_at, with_value};
 ghost use Rattle.version_search.specs.Growing.{Grows};
+ghost use Rattle.validate_core.specs.Noted.{few};
 ghost use Rattle.validate_core.specs.Sets.{SetsView, Turn, Once, LoadsOne, count_below};
 
 use crate::noted::Noted;
@@ -177,7 +178,7 @@ impl Sets {
     pub fn clear(&mut self)
         ensures reads { self.new.reads ≡ [] }
         ensures writes { self.new.writes ≡ [] }
-        ensures room { (min 16 self.old.read_room ≤ self.new.read_room) × (min 16 self.old.write_room ≤ self.new.write_room) }
+        ensures room { (min few self.old.read_room ≤ self.new.read_room) × (min few self.old.write_room ≤ self.new.write_room) }
     {
         self.reads.clear();
         self.writes.clear();
@@ -187,7 +188,7 @@ impl Sets {
     pub fn drop_writes(&mut self)
         ensures reads { self.new.reads ≡ self.old.reads }
         ensures writes { self.new.writes ≡ [] }
-        ensures room { (self.old.read_room ≤ self.new.read_room) × (min 16 self.old.write_room ≤ self.new.write_room) }
+        ensures room { (self.old.read_room ≤ self.new.read_room) × (min few self.old.write_room ≤ self.new.write_room) }
     {
         self.writes.clear();
     }

@@ -7,7 +7,7 @@ use Rattle.seat_post.specs.Snapshot.{entry_of_snapshot}
 use Rattle.seat_post.specs.Logs.{IsAbove}
 use Rattle.stored_tables.proofs.Runs.{IfOk-map, ok_of}
 use Rattle.txn_engine.specs.Alone.{Beside}
-use Rattle.txn_engine.specs.Snapshot.{SnapshotRest}
+use Rattle.txn_engine.specs.Snapshot.{SnapshotFrame}
 use Rattle.txn_engine.specs.Pass.{PassView, next_clock}
 use Rattle.txn_engine.specs.Snapshot.{meaning_of_snapshot}
 use Rattle.typed_tables.specs.Listing.{AreRows}
@@ -22,7 +22,7 @@ sight c =
     let s1 = c.list_tables-told.new.store.seat.now in
     let f = c.finish.new.self.0 in
     sought p c.tick.new.self.pass c.snapshot-snapshot.result.seat.now.pass s1.pass f.pass c.tell.new.self.pass (next_clock p 0) c.snapshot-snapshot.ensures.begins
-    c.in-Ok.ensures.ok (ap (λ (x : SnapshotRest Beside). x.of_pass) c.list_tables-told.ensures.rest) c.finish.ensures.finishes.after
+    c.in-Ok.ensures.ok (ap (λ (x : SnapshotFrame Beside). x.of_pass) c.list_tables-told.ensures.rest) c.finish.ensures.finishes.after
     (told_of f.pass _ c.tell.new.self.pass c.tell.ensures.value c.tell.ensures.grows c.tell.ensures.not_back (search rules)) c.requires.pass.1 c.shared.ensures.alone
     (subst (λ (n : ℕ). IsAbove p.log n) (c.in-Ok.ensures.stamp ∙ sym (ap (λ (x : PassView). x.published) c.in-Ok.ensures.ok)) c.in-Ok.ensures.above) (clock_later p 0) (clock_drawn p 0)
 

@@ -1,7 +1,7 @@
 use Rattle.std.proofs.Common.{rules, ◌≡◌, ℕ, ◌≤◌, true, Option, IfSome, sym, ap, subst, ◌∙◌}
 use Rattle.history_replay.specs.Results.{StandsForSome}
 use Rattle.txn_engine.specs.Alone.{Beside}
-use Rattle.txn_engine.specs.Snapshot.{SnapshotRest}
+use Rattle.txn_engine.specs.Snapshot.{SnapshotFrame}
 use Rattle.seat_post.specs.Ends.{Stood}
 use Rattle.seat_post.specs.Snapshot.{SnapshotView}
 use Rattle.txn_engine.specs.Pass.{PassView, next_clock}
@@ -25,7 +25,7 @@ sight c =
     let s1 = c.exec_snap-told.new.store.seat.now.pass in
     let f = c.finish-stamp.new.self.0 in
     sought p c.tick.new.self.pass c.snapshot-snapshot.result.seat.now.pass s1 f.pass (next_clock p 0) c.finish-stamp.result c.snapshot-snapshot.ensures.begins (clock_later p 0) (clock_drawn p 0) c.requires.holds.idle
-    c.in-Ok.ensures.ok (ap (λ (x : SnapshotRest Beside). x.of_pass) c.exec_snap-told.ensures.rest) c.finish-stamp.ensures.finishes.after c.finish-stamp.ensures.finishes.stamp c.shared.ensures.alone
+    c.in-Ok.ensures.ok (ap (λ (x : SnapshotFrame Beside). x.of_pass) c.exec_snap-told.ensures.rest) c.finish-stamp.ensures.finishes.after c.finish-stamp.ensures.finishes.stamp c.shared.ensures.alone
     (subst (λ (n : ℕ). IsAbove p.log n) (c.in-Ok.ensures.stamp ∙ sym (ap (λ (x : PassView). x.published) c.in-Ok.ensures.ok)) c.in-Ok.ensures.above)
 
 pub untorn-requires : goal.untorn-requires
@@ -37,7 +37,7 @@ untorn-requires c =
     let begins = c.snapshot-snapshot.ensures.begins in
     let tick = c.in-Ok.ensures.ok in
     let o = sight (goal.at.untorn-requires c).After-finish-stamp in
-    let records : s1.shared.size.records ≡ p.shared.size.records = ap (λ (x : SnapshotRest Beside). x.of_pass.shared.size.records) c.exec_snap-told.ensures.rest ∙ ap (λ (x : PassView). x.shared.size.records) begins.pass ∙ ap (λ (x : PassView). x.shared.size.records) tick in
+    let records : s1.shared.size.records ≡ p.shared.size.records = ap (λ (x : SnapshotFrame Beside). x.of_pass.shared.size.records) c.exec_snap-told.ensures.rest ∙ ap (λ (x : PassView). x.shared.size.records) begins.pass ∙ ap (λ (x : PassView). x.shared.size.records) tick in
     let stood = subst (λ (g : Option SnapshotView). IfSome g (λ g. Stood (StandsForSome stands) s1.shared.size.records s1.log (entry_of_snapshot g))) o.seen c.finish-stamp.ensures.finishes.stood in
     not_torn c.exec_snap-told.result _ c.exec_snap-told.ensures.torn
     (λ torn. never_stood (StandsForSome stands) s1.shared.size.records s1.log (entry_of_snapshot o.snapshot) c.keeps_tables.ensures stood

@@ -2,7 +2,7 @@ use Rattle.std.proofs.Common.{rules, ◌≡◌, ℕ, [], ◌∷◌, refl, sym, a
 use Rattle.seat_post.specs.Logs.{IsAbove}
 use Rattle.seat_post.proofs.Answered.{on_err}
 use Rattle.txn_engine.specs.Pass.{EngineView, PassView, next_clock}
-use Rattle.txn_engine.specs.Snapshot.{SnapshotRest, unread}
+use Rattle.txn_engine.specs.Snapshot.{SnapshotFrame, unread}
 use Rattle.seat_post.specs.Snapshot.{entry_of_snapshot}
 use Rattle.lane_runner.proofs.Clocks.{clock_later, clock_drawn}
 use Rattle.lane_runner.proofs.Granted.{ready_seen}
@@ -22,7 +22,7 @@ untorn-requires c =
     let p = c.args.pass.now in
     let s = c.snapshot-snapshot.result.seat.now in
     let q = c.exec_snap-told.new.store.seat.now in
-    let rest : unread q ≡ unread s = ap (λ (x : SnapshotRest (Unit {0})). x.of_pass) c.exec_snap-told.ensures.rest in
+    let rest : unread q ≡ unread s = ap (λ (x : SnapshotFrame (Unit {0})). x.of_pass) c.exec_snap-told.ensures.rest in
     not_torn c.exec_snap-told.result _ c.exec_snap-told.ensures.torn
     (never_torn p c.tick.new.self s q (next_clock p c.args.reading) c.in-Ok.ensures.ok c.snapshot-snapshot.ensures.begins rest _ c.keeps_tables.ensures c.finish-stamp.ensures.finishes.stood)
 
@@ -31,7 +31,7 @@ returns-clause-done c =
     let p = c.args.pass.now in
     let s = c.snapshot-snapshot.result.seat.now in
     let q = c.exec_snap-told.new.store.seat.now in
-    let rest : unread q ≡ unread s = ap (λ (x : SnapshotRest (Unit {0})). x.of_pass) c.exec_snap-told.ensures.rest in
+    let rest : unread q ≡ unread s = ap (λ (x : SnapshotFrame (Unit {0})). x.of_pass) c.exec_snap-told.ensures.rest in
     record {
       ran = record {
         commits = commits_seen p c.tick.new.self s q (next_clock p c.args.reading) c.in-Ok.ensures.ok c.snapshot-snapshot.ensures.begins rest c.finish-stamp.new.self.0 _ c.finish-stamp.ensures.finishes.after (search rules) c.requires.pass.idle (omega arith)
@@ -47,7 +47,7 @@ returns-in_err-outcome-clause-fault c =
     let p = c.args.pass.now in
     let s = c.snapshot-snapshot.result.seat.now in
     let q = c.exec_snap-told.new.store.seat.now in
-    let rest : unread q ≡ unread s = ap (λ (x : SnapshotRest (Unit {0})). x.of_pass) c.exec_snap-told.ensures.rest in
+    let rest : unread q ≡ unread s = ap (λ (x : SnapshotFrame (Unit {0})). x.of_pass) c.exec_snap-told.ensures.rest in
     let seen = has_seen p c.tick.new.self s q (next_clock p c.args.reading) c.in-Ok.ensures.ok c.snapshot-snapshot.ensures.begins rest in
     on_err c.from_residual.result (entry_of_snapshot seen.0 ∷ [], Adds-finished p c.tick.new.self s q (next_clock p c.args.reading) c.in-Ok.ensures.ok c.snapshot-snapshot.ensures.begins rest c.finish-stamp.new.self.0 _ c.finish-stamp.ensures.finishes.after (search rules) c.requires.pass.idle (omega arith))
 
@@ -58,5 +58,5 @@ returns-clause-ready c = λ ready.
     let f = c.finish-stamp.new.self.0 in
     ready_seen p s f _ c.finish-stamp.result
     (sought p c.tick.new.self c.snapshot-snapshot.result.seat.now s f (next_clock p c.args.reading) c.finish-stamp.result c.snapshot-snapshot.ensures.begins (clock_later p c.args.reading) (clock_drawn p c.args.reading) c.requires.pass.idle
-    c.in-Ok.ensures.ok (ap (λ (x : SnapshotRest (Unit {0})). x.of_pass) c.exec_snap-told.ensures.rest) c.finish-stamp.ensures.finishes.after c.finish-stamp.ensures.finishes.stamp ready.alone
+    c.in-Ok.ensures.ok (ap (λ (x : SnapshotFrame (Unit {0})). x.of_pass) c.exec_snap-told.ensures.rest) c.finish-stamp.ensures.finishes.after c.finish-stamp.ensures.finishes.stamp ready.alone
     (subst (λ (n : ℕ). IsAbove p.log n) (c.in-Ok.ensures.stamp ∙ sym (ap (λ (x : PassView). x.published) c.in-Ok.ensures.ok)) c.in-Ok.ensures.above)) (search rules) ready

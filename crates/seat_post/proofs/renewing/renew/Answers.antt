@@ -41,8 +41,8 @@ returns-in_err-taken-clause-ok g c = not_ok c.from_residual-in_err-taken.result 
 pub returns-in_err-taken-clause-in_reserved : goal.returns-in_err-taken-clause-in_reserved
 returns-in_err-taken-clause-in_reserved g c = not_ok c.from_residual-in_err-taken.result _ _ c.from_residual-in_err-taken.ensures.1
 
-pub returns-in_err-taken-clause-left : goal.returns-in_err-taken-clause-left
-returns-in_err-taken-clause-left g c = not_ok c.from_residual-in_err-taken.result _ _ c.from_residual-in_err-taken.ensures.1
+pub returns-in_err-taken-clause-clock : goal.returns-in_err-taken-clause-clock
+returns-in_err-taken-clause-clock g c = not_ok c.from_residual-in_err-taken.result _ _ c.from_residual-in_err-taken.ensures.1
 
 pub returns-in_err-taken-clause-clock_out : goal.returns-in_err-taken-clause-clock_out
 returns-in_err-taken-clause-clock_out g c = on_err c.from_residual-in_err-taken.result (ap (λ (y : View). y.clock.clock) c.in_err-taken.ensures.none.view ∙ c.in_err-taken.ensures.clock_out)

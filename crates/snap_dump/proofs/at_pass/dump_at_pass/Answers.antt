@@ -1,7 +1,7 @@
 use Rattle.std.proofs.Common.{rules, ◌≡◌, [], ◌∷◌, ap, ◌∙◌, arith}
 use Rattle.seat_post.proofs.Answered.{on_err}
 use Rattle.txn_engine.specs.Pass.{EngineView, next_clock}
-use Rattle.txn_engine.specs.Snapshot.{SnapshotRest, unread}
+use Rattle.txn_engine.specs.Snapshot.{SnapshotFrame, unread}
 use Rattle.seat_post.specs.Snapshot.{entry_of_snapshot}
 use Rattle.lane_runner.proofs.Seen.{has_seen, sees_all, never_torn, not_torn, Adds-finished}
 use Rattle.snap_dump.specs.Tagged.{tagged}
@@ -20,7 +20,7 @@ untorn-requires c =
     let p = c.args.pass.now in
     let s = c.snapshot-snapshot.result.seat.now in
     let q = c.list_tables-told.new.store.seat.now in
-    let rest : unread q ≡ unread s = ap (λ (x : SnapshotRest (Unit {0})). x.of_pass) c.list_tables-told.ensures.rest in
+    let rest : unread q ≡ unread s = ap (λ (x : SnapshotFrame (Unit {0})). x.of_pass) c.list_tables-told.ensures.rest in
     not_torn c.list_tables-told.result _ c.list_tables-told.ensures.torn
     (never_torn p c.tick.new.self s q (next_clock p c.args.reading) c.in-Ok.ensures.ok c.snapshot-snapshot.ensures.begins rest _ c.keeps_tables.ensures c.finish-stamp.ensures.finishes.stood)
 
@@ -29,7 +29,7 @@ returns-clause-dumps c =
     let p = c.args.pass.now in
     let s = c.snapshot-snapshot.result.seat.now in
     let q = c.list_tables-told.new.store.seat.now in
-    let rest : unread q ≡ unread s = ap (λ (x : SnapshotRest (Unit {0})). x.of_pass) c.list_tables-told.ensures.rest in
+    let rest : unread q ≡ unread s = ap (λ (x : SnapshotFrame (Unit {0})). x.of_pass) c.list_tables-told.ensures.rest in
     dumps_seen p c.tick.new.self s q (next_clock p c.args.reading) c.in-Ok.ensures.ok c.snapshot-snapshot.ensures.begins rest c.finish-stamp.new.self.0 _ c.finish-stamp.ensures.finishes.after (search rules) c.requires.pass.idle (omega arith)
     c.in_ok-lists.lists.items _ c.fits_records.ensures (rw c.in_ok-lists.ensures at c.list_tables-told.ensures.rows) c.finish-stamp.ensures.finishes.stamp
     (c.in_ok-rows.ensures ∙ ap (tagged 0) c.deref.ensures.value)
@@ -39,7 +39,7 @@ returns-in_err-lists-clause-fault c =
     let p = c.args.pass.now in
     let s = c.snapshot-snapshot.result.seat.now in
     let q = c.list_tables-told.new.store.seat.now in
-    let rest : unread q ≡ unread s = ap (λ (x : SnapshotRest (Unit {0})). x.of_pass) c.list_tables-told.ensures.rest in
+    let rest : unread q ≡ unread s = ap (λ (x : SnapshotFrame (Unit {0})). x.of_pass) c.list_tables-told.ensures.rest in
     let seen = has_seen p c.tick.new.self s q (next_clock p c.args.reading) c.in-Ok.ensures.ok c.snapshot-snapshot.ensures.begins rest in
     on_err c.from_residual.result (entry_of_snapshot seen.0 ∷ [], Adds-finished p c.tick.new.self s q (next_clock p c.args.reading) c.in-Ok.ensures.ok c.snapshot-snapshot.ensures.begins rest c.finish-stamp.new.self.0 _ c.finish-stamp.ensures.finishes.after (search rules) c.requires.pass.idle (omega arith))
 
@@ -48,7 +48,7 @@ returns-in_err-rows-clause-fault c =
     let p = c.args.pass.now in
     let s = c.snapshot-snapshot.result.seat.now in
     let q = c.list_tables-told.new.store.seat.now in
-    let rest : unread q ≡ unread s = ap (λ (x : SnapshotRest (Unit {0})). x.of_pass) c.list_tables-told.ensures.rest in
+    let rest : unread q ≡ unread s = ap (λ (x : SnapshotFrame (Unit {0})). x.of_pass) c.list_tables-told.ensures.rest in
     let seen = has_seen p c.tick.new.self s q (next_clock p c.args.reading) c.in-Ok.ensures.ok c.snapshot-snapshot.ensures.begins rest in
     on_err c.from_residual-in_err-rows.result (entry_of_snapshot seen.0 ∷ [], Adds-finished p c.tick.new.self s q (next_clock p c.args.reading) c.in-Ok.ensures.ok c.snapshot-snapshot.ensures.begins rest c.finish-stamp.new.self.0 _ c.finish-stamp.ensures.finishes.after (search rules) c.requires.pass.idle (omega arith))
 
@@ -57,7 +57,7 @@ invariant_of-result c =
     let p = c.args.pass.now in
     let s = c.snapshot-snapshot.result.seat.now in
     let q = c.list_tables-told.new.store.seat.now in
-    let rest : unread q ≡ unread s = ap (λ (x : SnapshotRest (Unit {0})). x.of_pass) c.list_tables-told.ensures.rest in
+    let rest : unread q ≡ unread s = ap (λ (x : SnapshotFrame (Unit {0})). x.of_pass) c.list_tables-told.ensures.rest in
     record {
       in_order = read_in_order p c.tick.new.self s q (next_clock p c.args.reading) c.in-Ok.ensures.ok c.snapshot-snapshot.ensures.begins rest _ c.in_ok-lists.lists.items c.in_ok-rows.rows c.keeps_tables.ensures c.finish-stamp.ensures.finishes.stood
           (rw c.in_ok-lists.ensures at c.list_tables-told.ensures.rows) (c.in_ok-rows.ensures ∙ ap (tagged 0) c.deref.ensures.value);

@@ -53,9 +53,9 @@ loop-seat-preserved g c =
     let lists = i.lists in
     let room = i.room in
     let kept = c.in-Ok.ensures.capacity in
-    let made = next_share c.args.pass c.loop-seat.pass c.split.result c.loop-seat._seat some plain i.pass c.split.ensures.right in
+    let made = next_share c.args.pass c.loop-seat.pass c.split.result c.loop-seat._seat some plain i.pass c.split.ensures.made in
     record {
-      pass = next_made c.args.pass c.loop-seat.pass c.split.new.self c.loop-seat._seat some plain i.pass c.split.ensures.left;
+      pass = next_made c.args.pass c.loop-seat.pass c.split.new.self c.loop-seat._seat some plain i.pass c.split.ensures.after;
       passes = pushed_share c.args.pass c.loop-seat.passes.items c.push.new.self.items c.loop-seat._seat c.split.result some i.passes made c.in-Ok.ensures.items;
       lists = omega arith;
       empty = λ n among. i.empty n (subst (λ (ns : List NumbersView). Among n ns) (sym popped) (Among-left n c.pop.new.self.items (c.in-Some.list ∷ []) among));

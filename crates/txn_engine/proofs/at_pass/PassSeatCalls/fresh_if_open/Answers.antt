@@ -19,7 +19,7 @@ returns-in_err-stopped-in_default-clause-gives g c =
       first = search rules;
       passed = on_err _ (none_struck c.args.self.now c.stopped.new.self (ap (λ (x : PassView). x.spare) same) grows);
       all_passed = search rules;
-      none_left = search rules;
+      none_remains = search rules;
     }
 
 pub returns-in_ok-stopped-in_default-clause-gives : goal.returns-in_ok-stopped-in_default-clause-gives
@@ -36,5 +36,5 @@ returns-in_ok-stopped-in_default-clause-gives g c =
       first = search rules;
       passed = none_struck c.args.self.now c.stopped.new.self (ap (λ (x : PassView). x.spare) same) grows;
       all_passed = search rules;
-      none_left = search rules;
+      none_remains = search rules;
     }

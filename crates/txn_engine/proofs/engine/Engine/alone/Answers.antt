@@ -11,7 +11,7 @@ pub overflow_add-earlier : goal.overflow_add-earlier
 overflow_add-earlier g c =
     let i = c.loop-pass.invariant in
     let few = count_others c.args.self.now.size c.args.others.items c.seats.ensures.in_range c.requires.each_once in
-    let k = length c.args.others.items - length c.loop-pass.rest.items in
+    let k = length c.args.others.items - length c.loop-pass.remaining.items in
     let most = earlier_most k c.loop-pass.earlier c.loop-pass.pass.clock 63 i.earlier (omega arith) in
     let own = i.in_range in
     let result = c.join-earlier.ensures.few in
@@ -25,11 +25,11 @@ loop-pass-preserved g c =
     let p = c.loop-pass.pass in
     let q = c.join-earlier.new.self in
     let r = c.remove.result in
-    let rest = c.loop-pass.rest.items in
+    let rest = c.loop-pass.remaining.items in
     let rs = c.remove.new.self.items in
     let e = c.join-earlier.ensures in
     let left = c.remove.ensures.len in
-    let ok = c.loop-pass.rest.ok in
+    let ok = c.loop-pass.remaining.ok in
     let some : 0 < length rest = omega arith in
     let first : rest ≡ r ∷ rs = first_out rest rs r c.remove.ensures.items c.remove.ensures.value some in
     let shorter = ap length first in
@@ -57,7 +57,7 @@ returns-clause-alone g c =
     let i = c.loop-pass.invariant in
     let first = c.clear_all.new.self in
     let others = c.args.others.items in
-    let none : c.loop-pass.rest.items ≡ [] = nil_from_length c.loop-pass.rest.items (let e = eqb-true _ 0 (sym c.is_empty.ensures ∙ c.loop-pass-test.false) in let ok = c.loop-pass.rest.ok in omega arith) in
+    let none : c.loop-pass.remaining.items ≡ [] = nil_from_length c.loop-pass.remaining.items (let e = eqb-true _ 0 (sym c.is_empty.ensures ∙ c.loop-pass-test.false) in let ok = c.loop-pass.remaining.ok in omega arith) in
     let all = subst (λ (xs : List RetiredView). without_snapshot (come_together c.loop-pass.pass xs) ≡ without_snapshot (come_together first others)) none i.together in
     let inside = subst (λ (p : PassView). made_within p.shared.size.seats p.others.splitting ≤ p.shared.size.seats) c.pass.view_is c.tell_made.ensures in
     alone_together first c.loop-pass.pass others all (ap (λ (p : PassView). p.seat) c.clear_all.ensures ∙ c.requires.first)
@@ -68,7 +68,7 @@ invariant_of-result g c =
     let i = c.loop-pass.invariant in
     let first = c.clear_all.new.self in
     let others = c.args.others.items in
-    let none : c.loop-pass.rest.items ≡ [] = nil_from_length c.loop-pass.rest.items (let e = eqb-true _ 0 (sym c.is_empty.ensures ∙ c.loop-pass-test.false) in let ok = c.loop-pass.rest.ok in omega arith) in
+    let none : c.loop-pass.remaining.items ≡ [] = nil_from_length c.loop-pass.remaining.items (let e = eqb-true _ 0 (sym c.is_empty.ensures ∙ c.loop-pass-test.false) in let ok = c.loop-pass.remaining.ok in omega arith) in
     let all = subst (λ (xs : List RetiredView). without_snapshot (come_together c.loop-pass.pass xs) ≡ without_snapshot (come_together first others)) none i.together in
     let inside = subst (λ (p : PassView). made_within p.shared.size.seats p.others.splitting ≤ p.shared.size.seats) c.pass.view_is c.tell_made.ensures in
     let zero_is = ap (λ (p : PassView). p.seat) c.clear_all.ensures ∙ c.requires.first in
@@ -76,6 +76,6 @@ invariant_of-result g c =
     record {
       alone = alone_together first c.loop-pass.pass others all zero_is (subst (λ (e : EngineView). AreOthers e.size others) (sym (sym (ap engine_of all) ∙ i.engine)) c.requires.each_once) inside;
       first = ap (λ (p : PassView). p.seat) all ∙ zero_is;
-      counts = earlier_most (length others - length c.loop-pass.rest.items) c.loop-pass.earlier c.loop-pass.pass.clock 63 i.earlier (omega arith);
+      counts = earlier_most (length others - length c.loop-pass.remaining.items) c.loop-pass.earlier c.loop-pass.pass.clock 63 i.earlier (omega arith);
       unshared = tt;
     }

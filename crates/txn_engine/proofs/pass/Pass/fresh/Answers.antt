@@ -8,7 +8,7 @@ use Rattle.txn_engine.specs.Pass.{PassView, observing}
 use Rattle.txn_engine.specs.Accounts.{accounted}
 use Rattle.txn_engine.proofs.Asking.{asks_left, on_at, meets_among, all_written}
 use Rattle.txn_engine.proofs.Passes.{none_found}
-use Rattle.txn_engine.proofs.Accounting.{none_left}
+use Rattle.txn_engine.proofs.Accounting.{none_remains}
 use Rattle.seat_post.proofs.Answered.{on_err, err_told}
 use Rattle.txn_engine.proofs.Passing.{HasPassed, none_passed, none_struck, asks_passed, asks_given, some_passed, all_passed}
 use Rattle.txn_engine.proofs.Growing.{grows_both, grows_same, conflict_earlier}
@@ -54,10 +54,10 @@ returns-clause-records_out g c = λ out.
 pub returns-clause-accounts : goal.returns-clause-accounts
 returns-clause-accounts g c = ap accounted c.count.ensures ∙ c.loop-rid.invariant.accounts
 
-pub returns-clause-none_left : goal.returns-clause-none_left
-returns-clause-none_left g c = λ out absent.
+pub returns-clause-none_remains : goal.returns-clause-none_remains
+returns-clause-none_remains g c = λ out absent.
     let none : slice_get c.loop-rid.self.spare c.loop-rid.i ≡ None = sym (ap (λ (p : PassView). slice_get p.spare c.loop-rid.i) c.self.view_is) ∙ sym c.at.ensures.at ∙ none_found c.at.result c.in_default.not-Some in
-    none_left c.count.new.self absent (subst (λ (p : PassView). AreWritten p (length p.spare)) (sym c.count.ensures) (all_written c.loop-rid.self c.loop-rid.i c.loop-rid.invariant.written none))
+    none_remains c.count.new.self absent (subst (λ (p : PassView). AreWritten p (length p.spare)) (sym c.count.ensures) (all_written c.loop-rid.self c.loop-rid.i c.loop-rid.invariant.written none))
 
 pub returns-in_err-stopped-clause-grows : goal.returns-in_err-stopped-clause-grows
 returns-in_err-stopped-clause-grows g c = grows_same c.args.self.now.observed c.stopped.new.self.observed (ap (λ (x : PassView). x.observed) c.in_err-stopped.ensures.err)

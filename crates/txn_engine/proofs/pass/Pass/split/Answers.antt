@@ -7,4 +7,4 @@ pub invariant_of-self : goal.invariant_of-self
 invariant_of-self g c =
     let alive = ap (λ (p : PassView). p.dead) c.self.view_is ∙ ap (λ (d : DeskView). d.dead) c.requires.idle in
     let i = c.self.inside in
-    rw c.split-post.ensures.left (pass_others i.post _ i.queue i.numbers _ _ c.self.invariant alive)
+    rw c.split-post.ensures.after (pass_others i.post _ i.queue i.numbers _ _ c.self.invariant alive)

@@ -23,7 +23,7 @@ invariant_of-self c =
     let here = of_here (λ (u : Write). u.record_number) n c.args.rid c.in-Some.i old is c.in-Some.ensures.found c.index_mut.ensures.value in
     record {
       reads_are = c.self.invariant.reads_are;
-      writes_are = set_noted (λ (u : Write). u.record_number) n _ c.in-Some.i c.set.new.self old is here.0 (ap (λ (u : Write). u.record_number) c.set.ensures ∙ sym here.1) refl refl refl;
+      writes_are = set_noted (λ (u : Write). u.record_number) n _ c.in-Some.i c.set.new.self old is here.0 (ap (λ (u : Write). u.record_number) c.set.ensures ∙ sym here.1) refl refl refl refl;
     }
 
 pub add_write-requires-clause-first : goal.add_write-requires-clause-first
@@ -45,7 +45,7 @@ pub returns-in-Some-clause-once : goal.returns-in-Some-clause-once
 returns-in-Some-clause-once c =
     let n = c.self.inside.writes in let old = c.index_mut.result.now in let is = c.self.invariant.writes_are in
     let here = of_here (λ (u : Write). u.record_number) n c.args.rid c.in-Some.i old is c.in-Some.ensures.found c.index_mut.ensures.value in
-    let noted_still = set_noted (λ (u : Write). u.record_number) n (record n { items = with_item n.items c.in-Some.i c.set.new.self }) c.in-Some.i c.set.new.self old is here.0 (ap (λ (u : Write). u.record_number) c.set.ensures ∙ sym here.1) refl refl refl in
+    let noted_still = set_noted (λ (u : Write). u.record_number) n (record n { items = with_item n.items c.in-Some.i c.set.new.self }) c.in-Some.i c.set.new.self old is here.0 (ap (λ (u : Write). u.record_number) c.set.ensures ∙ sym here.1) refl refl refl refl in
     noted_still.apart
 
 pub returns-in-None-clause-values : goal.returns-in-None-clause-values

@@ -89,7 +89,7 @@ unreachable-requires g c =
     let cut = c.cut_below-places-2 in
     let on = not_off once.reserved c.if-not-once.false in
     let kept = reserved_once c.args.rid once.stamp once.reserved _ _ _ on e.in_reserved cut.ensures.in_reserved in
-    let left = e.left on in
+    let left = e.clock on in
     let clock = cut.ensures.cut.clock in
     c.in_default.ensures.inline (stands_reserved c.args.rid once.stamp cut.new.hand.view.counts kept cut.ensures.cut.one) (omega arith)
 
@@ -101,7 +101,7 @@ returns-clause-keeps_none g c =
     let cut = c.cut_below-places-2 in
     let on = not_off once.reserved c.if-not-once.false in
     let kept = reserved_once c.args.rid once.stamp once.reserved _ _ _ on e.in_reserved cut.ensures.in_reserved in
-    let left = e.left on in
+    let left = e.clock on in
     let clock = cut.ensures.cut.clock in
     let off = c.in-Ok.ensures.inline (stands_reserved c.args.rid once.stamp cut.new.hand.view.counts kept cut.ensures.cut.one) (omega arith) in
     let there = reserved_twice twice.reserved cut.new.hand.view.counts.in_reserved c.renew-2.new.hand.view.counts.in_reserved _ _ off c.in-Ok.ensures.in_reserved kept in

@@ -1,25 +1,15 @@
 use Rattle.std.proofs.Common.{rules, ◌≡◌, Option, List, ℕ, None, Some, refl, ap, ◌∙◌, sym, subst}
-use Rattle.std.specs.Prelude.{option_copied}
-use Rattle.record_store.specs.Meaning.{value_at}
-use Rattle.txn_engine.specs.Pass.{PassView, IsAlone}
+use Rattle.std.specs.Prelude.{◌++◌, ◌∷◌, [], if◌then◌else◌, is_some, option_copied}
+use Rattle.record_store.specs.Meaning.{value_at, after_read}
+use Rattle.txn_engine.specs.Pass.{PassView, IsAlone, frame, store_of}
+use Rattle.txn_engine.specs.Accounts.{accounted}
 use Rattle.seat_post.specs.Leaves.{LeavesValue}
-use Rattle.seat_post.specs.Post.{PostView, known_at}
+use Rattle.seat_post.specs.Observing.{Grows}
+use Rattle.seat_post.specs.Post.{PostView, known_at, noted, observing}
 use Rattle.seat_post.specs.Reading.{FindsValue}
 use Rattle.txn_engine.proofs.Passes.{pass_noted, none_found, known_written, known_unwritten, known_noted}
 use Rattle.txn_engine.proofs.Growing.{grows_same}
 use Rattle.txn_engine.proofs.at_pass.PassSeatCalls.read.Goals as goal
-
-pub invariant_of-self : goal.invariant_of-self
-invariant_of-self g c =
-    let i = c.self.inside in
-    let phase = ap (λ (x : PassView). x.phase) c.self.view_is ∙ ap (λ (x : PassView). x.phase) c.in_ok-stopped.ensures.ok.0 ∙ c.requires.open in
-    rw c.in-Ok.ensures.ok.after (pass_noted i.post _ i.post.writes i.queue i.numbers _ _ c.self.invariant phase c.self.invariant.room)
-
-pub invariant_of-self-in-Err-Pending : goal.invariant_of-self-in-Err-Pending
-invariant_of-self-in-Err-Pending g c = rw c.in-Err-Pending.ensures.err c.self.invariant
-
-pub invariant_of-self-in-Err-NoMemory : goal.invariant_of-self-in-Err-NoMemory
-invariant_of-self-in-Err-NoMemory g c = rw c.in-Err-NoMemory.ensures.err c.self.invariant
 
 pub returns-in_err-stopped-clause-reads : goal.returns-in_err-stopped-clause-reads
 returns-in_err-stopped-clause-reads g c =
@@ -82,25 +72,38 @@ returns-in-Some-version_read-clause-reads g c =
       again = λ alive. rw some (refl, c.in_ok-stopped.ensures.ok.0);
     }
 
-pub returns-in-Ok-clause-reads : goal.returns-in-Ok-clause-reads
-returns-in-Ok-clause-reads g c =
+pub returns-clause-reads : goal.returns-clause-reads
+returns-clause-reads g c =
     let p = c.self.inside.post in
     let same = c.self.view_is ∙ c.in_ok-stopped.ensures.ok.0 in
-    let r = c.in-Ok.ensures.ok in
+    let b = c.stopped.new.self in
+    let begun : b ≡ c.args.self.now = c.in_ok-stopped.ensures.ok.0 in
+    let n = c.in_ok-note.ensures.notes in
+    let r = n.reads in
     let unwritten : value_at p.writes c.args.rid ≡ None = sym c.written.ensures ∙ ap option_copied (none_found c.written.result c.in_default.not-Some) in
     let unread : value_at p.reads c.args.rid ≡ None = rw (none_found c.version_read.result c.in_default-version_read.not-Some) at c.version_read.ensures.none in
     let unknown : known_at p c.args.rid ≡ None = known_unwritten p c.args.rid unwritten ∙ unread in
-    let value : c.last_read.result ≡ r.value = c.last_read.ensures p.reads c.args.rid r.value (ap (λ (x : PostView). x.reads) r.after) in
+    let unknown_there : known_at b.post c.args.rid ≡ None = sym (ap (λ (x : PassView). known_at x.post c.args.rid) c.self.view_is) ∙ unknown in
+    let value : c.last_read.result ≡ r.value = c.last_read.ensures b.reads c.args.rid r.value (ap (λ (x : PassView). x.reads) c.self-2.view_is ∙ ap (λ (x : PostView). x.reads) r.after) in
+    let is : c.note.new.self ≡ record b { post = observing (noted b.post c.args.rid c.last_read.result) c.note.new.self.post.observed } =
+    n.ok ∙ ap (λ (x : PostView). record b { post = x }) r.after ∙ ap (λ (v : Option (List ℕ)). record b { post = observing (noted b.post c.args.rid v) c.note.new.self.post.observed }) (sym value) in
     record {
-      ok = search rules;
-      answered = ap (λ (x : PostView). known_at x c.args.rid) r.after ∙ known_noted p c.args.rid r.value unknown ∙ ap Some (sym value);
+      ok =
+          ap store_of is
+          ∙ sym (ap (λ (k : Option (Option (List ℕ))). record (store_of b) { reads = if is_some k then b.reads else b.reads ++ (c.args.rid, c.last_read.result) ∷ [] }) unknown_there)
+          ∙ ap (λ (x : PassView). after_read (store_of x) c.args.rid c.last_read.result) begun;
+      answered = ap (λ (x : PostView). known_at x c.args.rid) r.after ∙ known_noted b.post c.args.rid r.value unknown_there ∙ ap Some (sym value);
       err = search rules;
-      spare = search rules;
-      stays = search rules;
+      spare = ap (λ (x : PassView). x.spare) (n.ok ∙ ap (λ (x : PassView). record x { post = c.note.new.self.post }) begun);
+      stays = record {
+        same_frame = ap frame is ∙ ap frame begun;
+        same_accounts = ap accounted is ∙ ap accounted begun;
+        grows = subst (λ (x : PassView). Grows x.observed c.note.new.self.observed) begun n.grows;
+      };
       refuses = search rules;
       meets = search rules;
       never = search rules;
-      left = λ alone unwritten. rw value (subst (λ (x : PassView). LeavesValue x.log c.args.rid x.stamp r.value) same (r.left (subst (λ (x : PassView). IsAlone x) (sym same) alone)));
-      found = λ none. rw value (subst (λ (x : PassView). FindsValue x.stamp c.args.rid x.observed c.read.new.self.observed r.value) same r.found);
-      again = λ alive. rw (sym (ap (λ (x : PassView). known_at x.post c.args.rid) same) ∙ unknown) tt;
+      left = λ alone unwritten. rw value (subst (λ (x : PassView). LeavesValue x.log c.args.rid x.stamp r.value) begun (r.left (subst (λ (x : PassView). IsAlone x) (sym begun) alone)));
+      found = λ none. rw value (subst (λ (x : PassView). FindsValue x.stamp c.args.rid x.observed c.note.new.self.observed r.value) begun r.found);
+      again = λ alive. rw (sym (ap (λ (x : PassView). known_at x.post c.args.rid) begun) ∙ unknown_there) tt;
     }

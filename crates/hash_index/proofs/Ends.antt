@@ -11,20 +11,16 @@ use Rattle.hash_index.specs.declared.search.Link.{Link}
 use Rattle.hash_index.specs.Node.{pairs_of, next_node}
 use Rattle.hash_index.specs.Chain.{RowEndsWell, start_of, record_at, row_pairs}
 use Rattle.hash_index.specs.Search.{RowReaches}
-use Rattle.hash_index.proofs.Pairs.{position-found, record_at-behind}
-use Rattle.hash_index.proofs.Rows.{Leads-push, row_pairs-append}
-use Rattle.hash_index.proofs.Walked.{at_place}
+use Rattle.hash_index.proofs.Pairs.{position-found}
+use Rattle.hash_index.proofs.Rows.{Leads-push}
+use Rattle.hash_index.proofs.Walked.{at_place, beside_push}
 
 -- at a node that has the key
 pub ends_found : (size bucket key index : ℕ) (state : State) (link : Link) → RowReaches size bucket key state link → position (λ pair. pair.0 == key) (pairs_of link.words) ≡ Some index → RowEndsWell size bucket key state
 ends_found size bucket key index state link r is =
     let passed : List (ℕ × List ℕ) = r.before ++ (link.at, r.words) ∷ [] in
     let found = position-found (pairs_of link.words) key index is in
-    let here : record_at (row_pairs passed) key ≡ Some found.rid =
-    ap (λ ps. record_at ps key) (row_pairs-append r.before ((link.at, r.words) ∷ []))
-    ∙ record_at-behind (row_pairs r.before) (pairs_of r.words ++ []) key r.not_before
-    ∙ ap (λ ps. record_at ps key) (append-nil (pairs_of r.words) ∙ sym (ap pairs_of r.stands.held.words))
-    ∙ found.found in
+    let here : record_at (row_pairs passed) key ≡ Some found.rid = beside_push r.before link.at key r.words r.not_before ∙ ap (λ ps. record_at ps key) (sym (ap pairs_of r.stands.held.words)) ∙ found.found in
     record {
       nodes = passed;
       to = next_node r.words;

@@ -16,3 +16,5 @@ pub mod Reached
 pub mod Removed
 pub mod Linked
 pub mod Stored
+pub mod Seen
+pub mod Looked

@@ -46,13 +46,16 @@ Leads-to size state position from to to' row same leads = let P : Option ℕ →
 pub place_is : (size place : ℕ) (state : State) (link : Link) (words : List ℕ) → LinkStands size place state link words → link.position ≡ place
 place_is size place state link words stands = stands.held.position ∙ stands.node.placed
 
+-- what one node more has beside the key, where none before it has the key
+pub beside_push : (before : List (ℕ × List ℕ)) (at key : ℕ) (words : List ℕ) → record_at (row_pairs before) key ≡ None → record_at (row_pairs (before ++ (at, words) ∷ [])) key ≡ record_at (pairs_of words) key
+beside_push before at key words absent =
+    ap (λ ps. record_at ps key) (row_pairs-append before ((at, words) ∷ []))
+    ∙ record_at-behind (row_pairs before) (pairs_of words ++ []) key absent
+    ∙ ap (λ ps. record_at ps key) (append-nil (pairs_of words))
+
 -- one node more does not have the key
 pub not_there_push : (before : List (ℕ × List ℕ)) (at key : ℕ) (words : List ℕ) → record_at (row_pairs before) key ≡ None → record_at (pairs_of words) key ≡ None → record_at (row_pairs (before ++ (at, words) ∷ [])) key ≡ None
-not_there_push before at key words first last =
-    ap (λ ps. record_at ps key) (row_pairs-append before ((at, words) ∷ []))
-    ∙ record_at-behind (row_pairs before) (pairs_of words ++ []) key first
-    ∙ ap (λ ps. record_at ps key) (append-nil (pairs_of words))
-    ∙ last
+not_there_push before at key words first last = beside_push before at key words first ∙ last
 
 not_in_node : (size place key : ℕ) (state : State) (link : Link) (words : List ℕ) → LinkStands size place state link words → position (λ pair. eqb pair.0 key) (pairs_of link.words) ≡ None → record_at (pairs_of words) key ≡ None
 not_in_node size place key state link words stands absent = ap (λ ps. record_at ps key) (sym (ap pairs_of stands.held.words)) ∙ position-absent (pairs_of link.words) key absent

@@ -1,12 +1,12 @@
 -- The words of a node: how its pairs are read and written.
-use Rattle.std.proofs.Common.{◌≡◌, ℕ, ◌+◌, ◌-◌, ◌*◌, ◌<◌, ◌≤◌, zero, suc, List, [], ◌∷◌, ◌++◌, length, get_or, take, drop, set, Option, refl, sym, ap, ◌∙◌, arith}
+use Rattle.std.proofs.Common.{◌≡◌, ℕ, ◌+◌, ◌-◌, ◌*◌, ◌<◌, ◌≤◌, zero, suc, List, [], ◌∷◌, ◌++◌, length, get_or, take, drop, set, Option, All, refl, sym, ap, ◌∙◌, arith}
 use Rattle.std.specs.Prelude.{slice_index}
 use lib.ListN.{replicate}
 use Rattle.std.proofs.lemmas.List.{length-append, take_at, set_at, get_or_at, append_assoc, take_all, get_or-take, length-take, length-drop, get_or-drop, take_more, length_push, length-replicate}
 use Rattle.std.proofs.lemmas.Grind.{flat_map-append}
 use Rattle.record_store.specs.Links.{link_word}
 use Rattle.record_store.proofs.Links.{named_by-link_word}
-use Rattle.hash_index.specs.Node.{paired, pairs_of, next_node, position_of, pair_words, chain_node_words}
+use Rattle.hash_index.specs.Node.{IsNode, NamesNext, paired, pairs_of, next_node, position_of, pair_words, chain_node_words}
 
 -- words two by two, at a place
 length-paired : (words : List ℕ) (i : ℕ) → 2 * i + 1 < length words → i < length (paired words)
@@ -44,6 +44,14 @@ pub pair_is : (words : List ℕ) (i : ℕ) → length words ≡ 32 → i < 15 �
 pair_is words i whole within counted =
     let long = length-paired (drop 2 words) i (omega (arith, length-drop 2 words)) in
     (omega (arith, long, length-take (slice_index words 0) (paired (drop 2 words))), get_or-take (slice_index words 0) (paired (drop 2 words)) i (0, 0) counted ∙ pair_at words i (0, 0) whole within)
+
+-- the record of a pair of this number, where all of them lie in the store
+pub rid_within : (words : List ℕ) (i size : ℕ) → length words ≡ 32 → i < 15 → i < slice_index words 0 → All (λ pair. pair.1 < size) (pairs_of words) → get_or words (3 + 2 * i) 0 < size
+rid_within words i size whole within counted all =
+    let pair = pair_is words i whole within counted in
+    let low : (get_or (pairs_of words) i (0, 0)).1 < size = all i (0, 0) pair.0 in
+    let same : (get_or (pairs_of words) i (0, 0)).1 ≡ get_or words (3 + 2 * i) 0 = ap (λ p. p.1) pair.1 in
+    omega arith
 
 -- as many pairs as the first word says
 pub length-pairs_of : (words : List ℕ) → length words ≡ 32 → slice_index words 0 ≤ 14 → length (pairs_of words) ≡ slice_index words 0
@@ -111,3 +119,13 @@ words_all words pairs next position i all written =
     ∙ ap (λ ps. length pairs ∷ link_word next ∷ (pair_words ps ++ (replicate (28 - 2 * i) 0 ++ position ∷ 0 ∷ []))) whole
     ∙ ap (λ k. length pairs ∷ link_word next ∷ (pair_words pairs ++ (replicate (28 - 2 * k) 0 ++ position ∷ 0 ∷ []))) all
     ∙ ap (λ ws. length pairs ∷ link_word next ∷ ws) (sym (append_assoc (pair_words pairs) zeros (position ∷ 0 ∷ [])))
+
+-- words that are a node's but for its pairs, and the pairs
+pub node_with_pairs : (size position : ℕ) (words : List ℕ) (next : Option ℕ) → NamesNext size position words next → All (λ pair. pair.1 < size) (pairs_of words) → IsNode size position words
+node_with_pairs size position words next names all = record {
+  few = names.few;
+  placed = names.placed;
+  in_store = names.in_store;
+  next = rw names.named at names.within;
+  records = all;
+}

@@ -4,3 +4,4 @@ pub mod Changes
 pub mod Answers
 pub mod Search
 pub mod Held
+pub mod Looking

@@ -30,6 +30,14 @@ pub record IsNode (size position : ℕ) (words : List ℕ) : Type 0 where
   pub next : IfSome (next_node words) (λ rid. rid < size)
   pub records : All (λ pair. pair.1 < size) (pairs_of words)
 
+-- the words are those of such a node but for its pairs, and name this next node, or none
+pub record NamesNext (size position : ℕ) (words : List ℕ) (next : Option ℕ) : Type 0 where
+  pub few : slice_index words 0 ≤ 14
+  pub placed : position_of words ≡ position
+  pub in_store : position < size
+  pub named : next ≡ next_node words
+  pub within : IfSome next (λ rid. rid < size)
+
 abbrev pub pair_words : List (ℕ × ℕ) → List ℕ
 pair_words pairs = flat_map (λ pair. pair.0 ∷ pair.1 ∷ []) pairs
 

@@ -10,7 +10,8 @@ ghost use Rattle.hash_index.specs.Chain.{EachChain, RowEndsWell, bucket_of, reco
 ghost use Rattle.hash_index.specs.Search.{AddsNode, IsInStore};
 ghost use Rattle.hash_index.specs.Answers.{IsTornChain, PutMayAsk, PutAsks, PutsPair, RemovesPair};
 
-use crate::node::{all_pairs, node_cells, one_pair, pair_record};
+use crate::looking::look;
+use crate::node::{all_pairs, node_cells, one_pair};
 use crate::search::{Link, Place, search};
 use record_store::{RecordRead, RecordStore, Walk, write_node};
 
@@ -26,11 +27,7 @@ pub fn get<S: RecordRead>(store: &mut S, base: u32, key: u64) -> Result<Option<u
     ensures walk { WalksByReads S.read_gives S.meaning S.rest store.old store.new result }
 {
     let size = store.size();
-    let place = search(store, size, base, key)?;
-    match place {
-        Place::Found(link, index) => Ok(Some(pair_record(&link.words, index, size))),
-        Place::Room(_) | Place::Full(_) | Place::Empty(_) => Ok(None),
-    }
+    look(store, size, base, key)
 }
 
 /// Sets the record number beside a key in the chain of `base`, whether it is there or not.

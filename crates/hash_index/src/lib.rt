@@ -5,6 +5,7 @@
 #![tactic(auto)]
 
 mod index;
+mod looking;
 mod node;
 mod search;
 

@@ -1,11 +1,11 @@
 //! The words of a node.
 
-ghost use Rattle.std.specs.Prelude.{◌≡◌, ◌==◌, ◌<◌, ◌≤◌, [], ◌∷◌, length, nat_lt, position, slice_index, slice_index_or, All, MatchBool};
-ghost use Rattle.hash_index.specs.Node.{pairs_of, chain_node_words};
+ghost use Rattle.std.specs.Prelude.{◌≡◌, ◌==◌, ◌<◌, ◌≤◌, [], ◌∷◌, length, nat_lt, position, slice_index, All, MatchBool, IfNone, IfSome};
+ghost use Rattle.hash_index.specs.Node.{IsNode, NamesNext, pairs_of, chain_node_words};
 
 use arrayvec::ArrayVec;
 use plain_data::Cells;
-use record_store::link_word;
+use record_store::{link_word, named_record};
 
 /// The pairs of a key and a record number that a node has.
 pub type Pairs = ArrayVec<(u64, u32), 14>;
@@ -33,6 +33,17 @@ pub fn node_cells(pairs: &Pairs, next: Option<u32>, position: u32) -> Cells
         words[3 + 2 * i] = u64::from(rid);
     }
     Cells::new(words)
+}
+
+/// The next node that the words name, unless they cannot be a node at this position of a store of this size, whatever their pairs.
+pub fn next_record(words: &[u64; 32], size: u32, position: u32) -> Option<Option<u32>>
+    ensures named { IfSome result (NamesNext size position words.now) }
+    ensures no_node { IfNone result (IsNode size position words.now → ⊥) }
+{
+    if words[0] > 14 || words[30] != u64::from(position) || position >= size {
+        return None;
+    }
+    named_record(words[1], size)
 }
 
 /// Whether the record numbers of all pairs lie in a store of this size.
@@ -68,16 +79,6 @@ pub fn has_room(words: &[u64; 32]) -> bool
     ensures { result ≡ nat_lt (length (pairs_of words.now)) 14 }
 {
     words[0] < 14
-}
-
-/// The record number of the pair of this number.
-pub fn pair_record(words: &[u64; 32], index: usize, size: u32) -> u32
-    requires few { slice_index words.now 0 ≤ 14 }
-    requires within { index < length (pairs_of words.now) }
-    requires records { All (λ pair. pair.1 < size) (pairs_of words.now) }
-    ensures { result ≡ (slice_index_or (pairs_of words.now) index (0, 0)).1 }
-{
-    words[3 + 2 * index] as u32
 }
 
 /// All pairs of a node, to be changed.

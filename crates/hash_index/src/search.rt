@@ -10,12 +10,12 @@ ghost use Rattle.hash_index.specs.Held.{LinkHolds};
 ghost use Rattle.hash_index.specs.Node.{IsNode};
 ghost use Rattle.hash_index.specs.Search.{IsRowLink, ReadsLink, IsNoLink, IsPlace, IsWithin, first_room, end_place};
 
-use crate::node::{are_within, find, has_room};
+use crate::node::{are_within, find, has_room, next_record};
 use plain_data::Cells;
-use record_store::{RecordRead, Walk, named_record};
+use record_store::{RecordRead, Walk};
 
 /// The buckets of a base.
-const BUCKETS: u64 = 511;
+pub const BUCKETS: u64 = 511;
 
 /// A node that was read: its record, its position in the row, the next one, and its words.
 #[derive(Clone, Copy)]
@@ -106,10 +106,7 @@ fn node_at(at: u32, cells: &Cells, position: u32, size: u32) -> Option<Link>
     ensures no_node { IfNone result (IsNode size position cells.now → ⊥) }
 {
     let words = cells.words();
-    if words[0] > 14 || words[30] != u64::from(position) || position >= size {
-        return None;
-    }
-    let next = named_record(words[1], size)?;
+    let next = next_record(&words, size, position)?;
     if !are_within(&words, size) {
         return None;
     }

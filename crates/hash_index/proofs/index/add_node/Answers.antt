@@ -1,13 +1,10 @@
 use Rattle.std.proofs.Common.{◌≡◌, ◌+◌, ◌≤◌, Ok, None, Some, ap, refl, ◌∙◌, arith}
 use Rattle.record_store.specs.Meaning.{after_write, after_fresh}
-use Rattle.record_store.specs.Calls.Calls.{none, fresh}
-use Rattle.record_store.specs.Calls.CallFault.{by_fresh}
-use Rattle.record_store.proofs.Known.{few-same, few-fresh, tries, fewer-refused, gives-weaken, goes-same, goes-added, goes-tried, goes-trans}
+use Rattle.record_store.proofs.Known.{few-same, few-fresh, tries, goes-same, goes-added, goes-tried, goes-trans}
 use Rattle.record_store.proofs.Writes.{writes-trans}
-use Rattle.record_store.proofs.Refusals.{store_fault, fault_moved, IfStore-map, OnOk-map}
-use Rattle.record_store.proofs.Paths.{Calls-trans, CallFault-never}
+use Rattle.record_store.proofs.Refusals.{OnOk-map}
 use Rattle.hash_index.specs.Node.{pairs_of, chain_node_words}
-use Rattle.record_store.proofs.Agreement.{ReadsGrow-refl, ReadsGrow-same, ReadsGrow-fresh, ReadsGrow-write, ReadsGrow-tried, written_as}
+use Rattle.record_store.proofs.Agreement.{written_as}
 use Rattle.record_store.proofs.Going.{fresh_refused, fresh_done, calls_moved, calls_never}
 use Rattle.hash_index.proofs.index.add_node.Goals as goal
 

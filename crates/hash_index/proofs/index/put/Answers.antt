@@ -1,15 +1,14 @@
 use Rattle.std.proofs.Common.{◌≡◌, ℕ, List, [], ◌∷◌, ◌++◌, get_or, None, ap, ◌∙◌, arith}
 use Rattle.std.specs.Prelude.{slice_set}
-use Rattle.record_store.proofs.Refusals.{fault_moved, torn_moved, IfStore-map, IfTorn-map, OnOk-map}
-use Rattle.record_store.proofs.Paths.{Calls-reads, Calls-trans, CallFault-read, CallFault-behind, CallFault-never}
-use Rattle.record_store.proofs.Known.{few-reads, few-behind, few-tried, tries, gives-reads, gives-tried, gives-trans, fewer-behind, known-reads, known-found, known-fixed}
+use Rattle.record_store.proofs.Refusals.{torn_moved, IfTorn-map, OnOk-map}
+use Rattle.record_store.proofs.Known.{few-reads, few-behind, few-tried, tries, known-reads, known-found, known-fixed}
 use Rattle.hash_index.specs.Node.{pairs_of, chain_node_words}
 use Rattle.hash_index.proofs.Pairs.{position-found}
 use Rattle.hash_index.proofs.Chains.{bucket_below, is_torn}
 use Rattle.hash_index.proofs.Stored.{puts_found, puts_room, puts_empty, puts_full, needs_node, edited_pairs}
 use Rattle.hash_index.proofs.Ends.{walked_on, walked_written}
 use Rattle.hash_index.proofs.Asked.{never_ok, asked_none, asked_one}
-use Rattle.record_store.proofs.Agreement.{ReadsGrow-only, ReadsGrow-behind, ReadsGrow-tried, written_as}
+use Rattle.record_store.proofs.Agreement.{written_as}
 use Rattle.record_store.proofs.Going.{reads_moved, calls_reads, calls_behind}
 use Rattle.hash_index.proofs.index.put.Goals as goal
 

@@ -1,9 +1,8 @@
 use Rattle.std.proofs.Common.{get_or, ap, ◌∙◌}
 use Rattle.std.specs.Prelude.{swap_remove}
-use Rattle.record_store.proofs.Refusals.{fault_moved, torn_moved, IfStore-map, IfTorn-map}
-use Rattle.record_store.proofs.Paths.{Calls-reads, Calls-trans, CallFault-read, CallFault-never}
-use Rattle.record_store.proofs.Agreement.{ReadsGrow-only, written_as}
-use Rattle.record_store.proofs.Known.{few-reads, few-tried, tries, gives-reads, gives-tried, known-reads, known-found}
+use Rattle.record_store.proofs.Refusals.{torn_moved, IfTorn-map}
+use Rattle.record_store.proofs.Agreement.{written_as}
+use Rattle.record_store.proofs.Known.{few-reads, few-tried, tries, known-reads, known-found}
 use Rattle.hash_index.proofs.Chains.{each_absent, is_torn}
 use Rattle.hash_index.proofs.Removed.{removes_pair, removes_nothing}
 use Rattle.hash_index.proofs.Ends.{walked_written}

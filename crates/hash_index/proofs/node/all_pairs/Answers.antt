@@ -1,13 +1,10 @@
-use Rattle.std.proofs.Common.{◌≡◌, ◌<◌, ◌+◌, ◌*◌, ◌∷◌, [], ◌++◌, ◌∙◌, get_or, sym, ap, arith}
-use Rattle.hash_index.specs.Node.{pairs_of}
-use Rattle.hash_index.proofs.Words.{pairs_more, pair_is}
+use Rattle.std.proofs.Common.{◌+◌, ◌*◌, ◌∷◌, [], ◌++◌, ◌∙◌, get_or, sym, ap, arith}
+use Rattle.hash_index.proofs.Words.{pairs_more, rid_within}
 use Rattle.hash_index.proofs.node.all_pairs.Goals as goal
 
 pub overflow_cast-rid : goal.overflow_cast-rid
 overflow_cast-rid c =
-    let pair = pair_is c.args.words.now c.loop-i.i c.told-words (omega arith) (omega arith) in
-    let low : (get_or (pairs_of c.args.words.now) c.loop-i.i (0, 0)).1 < c.args.size = c.requires.records c.loop-i.i (0, 0) pair.0 in
-    let same : (get_or (pairs_of c.args.words.now) c.loop-i.i (0, 0)).1 ≡ get_or c.args.words.now (3 + 2 * c.loop-i.i) 0 = ap (λ p. p.1) pair.1 in
+    let low = rid_within c.args.words.now c.loop-i.i c.args.size c.told-words (omega arith) (omega arith) c.requires.records in
     omega arith
 
 pub loop-i-preserved : goal.loop-i-preserved

@@ -1,8 +1,6 @@
 use Rattle.std.proofs.Common.{refl, ap, ◌∙◌}
 use Rattle.plain_data.specs.State.{overlay}
-use Rattle.record_store.specs.Calls.Reads.{none, read}
-use Rattle.record_store.proofs.Agreement.{answered, OnlyReads-refl, OnlyReads-after_read}
-use Rattle.record_store.proofs.Refusals.{store_fault}
+use Rattle.record_store.proofs.Agreement.{answered}
 use Rattle.record_store.proofs.Going.{reads_refused, reads_done}
 use Rattle.hash_index.proofs.search.read_link.Goals as goal
 

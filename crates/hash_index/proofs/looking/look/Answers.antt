@@ -79,6 +79,3 @@ returns-in_err-more-in-Next-clause-walk g c = reads_moved c.args.store.now c.see
 
 pub returns-in_default-2-clause-walk : goal.returns-in_default-2-clause-walk
 returns-in_default-2-clause-walk g c = reads_quiet c.args.store.now c.see-in-Next.new.store _ c.see-in-Next.result (tt, tt) (reads_then c.args.store.now c.loop-seen.store c.see-in-Next.new.store (Ok (tt {0})) c.see-in-Next.result c.loop-seen.invariant.walk c.see-in-Next.ensures.walk)
-
-pub returns-in_default-2-clause-answer : goal.returns-in_default-2-clause-answer
-returns-in_default-2-clause-answer g c = tt

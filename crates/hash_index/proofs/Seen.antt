@@ -6,7 +6,7 @@ use Rattle.hash_index.specs.declared.looking.Seen.{Seen}
 use Rattle.hash_index.specs.declared.looking.Seen.TheVariants.{Found, Next, End}
 use Rattle.hash_index.specs.Node.{NamesNext, paired, pairs_of, next_node}
 use Rattle.hash_index.specs.Chain.{record_at}
-use Rattle.hash_index.specs.Looking.{IsSeen, NamesWithin, seen_of}
+use Rattle.hash_index.specs.Looking.{IsSeen, seen_of}
 use Rattle.hash_index.proofs.Pairs.{record_at-append}
 use Rattle.hash_index.proofs.Words.{pairs_more, node_with_pairs}
 
@@ -77,12 +77,12 @@ beside_within size key (pair ∷ pairs) all =
     let here = All-head P pair pairs all in
     elim (eqb key pair.0) as (λ b. IfSome (cond b (Some pair.1) (record_at pairs key)) (λ rid. rid < size)) [ true ↦ here | false ↦ more ]
 
-names_within : (size : ℕ) (beside to : Option ℕ) → IfSome beside (λ rid. rid < size) → IfSome to (λ rid. rid < size) → NamesWithin size (seen_of beside to)
-names_within size (Some rid) to stored goes = stored
-names_within size None (Some next) stored goes = goes
-names_within size None None stored goes = tt
+pub found_within : {size position key rid : ℕ} {words : List ℕ} {seen : Seen} → seen ≡ Found rid → IsSeen size position key words seen → rid < size
+found_within {size} {position} {key} {rid} {words} same is =
+    let P : Option ℕ → Type 0 = λ beside. IfSome beside (λ rid. rid < size) in
+    subst P (from_found (record_at (pairs_of words) key) (next_node words) rid (sym same ∙ is.says)) (beside_within size key (pairs_of words) is.node.records)
 
-pub seen_within : (size position key : ℕ) (words : List ℕ) (seen : Seen) → IsSeen size position key words seen → (position < size) × NamesWithin size seen
-seen_within size position key words seen is =
-    let P : Seen → Type 0 = NamesWithin size in
-    (is.node.in_store, subst P (sym is.says) (names_within size (record_at (pairs_of words) key) (next_node words) (beside_within size key (pairs_of words) is.node.records) is.node.next))
+pub next_within : {size position key next : ℕ} {words : List ℕ} {seen : Seen} → seen ≡ Next next → IsSeen size position key words seen → next < size
+next_within {size} {position} {key} {next} {words} same is =
+    let P : Option ℕ → Type 0 = λ to. IfSome to (λ next. next < size) in
+    subst P (from_next (record_at (pairs_of words) key) (next_node words) next (sym same ∙ is.says)).1 is.node.next

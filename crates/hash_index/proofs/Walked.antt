@@ -188,15 +188,6 @@ unfit size position rid state torn words is node = let P : List ℕ → Type 0 =
 pub absent_unfit : (size position rid : ℕ) (state : State) → state rid ≡ None → (words : List ℕ) → state rid ≡ Some words → IsNode size position words → ⊥
 absent_unfit size position rid state absent words is node = none-some words (sym absent ∙ is)
 
--- the bucket itself is no node
-pub bucket_tears : (size bucket key : ℕ) (state : State) → IsNoLink size 0 state bucket → RowTears size bucket key state bucket
-bucket_tears size bucket key state torn = record {
-  nodes = [];
-  reached = start_present state bucket torn.0 torn.1;
-  no_node = unfit size 0 bucket state torn;
-  not_before = refl;
-}
-
 room_or_none : (test : Bool) (size : ℕ) (here : Link) → ltb (length (pairs_of here.words)) 14 ≡ test → IsInStore size here → IfSome (cond test (Some here) None) (IsRoom size)
 room_or_none true size here is stored = record { in_store = stored; has_room = ltb-true (length (pairs_of here.words)) 14 is }
 room_or_none false size here is stored = tt

@@ -5,9 +5,8 @@ ghost use Rattle.record_store.specs.Goes.{WalksByReads};
 ghost use Rattle.record_store.specs.States.{EachState};
 ghost use Rattle.record_store.specs.Walks.{IfTorn};
 ghost use Rattle.hash_index.specs.Chain.{RowTears, bucket_of};
-ghost use Rattle.hash_index.specs.Looking.{IsSeen, NamesWithin, ReadsSeen, RowAnswers};
+ghost use Rattle.hash_index.specs.Looking.{IsSeen, RowAnswers};
 ghost use Rattle.hash_index.specs.Node.{IsNode};
-ghost use Rattle.hash_index.specs.Search.{IsNoLink};
 
 use crate::node::next_record;
 use crate::search::BUCKETS;
@@ -38,48 +37,25 @@ pub fn look<S: RecordRead>(
     ensures torn { IfTorn result (λ rid. EachState (S.meaning store.old) (S.meaning store.new) (λ state. RowTears size (base + bucket_of key) key state rid)) }
     ensures walk { WalksByReads S.read_gives S.meaning S.rest store.old store.new result }
 {
-    let bucket = base + (key % BUCKETS) as u32;
-    let Some(mut seen) = see(store, size, bucket, 0, key)? else {
-        return Ok(None);
-    };
-    let mut position = 1;
+    let mut at = base + (key % BUCKETS) as u32;
+    let mut position = 0;
     loop {
-        match seen {
-            Seen::Found(rid) => return Ok(Some(rid)),
-            Seen::End => return Ok(None),
-            Seen::Next(next) => {
-                let Some(more) = see(store, size, next, position, key)? else {
-                    return Err(Walk::Torn(next));
-                };
-                seen = more;
+        let Some(cells) = store.read(at)? else {
+            return if position == 0 {
+                Ok(None)
+            } else {
+                Err(Walk::Torn(at))
+            };
+        };
+        match seen_in(&cells.words(), size, position, key) {
+            Some(Seen::Found(rid)) => return Ok(Some(rid)),
+            Some(Seen::End) => return Ok(None),
+            Some(Seen::Next(next)) => {
+                at = next;
                 position += 1;
             }
+            None => return Err(Walk::Torn(at)),
         }
-    }
-}
-
-/// What the node of a record at a position says of the key, or `None` where the record is absent.
-fn see<S: RecordRead>(
-    store: &mut S,
-    size: u32,
-    rid: u32,
-    position: u32,
-    key: u64,
-) -> Result<Option<Seen>, Walk<S::Fault>>
-    requires size { size ≡ (S.meaning store.old).size }
-    requires rid { rid < size }
-    ensures within { IfOk result (λ seen. IfSome seen (λ seen. (position < size) × NamesWithin size seen)) }
-    ensures read { IfOk result (λ seen. EachState (S.meaning store.old) (S.meaning store.new) (λ state. ReadsSeen size rid position key state seen)) }
-    ensures torn { IfTorn result (λ torn. (torn ≡ rid) × EachState (S.meaning store.old) (S.meaning store.new) (λ state. IsNoLink size position state rid)) }
-    ensures walk { WalksByReads S.read_gives S.meaning S.rest store.old store.new result }
-{
-    let Some(cells) = store.read(rid)? else {
-        return Ok(None);
-    };
-    let words = cells.words();
-    match seen_in(&words, size, position, key) {
-        Some(seen) => Ok(Some(seen)),
-        None => Err(Walk::Torn(rid)),
     }
 }
 

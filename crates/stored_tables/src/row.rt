@@ -23,11 +23,19 @@ pub fn read_row(cells: &Cells) -> Option<Columns>
     ensures row { IfSome result (λ row. cells.now ≡ row_words row) }
     ensures no_row { IfNone result ((row : List ℕ) → cells.now ≡ row_words row → ⊥) }
 {
-    let words = cells.words();
-    let row = Columns::new([words[0], words[1], words[2], words[3], words[4], words[5]]);
+    let row = Columns::new([
+        cells.word(0),
+        cells.word(1),
+        cells.word(2),
+        cells.word(3),
+        cells.word(4),
+        cells.word(5),
+    ]);
     if row_cells(&row) == *cells {
         Some(row)
     } else {
+        // Its type tells contracts how long it is.
+        let _words = cells.words();
         None
     }
 }

@@ -93,7 +93,7 @@ fn each_usable_place_is_tried_and_the_turn_goes_round(rt: HostRuntime) -> Result
     let first = take_one(&core, &mut hand, 0);
     let (place, kind) = take_one(&core, &mut hand, 1)?;
     let third = take_beside(&core, &mut hand, place);
-    let kept = [
+    let reserved = [
         take_reserved_beside(&core, &mut hand, place),
         take_reserved_beside(&core, &mut hand, place),
     ];
@@ -103,7 +103,7 @@ fn each_usable_place_is_tried_and_the_turn_goes_round(rt: HostRuntime) -> Result
     same(&rt, first, Ok((2, Kind::Pool)), 1);
     same(&rt, third, Err(PlacesOut), 2);
     same(&rt, again, Ok((3, Kind::Pool)), 3);
-    same(&rt, kept, [Some(4), None], 4);
+    same(&rt, reserved, [Some(4), None], 4);
     Ok(())
 }
 
@@ -120,7 +120,7 @@ fn the_turn_begins_after_the_last_place_taken(rt: HostRuntime) -> Result<(), Fai
 }
 
 #[test]
-fn without_usable_places_the_kept_one_is_left(rt: HostRuntime) -> Result<(), Fail> {
+fn without_usable_places_the_reserved_one_is_taken(rt: HostRuntime) -> Result<(), Fail> {
     let (core, mut hand) = first_seat(rt.alloc(), 1, 1, 1)?;
     // The inline place is linked from the start.
     hold(&rt, !inline_is_free(&core, &mut hand), 0);

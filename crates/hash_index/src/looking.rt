@@ -1,4 +1,4 @@
-//! A look for a key over the nodes of a bucket's row, which copies none of them.
+//! A look for a key over the nodes of a bucket's row, which keeps none of them.
 
 ghost use Rattle.std.specs.Prelude.{◌≡◌, ℕ, ◌+◌, ◌<◌, ◌≤◌, IfNone, IfOk, IfSome};
 ghost use Rattle.record_store.specs.Goes.{WalksByReads};

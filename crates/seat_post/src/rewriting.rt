@@ -25,7 +25,6 @@ use validate_core::{Conflict, Sets, install_held};
 
 /// Room for one read, one write and one item to be collected, which is taken where a pass is made, so that a record is written again
 /// without memory.
-#[derive(Drop)]
 pub struct Room {
     sets: Sets,
     queue: Queue,
@@ -41,6 +40,13 @@ impl Model for Room {
     ghost view = { λ r. r.sets };
 
     ghost invariant = { λ r. IsRoom r.sets × IsFree r.queue };
+}
+
+// Written out, so that whoever lets one go needs one call in the proof and not one for each part of it.
+impl Drop for Room {
+    fn drop(self) {
+        let Room { sets: _, queue: _ } = self;
+    }
 }
 
 impl Room {

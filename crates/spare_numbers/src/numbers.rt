@@ -9,7 +9,6 @@ use std::collections::VecDeque;
 use std::marker::Model;
 
 /// Numbers for new records, each once. Those that are given out to the transaction in flight stand in front.
-#[derive(Drop)]
 pub struct Numbers {
     fixed: u32,
     records: u32,
@@ -30,6 +29,19 @@ impl Model for Numbers {
     ghost view = { λ n. record { fixed = n.fixed; records = n.records; spare = drop n.taken n.list.items; given = take n.taken n.list.items } };
 
     ghost invariant = { λ n. IsNumbers n.fixed n.records n.taken n.list.items (deque_capacity n.list) n.marks.items };
+}
+
+// Written out, so that whoever lets one go needs one call in the proof and not one for each part of it.
+impl Drop for Numbers {
+    fn drop(self) {
+        let Numbers {
+            fixed: _,
+            records: _,
+            list: _,
+            marks: _,
+            taken: _,
+        } = self;
+    }
 }
 
 impl Numbers {

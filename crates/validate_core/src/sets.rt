@@ -20,7 +20,6 @@ use std::marker::Model;
 use version_search::load_into;
 
 /// The reads of a transaction with their version stamps, and its writes.
-#[derive(Drop)]
 pub struct Sets {
     reads: Noted<ReadVersion>,
     writes: Noted<WrittenVersion>,
@@ -35,6 +34,16 @@ impl Model for Sets {
     ghost view = { λ s. record { reads = noted s.reads; writes = noted s.writes; read_room = room s.reads; write_room = room s.writes } };
 
     ghost invariant = { λ s. AreNoted s.reads s.writes };
+}
+
+// Written out, so that whoever lets one go needs one call in the proof and not one for each part of it.
+impl Drop for Sets {
+    fn drop(self) {
+        let Sets {
+            reads: _,
+            writes: _,
+        } = self;
+    }
 }
 
 impl Sets {

@@ -130,6 +130,7 @@ impl<J: Keeps> Post<J> {
         ensures err { OnErr result (self.new ≡ observing self.old self.new.observed) }
         ensures loaded { IfErr result (λ fault. IfPending fault (λ wts. IsLoaded self.old.stamp (conflict.Pending rid wts) self.old.observed self.new.observed)) }
         ensures met { IfErr result (λ fault. IfPending fault (λ wts. (wts < self.old.stamp) × IsOfAnother self.old.shared.size self.old.seat self.old.others wts)) }
+        ensures no_memory { IfErr result (λ fault. fault ≡ ReadFault.NoMemory → self.new ≡ self.old) }
     {
         self.sets.reserve(1, 0)?;
         match note(
@@ -160,6 +161,7 @@ impl<J: Keeps> Post<J> {
         ensures err { OnErr result (self.new ≡ observing self.old self.new.observed) }
         ensures loaded { IfErr result (λ fault. IfPending fault (λ wts. IsLoaded self.old.stamp (conflict.Pending rid wts) self.old.observed self.new.observed)) }
         ensures met { IfErr result (λ fault. IfPending fault (λ wts. (wts < self.old.stamp) × IsOfAnother self.old.shared.size self.old.seat self.old.others wts)) }
+        ensures no_memory { IfErr result (λ fault. fault ≡ ReadFault.NoMemory → self.new ≡ self.old) }
     {
         self.sets.reserve(1, 0)?;
         match search(core, &mut self.hand, rid, self.stamp.number()) {

@@ -4,8 +4,9 @@ use Rattle.std.specs.Prelude.{IsSome, slice_get}
 use Rattle.std.proofs.lemmas.List.{take_all, drop_all, take-append-drop}
 use Rattle.record_store.specs.Meaning.{value_at}
 use Rattle.seat_post.specs.Observing.{Grows}
+use Rattle.seat_post.specs.Post.{known_at}
 use Rattle.txn_engine.specs.Pass.{PassView, observing}
-use Rattle.txn_engine.specs.Fresh.{IsMetAbsent, IsMetPresent, PassesOver, none_yet, one_stays, one_leaves, GivesFirst, PassesSome, PassesAll, Asks}
+use Rattle.txn_engine.specs.Fresh.{IsMetAbsent, IsMetPresent, PassesOver, none_yet, one_stays, one_leaves, GivesFirst, PassesSome, PassesAll, WantsMemory, Asks}
 use Rattle.txn_engine.specs.declared.fresh.Asked.{Asked}
 use Rattle.txn_engine.specs.declared.fresh.Asked.TheVariants.{Given, Next}
 use Rattle.txn_engine.proofs.Asking.{past}
@@ -109,3 +110,16 @@ pub asks_given : (p q r : PassView) (i rid : ℕ) (told : Asked) → q ≡ obser
 asks_given p q r i rid told same h at is later asks =
     let a = subst (λ (a : Asked). Asks i rid q r a) is asks in
     gives_first p q r i rid h at (ap (λ (x : PassView). x.spare) a.1) (ap (λ (x : PassView). x.given) a.1 ∙ ap (λ (x : PassView). x.given ++ rid ∷ []) same) later (subst (λ (x : PassView). IsMetAbsent x rid q.observed r.observed) same a.2)
+
+-- no memory for the number at this place, of which nothing is known
+pub wants_memory : (p q r : PassView) (i rid : ℕ) → q ≡ observing (record p { spare = q.spare }) q.observed → HasPassed i p q → slice_get q.spare i ≡ Some rid → known_at q.post rid ≡ None → r ≡ q → WantsMemory p r
+wants_memory p q r i rid same h at unknown is = subst (λ (x : PassView). WantsMemory p x) (sym is) (record {
+  numbers = h.numbers;
+  stayed = take i q.spare;
+  rid = rid;
+  behind = drop (suc i) q.spare;
+  list = h.list ∙ ap (λ (ys : List ℕ). h.numbers ++ ys) (drop_at q.spare i rid at);
+  over = h.over;
+  unknown = subst (λ (x : PassView). known_at x.post rid ≡ None) same unknown;
+  after = same ∙ ap (λ (xs : List ℕ). observing (record p { spare = xs }) q.observed) (sym (take-append-drop i q.spare) ∙ ap (λ (ys : List ℕ). take i q.spare ++ ys) (drop_at q.spare i rid at));
+})

@@ -62,6 +62,17 @@ pub record PassesSome (before after' : PassView) : Type 0 where
   pub later : Grows between after'.observed
   pub spare : after'.spare ≡ stayed ++ behind
 
+-- memory is wanted for a number of the list of which nothing is known: those before it were passed, and nothing else has changed
+pub record WantsMemory (before after' : PassView) : Type 0 where
+  pub numbers : List ℕ
+  pub stayed : List ℕ
+  pub rid : ℕ
+  pub behind : List ℕ
+  pub list : before.spare ≡ numbers ++ rid ∷ behind
+  pub over : PassesOver before numbers stayed before.observed after'.observed
+  pub unknown : known_at before.post rid ≡ None
+  pub after : after' ≡ observing (record before { spare = stayed ++ rid ∷ behind }) after'.observed
+
 -- all of them were passed
 abbrev pub PassesAll : (before after' : PassView) → Type 0
 PassesAll before after' = PassesOver before before.spare after'.spare before.observed after'.observed

@@ -20,6 +20,7 @@ returns-in_err-stopped-in_default-clause-gives g c =
       passed = on_err _ (none_struck c.args.self.now c.stopped.new.self (ap (λ (x : PassView). x.spare) same) grows);
       all_passed = search rules;
       none_remains = search rules;
+      no_memory = search rules;
     }
 
 pub returns-in_ok-stopped-in_default-clause-gives : goal.returns-in_ok-stopped-in_default-clause-gives
@@ -37,4 +38,5 @@ returns-in_ok-stopped-in_default-clause-gives g c =
       passed = none_struck c.args.self.now c.stopped.new.self (ap (λ (x : PassView). x.spare) same) grows;
       all_passed = search rules;
       none_remains = search rules;
+      no_memory = search rules;
     }

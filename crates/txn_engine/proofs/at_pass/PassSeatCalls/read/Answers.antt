@@ -25,6 +25,7 @@ returns-in_err-stopped-clause-reads g c =
       left = search rules;
       found = search rules;
       again = search rules;
+      no_memory = search rules;
     }
 
 pub returns-in-Some-clause-reads : goal.returns-in-Some-clause-reads
@@ -45,6 +46,7 @@ returns-in-Some-clause-reads g c =
       left = λ alone unwritten. let none : Some c.in-Some.value.now ≡ None = written ∙ ap (λ (x : PassView). value_at x.writes c.args.rid) same ∙ unwritten in cc;
       found = λ none. (cc);
       again = λ alive. rw some (refl, c.in_ok-stopped.ensures.ok.0);
+      no_memory = search rules;
     }
 
 pub returns-in-Some-version_read-clause-reads : goal.returns-in-Some-version_read-clause-reads
@@ -70,6 +72,7 @@ returns-in-Some-version_read-clause-reads g c =
           subst (λ (x : PassView). LeavesValue x.log c.args.rid x.stamp c.value.result) same (subst (λ (v : Option (List ℕ)). LeavesValue p.log c.args.rid p.stamp v) (sym c.value.ensures.value) left);
       found = λ none. (cc);
       again = λ alive. rw some (refl, c.in_ok-stopped.ensures.ok.0);
+      no_memory = search rules;
     }
 
 pub returns-clause-reads : goal.returns-clause-reads
@@ -106,4 +109,5 @@ returns-clause-reads g c =
       left = λ alone unwritten. rw value (subst (λ (x : PassView). LeavesValue x.log c.args.rid x.stamp r.value) begun (r.left (subst (λ (x : PassView). IsAlone x) (sym begun) alone)));
       found = λ none. rw value (subst (λ (x : PassView). FindsValue x.stamp c.args.rid x.observed c.note.new.self.observed r.value) begun r.found);
       again = λ alive. rw (sym (ap (λ (x : PassView). known_at x.post c.args.rid) begun) ∙ unknown_there) tt;
+      no_memory = search rules;
     }

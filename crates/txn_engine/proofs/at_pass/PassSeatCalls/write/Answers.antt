@@ -34,6 +34,7 @@ returns-in_err-stopped-clause-writes g c =
       refuses = search rules;
       alive = search rules;
       never = search rules;
+      no_memory = search rules;
     }
 
 pub returns-in_err-reserve-clause-writes : goal.returns-in_err-reserve-clause-writes
@@ -46,6 +47,7 @@ returns-in_err-reserve-clause-writes g c =
       refuses = search rules;
       alive = search rules;
       never = search rules;
+      no_memory = search rules;
     }
 
 pub returns-in_err-write-clause-writes : goal.returns-in_err-write-clause-writes
@@ -58,6 +60,7 @@ returns-in_err-write-clause-writes g c =
       refuses = search rules;
       alive = search rules;
       never = search rules;
+      no_memory = search rules;
     }
 
 pub returns-clause-writes : goal.returns-clause-writes
@@ -73,4 +76,5 @@ returns-clause-writes g c =
       refuses = search rules;
       alive = search rules;
       never = search rules;
+      no_memory = search rules;
     }

@@ -3,14 +3,15 @@ use Rattle.std.specs.Prelude.{slice_get}
 use Rattle.seat_post.specs.Conflicts.{IsLoaded}
 use Rattle.spare_numbers.specs.Spare.{is_on}
 use Rattle.txn_engine.specs.Faults.{IfConflict, MeetsAmong, WasLoaded}
-use Rattle.txn_engine.specs.Fresh.{AreWritten, PassesAll}
+use Rattle.txn_engine.specs.declared.faults.TxnFault.TheVariants as txn
+use Rattle.txn_engine.specs.Fresh.{AreWritten, PassesAll, WantsMemory}
 use Rattle.txn_engine.specs.Pass.{PassView, observing}
 use Rattle.txn_engine.specs.Accounts.{accounted}
 use Rattle.txn_engine.proofs.Asking.{asks_left, on_at, meets_among, all_written}
 use Rattle.txn_engine.proofs.Passes.{none_found}
 use Rattle.txn_engine.proofs.Accounting.{none_remains}
 use Rattle.seat_post.proofs.Answered.{on_err, err_told}
-use Rattle.txn_engine.proofs.Passing.{HasPassed, none_passed, none_struck, asks_passed, asks_given, some_passed, all_passed}
+use Rattle.txn_engine.proofs.Passing.{HasPassed, none_passed, none_struck, asks_passed, asks_given, some_passed, all_passed, wants_memory}
 use Rattle.txn_engine.proofs.Growing.{grows_both, grows_same, conflict_earlier}
 use Rattle.txn_engine.proofs.pass.Pass.fresh.Goals as goal
 
@@ -105,3 +106,11 @@ pub returns-clause-passes : goal.returns-clause-passes
 returns-clause-passes g c = λ out.
     let none : slice_get c.loop-rid.self.spare c.loop-rid.i ≡ None = sym (ap (λ (p : PassView). slice_get p.spare c.loop-rid.i) c.self.view_is) ∙ sym c.at.ensures.at ∙ none_found c.at.result c.in_default.not-Some in
     subst (λ (p : PassView). PassesAll c.args.self.now p) (sym c.count.ensures) (all_passed c.args.self.now c.loop-rid.self c.loop-rid.i c.loop-rid.invariant.passed none)
+
+pub returns-in_err-ask-clause-no_memory : goal.returns-in_err-ask-clause-no_memory
+returns-in_err-ask-clause-no_memory g c =
+    let p = c.args.self.now in
+    let q = c.loop-rid.self in
+    let at = sym (ap (λ (x : PassView). slice_get x.spare c.loop-rid.i) c.self.view_is) ∙ sym c.in-Some.ensures.at in
+    err_told c.from_residual-in_err-ask.result c.in_err-ask.field-0.0 (λ fault. fault ≡ txn.NoMemory → WantsMemory p c.ask.new.self) c.from_residual-in_err-ask.ensures.1
+    (λ want. wants_memory p q c.ask.new.self c.loop-rid.i c.in-Some.rid c.loop-rid.invariant.same c.loop-rid.invariant.passed at c.in_err-ask.ensures.unknown (c.in_err-ask.ensures.no_memory want))

@@ -1,4 +1,5 @@
 pub mod Bounds
+pub mod Chaining
 pub mod Checks
 pub mod LastCheck
 pub mod Noting

@@ -1,9 +1,9 @@
 -- Lists whose first so many items are noted, each of another record.
-use Rattle.std.proofs.Common.{◌≡◌, ◌≢◌, ℕ, zero, suc, ◌+◌, ◌-◌, ◌%◌, ◌<◌, ◌≤◌, Bool, true, false, cond, eqb, eq-eqb, List, [], ◌∷◌, ◌++◌, Option, None, Some, refl, sym, ap, ◌∙◌, subst, inl, inr, ⊎_elim, ◌⊎◌, get_or, set, map, ◌||◌, take, drop, take-suc, drop-cons, length, arith, length-append, length-drop, length-set}
-use Rattle.std.specs.Prelude.{IfNone, IfSome, slice_get, position, option_map}
+use Rattle.std.proofs.Common.{◌≡◌, ◌≢◌, ℕ, zero, suc, ◌+◌, ◌-◌, ◌<◌, ◌≤◌, Bool, true, false, cond, eqb, eq-eqb, List, [], ◌∷◌, ◌++◌, Option, None, Some, refl, sym, ap, ◌∙◌, subst, inl, inr, ⊎_elim, ◌⊎◌, get_or, set, map, ◌||◌, take, drop, take-suc, drop-cons, length, arith, length-append, length-drop, length-set}
+use Rattle.std.specs.Prelude.{IfNone, IfSome, min, replicate, slice_get, slice_index, position, option_map}
 use Rattle.std.specs.List.{list_any}
 use Rattle.std.proofs.lemmas.Bool.Decides.{eqb_tells}
-use Rattle.std.proofs.lemmas.List.{take-append-drop, drop-append-le, drop_all, drop-map, map-append, length-take, length-map}
+use Rattle.std.proofs.lemmas.List.{take-append-drop, drop-append-le, drop_all, drop-map, get_or-map, map-append, length-take, length-map}
 use Rattle.std.proofs.lemmas.Option.{slice_get_within, get_or_from_slice_get, slice_get_read, slice_get-map, slice_get-get_or}
 use Rattle.std.proofs.lemmas.List.Quantifiers.{position-Some}
 use Rattle.std.proofs.Math.Seq.{map-set_same, take-set-lt}
@@ -14,9 +14,10 @@ use Rattle.core_rule.specs.Versions.{cells_of}
 use Rattle.core_rule.proofs.Among.{Among-split, Among-right}
 use Rattle.record_store.specs.Meaning.{value_at, with_value}
 use Rattle.validate_core.specs.declared.noted.Noted.{Noted}
-use Rattle.validate_core.specs.Noted.{noted, few, IsMarked, IsOf, IsNoted}
+use Rattle.validate_core.specs.Noted.{noted, few, chains, IsOf, IsNoted, AreChained}
 use Rattle.validate_core.specs.Sets.{Turn, Once}
-use Rattle.validate_core.proofs.Works.{among_turn, among_last}
+use Rattle.validate_core.proofs.Chaining.{IsWalked, none_chained}
+use Rattle.validate_core.proofs.Works.{among_turn}
 use Rattle.validate_core.proofs.Writes.{once_snoc}
 
 eqb_not : (a b : ℕ) → (a ≡ b → ⊥) → eqb a b ≡ false
@@ -36,19 +37,6 @@ neither false b e f = cc
 second : (a b : Bool) → (a || b) ≡ false → b ≡ false
 second true b f = cc
 second false b f = f
-
--- a mark that is set stays so where one is set
-still_marked : (i j : ℕ) (marks : List Bool) → slice_get marks j ≡ Some true → slice_get (set marks i true) j ≡ Some true
-still_marked i j [] at = cc
-still_marked zero zero (b ∷ marks) at = refl
-still_marked zero (suc j) (b ∷ marks) at = at
-still_marked (suc i) zero (b ∷ marks) at = at
-still_marked (suc i) (suc j) (b ∷ marks) at = still_marked i j marks at
-
-just_marked : (i : ℕ) (marks : List Bool) → i < length marks → slice_get (set marks i true) i ≡ Some true
-just_marked i [] lt = absurd (omega arith)
-just_marked zero (b ∷ marks) lt = refl
-just_marked (suc i) (b ∷ marks) lt = just_marked i marks (omega arith)
 
 module _ {V : Type 0} where
   -- ---- the element of a number
@@ -71,12 +59,6 @@ module _ {V : Type 0} where
       get_of i xs x (record { splits = cc; next = cc })
 
   -- of a list of which the first so many are taken, and of which so many are dropped
-  pub get_taken : (n i : ℕ) (xs : List V) (x : V) → slice_get (take n xs) i ≡ Some x → slice_get xs i ≡ Some x
-  get_taken zero i xs x at = cc
-  get_taken (suc n) i [] x at = at
-  get_taken (suc n) zero (y ∷ xs) x at = at
-  get_taken (suc n) (suc i) (y ∷ xs) x at = get_taken n i xs x at
-
   pub taken_get : (n i : ℕ) (xs : List V) (x : V) → i < n → slice_get xs i ≡ Some x → slice_get (take n xs) i ≡ Some x
   taken_get zero i xs x lt at = absurd (omega arith)
   taken_get (suc n) i [] x lt at = at
@@ -92,12 +74,6 @@ module _ {V : Type 0} where
   get_set i [] x lt = absurd (omega arith)
   get_set zero (y ∷ xs) x lt = refl
   get_set (suc i) (y ∷ xs) x lt = get_set i xs x (omega arith)
-
-  pub take_less : (m n : ℕ) (xs : List V) → m ≤ n → take m (take n xs) ≡ take m xs
-  take_less zero n xs le = refl
-  take_less (suc m) zero xs le = absurd (omega arith)
-  take_less (suc m) (suc n) [] le = refl
-  take_less (suc m) (suc n) (x ∷ xs) le = ap (λ (ys : List V). x ∷ ys) (take_less m n xs (omega arith))
 
   pub length_noted : (n : Noted V) → n.count ≤ length n.items.items → length (noted n) ≡ n.count
   length_noted n within = length-take n.count n.items.items ∙ omega arith
@@ -125,17 +101,15 @@ module _ {V : Type 0} where
 
     -- ---- where a record stands
 
-    pub of_first : (rid i k n : ℕ) (xs : List V) → k ≤ n → IsOf number rid (take k xs) i → IsOf number rid (take n xs) i
-    of_first rid i k n xs le of =
-        let at = get_of i (take k xs) of.element of.turn in
-        let below : i < k = let h = slice_get_within (take k xs) i of.element at in let e = length-take k xs in omega arith in
-        of_at rid i (take n xs) of.element (taken_get n i xs of.element (omega arith) (get_taken k i xs of.element at)) of.of_record
+    pub numbered_at : (i : ℕ) (xs : List V) (x : V) → slice_get xs i ≡ Some x → slice_index (map number xs) i ≡ number x
+    numbered_at i xs x at = get_or-map number xs i x 0 (slice_get_within xs i x at) ∙ ap number (get_or_from_slice_get xs i x x at)
 
-    pub none_more : (rid i : ℕ) (xs : List V) (x : V) → slice_get xs i ≡ Some x → number x ≢ rid → ((y : V) → Among y (take i xs) → number y ≢ rid) → (y : V) → Among y (take (i + 1) xs) → number y ≢ rid
-    none_more rid i xs x at other none y among =
-        let next = (turn_of i xs x at).next in let up : i + 1 ≡ suc i = omega arith in
-        let split : Among y (take i xs ++ x ∷ []) = subst (Among y) (ap (λ (k : ℕ). take k xs) up ∙ next) among in
-        ⊎_elim (λ (old : Among y (take i xs)). none y old) (λ (new : x ≡ y). λ (same : number y ≡ rid). other (ap number new ∙ same)) (among_last y x (take i xs) split)
+    -- none of the first so many
+    pub none_first : (rid n : ℕ) (xs : List V) → ((i : ℕ) → i < min n (length (map number xs)) → slice_index (map number xs) i ≢ rid) → (x : V) → Among x (take n xs) → number x ≢ rid
+    none_first rid zero xs none x among = absurd among
+    none_first rid (suc n) [] none x among = absurd among
+    none_first rid (suc n) (y ∷ xs) none x (inl same) = λ at. none 0 (omega arith) (ap number same ∙ at)
+    none_first rid (suc n) (y ∷ xs) none x (inr among) = none_first rid n xs (λ i below. none (suc i) (omega arith)) x among
 
     found_in : (rid i : ℕ) (xs : List V) → position (eqb rid) (map number xs) ≡ Some i → (x : V) × (slice_get xs i ≡ Some x) × (number x ≡ rid)
     found_in rid i xs at =
@@ -174,13 +148,6 @@ module _ {V : Type 0} where
     none_at_all rid xs first behind x among =
         ⊎_elim (first x) (none_in rid (drop few xs) behind x) (Among-split x (take few xs) (drop few xs) (subst (Among x) (sym (take-append-drop few xs)) among))
 
-    -- a record whose mark is not set is nowhere
-    pub none_marked : (n : Noted V) (rid : ℕ) (mark : Bool) → IsNoted number n → mark ≡ get_or n.marks (rid % 64) mark → mark ≡ false → (x : V) → Among x (noted n) → number x ≢ rid
-    none_marked n rid mark is at unset x among same =
-        let set_there : IsMarked n.marks rid = subst (IsMarked n.marks) same (is.marked x among) in
-        let read : get_or n.marks (rid % 64) mark ≡ true = get_or_from_slice_get n.marks (rid % 64) true mark set_there in
-        let wrong : true ≡ false = sym read ∙ sym at ∙ unset in cc
-
     -- ---- no number twice
 
     numbered : (ys xs : List V) → map number ys ≡ map number xs → (z : V) → Among z ys → (x : V) × Among x xs × (number x ≡ number z)
@@ -199,25 +166,48 @@ module _ {V : Type 0} where
 
     -- ---- what is noted
 
+    pub length_numbers : (n : Noted V) → n.count ≤ length n.items.items → length (map number (noted n)) ≡ n.count
+    length_numbers n within = length-map (noted n) number ∙ length_noted n within
+
+    -- nothing
+    pub none_noted : (n : Noted V) → n.count ≡ 0 → n.behind.keys ≡ [] → n.newest ≡ replicate chains 0 → length n.older ≡ few → IsNoted number n
+    none_noted n count behind newest places =
+        let none : noted n ≡ [] = ap (λ (k : ℕ). take k n.items.items) count in
+        record {
+          within = omega arith;
+          behind = behind ∙ ap (λ (xs : List V). map number (drop few xs)) (sym none);
+          apart = subst (Once number) (sym none) tt;
+          chained = subst (λ (places : List ℕ). AreChained (map number (noted n)) places n.older) (sym newest)
+              (subst (λ (xs : List V). AreChained (map number xs) (replicate chains 0) n.older) (sym none) (none_chained n.older places));
+        }
+
+    -- the item at which a walk stands
+    pub walked_at : (n : Noted V) (rid place : ℕ) (x : V) → IsNoted number n → IsWalked (map number (noted n)) rid place → 0 < place → x ≡ get_or n.items.items (place - 1) x → slice_get (noted n) (place - 1) ≡ Some x
+    walked_at n rid place x is walked some at =
+        let within = walked.within in let long = length_numbers n is.within in let short = length_noted n is.within in
+        noted_get n (place - 1) x is.within (omega arith) at
+
+    -- a walk that has come to its end met none among the first few
+    pub none_walked : (n : Noted V) (rid : ℕ) → IsWalked (map number (noted n)) rid 0 → (x : V) → Among x (take few (noted n)) → number x ≢ rid
+    none_walked n rid walked = none_first rid few (noted n) (λ i below. walked.none_behind i (omega arith) below)
+
     -- other items of the same records
-    pub still_noted : (m n : Noted V) → IsNoted number m → n.count ≤ length n.items.items → n.behind.keys ≡ m.behind.keys → n.marks ≡ m.marks → map number (noted n) ≡ map number (noted m) → IsNoted number n
-    still_noted m n is within behind marks same = record {
+    pub still_noted : (m n : Noted V) → IsNoted number m → n.count ≤ length n.items.items → n.behind.keys ≡ m.behind.keys → n.newest ≡ m.newest → n.older ≡ m.older → map number (noted n) ≡ map number (noted m) → IsNoted number n
+    still_noted m n is within behind newest older same = record {
       within = within;
       behind = behind ∙ is.behind ∙ sym (drop-map number few (noted m)) ∙ ap (drop few) (sym same) ∙ drop-map number few (noted n);
       apart = once_numbers (noted m) (noted n) same is.apart;
-      marks = ap length marks ∙ is.marks;
-      marked = λ x among.
-          let there = numbered (noted n) (noted m) same x among in
-          subst (IsMarked n.marks) there.2 (subst (λ (bs : List Bool). IsMarked bs (number there.0)) (sym marks) (is.marked there.0 there.1));
+      chained = subst (λ (places : List ℕ). AreChained (map number (noted n)) places n.older) (sym newest)
+          (subst (λ (places : List ℕ). AreChained (map number (noted n)) m.newest places) (sym older) (subst (λ (rids : List ℕ). AreChained rids m.newest m.older) (sym same) is.chained));
     }
 
     -- another item of the same record
-    pub set_noted : (n m : Noted V) (i : ℕ) (x old : V) → IsNoted number n → slice_get (noted n) i ≡ Some old → number x ≡ number old → m.items.items ≡ set n.items.items i x → m.count ≡ n.count → m.behind.keys ≡ n.behind.keys → m.marks ≡ n.marks → IsNoted number m
-    set_noted n m i x old is at same items count behind marks =
+    pub set_noted : (n m : Noted V) (i : ℕ) (x old : V) → IsNoted number n → slice_get (noted n) i ≡ Some old → number x ≡ number old → m.items.items ≡ set n.items.items i x → m.count ≡ n.count → m.behind.keys ≡ n.behind.keys → m.newest ≡ n.newest → m.older ≡ n.older → IsNoted number m
+    set_noted n m i x old is at same items count behind newest older =
         let lt : i < n.count = let h = slice_get_within (noted n) i old at in let e = length_noted n is.within in omega arith in
         let here : get_or (noted n) i old ≡ old = get_or_from_slice_get (noted n) i old old at in
         let within : m.count ≤ length m.items.items = let h = is.within in let e = ap length items ∙ length-set n.items.items i x in omega arith in
-        still_noted n m is within behind marks (ap (map number) (noted_set n m i x lt items count) ∙ map-set_same number (noted n) i x old (same ∙ ap number (sym here)))
+        still_noted n m is within behind newest older (ap (map number) (noted_set n m i x lt items count) ∙ map-set_same number (noted n) i x old (same ∙ ap number (sym here)))
 
     -- the item that a look found
     pub of_here : (n : Noted V) (rid i : ℕ) (x : V) → IsNoted number n → IsOf number rid (noted n) i → x ≡ get_or n.items.items i x → (slice_get (noted n) i ≡ Some x) × (number x ≡ rid)
@@ -231,8 +221,8 @@ module _ {V : Type 0} where
     of_set rid i xs x lt is = of_at rid i (set xs i x) x (get_set i xs x lt) is
 
     -- one record more, among the first few or behind them
-    pub one_more : (n m : Noted V) (rid : ℕ) → IsNoted number n → IsOf number rid n.items.items n.count → ((x : V) → Among x (noted n) → number x ≢ rid) → m.items ≡ n.items → m.count ≡ n.count + 1 → ((n.count < few) × (m.behind.keys ≡ n.behind.keys)) ⊎ ((few ≤ n.count) × (m.behind.keys ≡ n.behind.keys ++ rid ∷ [])) → m.marks ≡ set n.marks (rid % 64) true → IsNoted number m
-    one_more n m rid is of first items count keys marks =
+    pub one_more : (n m : Noted V) (rid : ℕ) → IsNoted number n → IsOf number rid n.items.items n.count → ((x : V) → Among x (noted n) → number x ≢ rid) → m.items ≡ n.items → m.count ≡ n.count + 1 → ((n.count < few) × (m.behind.keys ≡ n.behind.keys)) ⊎ ((few ≤ n.count) × (m.behind.keys ≡ n.behind.keys ++ rid ∷ [])) → AreChained (map number (noted n) ++ rid ∷ []) m.newest m.older → IsNoted number m
+    one_more n m rid is of first items count keys chained =
         let x = of.element in
         let at : slice_get n.items.items n.count ≡ Some x = get_of n.count n.items.items x of.turn in
         let inside : n.count < length n.items.items = slice_get_within n.items.items n.count x at in
@@ -249,11 +239,8 @@ module _ {V : Type 0} where
           within = omega arith;
           behind = ⊎_elim (λ (b : (n.count < few) × (m.behind.keys ≡ n.behind.keys)). within_few b.0 b.1) (λ (b : (few ≤ n.count) × (m.behind.keys ≡ n.behind.keys ++ rid ∷ [])). full b.0 b.1) keys;
           apart = subst (Once number) (sym more) (once_snoc number (noted n) x is.apart (λ y among same. first y among (same ∙ of.of_record)));
-          marks = ap length marks ∙ length-set n.marks (rid % 64) true ∙ is.marks;
-          marked = λ y among. subst (λ (bs : List Bool). IsMarked bs (number y)) (sym marks)
-              (⊎_elim (λ (old : Among y (noted n)). still_marked (rid % 64) (number y % 64) n.marks (is.marked y old))
-              (λ (new : x ≡ y). subst (IsMarked (set n.marks (rid % 64) true)) (sym of.of_record ∙ ap number new) (just_marked (rid % 64) n.marks (let long = is.marks in omega arith)))
-              (among_last y x (noted n) (subst (Among y) more among)));
+          chained = subst (λ (rids : List ℕ). AreChained rids m.newest m.older)
+              (sym (ap (map number) more ∙ map-append number (noted n) (x ∷ []) ∙ ap (λ (r : ℕ). map number (noted n) ++ r ∷ []) of.of_record)) chained;
         }
 
   -- ---- values of records

@@ -1,5 +1,5 @@
 //! Finding a record among what is noted of records.
-ghost use Rattle.std.specs.Prelude.{ℕ, ◌≡◌, ◌≢◌, ◌+◌, ◌<◌, ◌≤◌, min, [], length, take, IfSome, IfNone, OnOk, OnErr};
+ghost use Rattle.std.specs.Prelude.{ℕ, ◌≡◌, ◌≢◌, ◌+◌, ◌<◌, ◌≤◌, min, [], length, IfSome, IfNone, OnOk, OnErr};
 ghost use Rattle.core_rule.specs.Views.{Among};
 ghost use Rattle.validate_core.specs.Noted.{IsNoted, IsOf, noted, few, room};
 
@@ -8,11 +8,11 @@ use indexmap::IndexSet;
 use plain_data::NoMemory;
 use std::alloc::Global;
 
-// So many records are looked through one by one.
-const FEW: usize = 64;
+// So many records stand in chains; a set has those behind them.
+const FEW: usize = 128;
 
-// So many marks tell of most records that are not noted that they are not.
-const MARKS: usize = 64;
+// There are so many chains, one for each remainder that a number may leave.
+const CHAINS: usize = 64;
 
 // A set that has room for more gives it back.
 const MANY: usize = 1024;
@@ -60,14 +60,16 @@ impl OfRecord for WrittenVersion {
 
 /// What is noted of records, each once, in the order of noting: the first `count` items. Those behind them are used again.
 ///
-/// The first few records are looked through; of all behind them a set has the numbers, in the same order. Each record has the mark of
-/// what its number leaves modulo 64: where that is not set, the record is not noted, and nothing is looked through.
+/// The first few stand in chains, each of those whose numbers leave the same modulo 64: `newest` has for each chain the place of the
+/// last one in it, and `older` for each item that of the one before it in its chain. These places are counted from 1, and 0 is none. Of
+/// all behind the first few a set has the numbers, in the same order.
 #[derive(Drop)]
 pub(crate) struct Noted<V> {
     pub(crate) items: Vec<V>,
     pub(crate) count: usize,
     behind: IndexSet<u32>,
-    marks: [bool; 64],
+    newest: [u8; CHAINS],
+    older: [u8; FEW],
 }
 
 impl<V: OfRecord> Noted<V> {
@@ -80,7 +82,8 @@ impl<V: OfRecord> Noted<V> {
             items: Vec::new(alloc),
             count: 0,
             behind: IndexSet::new(alloc),
-            marks: [false; MARKS],
+            newest: [0; CHAINS],
+            older: [0; FEW],
         }
     }
 
@@ -90,19 +93,19 @@ impl<V: OfRecord> Noted<V> {
         ensures found { IfSome result (IsOf V.number rid (noted self.now)) }
         ensures none { IfNone result ((x : V) → Among x (noted self.now) → V.number x ≢ rid) }
     {
-        if !self.marks[rid as usize % MARKS] {
+        let mut at = self.newest[rid as usize % CHAINS] as usize;
+        while at > 0 {
+            let i = at - 1;
+            if self.items[i].rid() == rid {
+                return Some(i);
+            }
+            at = self.older[i] as usize;
+        }
+        if self.count <= FEW {
             return None;
         }
-        match position(&self.items[..self.count.min(FEW)], rid) {
-            Some(i) => Some(i),
-            None => {
-                if self.count <= FEW {
-                    return None;
-                }
-                let i = self.behind.get_index_of(&rid)?;
-                Some(FEW + i)
-            }
-        }
+        let i = self.behind.get_index_of(&rid)?;
+        Some(FEW + i)
     }
 
     /// Makes room for so many records more. What is noted stays, after a refusal too, which comes only where there was less room.
@@ -153,12 +156,15 @@ impl<V: OfRecord> Noted<V> {
         ensures count { self.new.count ≡ self.old.count + 1 }
         ensures room { room self.old ≤ room self.new }
     {
-        if self.count >= FEW {
+        if self.count < FEW {
+            let chain = rid as usize % CHAINS;
+            self.older[self.count] = self.newest[chain];
+            self.newest[chain] = (self.count + 1) as u8;
+        } else {
             let Ok(_) = self.behind.insert(rid) else {
                 unreachable!();
             };
         }
-        self.marks[rid as usize % MARKS] = true;
         self.count += 1;
     }
 
@@ -170,26 +176,20 @@ impl<V: OfRecord> Noted<V> {
         ensures room { min few (room self.old) ≤ room self.new }
     {
         self.count = 0;
-        self.marks = [false; MARKS];
-        if self.behind.is_empty() {
-            return;
-        }
-        self.behind.clear();
-        if self.behind.capacity() > MANY {
-            self.behind.shrink_to_fit();
-        }
+        self.newest = [0; CHAINS];
+        wipe(&mut self.behind);
     }
 }
 
-// Where the record stands among these.
-fn position<V: OfRecord>(few: &[V], rid: u32) -> Option<usize>
-    ensures found { IfSome result (IsOf V.number rid few.now) }
-    ensures none { IfNone result ((x : V) → Among x few.now → V.number x ≢ rid) }
+// Takes all out of a set. The room of a large one goes back.
+fn wipe(set: &mut IndexSet<u32>)
+    ensures { set.new.keys ≡ [] }
 {
-    for i in 0..few.len() {
-        if few[i].rid() == rid {
-            return Some(i);
-        }
+    if set.is_empty() {
+        return;
     }
-    None
+    set.clear();
+    if set.capacity() > MANY {
+        set.shrink_to_fit();
+    }
 }

@@ -14,7 +14,7 @@ invariant_of-self c =
     record {
       reads_are = c.self.invariant.reads_are;
       writes_are = set_noted (λ (u : Write). u.record_number) n _ c.args.i c.set_place.new.self old is (noted_get n c.args.i old is.within below c.index_mut.ensures.value)
-          (ap (λ (u : Write). u.record_number) c.set_place.ensures) refl refl refl refl;
+          (ap (λ (u : Write). u.record_number) c.set_place.ensures) refl refl refl refl refl;
     }
 
 pub returns-clause-writes : goal.returns-clause-writes

@@ -1,7 +1,6 @@
 use Rattle.std.proofs.Common.{◌≡◌, ◌≢◌, ◌∙◌, ◌++◌, ◌∷◌, [], ℕ, List, Option, ap, sym, subst, length, refl, arith}
 use Rattle.std.specs.Prelude.{IfSome}
 use Rattle.std.specs.Vec.{with_item}
-use Rattle.std.proofs.lemmas.List.{take-set}
 use Rattle.std.proofs.lemmas.Option.{slice_get_within}
 use Rattle.core_rule.specs.View.{Write}
 use Rattle.core_rule.specs.Views.{Among}
@@ -10,7 +9,7 @@ use Rattle.core_rule.specs.Versions.{written_version}
 use Rattle.record_store.specs.Meaning.{with_value}
 use Rattle.validate_core.specs.Noted.{noted}
 use Rattle.validate_core.specs.Sets.{SetsView}
-use Rattle.validate_core.proofs.Noting.{of_here, of_set, set_noted, noted_set, noted_more, turn_of, get_set, length_noted, value_of-cells, with_value-found, with_value-new, write_entry, writes_map}
+use Rattle.validate_core.proofs.Noting.{of_here, set_noted, noted_set, length_noted, value_of-cells, with_value-found, with_value-new, write_entry, writes_map}
 use Rattle.validate_core.proofs.sets.Sets.put.Goals as goal
 
 -- the entry of what is written
@@ -23,7 +22,7 @@ invariant_of-self c =
     let here = of_here (λ (u : Write). u.record_number) n c.args.rid c.in-Some.i old is c.in-Some.ensures.found c.index_mut.ensures.value in
     record {
       reads_are = c.self.invariant.reads_are;
-      writes_are = set_noted (λ (u : Write). u.record_number) n _ c.in-Some.i c.set.new.self old is here.0 (ap (λ (u : Write). u.record_number) c.set.ensures ∙ sym here.1) refl refl refl refl;
+      writes_are = set_noted (λ (u : Write). u.record_number) n _ c.in-Some.i c.set.new.self old is here.0 (ap (λ (u : Write). u.record_number) c.set.ensures ∙ sym here.1) refl refl refl refl refl;
     }
 
 pub add_write-requires-clause-first : goal.add_write-requires-clause-first
@@ -45,7 +44,7 @@ pub returns-in-Some-clause-once : goal.returns-in-Some-clause-once
 returns-in-Some-clause-once c =
     let n = c.self.inside.writes in let old = c.index_mut.result.now in let is = c.self.invariant.writes_are in
     let here = of_here (λ (u : Write). u.record_number) n c.args.rid c.in-Some.i old is c.in-Some.ensures.found c.index_mut.ensures.value in
-    let noted_still = set_noted (λ (u : Write). u.record_number) n (record n { items = with_item n.items c.in-Some.i c.set.new.self }) c.in-Some.i c.set.new.self old is here.0 (ap (λ (u : Write). u.record_number) c.set.ensures ∙ sym here.1) refl refl refl refl in
+    let noted_still = set_noted (λ (u : Write). u.record_number) n (record n { items = with_item n.items c.in-Some.i c.set.new.self }) c.in-Some.i c.set.new.self old is here.0 (ap (λ (u : Write). u.record_number) c.set.ensures ∙ sym here.1) refl refl refl refl refl in
     noted_still.apart
 
 pub returns-in-None-clause-values : goal.returns-in-None-clause-values

@@ -21,7 +21,7 @@ use Rattle.seat_post.proofs.AloneSeats.{others_of, alone_told}
 use Rattle.seat_post.specs.Snapshot.{snapshot_view}
 use Rattle.seat_post.specs.Conflicts.{IsOfAnother, Touches}
 use Rattle.seat_post.specs.Ends.{Stood}
-use Rattle.seat_post.specs.Post.{IsPost, IsShownAt, entered, PostView, post_of, entry_at, observing, observed_in}
+use Rattle.seat_post.specs.Post.{IsPost, IsShownAt, entered, PostView, post_of, entry_at, observing, observed_in, versions_read}
 use Rattle.seat_post.specs.declared.phase.Phase.{Phase}
 use Rattle.seat_post.specs.declared.phase.Phase.TheVariants.{Idle, Open, Installed, Decided}
 use Rattle.seat_post.proofs.Observed.{were_found}
@@ -155,6 +155,17 @@ another_of v w n stands inside is =
 read_some : (sets : SetsView) (rid version : ℕ) → validating.HasRead rid version sets → IsSome (value_at (read_values sets.reads) rid)
 read_some sets rid version d = subst (λ (n : ℕ). IsSome (value_at (read_values sets.reads) n)) d.of_record (among_read sets.reads d.read d.among)
 
+-- with its version
+among_version : (ds : List Read) (d : Read) → Among d ds → Among (d.record_number, d.version) (versions_read ds)
+among_version [] d among = absurd among
+among_version (e ∷ ds) d (inl same) = inl (ap (λ (x : Read). (x.record_number, x.version)) same)
+among_version (e ∷ ds) d (inr among) = inr (among_version ds d among)
+
+version_read : (sets : SetsView) (rid version : ℕ) → validating.HasRead rid version sets → Among (rid, version) (versions_read sets.reads)
+version_read sets rid version d =
+    subst (λ (v : ℕ). Among (rid, v) (versions_read sets.reads)) d.at
+    (subst (λ (n : ℕ). Among (n, d.read.version) (versions_read sets.reads)) d.of_record (among_version sets.reads d.read d.among))
+
 written_some : (sets : SetsView) (rid : ℕ) → validating.Writes rid sets → IsSome (value_at (written_values sets.writes) rid)
 written_some sets rid w = subst (λ (n : ℕ). IsSome (value_at (written_values sets.writes) n)) w.of_record (among_written sets.writes w.write w.among)
 
@@ -167,7 +178,7 @@ shown_at hand hand' phase stamp t sets (ReadLater rid wts rts) within inside sam
     (written_some sets rid shown.2, subst (λ (n : ℕ). wts < n) same shown.3.met.path.early, subst (λ (n : ℕ). n < rts) same shown.0, other)
 shown_at hand hand' phase stamp t sets (Overtaken rid seen now) within inside same stands shown =
     let other = another_of hand.view hand'.view now stands inside shown.2 in
-    (read_some sets rid seen shown.3, shown.0, subst (λ (n : ℕ). now < n) same shown.1, other)
+    (read_some sets rid seen shown.3, shown.0, subst (λ (n : ℕ). now < n) same shown.1, other, version_read sets rid seen shown.3)
 
 -- it is of a record that was read or is written
 pub touches_at : (t : ℕ) (v w : View) (sets : SetsView) (conflict : Conflict) → validating.IsShown t sets v w conflict → Touches (read_values sets.reads) (written_values sets.writes) conflict

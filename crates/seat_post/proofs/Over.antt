@@ -17,7 +17,7 @@ use Rattle.seat_post.specs.declared.phase.Phase.{Phase}
 use Rattle.seat_post.specs.declared.phase.Phase.TheVariants.{Idle, Installed}
 use Rattle.seat_post.proofs.Posts.{own_ready}
 use Rattle.seat_post.proofs.EndMore.{same_values}
-use Rattle.seat_post.proofs.ReadMore.{read_more}
+use Rattle.seat_post.proofs.ReadMore.{read_more, versions_more}
 use Rattle.seat_post.proofs.WriteMore.{post_closed}
 
 -- a stamp is in flight, so no snapshot is
@@ -99,9 +99,10 @@ view_found hand hand' phase stamp t rid place wts value sets table finds flight 
     view_searched hand hand' phase stamp t sets still (read_version rid place wts value ∷ hand.view.work.reads) table finds.view flight
 
 -- one whose version is noted
-pub view_noted : (hand hand' : Seated) (phase : Phase) (stamp t rid place wts : ℕ) (value : Option (List ℕ)) (sets sets' : SetsView) → hand'.table ≡ hand.table → Finds rid place wts value hand.view hand'.view → hand.view.flight ≡ writing t → sets'.reads ≡ sets.reads ++ read_version rid place wts value ∷ [] → sets'.writes ≡ sets.writes → post_of hand' phase stamp sets' ≡ observing (noted (post_of hand phase stamp sets) rid value) (observed_in hand')
+pub view_noted : (hand hand' : Seated) (phase : Phase) (stamp t rid place wts : ℕ) (value : Option (List ℕ)) (sets sets' : SetsView) → hand'.table ≡ hand.table → Finds rid place wts value hand.view hand'.view → hand.view.flight ≡ writing t → sets'.reads ≡ sets.reads ++ read_version rid place wts value ∷ [] → sets'.writes ≡ sets.writes → post_of hand' phase stamp sets' ≡ observing (noted (post_of hand phase stamp sets) rid wts value) (observed_in hand')
 view_noted hand hand' phase stamp t rid place wts value sets sets' table finds flight reads writes =
-    let noted_too : post_of hand phase stamp sets' ≡ noted (post_of hand phase stamp sets) rid value = rw (read_more rid place wts value sets.reads sets'.reads reads, writes) refl in
+    let noted_too : post_of hand phase stamp sets' ≡ noted (post_of hand phase stamp sets) rid wts value =
+    rw (read_more rid place wts value sets.reads sets'.reads reads, versions_more rid place wts value sets.reads sets'.reads reads, writes) refl in
     view_found hand hand' phase stamp t rid place wts value sets' table finds flight
     ∙ ap (λ (p : PostView). observing p (observed_in hand')) noted_too
 

@@ -17,11 +17,12 @@ use Rattle.validate_core.proofs.Staging.{met_now}
 use Rattle.seat_post.specs.Searched.{Finds, Stops}
 use Rattle.seat_post.specs.Conflicts.{IsOfAnother}
 use Rattle.seat_post.specs.Reading.{FindsValue, value_loaded}
-use Rattle.seat_post.specs.Post.{PostView, IsPost, post_of, observed_in}
+use Rattle.seat_post.specs.Post.{PostView, IsPost, post_of, observed_in, versions_read}
 use Rattle.seat_post.specs.declared.phase.Phase.{Phase}
 use Rattle.seat_post.specs.declared.phase.Phase.TheVariants.{Open}
 use Rattle.seat_post.proofs.AloneSeats.{others_of, alone_told}
 use Rattle.seat_post.proofs.Posts.{own_ready}
+use Rattle.std.proofs.lemmas.List.{map_push}
 use Rattle.std.proofs.lemmas.List.Elements.{All-push}
 use Rattle.seat_post.specs.Leaves.{LeavesValue, AreLeft}
 use Rattle.seat_post.specs.Logs.{IsAbove}
@@ -185,6 +186,10 @@ pub read_more : (rid place wts : ℕ) (value : Option (List ℕ)) (ds ds' : List
 read_more rid place wts value ds ds' more =
     ap read_values more ∙ read_values-append ds (read_version rid place wts value) ∙ ap (λ v. read_values ds ++ (rid, v) ∷ []) (read_value-version rid place wts value)
 
+-- their versions, with one more
+pub versions_more : (rid place wts : ℕ) (value : Option (List ℕ)) (ds ds' : List Read) → ds' ≡ ds ++ read_version rid place wts value ∷ [] → versions_read ds' ≡ versions_read ds ++ (rid, wts) ∷ []
+versions_more rid place wts value ds ds' more = ap versions_read more ∙ map_push (λ (d : Read). (d.record_number, d.version)) ds (read_version rid place wts value)
+
 -- a read was noted
 pub post_read : (core : Shared) (hand hand' : Seated) (stamp rid place wts : ℕ) (value : Option (List ℕ)) (sets sets' : SetsView) → IsPost hand Open stamp sets → IsReady core hand' → Finds rid place wts value hand.view hand'.view → rid < hand.view.size.records → value_at (read_values sets.reads) rid ≡ None → sets'.reads ≡ sets.reads ++ read_version rid place wts value ∷ [] → sets'.writes ≡ sets.writes → IsPost hand' Open stamp sets'
 post_read core hand hand' stamp rid place wts value sets sets' is ready finds within first reads writes =
@@ -253,14 +258,15 @@ post_passed core hand hand' stamp rid place wts value sets is ready finds =
     }
 
 -- it was met, with its value
-pub found_value : (hand hand' : Seated) (phase : Phase) (stamp rid place wts : ℕ) (value : Option (List ℕ)) (sets : SetsView) (p : PostView) → IsPost hand phase stamp sets → post_of hand phase stamp sets ≡ p → p.phase ≡ Open → Finds rid place wts value hand.view hand'.view → FindsValue p.stamp rid p.observed (observed_in hand') value
-found_value hand hand' phase stamp rid place wts value sets p is same flying finds =
+pub value_met : (hand hand' : Seated) (phase : Phase) (stamp rid place wts : ℕ) (value : Option (List ℕ)) (sets : SetsView) (p : PostView) → IsPost hand phase stamp sets → post_of hand phase stamp sets ≡ p → p.phase ≡ Open → Finds rid place wts value hand.view hand'.view → Met p.stamp rid wts (state_of value) (value_loaded value) p.observed.loads hand'.view.seen.loads
+value_met hand hand' phase stamp rid place wts value sets p is same flying finds =
     let now = is_open phase hand stamp sets (ap (λ (q : PostView). q.phase) same ∙ flying) is in
-    subst (λ (q : PostView). FindsValue q.stamp rid q.observed (observed_in hand') value) same (record {
-      wts = wts;
-      met = subst (λ (n : ℕ). Met n rid wts (state_of value) (value_loaded value) hand.view.seen.loads hand'.view.seen.loads)
-          (limit_is hand.view stamp (now.at.begun.in_flight ∙ ap writing (sym now.at.at))) finds.met;
-    })
+    subst (λ (q : PostView). Met q.stamp rid wts (state_of value) (value_loaded value) q.observed.loads hand'.view.seen.loads) same
+    (subst (λ (n : ℕ). Met n rid wts (state_of value) (value_loaded value) hand.view.seen.loads hand'.view.seen.loads)
+    (limit_is hand.view stamp (now.at.begun.in_flight ∙ ap writing (sym now.at.at))) finds.met)
+
+abbrev pub found_value : (hand hand' : Seated) (phase : Phase) (stamp rid place wts : ℕ) (value : Option (List ℕ)) (sets : SetsView) (p : PostView) → IsPost hand phase stamp sets → post_of hand phase stamp sets ≡ p → p.phase ≡ Open → Finds rid place wts value hand.view hand'.view → FindsValue p.stamp rid p.observed (observed_in hand') value
+found_value hand hand' phase stamp rid place wts value sets p is same flying finds = record { wts = wts; met = value_met hand hand' phase stamp rid place wts value sets p is same flying finds }
 
 -- present, it was met as committed
 pub present_met : (stamp rid : ℕ) (before after' : Observed) (value : Option (List ℕ)) → FindsValue stamp rid before after' value → is_some value ≡ true → (wts : ℕ) × Met stamp rid wts 3 no_more before.loads after'.loads

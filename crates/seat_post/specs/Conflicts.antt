@@ -17,12 +17,12 @@ pub record IsOfAnother (size : Size) (seat : ℕ) (others : Others) (stamp : ℕ
   pub more : 1 < size.seats
   pub not_alone : IsAloneAt size seat others → ⊥
 
--- An earlier version is pending of a record that it asked for; a version that it overwrites was read later; a version that it read
+-- An earlier version is pending of a record that it asked for; a version that it overwrites was read later; the version that it read
 -- was overwritten before. It is always the stamp of another seat that does so.
-abbrev pub Shows : (size : Size) (seat : ℕ) (others : Others) (stamp : ℕ) (reads writes : List (ℕ × Option (List ℕ))) → Conflict → Type 0
-Shows size seat others stamp reads writes (Pending rid wts) = (rid < size.records) × (wts < stamp) × IsOfAnother size seat others wts
-Shows size seat others stamp reads writes (ReadLater rid wts rts) = IsSome (value_at writes rid) × (wts < stamp) × (stamp < rts) × IsOfAnother size seat others rts
-Shows size seat others stamp reads writes (Overtaken rid seen now) = IsSome (value_at reads rid) × (seen < now) × (now < stamp) × IsOfAnother size seat others now
+abbrev pub Shows : (size : Size) (seat : ℕ) (others : Others) (stamp : ℕ) (reads : List (ℕ × Option (List ℕ))) (versions : List (ℕ × ℕ)) (writes : List (ℕ × Option (List ℕ))) → Conflict → Type 0
+Shows size seat others stamp reads versions writes (Pending rid wts) = (rid < size.records) × (wts < stamp) × IsOfAnother size seat others wts
+Shows size seat others stamp reads versions writes (ReadLater rid wts rts) = IsSome (value_at writes rid) × (wts < stamp) × (stamp < rts) × IsOfAnother size seat others rts
+Shows size seat others stamp reads versions writes (Overtaken rid seen now) = IsSome (value_at reads rid) × (seen < now) × (now < stamp) × IsOfAnother size seat others now × Among (rid, seen) versions
 
 -- It is of a record that was read or is written: one that is overwritten was written, and one that was overtaken was read.
 abbrev pub Touches : (reads writes : List (ℕ × Option (List ℕ))) → Conflict → Type 0

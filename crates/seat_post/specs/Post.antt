@@ -5,7 +5,7 @@ use Rattle.plain_data.specs.declared.entry.Entry.{Entry}
 use Rattle.stamp_base.specs.Stamp.{stamp_of, bound_of_clock}
 use Rattle.word_layout.specs.Size.{IsSize}
 use Rattle.core_rule.specs.Hands.{Shared, Seated, IsReady}
-use Rattle.core_rule.specs.View.{Write, resting, nothing_reserved}
+use Rattle.core_rule.specs.View.{Read, Write, resting, nothing_reserved}
 use Rattle.core_rule.specs.Views.{IsAlone, Among}
 use Rattle.core_rule.specs.Searching.{Ends}
 use Rattle.core_rule.specs.Deciding.{read_values, written_values}
@@ -27,7 +27,7 @@ use Rattle.seat_post.specs.declared.phase.Phase.TheVariants.{Idle, Open, Install
 -- the table of the seat, its number, its clock, its published write word, the seats that it takes as open, what it knows of lists, the
 -- greatest `min_wts` that it has met, its log, what its steps loaded and which exchanges they lost, what they cut off and freed, where
 -- the versions of the transaction in flight or of the last one were linked, what a snapshot there has read; and how far the
--- transaction is, its stamp, its reads and its writes
+-- transaction is, its stamp, its reads, the versions that they are of, and its writes
 pub record PostView : Type 0 where
   pub shared : Shared
   pub seat : ℕ
@@ -44,6 +44,8 @@ pub record PostView : Type 0 where
   pub phase : Phase
   pub stamp : ℕ
   pub reads : List (ℕ × Option (List ℕ))
+  -- of each record that was read the stamp of the version that was read, in the same order
+  pub versions : List (ℕ × ℕ)
   pub writes : List (ℕ × Option (List ℕ))
 
 -- no other seat of its table is open
@@ -62,8 +64,8 @@ bounds_in hand = record { counts = hand.view.counts; tops = hand.view.tops }
 abbrev pub observed_in : Seated → Observed
 observed_in hand = observed_of hand.view
 
-abbrev pub post_view : Seated → Phase → ℕ → (reads writes : List (ℕ × Option (List ℕ))) → PostView
-post_view hand phase stamp reads writes = record {
+abbrev pub post_view : Seated → Phase → ℕ → (reads : List (ℕ × Option (List ℕ))) → (versions : List (ℕ × ℕ)) → (writes : List (ℕ × Option (List ℕ))) → PostView
+post_view hand phase stamp reads versions writes = record {
   shared = shared_of hand;
   seat = hand.view.number;
   clock = hand.view.clock.clock;
@@ -79,12 +81,17 @@ post_view hand phase stamp reads writes = record {
   phase = phase;
   stamp = stamp;
   reads = reads;
+  versions = versions;
   writes = writes;
 }
 
+-- of each read its record and the stamp of its version
+abbrev pub versions_read : List Read → List (ℕ × ℕ)
+versions_read ds = map (λ (d : Read). (d.record_number, d.version)) ds
+
 -- what it shows of these sets
 abbrev pub post_of : Seated → Phase → ℕ → SetsView → PostView
-post_of hand phase stamp sets = post_view hand phase stamp (read_values sets.reads) (written_values sets.writes)
+post_of hand phase stamp sets = post_view hand phase stamp (read_values sets.reads) (versions_read sets.reads) (written_values sets.writes)
 
 -- ---- what a post keeps, by how far its transaction is
 
@@ -183,8 +190,9 @@ finished_at p g = record p {
 abbrev pub with_clock : PostView → ℕ → PostView
 with_clock p clock = record p { clock = clock }
 
-abbrev pub noted : PostView → ℕ → Option (List ℕ) → PostView
-noted p rid value = record p { reads = p.reads ++ (rid, value) ∷ [] }
+-- a read of the version of this stamp
+abbrev pub noted : PostView → (rid wts : ℕ) → Option (List ℕ) → PostView
+noted p rid wts value = record p { reads = p.reads ++ (rid, value) ∷ []; versions = p.versions ++ (rid, wts) ∷ [] }
 
 abbrev pub written : PostView → ℕ → Option (List ℕ) → PostView
 written p rid value = record p { writes = with_value p.writes rid value }
@@ -203,7 +211,7 @@ abbrev pub in_phase : PostView → Phase → PostView
 in_phase p phase = record p { phase = phase }
 
 abbrev pub closed : PostView → PostView
-closed p = record p { phase = Idle; stamp = 0; reads = []; writes = [] }
+closed p = record p { phase = Idle; stamp = 0; reads = []; versions = []; writes = [] }
 
 -- the entry of the transaction
 abbrev pub entry_at : PostView → Entry
@@ -214,4 +222,4 @@ entered p = record p { log = p.log ++ entry_at p ∷ []; phase = Decided }
 
 -- what a conflict says of it
 abbrev pub IsShownAt : PostView → Conflict → Type 0
-IsShownAt p conflict = Shows p.shared.size p.seat p.others p.stamp p.reads p.writes conflict
+IsShownAt p conflict = Shows p.shared.size p.seat p.others p.stamp p.reads p.versions p.writes conflict

@@ -25,9 +25,14 @@ pub record FindsValue (stamp rid : ℕ) (before after' : Observed) (value : Opti
   pub wts : ℕ
   pub met : Met stamp rid wts (state_of value) (value_loaded value) before.loads after'.loads
 
+-- a record is read as this value, and noted so with the version that the search found
+pub record ReadsAs (rid : ℕ) (value : Option (List ℕ)) (before after' : PostView) : Type 0 where
+  pub found : FindsValue before.stamp rid before.observed after'.observed value
+  pub after : after' ≡ observing (noted before rid found.wts value) after'.observed
+
 -- A record is read, and one value is noted: that of the version that the search found, which is what the log of a seat that is alone leaves.
 pub record ReadsOne (rid : ℕ) (before after' : PostView) : Type 0 where
   pub value : Option (List ℕ)
-  pub after : after' ≡ observing (noted before rid value) after'.observed
-  pub found : FindsValue before.stamp rid before.observed after'.observed value
+  pub reads : ReadsAs rid value before after'
+  pub open reads use *
   pub left : IsAloneAt before.shared.size before.seat before.others → LeavesValue before.log rid before.stamp value

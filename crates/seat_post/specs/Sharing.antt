@@ -36,5 +36,6 @@ made_next p = record {
   phase = Idle;
   stamp = 0;
   reads = [];
+  versions = [];
   writes = [];
 }

@@ -16,7 +16,7 @@ impl<J: Keeps> Post<J> {
     pub fn retire(self, core: &Core<J>) -> Hand<J>
         requires core { self.shared ≡ core.now }
         requires idle { self.phase ≡ Phase.Idle }
-        ensures hand { post_view result Phase.Idle self.stamp self.reads self.writes ≡ record self { published = end_of_stamps; placed = []; snapshot = first_snapshot end_of_stamps } }
+        ensures hand { post_view result Phase.Idle self.stamp self.reads self.versions self.writes ≡ record self { published = end_of_stamps; placed = []; snapshot = first_snapshot end_of_stamps } }
         ensures done { IsDone result }
     {
         let Post {

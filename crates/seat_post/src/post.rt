@@ -59,7 +59,7 @@ impl<J> Post<J> {
         requires keeps_none { hand.view.counts.in_reserved ≡ nothing_reserved }
         requires ends { Ends hand.view.work }
         requires whole { hand.view.flight ≡ resting → AreAllWhole hand.view.work.reads }
-        ensures { result ≡ post_view hand Phase.Idle 0 [] [] }
+        ensures { result ≡ post_view hand Phase.Idle 0 [] [] [] }
     {
         hand.number();
         Post {

@@ -1,5 +1,5 @@
 //! Reading and writing at a post.
-ghost use Rattle.std.specs.Prelude.{ℕ, ◌≡◌, ◌≢◌, ◌<◌, List, [], ◌∷◌, ◌++◌, Option, None, Some, true, false, is_some, option_copied, IfOk, IfErr, IfSome, IfNone, OnOk, OnErr, length, if◌then◌else◌};
+ghost use Rattle.std.specs.Prelude.{ℕ, ◌≡◌, ◌≢◌, ◌<◌, List, [], ◌∷◌, ◌++◌, Option, None, Some, true, false, is_some, option_copied, IfOk, IfErr, IfSome, IfNone, OnOk, OnErr, length};
 ghost use Rattle.core_rule.specs.View.{Read, writing};
 ghost use Rattle.core_rule.specs.Deciding.{read_value};
 ghost use Rattle.core_rule.specs.Views.{Among};
@@ -9,12 +9,12 @@ ghost use Rattle.record_store.specs.Meaning.{value_at};
 ghost use Rattle.validate_core.specs.Validating.{Met, no_more};
 ghost use Rattle.validate_core.specs.declared.conflict.Conflict.TheVariants as conflict;
 ghost use Rattle.seat_post.specs.Observing.{Grows};
-ghost use Rattle.seat_post.specs.Post.{known_at, noted, observing};
+ghost use Rattle.seat_post.specs.Post.{known_at, observing};
 ghost use Rattle.seat_post.specs.Seats.{IsAloneAt};
 ghost use Rattle.seat_post.specs.Logs.{IsAbove};
 ghost use Rattle.seat_post.specs.Leaves.{LeavesValue, LeavesSome};
 ghost use Rattle.seat_post.specs.Conflicts.{IsOfAnother, IsLoaded};
-ghost use Rattle.seat_post.specs.Reading.{IfPending, FindsValue, ReadsOne};
+ghost use Rattle.seat_post.specs.Reading.{IfPending, ReadsAs, ReadsOne};
 ghost use Rattle.seat_post.specs.Searched.{FindsOne, Stops};
 
 use crate::phase::Phase;
@@ -152,10 +152,10 @@ impl<J: Keeps> Post<J> {
         requires open { self.old.phase ≡ Phase.Open }
         requires rid { rid < self.old.shared.size.records }
         requires first { known_at self.old rid ≡ None }
-        ensures ok { IfOk result (λ absent. self.new ≡ observing (if absent then noted self.old rid None else self.old) self.new.observed) }
         ensures grows { Grows self.old.observed self.new.observed }
         // Where it is absent, a deleted version was found; where it is present, its committed version was met.
-        ensures absent { IfOk result (λ absent. absent ≡ true → FindsValue self.old.stamp rid self.old.observed self.new.observed None) }
+        ensures absent { IfOk result (λ absent. absent ≡ true → ReadsAs rid None self.old self.new) }
+        ensures passed { IfOk result (λ absent. absent ≡ false → self.new ≡ observing self.old self.new.observed) }
         ensures present { IfOk result (λ absent. absent ≡ false → (wts : ℕ) × Met self.old.stamp rid wts 3 no_more self.old.observed.loads self.new.observed.loads) }
         ensures left { IsAloneAt self.old.shared.size self.old.seat self.old.others → IfOk result (λ absent. absent ≡ false → LeavesSome self.old.log rid self.old.stamp) }
         ensures err { OnErr result (self.new ≡ observing self.old self.new.observed) }

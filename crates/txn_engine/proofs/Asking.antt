@@ -1,7 +1,7 @@
 -- Asking for new record numbers.
 use Rattle.std.proofs.Common.{◌≡◌, ℕ, ◌<◌, ◌≤◌, ◌+◌, ◌-◌, zero, suc, true, false, Bool, ◌||◌, cond, List, [], ◌∷◌, ◌++◌, Option, None, Some, refl, sym, ap, subst, ◌∙◌, arith, length, remove, eqb, eq-eqb, inl, inr}
 use Rattle.std.proofs.lemmas.Bool.Decides.{eqb_tells}
-use Rattle.std.specs.Prelude.{IsSome, slice_get}
+use Rattle.std.specs.Prelude.{IsSome, is_some, slice_get}
 use Rattle.std.proofs.lemmas.Option.{slice_get_within}
 use Rattle.std.proofs.lemmas.List.Edits.{length-remove}
 use Rattle.rapid_gc.specs.Queues.{Waiting}
@@ -11,12 +11,14 @@ use Rattle.validate_core.specs.declared.conflict.Conflict.TheVariants.{Pending, 
 use Rattle.seat_post.specs.declared.phase.Phase.TheVariants.{Open}
 use Rattle.seat_post.specs.Seats.{Observed}
 use Rattle.txn_engine.specs.Pass.{PassView, observing}
-use Rattle.seat_post.specs.Post.{PostView, noted}
+use Rattle.seat_post.specs.Post as posts
+use Rattle.seat_post.specs.Post.{PostView, known_at}
+use Rattle.seat_post.specs.Reading.{ReadsAs}
 use Rattle.spare_numbers.specs.Spare.{NumbersView, is_on}
 use Rattle.txn_engine.specs.declared.faults.TxnFault.{TxnFault}
 use Rattle.txn_engine.specs.declared.faults.TxnFault.TheVariants as txn
 use Rattle.txn_engine.specs.Faults.{IfConflict, MeetsAt, MeetsAmong}
-use Rattle.txn_engine.specs.Fresh.{AreWritten, Asks}
+use Rattle.txn_engine.specs.Fresh.{AreWritten, read_absent, Asks}
 use Rattle.txn_engine.specs.declared.fresh.Asked.{Asked}
 use Rattle.txn_engine.specs.declared.fresh.Asked.TheVariants.{Next}
 use Rattle.txn_engine.specs.Inside.{IsPass}
@@ -25,9 +27,25 @@ use Rattle.txn_engine.proofs.Passes.{pass_noted}
 use Rattle.txn_engine.proofs.Accounting.{on_removed}
 
 -- a record was read, and noted where it is absent
-pub pass_asked : (p : PostView) (rid : ℕ) (absent : Bool) (q : Waiting) (n : NumbersView) (most : ℕ) (dead : Option Conflict) → IsPass p q n most dead → p.phase ≡ Open → IsPass (cond absent (noted p rid None) p) q n most dead
-pass_asked p rid true q n most dead is phase = pass_noted p (p.reads ++ (rid, None) ∷ []) p.writes q n most dead is phase is.room
-pass_asked p rid false q n most dead is phase = is
+pub pass_asked : (p p' : PostView) (rid : ℕ) (absent : Bool) (q : Waiting) (n : NumbersView) (most : ℕ) (dead : Option Conflict) → (absent ≡ true → ReadsAs rid None p p') → (absent ≡ false → p' ≡ posts.observing p p'.observed) → IsPass p q n most dead → p.phase ≡ Open → IsPass p' q n most dead
+pass_asked p p' rid true q n most dead reads passed is phase =
+    subst (λ (x : PostView). IsPass x q n most dead) (sym (reads refl).after) (pass_noted p (p.reads ++ (rid, None) ∷ []) p.writes q n most dead is phase is.room)
+pass_asked p p' rid false q n most dead reads passed is phase = subst (λ (x : PostView). IsPass x q n most dead) (sym (passed refl)) is
+
+-- what that makes of the pass
+pub asked_absent : (b : PassView) (p' : PostView) (rid : ℕ) (absent : Bool) → known_at b.post rid ≡ None → (absent ≡ true → ReadsAs rid None b.post p') → (absent ≡ false → p' ≡ posts.observing b.post p'.observed) → record b { post = p' } ≡ observing (cond absent (read_absent b rid p'.versions) b) p'.observed
+asked_absent b p' rid true none reads passed =
+    let r = reads refl in
+    let versions : p'.versions ≡ b.versions ++ (rid, r.found.wts) ∷ [] = ap (λ (x : PostView). x.versions) r.after in
+    ap (λ (x : PostView). record b { post = x }) r.after
+    ∙ ap (λ (vs : List (ℕ × ℕ)). record b { post = record b.post { observed = p'.observed; reads = b.reads ++ (rid, None) ∷ []; versions = vs } }) (sym versions)
+    ∙ sym (ap (λ (k : Option (Option (List ℕ))). record b { post = record b.post { observed = p'.observed; reads = cond (is_some k) b.reads (b.reads ++ (rid, None) ∷ []); versions = p'.versions } }) none)
+asked_absent b p' rid false none reads passed = ap (λ (x : PostView). record b { post = x }) (passed refl)
+
+-- and keeps of it
+pub asked_kept : {A : Type 0} (f : PassView → A) (b : PassView) (p' : PostView) (rid : ℕ) (absent : Bool) → known_at b.post rid ≡ None → (absent ≡ true → ReadsAs rid None b.post p') → (absent ≡ false → p' ≡ posts.observing b.post p'.observed) → ((o : Observed) (reads : List (ℕ × Option (List ℕ))) (versions : List (ℕ × ℕ)) → f (record b { post = record b.post { observed = o; reads = reads; versions = versions } }) ≡ f b) → f (record b { post = p' }) ≡ f b
+asked_kept f b p' rid true none reads passed kept = let r = reads refl in ap (λ (x : PostView). f (record b { post = x })) r.after ∙ kept p'.observed (b.reads ++ (rid, None) ∷ []) (b.versions ++ (rid, r.found.wts) ∷ [])
+asked_kept f b p' rid false none reads passed kept = ap (λ (x : PostView). f (record b { post = x })) (passed refl) ∙ kept p'.observed b.reads b.versions
 
 -- the number at this place is written, and so is each before the one behind it
 written_behind : (p : PassView) (i rid : ℕ) → slice_get p.spare i ≡ Some rid → IsSome (value_at p.writes rid) → AreWritten p i → AreWritten p (i + 1)

@@ -63,7 +63,7 @@ leaves_passed p q r i rid h at less unwritten later met = record {
   list = h.list ∙ passed_one h.numbers q.spare i rid at ∙ ap (λ (ys : List ℕ). (h.numbers ++ rid ∷ []) ++ ys) (sym (ap (drop i) less ∙ drop_removed q.spare i));
 }
 
-pub gives_first : (p q r : PassView) (i rid : ℕ) → HasPassed i p q → slice_get q.spare i ≡ Some rid → r.spare ≡ remove q.spare i → r.given ≡ p.given ++ rid ∷ [] → Grows q.observed r.observed → IsMetAbsent p rid q.observed r.observed → GivesFirst p r rid
+pub gives_first : (p q r : PassView) (i rid : ℕ) → HasPassed i p q → slice_get q.spare i ≡ Some rid → r.spare ≡ remove q.spare i → r.given ≡ p.given ++ rid ∷ [] → Grows q.observed r.observed → IsMetAbsent p rid r.versions q.observed r.observed → GivesFirst p r rid
 gives_first p q r i rid h at less given later absent = record {
   numbers = h.numbers;
   stayed = take i q.spare;
@@ -109,7 +109,7 @@ asks_passed p q r i rid next told same h at is later asks = elim (subst (λ (a :
 pub asks_given : (p q r : PassView) (i rid : ℕ) (told : Asked) → q ≡ observing (record p { spare = q.spare }) q.observed → HasPassed i p q → slice_get q.spare i ≡ Some rid → told ≡ Given → Grows q.observed r.observed → Asks i rid q r told → GivesFirst p r rid
 asks_given p q r i rid told same h at is later asks =
     let a = subst (λ (a : Asked). Asks i rid q r a) is asks in
-    gives_first p q r i rid h at (ap (λ (x : PassView). x.spare) a.1) (ap (λ (x : PassView). x.given) a.1 ∙ ap (λ (x : PassView). x.given ++ rid ∷ []) same) later (subst (λ (x : PassView). IsMetAbsent x rid q.observed r.observed) same a.2)
+    gives_first p q r i rid h at (ap (λ (x : PassView). x.spare) a.1) (ap (λ (x : PassView). x.given) a.1 ∙ ap (λ (x : PassView). x.given ++ rid ∷ []) same) later (subst (λ (x : PassView). IsMetAbsent x rid r.versions q.observed r.observed) same a.2)
 
 -- no memory for the number at this place, of which nothing is known
 pub wants_memory : (p q r : PassView) (i rid : ℕ) → q ≡ observing (record p { spare = q.spare }) q.observed → HasPassed i p q → slice_get q.spare i ≡ Some rid → known_at q.post rid ≡ None → r ≡ q → WantsMemory p r

@@ -1,5 +1,5 @@
 -- How a transaction asks for a new record number.
-use Rattle.std.specs.Prelude.{◌≡◌, ◌⊎◌, ℕ, ◌<◌, ◌+◌, List, ◌∷◌, ◌++◌, [], None, Some, IsSome, slice_get, remove}
+use Rattle.std.specs.Prelude.{◌≡◌, ◌⊎◌, ℕ, ◌<◌, ◌+◌, List, ◌∷◌, ◌++◌, [], Option, None, Some, IsSome, slice_get, remove}
 use Rattle.record_store.specs.Meaning.{value_at, after_read}
 use Rattle.record_store.specs.Store.{IsFresh}
 use Rattle.txn_engine.specs.declared.fresh.Asked.{Asked}
@@ -11,21 +11,29 @@ use Rattle.seat_post.specs.Reading.{FindsValue}
 use Rattle.seat_post.specs.Seats.{Observed}
 use Rattle.txn_engine.specs.Pass.{PassView, store_of, observing}
 
--- the record was read as absent, if it was not read before
-abbrev pub read_absent : PassView → ℕ → PassView
-read_absent p rid = record p { post = record p.post { reads = (after_read (store_of p) rid None).reads } }
+-- the record was read as absent, if it was not read before, and these are the versions read
+abbrev pub read_absent : PassView → (rid : ℕ) → List (ℕ × ℕ) → PassView
+read_absent p rid versions = record p { post = record p.post { reads = (after_read (store_of p) rid None).reads; versions = versions } }
 
 -- the spare number at this place is given out
-abbrev pub given_out : PassView → (i rid : ℕ) → PassView
-given_out p i rid = record (read_absent p rid) { spare = remove p.spare i; given = p.given ++ rid ∷ [] }
+abbrev pub given_out : PassView → (i rid : ℕ) → List (ℕ × ℕ) → PassView
+given_out p i rid versions = record (read_absent p rid versions) { spare = remove p.spare i; given = p.given ++ rid ∷ [] }
 
 -- the transaction writes each spare number before this place
 abbrev pub AreWritten : PassView → ℕ → Type 0
 AreWritten p i = (k rid : ℕ) → k < i → slice_get p.spare k ≡ Some rid → IsSome (value_at p.writes rid)
 
--- the record was known to be absent, or a search between the two found it so; to be present, or loads led to its committed version
-abbrev pub IsMetAbsent : PassView → ℕ → (before after' : Observed) → Type 0
-IsMetAbsent p rid before after' = (known_at p.post rid ≡ Some None) ⊎ FindsValue p.stamp rid before after' None
+-- a search between the two found this value of the record, and the version that it found stands behind those that were read before
+abbrev pub NotesFound : PassView → (rid : ℕ) → Option (List ℕ) → (versions : List (ℕ × ℕ)) → (before after' : Observed) → Type 0
+NotesFound p rid value versions before after' = (found : FindsValue p.stamp rid before after' value) × (versions ≡ p.versions ++ (rid, found.wts) ∷ [])
+
+-- the record was known to be absent, and no version is noted; or nothing was known of it, and a search found it so
+abbrev pub IsMetAbsent : PassView → (rid : ℕ) → (versions : List (ℕ × ℕ)) → (before after' : Observed) → Type 0
+IsMetAbsent p rid versions before after' =
+    ((known_at p.post rid ≡ Some None) × (versions ≡ p.versions))
+    ⊎ ((known_at p.post rid ≡ None) × NotesFound p rid None versions before after')
+
+-- it was known to be present, or loads led to its committed version
 
 abbrev pub IsMetPresent : PassView → ℕ → (before after' : Observed) → Type 0
 IsMetPresent p rid before after' = ((words : List ℕ) × (known_at p.post rid ≡ Some (Some words))) ⊎ ((wts : ℕ) × Met p.stamp rid wts 3 no_more before.loads after'.loads)
@@ -47,7 +55,7 @@ pub record GivesFirst (before after' : PassView) (rid : ℕ) : Type 0 where
   pub between : Observed
   pub over : PassesOver before numbers stayed before.observed between
   pub later : Grows between after'.observed
-  pub absent : IsMetAbsent before rid between after'.observed
+  pub absent : IsMetAbsent before rid after'.versions between after'.observed
   pub spare : after'.spare ≡ stayed ++ behind
   pub given : after'.given ≡ before.given ++ rid ∷ []
 
@@ -87,5 +95,5 @@ Strikes i rid before after' next = (after' ≡ observing (record before { spare 
 
 -- what asking for the number at this place makes of the pass: it is given out, or the next one is to be asked for
 abbrev pub Asks : (i rid : ℕ) (before after' : PassView) → Asked → Type 0
-Asks i rid before after' Given = IsFresh (store_of before) rid × (after' ≡ observing (given_out before i rid) after'.observed) × IsMetAbsent before rid before.observed after'.observed
+Asks i rid before after' Given = IsFresh (store_of before) rid × (after' ≡ observing (given_out before i rid after'.versions) after'.observed) × IsMetAbsent before rid after'.versions before.observed after'.observed
 Asks i rid before after' (Next next) = Passes i rid before after' next ⊎ Strikes i rid before after' next

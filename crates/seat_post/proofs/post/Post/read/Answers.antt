@@ -67,10 +67,12 @@ returns-clause-ok g c =
     let flight = (is_open _ _ _ _ phase c.self.invariant).at.begun.in_flight in
     record {
       value = l.value;
-      after =
-          view_noted i.hand c.note.new.hand i.phase i.stamp _ c.args.rid l.place l.wts l.value c.reserve.new.self c.note.new.sets c.note.ensures.stays.seat.same_table l.finds flight l.reads c.note.ensures.writes
-          ∙ ap (λ (p : PostView). observing (noted p c.args.rid l.value) after) (view_room i.hand i.phase i.stamp i.sets c.reserve.new.self r.reads r.writes ∙ c.self.view_is);
-      found = found_value i.hand c.note.new.hand i.phase i.stamp c.args.rid l.place l.wts l.value i.sets c.args.self.now c.self.invariant c.self.view_is c.requires.open l.finds;
+      reads = record {
+        found = found_value i.hand c.note.new.hand i.phase i.stamp c.args.rid l.place l.wts l.value i.sets c.args.self.now c.self.invariant c.self.view_is c.requires.open l.finds;
+        after =
+            view_noted i.hand c.note.new.hand i.phase i.stamp _ c.args.rid l.place l.wts l.value c.reserve.new.self c.note.new.sets c.note.ensures.stays.seat.same_table l.finds flight l.reads c.note.ensures.writes
+            ∙ ap (λ (p : PostView). observing (noted p c.args.rid l.wts l.value) after) (view_room i.hand i.phase i.stamp i.sets c.reserve.new.self r.reads r.writes ∙ c.self.view_is);
+      };
       left = found_left i.hand c.note.new.hand i.phase i.stamp c.args.rid l.place l.wts l.value i.sets c.args.self.now c.self.invariant c.self.view_is c.requires.open l.finds;
     }
 

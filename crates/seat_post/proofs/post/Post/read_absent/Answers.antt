@@ -3,7 +3,6 @@ use Rattle.core_rule.specs.View.{writing}
 use Rattle.core_rule.specs.Deciding.{read_values}
 use Rattle.record_store.specs.Meaning.{value_at}
 use Rattle.seat_post.specs.Conflicts.{IsOfAnother}
-use Rattle.seat_post.specs.Reading.{FindsValue}
 use Rattle.seat_post.specs.Searched.{Finds}
 use Rattle.seat_post.specs.Post.{PostView, noted, observing, observed_in}
 use Rattle.seat_post.proofs.Listed.{unread}
@@ -70,25 +69,14 @@ returns-in-Err-clause-met g c =
     let met = met_at i.hand c.search.new.hand i.stamp c.args.rid c.in-Err.met.wts (rw c.number.ensures.value at c.in-Err.ensures.err) c.self.invariant.ready.hand_of.in_range in
     subst (λ (p : PostView). (c.in-Err.met.wts < p.stamp) × IsOfAnother p.shared.size p.seat p.others c.in-Err.met.wts) c.self.view_is met
 
-pub returns-then-is_some-clause-ok : goal.returns-then-is_some-clause-ok
-returns-then-is_some-clause-ok g c =
+pub returns-then-is_some-clause-passed : goal.returns-then-is_some-clause-passed
+returns-then-is_some-clause-passed g c = λ off.
     let i = c.self.inside in
     let r = c.reserve.ensures in
     let phase = ap (λ (p : PostView). p.phase) c.self.view_is ∙ c.requires.open in
     let flight = (is_open _ _ _ _ phase c.self.invariant).at.begun.in_flight in
     view_found i.hand c.search.new.hand i.phase i.stamp _ _ _ _ _ c.reserve.new.self c.search.ensures.stays.seat.same_table c.in-Ok.ensures.ok flight
     ∙ ap (λ (p : PostView). observing p (observed_in c.search.new.hand)) (view_room i.hand i.phase i.stamp i.sets c.reserve.new.self r.reads r.writes ∙ c.self.view_is)
-
-pub returns-else-is_some-clause-ok : goal.returns-else-is_some-clause-ok
-returns-else-is_some-clause-ok g c =
-    let i = c.self.inside in
-    let r = c.reserve.ensures in
-    let phase = ap (λ (p : PostView). p.phase) c.self.view_is ∙ c.requires.open in
-    let flight = (is_open _ _ _ _ phase c.self.invariant).at.begun.in_flight in
-    let none : c.in-Ok.read.value ≡ None = none_of c.in-Ok.read.value (sym c.is_some.ensures ∙ c.if-is_some.false) in
-    let finds = subst (λ (x : Option (List ℕ)). Finds c.args.rid c.in-Ok.read.place c.in-Ok.read.wts x i.hand.view c.search.new.hand.view) none c.in-Ok.ensures.ok in
-    view_noted i.hand c.search.new.hand i.phase i.stamp _ c.args.rid _ _ None c.reserve.new.self c.read.new.self c.search.ensures.stays.seat.same_table finds flight c.read.ensures.reads c.read.ensures.writes
-    ∙ ap (λ (p : PostView). observing (noted p c.args.rid None) (observed_in c.search.new.hand)) (view_room i.hand i.phase i.stamp i.sets c.reserve.new.self r.reads r.writes ∙ c.self.view_is)
 
 pub returns-then-is_some-clause-left : goal.returns-then-is_some-clause-left
 returns-then-is_some-clause-left g c = λ on off.
@@ -127,9 +115,18 @@ returns-then-is_some-clause-present g c = λ off.
 pub returns-else-is_some-clause-absent : goal.returns-else-is_some-clause-absent
 returns-else-is_some-clause-absent g c = λ on.
     let i = c.self.inside in
+    let r = c.reserve.ensures in
+    let phase = ap (λ (p : PostView). p.phase) c.self.view_is ∙ c.requires.open in
+    let flight = (is_open _ _ _ _ phase c.self.invariant).at.begun.in_flight in
+    let wts = c.in-Ok.read.wts in
     let none : c.in-Ok.read.value ≡ None = none_of c.in-Ok.read.value (sym c.is_some.ensures ∙ c.if-is_some.false) in
-    let found = found_value i.hand c.search.new.hand i.phase i.stamp c.args.rid _ _ _ i.sets c.args.self.now c.self.invariant c.self.view_is c.requires.open c.in-Ok.ensures.ok in
-    subst (λ (x : Option (List ℕ)). FindsValue c.args.self.now.stamp c.args.rid c.args.self.now.observed (observed_in c.search.new.hand) x) none found
+    let finds = subst (λ (x : Option (List ℕ)). Finds c.args.rid c.in-Ok.read.place wts x i.hand.view c.search.new.hand.view) none c.in-Ok.ensures.ok in
+    record {
+      found = found_value i.hand c.search.new.hand i.phase i.stamp c.args.rid c.in-Ok.read.place wts None i.sets c.args.self.now c.self.invariant c.self.view_is c.requires.open finds;
+      after =
+          view_noted i.hand c.search.new.hand i.phase i.stamp _ c.args.rid _ wts None c.reserve.new.self c.read.new.self c.search.ensures.stays.seat.same_table finds flight c.read.ensures.reads c.read.ensures.writes
+          ∙ ap (λ (p : PostView). observing (noted p c.args.rid wts None) (observed_in c.search.new.hand)) (view_room i.hand i.phase i.stamp i.sets c.reserve.new.self r.reads r.writes ∙ c.self.view_is);
+    }
 
 pub returns-in_err-reserve-clause-grows : goal.returns-in_err-reserve-clause-grows
 returns-in_err-reserve-clause-grows g c = let i = c.self.inside in post_grows i.hand i.hand i.phase i.stamp i.sets c.args.self.now c.self.view_is (grows_none i.hand.view.seen)

@@ -6,8 +6,8 @@ use Rattle.txn_engine.specs.Accounts.{accounted}
 use Rattle.seat_post.specs.Leaves.{LeavesValue}
 use Rattle.seat_post.specs.Observing.{Grows}
 use Rattle.seat_post.specs.Post.{PostView, known_at, noted, observing}
-use Rattle.seat_post.specs.Reading.{FindsValue}
-use Rattle.txn_engine.proofs.Passes.{pass_noted, none_found, known_written, known_unwritten, known_noted}
+use Rattle.txn_engine.specs.Fresh.{NotesFound}
+use Rattle.txn_engine.proofs.Passes.{none_found, known_written, known_unwritten, known_noted}
 use Rattle.txn_engine.proofs.Growing.{grows_same}
 use Rattle.txn_engine.proofs.at_pass.PassSeatCalls.read.Goals as goal
 
@@ -88,14 +88,14 @@ returns-clause-reads g c =
     let unknown : known_at p c.args.rid ≡ None = known_unwritten p c.args.rid unwritten ∙ unread in
     let unknown_there : known_at b.post c.args.rid ≡ None = sym (ap (λ (x : PassView). known_at x.post c.args.rid) c.self.view_is) ∙ unknown in
     let value : c.last_read.result ≡ r.value = c.last_read.ensures b.reads c.args.rid r.value (ap (λ (x : PassView). x.reads) c.self-2.view_is ∙ ap (λ (x : PostView). x.reads) r.after) in
-    let is : c.note.new.self ≡ record b { post = observing (noted b.post c.args.rid c.last_read.result) c.note.new.self.post.observed } =
-    n.ok ∙ ap (λ (x : PostView). record b { post = x }) r.after ∙ ap (λ (v : Option (List ℕ)). record b { post = observing (noted b.post c.args.rid v) c.note.new.self.post.observed }) (sym value) in
+    let is : c.note.new.self ≡ record b { post = observing (noted b.post c.args.rid r.found.wts c.last_read.result) c.note.new.self.post.observed } =
+    n.ok ∙ ap (λ (x : PostView). record b { post = x }) r.after ∙ ap (λ (v : Option (List ℕ)). record b { post = observing (noted b.post c.args.rid r.found.wts v) c.note.new.self.post.observed }) (sym value) in
     record {
       ok =
           ap store_of is
           ∙ sym (ap (λ (k : Option (Option (List ℕ))). record (store_of b) { reads = if is_some k then b.reads else b.reads ++ (c.args.rid, c.last_read.result) ∷ [] }) unknown_there)
           ∙ ap (λ (x : PassView). after_read (store_of x) c.args.rid c.last_read.result) begun;
-      answered = ap (λ (x : PostView). known_at x c.args.rid) r.after ∙ known_noted b.post c.args.rid r.value unknown_there ∙ ap Some (sym value);
+      answered = ap (λ (x : PostView). known_at x c.args.rid) r.after ∙ known_noted b.post c.args.rid r.found.wts r.value unknown_there ∙ ap Some (sym value);
       err = search rules;
       spare = ap (λ (x : PassView). x.spare) (n.ok ∙ ap (λ (x : PassView). record x { post = c.note.new.self.post }) begun);
       stays = record {
@@ -107,7 +107,7 @@ returns-clause-reads g c =
       meets = search rules;
       never = search rules;
       left = λ alone unwritten. rw value (subst (λ (x : PassView). LeavesValue x.log c.args.rid x.stamp r.value) begun (r.left (subst (λ (x : PassView). IsAlone x) (sym begun) alone)));
-      found = λ none. rw value (subst (λ (x : PassView). FindsValue x.stamp c.args.rid x.observed c.note.new.self.observed r.value) begun r.found);
+      found = λ none. rw value (subst (λ (x : PassView). NotesFound x c.args.rid r.value c.note.new.self.versions x.observed c.note.new.self.observed) begun (r.found, ap (λ (x : PostView). x.versions) r.after));
       again = λ alive. rw (sym (ap (λ (x : PassView). known_at x.post c.args.rid) begun) ∙ unknown_there) tt;
       no_memory = search rules;
     }

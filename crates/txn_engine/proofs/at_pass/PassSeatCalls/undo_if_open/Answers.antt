@@ -24,9 +24,10 @@ returns-in-Open-clause-undoes g c =
     record {
       meaning = search rules;
       spare = search rules;
+      versions = search rules;
       noted = search rules;
       stays = record { same_frame = search rules; same_accounts = accounts; grows = grows_same c.args.self.now.observed c.drop_writes.new.self.observed (ap (λ (x : PostView). x.observed) c.drop_writes.ensures ∙ ap (λ (x : PassView). x.observed) c.self.view_is) };
     }
 
 pub returns-in_default-clause-undoes : goal.returns-in_default-clause-undoes
-returns-in_default-clause-undoes g c = record { meaning = search rules; spare = search rules; noted = refl; stays = record { same_frame = refl; same_accounts = refl; grows = grows_none c.args.self.now.observed } }
+returns-in_default-clause-undoes g c = record { meaning = search rules; spare = search rules; versions = refl; noted = refl; stays = record { same_frame = refl; same_accounts = refl; grows = grows_none c.args.self.now.observed } }

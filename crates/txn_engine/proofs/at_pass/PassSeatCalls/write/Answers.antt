@@ -30,6 +30,7 @@ returns-in_err-stopped-clause-writes g c =
       ok = search rules;
       err = search rules;
       spare = search rules;
+      versions = search rules;
       stays = record { same_frame = search rules; same_accounts = search rules; grows = grows_same c.args.self.now.observed c.stopped.new.self.observed (ap (λ (x : PassView). x.observed) c.in_err-stopped.ensures.err) };
       refuses = search rules;
       alive = search rules;
@@ -43,6 +44,7 @@ returns-in_err-reserve-clause-writes g c =
       ok = search rules;
       err = search rules;
       spare = search rules;
+      versions = search rules;
       stays = record { same_frame = search rules; same_accounts = search rules; grows = grows_same c.args.self.now.observed c.self.inside.post.observed (ap (λ (x : PassView). x.observed) (c.self.view_is ∙ c.in_ok-stopped.ensures.ok.0)) };
       refuses = search rules;
       alive = search rules;
@@ -56,6 +58,7 @@ returns-in_err-write-clause-writes g c =
       ok = search rules;
       err = search rules;
       spare = search rules;
+      versions = search rules;
       stays = record { same_frame = search rules; same_accounts = search rules; grows = grows_same c.args.self.now.observed c.write.new.self.observed (ap (λ (x : PostView). x.observed) c.in_err-write.ensures.err ∙ ap (λ (x : PassView). x.observed) (c.self.view_is ∙ c.in_ok-stopped.ensures.ok.0)) };
       refuses = search rules;
       alive = search rules;
@@ -72,6 +75,7 @@ returns-clause-writes g c =
       ok = search rules;
       err = search rules;
       spare = search rules;
+      versions = search rules;
       stays = record { same_frame = search rules; same_accounts = accounts; grows = grows_same c.args.self.now.observed c.write.new.self.observed (ap (λ (x : PostView). x.observed) c.in_ok-write.ensures.ok ∙ ap (λ (x : PassView). x.observed) (c.self.view_is ∙ c.in_ok-stopped.ensures.ok.0)) };
       refuses = search rules;
       alive = search rules;

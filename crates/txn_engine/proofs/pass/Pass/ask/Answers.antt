@@ -1,12 +1,14 @@
-use Rattle.std.proofs.Common.{◌≡◌, ◌<◌, ◌++◌, ◌∷◌, [], false, Option, None, Some, ap, ◌∙◌, sym, subst, refl, length, remove, inl, inr}
-use Rattle.std.specs.Prelude.{IsSome, is_some}
+use Rattle.std.proofs.Common.{◌≡◌, ◌<◌, ◌++◌, ◌∷◌, [], false, List, ℕ, Option, None, Some, ap, ◌∙◌, sym, subst, refl, length, remove, inl, inr, arith, rules}
+use Rattle.std.specs.Prelude.{IsSome, is_some, slice_get}
+use Rattle.std.proofs.lemmas.Grind.{common_steps}
 use Rattle.std.proofs.lemmas.Option.{slice_get_within}
 use Rattle.record_store.specs.Meaning.{value_at}
-use Rattle.txn_engine.specs.Pass.{PassView, observing}
+use Rattle.record_store.specs.Store.{IsFresh}
+use Rattle.txn_engine.specs.Pass.{PassView, store_of, observing}
 use Rattle.txn_engine.specs.Inside.{pass_view}
 use Rattle.seat_post.specs.Seats.{Observed}
 use Rattle.spare_numbers.specs.Spare.{NumbersView}
-use Rattle.txn_engine.specs.Fresh.{IsMetPresent}
+use Rattle.txn_engine.specs.Fresh.{read_absent, IsMetAbsent, IsMetPresent}
 use Rattle.txn_engine.specs.Accounts.{accounted}
 use Rattle.txn_engine.proofs.Accounting.{accounted_given, accounted_struck}
 use Rattle.txn_engine.proofs.Growing.{observing_own, grows_none}
@@ -20,6 +22,24 @@ pub returns-then-is_written-clause-ok : goal.returns-then-is_written-clause-ok
 returns-then-is_written-clause-ok g c =
     let some : IsSome (value_at c.args.self.now.writes c.args.rid) = ap (λ (x : PassView). is_some (value_at x.writes c.args.rid)) (sym c.self.view_is) ∙ sym c.is_written.ensures ∙ c.if-is_written.true in
     inl (refl, some, refl)
+
+pub returns-then-branch-clause-ok : goal.returns-then-branch-clause-ok
+returns-then-branch-clause-ok g c =
+    let a = c.args.self.now in
+    let rid = c.args.rid in
+    let i = c.self-2.inside in
+    let p = pass_view i.post i.boost i.queue i.numbers i.refusals i.commits i.dead i.counted in
+    let fresh : IsFresh (store_of a) rid = first_of (search rules, grind (arith, common_steps)) in
+    let noted : c.is_absent.new.self ≡ observing (read_absent a rid c.is_absent.new.self.versions) c.is_absent.new.self.observed = rw c.if-branch.true at c.in_ok-is_absent.ensures.ok in
+    let here : p ≡ observing (read_absent a rid p.versions) p.observed = subst (λ (x : PassView). x ≡ observing (read_absent a rid x.versions) x.observed) (sym c.self-2.view_is) noted in
+    let found : Some c.give.result ≡ Some rid = sym c.give.ensures.value ∙ ap (λ (xs : List ℕ). slice_get xs c.args.i) (ap (λ (x : PassView). x.spare) c.self-2.view_is ∙ c.is_absent.ensures.spare) ∙ c.requires.at in
+    let same : c.give.result ≡ rid = cc in (
+      fresh,
+      ap (λ (n : NumbersView). pass_view i.post i.boost i.queue n i.refusals i.commits i.dead i.counted) c.give.ensures.after
+          ∙ ap (λ (r : ℕ). record p { spare = remove p.spare c.args.i; given = p.given ++ r ∷ [] }) same
+          ∙ ap (λ (x : PassView). record x { spare = remove x.spare c.args.i; given = x.given ++ rid ∷ [] }) here,
+      subst (λ (x : PassView). IsMetAbsent a rid x.versions a.observed x.observed) (sym c.self-2.view_is) (c.in_ok-is_absent.ensures.met_absent c.if-branch.true),
+    )
 
 pub give-requires : goal.give-requires
 give-requires g c =

@@ -1,14 +1,16 @@
-use Rattle.std.proofs.Common.{◌≡◌, ℕ, false, List, Option, None, Some, inl, inr, not, sym, subst, ap, ◌∙◌}
+use Rattle.std.proofs.Common.{◌≡◌, ℕ, false, List, Option, None, Some, cond, inl, inr, not, refl, sym, subst, ap, ◌∙◌}
 use Rattle.std.specs.Prelude.{is_some}
 use Rattle.record_store.specs.Meaning.{value_at}
-use Rattle.txn_engine.specs.Pass.{PassView, IsAlone}
+use Rattle.txn_engine.specs.Pass.{PassView, IsAlone, observing}
+use Rattle.txn_engine.specs.Accounts.{accounted}
+use Rattle.txn_engine.specs.Fresh.{read_absent, NotesFound}
+use Rattle.txn_engine.specs.Inside.{pass_view}
 use Rattle.seat_post.specs.Leaves.{LeavesValue, LeavesSome, IsPresent}
 use Rattle.validate_core.specs.Validating.{Met, no_more}
-use Rattle.seat_post.specs.Post.{known_at}
-use Rattle.seat_post.specs.Reading.{FindsValue}
+use Rattle.seat_post.specs.Post.{PostView, known_at}
 use Rattle.seat_post.proofs.Leaving.{some_words, present_all}
-use Rattle.txn_engine.proofs.Asking.{pass_asked}
-use Rattle.txn_engine.proofs.Passes.{known_unwritten}
+use Rattle.txn_engine.proofs.Asking.{pass_asked, asked_absent, asked_kept}
+use Rattle.txn_engine.proofs.Passes.{none_found, known_unwritten}
 use Rattle.txn_engine.proofs.Growing.{grows_none}
 use Rattle.txn_engine.proofs.pass.Pass.is_absent.Goals as goal
 
@@ -16,7 +18,7 @@ pub invariant_of-self : goal.invariant_of-self
 invariant_of-self g c =
     let phase = ap (λ (x : PassView). x.phase) c.self.view_is ∙ c.requires.open in
     let i = c.self.inside in
-    rw c.in-Ok.ensures.ok (pass_asked i.post c.args.rid c.in-Ok.absent i.queue i.numbers _ _ c.self.invariant phase)
+    pass_asked i.post c.read_absent.new.self c.args.rid c.in-Ok.absent i.queue i.numbers _ _ c.in-Ok.ensures.absent c.in-Ok.ensures.passed c.self.invariant phase
 
 pub returns-in-Some-clause-present : goal.returns-in-Some-clause-present
 returns-in-Some-clause-present g c = λ alone off.
@@ -51,7 +53,7 @@ pub returns-in-Some-clause-met_absent : goal.returns-in-Some-clause-met_absent
 returns-in-Some-clause-met_absent g c = λ on.
     let unwritten = ap (λ (x : PassView). value_at x.writes c.args.rid) c.self.view_is ∙ c.requires.unwritten in
     let known : known_at c.self.inside.post c.args.rid ≡ Some c.value.result = known_unwritten c.self.inside.post c.args.rid unwritten ∙ c.in-Some.ensures.found ∙ ap Some (sym c.value.ensures.value) in
-    inl (subst (λ (x : PassView). known_at x.post c.args.rid ≡ Some None) c.self.view_is (known ∙ ap Some (no_words c.value.result (c.is_none.ensures ∙ ap not on))))
+    inl (subst (λ (x : PassView). known_at x.post c.args.rid ≡ Some None) c.self.view_is (known ∙ ap Some (no_words c.value.result (c.is_none.ensures ∙ ap not on))), refl)
 
 pub returns-in-Some-clause-met_present : goal.returns-in-Some-clause-met_present
 returns-in-Some-clause-met_present g c = λ off.
@@ -60,9 +62,36 @@ returns-in-Some-clause-met_present g c = λ off.
     let w = some_words c.value.result (c.is_none.ensures ∙ ap not off) in
     inl (w.0, subst (λ (x : PassView). known_at x.post c.args.rid ≡ Some (Some w.0)) c.self.view_is (known ∙ ap Some w.1))
 
+pub returns-in-Ok-clause-ok : goal.returns-in-Ok-clause-ok
+returns-in-Ok-clause-ok g c =
+    let i = c.self.inside in
+    let unwritten = ap (λ (x : PassView). value_at x.writes c.args.rid) c.self.view_is ∙ c.requires.unwritten in
+    let unread : value_at i.post.reads c.args.rid ≡ None = rw (none_found c.version_read.result c.in_default.not-Some) at c.version_read.ensures.none in
+    let q = c.read_absent.new.self in
+    let b = pass_view i.post i.boost i.queue i.numbers i.refusals i.commits i.dead i.counted in
+    subst (λ (x : PassView). record b { post = q } ≡ observing (cond c.in-Ok.absent (read_absent x c.args.rid q.versions) x) q.observed) c.self.view_is
+    (asked_absent b q c.args.rid c.in-Ok.absent (known_unwritten i.post c.args.rid unwritten ∙ unread) c.in-Ok.ensures.absent c.in-Ok.ensures.passed)
+
+pub returns-in-Ok-clause-accounts : goal.returns-in-Ok-clause-accounts
+returns-in-Ok-clause-accounts g c =
+    let i = c.self.inside in
+    let unwritten = ap (λ (x : PassView). value_at x.writes c.args.rid) c.self.view_is ∙ c.requires.unwritten in
+    let unread : value_at i.post.reads c.args.rid ≡ None = rw (none_found c.version_read.result c.in_default.not-Some) at c.version_read.ensures.none in
+    asked_kept accounted (pass_view i.post i.boost i.queue i.numbers i.refusals i.commits i.dead i.counted) c.read_absent.new.self c.args.rid c.in-Ok.absent (known_unwritten i.post c.args.rid unwritten ∙ unread) c.in-Ok.ensures.absent c.in-Ok.ensures.passed (λ o reads versions. refl)
+    ∙ ap accounted c.self.view_is
+
 pub returns-in-Ok-clause-met_absent : goal.returns-in-Ok-clause-met_absent
 returns-in-Ok-clause-met_absent g c = λ on.
-    inr (subst (λ (x : PassView). FindsValue x.stamp c.args.rid x.observed c.read_absent.new.self.observed None) c.self.view_is (c.in-Ok.ensures.absent on))
+    let i = c.self.inside in
+    let unwritten = ap (λ (x : PassView). value_at x.writes c.args.rid) c.self.view_is ∙ c.requires.unwritten in
+    let unread : value_at i.post.reads c.args.rid ≡ None = rw (none_found c.version_read.result c.in_default.not-Some) at c.version_read.ensures.none in
+    let unknown : known_at i.post c.args.rid ≡ None = known_unwritten i.post c.args.rid unwritten ∙ unread in
+    let q = c.read_absent.new.self in
+    let r = c.in-Ok.ensures.absent on in
+    inr (
+      subst (λ (x : PassView). known_at x.post c.args.rid ≡ None) c.self.view_is unknown,
+      subst (λ (x : PassView). NotesFound x c.args.rid None q.versions x.observed q.observed) c.self.view_is (r.found, ap (λ (x : PostView). x.versions) r.after),
+    )
 
 pub returns-in-Ok-clause-met_present : goal.returns-in-Ok-clause-met_present
 returns-in-Ok-clause-met_present g c = λ off.

@@ -1,6 +1,6 @@
 -- The spare record numbers of a pass.
 use Rattle.std.specs.Prelude.{◌≡◌, ℕ, zero, suc, ◌+◌, ◌-◌, Bool, true, false, nat_eq, ◌==◌, ◌&&◌, ◌≤◌, ◌<◌, nat_le, not, if◌then◌else◌, List, [], ◌∷◌, ◌++◌, Option, None, Some, filter, length, slice_index_or}
-use Rattle.std.specs.List.{list_any, IsDistinct}
+use Rattle.std.specs.List.{list_any, range_with_len, IsDistinct}
 use Rattle.record_store.specs.Meaning.{value_at}
 
 -- the number is on the list
@@ -61,6 +61,10 @@ pub record IsNumbers (fixed records taken : ℕ) (items : List ℕ) (room : ℕ)
 -- none of them
 abbrev pub no_numbers : (fixed records : ℕ) → NumbersView
 no_numbers fixed records = record { fixed = fixed; records = records; spare = []; given = [] }
+
+-- all numbers from `fixed` on
+abbrev pub all_numbers : (fixed records : ℕ) → NumbersView
+all_numbers fixed records = record { fixed = fixed; records = records; spare = range_with_len fixed (records - fixed); given = [] }
 
 -- each of these numbers at the end of the list, where it is not on it
 abbrev pub with_all : List ℕ → List ℕ → List ℕ

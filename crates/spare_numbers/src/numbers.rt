@@ -1,7 +1,7 @@
 //! The list of the spare record numbers of a pass.
 ghost use Rattle.std.specs.Prelude.{◌≡◌, ◌≢◌, ◌<◌, ◌≤◌, ◌-◌, ◌++◌, ◌∷◌, [], false, IfOk, IfSome, length, nat_eq, slice_get, slice_index_or, remove, Some};
 ghost use Rattle.std.specs.List.{range_with_len, IsDistinct};
-ghost use Rattle.spare_numbers.specs.Spare.{no_numbers, is_on, NumbersView, added};
+ghost use Rattle.spare_numbers.specs.Spare.{no_numbers, all_numbers, is_on, NumbersView, added};
 
 use plain_data::NoMemory;
 use std::alloc::Global;
@@ -64,7 +64,7 @@ impl Numbers {
     /// All numbers from `fixed` on, and room for all that a list may ever have.
     pub fn new(alloc: Global, fixed: u32, records: u32) -> Result<Self, NoMemory>
         requires { fixed ≤ records }
-        ensures { IfOk result (λ numbers. numbers ≡ record { fixed = fixed; records = records; spare = range_with_len fixed (records - fixed); given = [] }) }
+        ensures { IfOk result (λ numbers. numbers ≡ all_numbers fixed records) }
     {
         let mut numbers = Numbers::empty(alloc, fixed, records)?;
         for rid in fixed..records {

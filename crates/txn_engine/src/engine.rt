@@ -7,7 +7,7 @@ ghost use Rattle.txn_engine.specs.Lists.{IsTidy, IsRoomy};
 
 use crate::alone::Alone;
 use crate::faults::StartFault;
-use crate::parts::Parts;
+use crate::parts::{Part, Parts};
 use crate::pass::Pass;
 use core_rule::{Core, Keeps};
 use std::alloc::Global;
@@ -58,9 +58,10 @@ impl<J: Keeps> Engine<J> {
         if fixed > records {
             return Err(StartFault::Limit);
         }
-        let (core, hand) = Core::new(alloc, &layout)?;
-        let pass = Pass::first(alloc, hand, fixed, records)?;
+        let part = Part::first(alloc, fixed, records)?;
         let parts = Parts::new(alloc, seats, fixed, records)?;
+        let (core, hand) = Core::new(alloc, &layout)?;
+        let pass = Pass::first(alloc, hand, part);
         Ok((Engine { core, fixed }, Alone::first(pass, parts)))
     }
 

@@ -1,7 +1,7 @@
 //! What the passes are made of that a share gives.
-ghost use Rattle.std.specs.Prelude.{◌≡◌, ◌<◌, IfOk};
+ghost use Rattle.std.specs.Prelude.{◌≡◌, ◌<◌, ◌≤◌, IfOk};
 ghost use Rattle.txn_engine.specs.Alone.{HasParts};
-ghost use Rattle.spare_numbers.specs.Spare.{no_numbers};
+ghost use Rattle.spare_numbers.specs.Spare.{no_numbers, all_numbers};
 
 use crate::pass::Pass;
 use plain_data::NoMemory;
@@ -31,6 +31,16 @@ impl Part {
         ensures { IfOk result (λ part. part ≡ no_numbers fixed records) }
     {
         let numbers = Numbers::empty(alloc, fixed, records)?;
+        let room = Room::new(alloc)?;
+        Ok(Part { numbers, room })
+    }
+
+    /// Of the pass of seat 0, whose list has all numbers from `fixed` on.
+    pub(crate) fn first(alloc: Global, fixed: u32, records: u32) -> Result<Self, NoMemory>
+        requires { fixed ≤ records }
+        ensures { IfOk result (λ part. part ≡ all_numbers fixed records) }
+    {
+        let numbers = Numbers::new(alloc, fixed, records)?;
         let room = Room::new(alloc)?;
         Ok(Part { numbers, room })
     }

@@ -1,6 +1,5 @@
-use Rattle.std.proofs.Common.{◌≤◌, ap, subst, ◌∙◌, arith}
+use Rattle.std.proofs.Common.{ap, subst, ◌∙◌, arith}
 use Rattle.seat_post.specs.Leaves.{AreLeft}
-use Rattle.spare_numbers.specs.Spare.{NumbersView}
 use Rattle.txn_engine.specs.Pass.{PassView, IsAlone}
 use Rattle.txn_engine.proofs.Passes.{pass_closed, at_most_one}
 use Rattle.txn_engine.proofs.at_pass.PassSeatCalls.abort.Goals as goal

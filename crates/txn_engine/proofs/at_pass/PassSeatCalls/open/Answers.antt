@@ -1,7 +1,6 @@
 use Rattle.std.proofs.Common.{ℕ, ◌<◌, ap, ◌∙◌, subst}
 use Rattle.txn_engine.specs.Pass.{PassView, DeskView}
 use Rattle.seat_post.specs.Logs.{IsAbove}
-use Rattle.spare_numbers.specs.Spare.{NumbersView}
 use Rattle.txn_engine.proofs.Passes.{pass_room, pass_opened}
 use Rattle.seat_post.proofs.Bounds.{above_drawn, drawn_later, seat_below}
 use Rattle.txn_engine.proofs.at_pass.PassSeatCalls.open.Goals as goal

@@ -1,7 +1,6 @@
 use Rattle.std.proofs.Common.{ap, subst, arith}
 use Rattle.stamp_base.specs.Stamp.{bound_of_clock}
 use Rattle.seat_post.specs.Logs.{IsAbove}
-use Rattle.spare_numbers.specs.Spare.{NumbersView}
 use Rattle.txn_engine.specs.Pass.{PassView}
 use Rattle.txn_engine.proofs.Passes.{pass_met}
 use Rattle.seat_post.specs.Post.{PostView}

@@ -1,6 +1,5 @@
 use Rattle.std.proofs.Common.{ap, ◌∙◌}
 use Rattle.txn_engine.specs.Pass.{PassView, DeskView}
-use Rattle.spare_numbers.specs.Spare.{NumbersView}
 use Rattle.txn_engine.proofs.Joined.{pass_joined}
 use Rattle.txn_engine.proofs.pass.Pass.join.Goals as goal
 

@@ -1,5 +1,4 @@
 use Rattle.std.proofs.Common.{ap, arith}
-use Rattle.spare_numbers.specs.Spare.{NumbersView}
 use Rattle.txn_engine.proofs.Passes.{pass_met}
 use Rattle.seat_post.specs.Post.{PostView}
 use Rattle.txn_engine.proofs.pass.Pass.rescan.Goals as goal

@@ -23,7 +23,6 @@ use Rattle.stored_tables.specs.Laws.{FitsRecords}
 use Rattle.stored_tables.specs.Places.{Places}
 use Rattle.stored_tables.specs.Tables.{StandsFor, EachTables}
 use Rattle.stored_tables.specs.Weight.{all_add}
-use Rattle.txn_engine.specs.Alone.{AloneView, with_pass}
 use Rattle.seat_post.specs.Snapshot.{SnapshotView}
 use Rattle.txn_engine.specs.Leaves.{HoldsAbsent}
 use Rattle.txn_engine.specs.Lists.{IsRoomy}

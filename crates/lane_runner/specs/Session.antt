@@ -9,7 +9,6 @@ use Rattle.txn_engine.specs.Pass.{PassView}
 use Rattle.lane_runner.specs.declared.done.LaneDone.{LaneDone}
 use Rattle.lane_runner.specs.declared.turn.Turn.{Turn as Answer}
 use Rattle.lane_runner.specs.declared.turn.Turn.TheVariants.{Outcome as HasEnded, Again, Kept, Over}
-use Rattle.lane_runner.specs.Room.{clock_after}
 use Rattle.lane_runner.specs.Adds.{Adds}
 use Rattle.lane_runner.specs.Blocks.{IsRefused}
 use Rattle.lane_runner.specs.Lanes.{AreEntries}

@@ -6,7 +6,6 @@ use Rattle.lane_runner.specs.Blocks.{IsDone}
 use Rattle.lane_runner.specs.Session.{SessionView}
 use Rattle.lane_runner.proofs.Granted.{some_is, ample_next}
 use Rattle.lane_runner.proofs.Run.{adds_done}
-use Rattle.lane_runner.proofs.Attempted.{to_try_all, tried_below}
 use Rattle.lane_runner.proofs.NextBlock.{left_behind, left_may, ample_left, session_given, gives_outcome, left_is}
 use Rattle.lane_runner.proofs.session.Session.attempt.Goals as goal
 

@@ -88,6 +88,7 @@ impl<V: OfRecord> Noted<V> {
     }
 
     /// Where a record stands in the order of noting.
+    #[inline(always)]
     pub(crate) fn position(&self, rid: u32) -> Option<usize>
         requires { IsNoted V.number self.now }
         ensures found { IfSome result (IsOf V.number rid (noted self.now)) }
@@ -109,6 +110,7 @@ impl<V: OfRecord> Noted<V> {
     }
 
     /// Makes room for so many records more. What is noted stays, after a refusal too, which comes only where there was less room.
+    #[inline(always)]
     pub(crate) fn reserve(&mut self, more: u32) -> Result<(), NoMemory>
         requires { IsNoted V.number self.old }
         ensures noted { IsNoted V.number self.new }
@@ -117,8 +119,27 @@ impl<V: OfRecord> Noted<V> {
         ensures full { OnErr result (room self.old < length (noted self.old) + more) }
         ensures not_less { room self.old ≤ room self.new }
     {
-        let behind = self.behind.len();
         let wanted = self.count + more as usize;
+        if wanted <= self.items.len() && wanted <= FEW {
+            return Ok(());
+        }
+        self.grow(wanted)
+    }
+
+    // Makes room for so many records in all. It is rare, since the items are used again, so its code stands apart, and that of `reserve`
+    // in its callers.
+    #[cold]
+    #[inline(never)]
+    fn grow(&mut self, wanted: usize) -> Result<(), NoMemory>
+        requires noted { IsNoted V.number self.old }
+        requires more { self.old.count ≤ wanted }
+        ensures noted { IsNoted V.number self.new }
+        ensures same { noted self.new ≡ noted self.old }
+        ensures room { OnOk result (wanted ≤ room self.new) }
+        ensures full { OnErr result (room self.old < wanted) }
+        ensures not_less { room self.old ≤ room self.new }
+    {
+        let behind = self.behind.len();
         let have = self.items.len();
         if wanted > have {
             self.items.reserve(wanted - have)?;
@@ -146,6 +167,7 @@ impl<V: OfRecord> Noted<V> {
     }
 
     /// Notes the item behind those that are noted, which is of this record, where there is room.
+    #[inline(always)]
     pub(crate) fn enter(&mut self, rid: u32)
         requires noted { IsNoted V.number self.old }
         requires room { length (noted self.old) < room self.old }

@@ -60,6 +60,7 @@ impl Sets {
 
     /// Makes room for so many reads and writes beyond what stands. The lists stay as they are, after a refusal too, which comes
     /// only where there was less room.
+    #[inline(always)]
     pub fn reserve(&mut self, reads: u32, writes: u32) -> Result<(), NoMemory>
         ensures reads { self.new.reads ≡ self.old.reads }
         ensures writes { self.new.writes ≡ self.old.writes }

@@ -12,6 +12,8 @@ use Rattle.core_rule.specs.Views.{Among, IsAlone}
 use Rattle.core_rule.specs.Searching.{limit_of, shown_at}
 use Rattle.core_rule.specs.Collecting.{HasEntry}
 use Rattle.core_rule.specs.Deciding.{read_value, value_of, written_values, entry_of}
+use Rattle.core_rule.specs.Paths.{EndsAt}
+use Rattle.core_rule.specs.Versions.{state_of}
 use Rattle.core_rule.specs.Left.{NoneAbove, NoneBelow, IsLeft, LeavesCells}
 use Rattle.core_rule.specs.Hands.{Seated}
 use Rattle.core_rule.proofs.Standing.{contains, from_contains, written_contains, written_from}
@@ -23,12 +25,11 @@ use Rattle.version_search.specs.Finding as finding
 use Rattle.version_search.specs.Loading.{with_value, IsLeftIn, cells_loaded}
 use Rattle.version_search.specs.Growing.{Grows}
 use Rattle.version_search.proofs.Grown.{grows_both}
-use Rattle.validate_core.specs.Validating.{Met}
 use Rattle.version_search.specs.Finding.{status_of}
-use Rattle.seat_post.specs.Reading.{value_loaded}
+use Rattle.seat_post.specs.Reading.{LeadsTo, value_loaded}
 use Rattle.seat_post.specs.Searched.{Finds}
 use Rattle.seat_post.specs.Leaves.{StampedBelow, LeavesValue, LeavesSome, LeavesAs, AreLeft, IsPresent}
-use Rattle.seat_post.proofs.Observed.{met_next, reads_grow}
+use Rattle.seat_post.proofs.Observed.{reads_grow}
 
 -- a commit entry of the log that writes the record, below the limit
 record Found (log : List Logged) (r limit : ℕ) (other : Entry) : Type 0 where
@@ -165,12 +166,17 @@ limit_is v stamp flight = ap (λ (f : Flight). limit_of f v.published.read) flig
 pub limit_rests : (v : View) (stamp : ℕ) → v.flight ≡ resting → stamp ≡ v.published.read → limit_in v ≡ stamp + 1
 limit_rests v stamp rests at = let e : suc v.published.read ≡ stamp + 1 = omega arith in ap (λ (f : Flight). limit_of f v.published.read) rests ∙ e
 
+-- its loads led to the version, and then its value was loaded
+led_at : (stamp rid place wts : ℕ) (value : Option (List ℕ)) (v w x : View) → limit_in v ≡ stamp → EndsAt stamp rid place wts (state_of value) v.seen.loads w.seen.loads → x.seen.loads ≡ w.seen.loads ++ value_loaded value place → LeadsTo (limit_in v) rid place wts value v.seen.loads x.seen.loads
+led_at stamp rid place wts value v w x limit path loads =
+    subst (λ (n : ℕ). LeadsTo n rid place wts value v.seen.loads x.seen.loads) (sym limit) (record { there = w.seen.loads; path = path; loads = loads })
+
 pub finds_absent : (stamp rid place wts : ℕ) (v x : View) → finding.Reads stamp rid place wts 4 v x → place < places v.size → limit_in v ≡ stamp → Finds rid place wts None v x
 finds_absent stamp rid place wts v x reads inside limit = record {
   view = reads.view;
   whole = inl refl;
   inside = inside;
-  met = subst (λ (n : ℕ). Met n rid wts 4 (value_loaded None) v.seen.loads x.seen.loads) (sym limit) (met_next stamp rid place wts 4 (value_loaded None) v x x reads (sym (append-nil x.seen.loads)));
+  leads = led_at stamp rid place wts None v x x limit reads.path (sym (append-nil x.seen.loads));
   grows = reads_grow stamp rid place wts 4 v x reads;
   left = λ alone.
       let left : IsLeft v.log rid stamp wts 4 = rw reads.view at (reads.left (rw reads.view alone)) in
@@ -188,7 +194,7 @@ finds_present stamp rid place wts cells v w x reads view left grows loads long i
       view = at;
       whole = inr (refl, long);
       inside = inside;
-      met = subst (λ (n : ℕ). Met n rid wts 3 (value_loaded (Some cells)) v.seen.loads x.seen.loads) (sym limit) (met_next stamp rid place wts 3 (value_loaded (Some cells)) v w x reads loads);
+      leads = led_at stamp rid place wts (Some cells) v w x limit reads.path loads;
       grows = grows_both v.seen w.seen x.seen (reads_grow stamp rid place wts 3 v w reads) grows;
       left = λ alone.
           let told : IsLeftIn (with_value (read_in v rid place wts w.seen) cells x.seen) cells = subst (λ (y : View). IsLeftIn y cells) at left in

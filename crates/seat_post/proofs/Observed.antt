@@ -94,17 +94,6 @@ met_found limit rid place wts status v w found = record {
   loads = sym (append-nil w.seen.loads);
 }
 
--- with the loads that came next at its place
-pub met_next : (limit rid place wts status : ℕ) (more : ℕ → List Load) (v w x : View) → Reads limit rid place wts status v w → x.seen.loads ≡ w.seen.loads ++ more place → Met limit rid wts status more v.seen.loads x.seen.loads
-met_next limit rid place wts status more v w x found next = record {
-  place = place;
-  earlier = [];
-  met = w.seen.loads;
-  later = [];
-  path = subst (λ (xs : List Load). EndsAt limit rid place wts status xs w.seen.loads) (sym (append-nil v.seen.loads)) found.path;
-  loads = next ∙ ap (λ (xs : List Load). w.seen.loads ++ xs) (sym (append-nil (more place)));
-}
-
 -- of those loads nothing said
 pub met_alone : (limit rid wts status : ℕ) (more : ℕ → List Load) (a b : List Load) → Met limit rid wts status more a b → Met limit rid wts status no_more a b
 met_alone limit rid wts status more a b m = record { place = m.place; earlier = m.earlier; met = m.met; later = more m.place ++ m.later; path = m.path; loads = m.loads }

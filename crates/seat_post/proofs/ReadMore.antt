@@ -16,7 +16,7 @@ use Rattle.version_search.proofs.Grown.{grows_loads}
 use Rattle.validate_core.proofs.Staging.{met_now}
 use Rattle.seat_post.specs.Searched.{Finds, Stops}
 use Rattle.seat_post.specs.Conflicts.{IsOfAnother}
-use Rattle.seat_post.specs.Reading.{FindsValue, value_loaded}
+use Rattle.seat_post.specs.Reading.{FindsValue, LeadsTo, value_loaded}
 use Rattle.seat_post.specs.Post.{PostView, IsPost, post_of, observed_in, versions_read}
 use Rattle.seat_post.specs.declared.phase.Phase.{Phase}
 use Rattle.seat_post.specs.declared.phase.Phase.TheVariants.{Open}
@@ -28,9 +28,8 @@ use Rattle.seat_post.specs.Leaves.{LeavesValue, AreLeft}
 use Rattle.seat_post.specs.Logs.{IsAbove}
 use Rattle.seat_post.specs.Seats.{IsAloneAt, Observed}
 use Rattle.seat_post.specs.Conflicts.{WasFound}
-use Rattle.seat_post.proofs.Observed.{met_alone, found_met, were_found}
+use Rattle.seat_post.proofs.Observed.{were_found}
 use Rattle.seat_post.proofs.Leaving.{post_left, limit_is}
-use Rattle.validate_core.specs.Validating.{Met, no_more}
 use Rattle.seat_post.proofs.Listed.{unread, read_values-append, read_value-version}
 
 -- one of a list that has one more at its end
@@ -178,8 +177,12 @@ final_state (Some words) = (omega arith, omega arith)
 
 pub found_at : (v w : View) (stamp rid place wts : ℕ) (value : Option (List ℕ)) → Finds rid place wts value v w → v.flight ≡ writing stamp → WasFound stamp rid wts w.seen.loads
 found_at v w stamp rid place wts value finds flight =
-    found_met stamp rid wts (state_of value) (value_loaded value) v.seen.loads w.seen.loads (final_state value)
-    (subst (λ (n : ℕ). Met n rid wts (state_of value) (value_loaded value) v.seen.loads w.seen.loads) (limit_is v stamp flight) finds.met)
+    let leads = subst (λ (n : ℕ). LeadsTo n rid place wts value v.seen.loads w.seen.loads) (limit_is v stamp flight) finds.leads in
+    record {
+      status = state_of value;
+      final = final_state value;
+      met = record { place = place; earlier = v.seen.loads; met = leads.there; later = value_loaded value place; path = leads.path; loads = leads.loads };
+    }
 
 -- the values read, with one more
 pub read_more : (rid place wts : ℕ) (value : Option (List ℕ)) (ds ds' : List Read) → ds' ≡ ds ++ read_version rid place wts value ∷ [] → read_values ds' ≡ read_values ds ++ (rid, value) ∷ []
@@ -257,21 +260,20 @@ post_passed core hand hand' stamp rid place wts value sets is ready finds =
       };
     }
 
--- it was met, with its value
-pub value_met : (hand hand' : Seated) (phase : Phase) (stamp rid place wts : ℕ) (value : Option (List ℕ)) (sets : SetsView) (p : PostView) → IsPost hand phase stamp sets → post_of hand phase stamp sets ≡ p → p.phase ≡ Open → Finds rid place wts value hand.view hand'.view → Met p.stamp rid wts (state_of value) (value_loaded value) p.observed.loads hand'.view.seen.loads
-value_met hand hand' phase stamp rid place wts value sets p is same flying finds =
+-- its loads alone led to it
+pub value_led : (hand hand' : Seated) (phase : Phase) (stamp rid place wts : ℕ) (value : Option (List ℕ)) (sets : SetsView) (p : PostView) → IsPost hand phase stamp sets → post_of hand phase stamp sets ≡ p → p.phase ≡ Open → Finds rid place wts value hand.view hand'.view → LeadsTo p.stamp rid place wts value p.observed.loads hand'.view.seen.loads
+value_led hand hand' phase stamp rid place wts value sets p is same flying finds =
     let now = is_open phase hand stamp sets (ap (λ (q : PostView). q.phase) same ∙ flying) is in
-    subst (λ (q : PostView). Met q.stamp rid wts (state_of value) (value_loaded value) q.observed.loads hand'.view.seen.loads) same
-    (subst (λ (n : ℕ). Met n rid wts (state_of value) (value_loaded value) hand.view.seen.loads hand'.view.seen.loads)
-    (limit_is hand.view stamp (now.at.begun.in_flight ∙ ap writing (sym now.at.at))) finds.met)
+    subst (λ (q : PostView). LeadsTo q.stamp rid place wts value q.observed.loads hand'.view.seen.loads) same
+    (subst (λ (n : ℕ). LeadsTo n rid place wts value hand.view.seen.loads hand'.view.seen.loads) (limit_is hand.view stamp (now.at.begun.in_flight ∙ ap writing (sym now.at.at))) finds.leads)
 
 abbrev pub found_value : (hand hand' : Seated) (phase : Phase) (stamp rid place wts : ℕ) (value : Option (List ℕ)) (sets : SetsView) (p : PostView) → IsPost hand phase stamp sets → post_of hand phase stamp sets ≡ p → p.phase ≡ Open → Finds rid place wts value hand.view hand'.view → FindsValue p.stamp rid p.observed (observed_in hand') value
-found_value hand hand' phase stamp rid place wts value sets p is same flying finds = record { wts = wts; met = value_met hand hand' phase stamp rid place wts value sets p is same flying finds }
+found_value hand hand' phase stamp rid place wts value sets p is same flying finds = record { place = place; wts = wts; leads = value_led hand hand' phase stamp rid place wts value sets p is same flying finds }
 
--- present, it was met as committed
-pub present_met : (stamp rid : ℕ) (before after' : Observed) (value : Option (List ℕ)) → FindsValue stamp rid before after' value → is_some value ≡ true → (wts : ℕ) × Met stamp rid wts 3 no_more before.loads after'.loads
-present_met stamp rid before after' None found some = cc
-present_met stamp rid before after' (Some words) found some = (found.wts, met_alone stamp rid found.wts 3 (value_loaded (Some words)) before.loads after'.loads found.met)
+-- that it is present
+pub present_found : (stamp rid : ℕ) (before after' : Observed) (value : Option (List ℕ)) → FindsValue stamp rid before after' value → is_some value ≡ true → (words : List ℕ) × FindsValue stamp rid before after' (Some words)
+present_found stamp rid before after' None found some = cc
+present_found stamp rid before after' (Some words) found some = (words, found)
 
 -- ---- what a log leaves
 

@@ -1,25 +1,25 @@
 -- A snapshot at a post and at a pass: what both keep while it reads, and what its end tells.
-use Rattle.std.proofs.Common.{◌≡◌, ℕ, ◌≤◌, ◌+◌, true, List, Option, refl, ap, ◌∙◌, subst, arith, map}
+use Rattle.std.proofs.Common.{◌≡◌, ℕ, ◌≤◌, ◌+◌, ◌∷◌, true, List, Option, refl, sym, ap, ◌∙◌, subst, arith, map}
 use Rattle.std.specs.Prelude.{IsSome, IfSome}
 use Rattle.plain_data.specs.declared.entry.Entry.{Entry}
 use Rattle.plain_data.specs.State.{State}
 use Rattle.histories.specs.History.{IsValue, UpTo}
-use Rattle.core_rule.specs.View.{View, Flight, resting, writing, Read, Logged, no_work}
-use Rattle.core_rule.specs.Versions.{state_of}
-use Rattle.validate_core.specs.Validating.{Met}
+use Rattle.core_rule.specs.View.{View, Flight, resting, writing, still, Read, Logged, no_work}
+use Rattle.core_rule.specs.Versions.{read_version}
 use Rattle.core_rule.specs.Views.{Among, IsAlone}
 use Rattle.core_rule.specs.Hands.{Shared, Seated, IsReady}
+use Rattle.version_search.specs.Growing.{Grows}
+use Rattle.version_search.proofs.Grown.{grows_both, grows_loads}
 use Rattle.core_rule.specs.Deciding.{entry_of, StoodAt}
 use Rattle.validate_core.specs.Sets.{SetsView}
 use Rattle.seat_post.specs.declared.phase.Phase.{Phase}
 use Rattle.seat_post.specs.declared.phase.Phase.TheVariants.{Idle}
 use Rattle.seat_post.specs.Ends.{Stood}
 use Rattle.seat_post.specs.Snapshot.{snapshot_view, entry_of_snapshot}
-use Rattle.seat_post.specs.InSnapshot.{IsInSnapshot, Opens, IsLeftAt, logged_snapshot, snapshot_ended}
+use Rattle.seat_post.specs.InSnapshot.{IsInSnapshot, Opens, FindsAlike, IsLeftAt, logged_snapshot, snapshot_ended}
 use Rattle.seat_post.specs.Logs.{AreBelow}
 use Rattle.seat_post.specs.Observing.{MeetsMinimum}
-use Rattle.seat_post.specs.Reading.{FindsValue, value_loaded}
-use Rattle.seat_post.specs.Searched.{Finds}
+use Rattle.seat_post.specs.Reading.{FindsInSnapshot, LeadsTo}
 use Rattle.seat_post.specs.Seats.{observed_of}
 use Rattle.seat_post.specs.Post.{IsPost, IsIdleAt, observed_in}
 use Rattle.seat_post.proofs.Leaving.{limit_rests}
@@ -92,11 +92,23 @@ stood_snapshot kept records v rests stood = rw rests (stood_same kept records v.
 pub left_snapshot : (v : View) (rid : ℕ) (value : Option (List ℕ)) → v.flight ≡ resting → IsLeftAt v rid value → IfSome (snapshot_view v.flight v.published.read v.work.reads) (λ g. IsValue (UpTo (map entry_of v.log) g.stamp) rid value)
 left_snapshot v rid value rests left = rw rests left
 
--- what was read was found by loads
-pub found_snapshot : (v w : View) (rid place wts : ℕ) (value : Option (List ℕ)) → v.flight ≡ resting → Finds rid place wts value v w → IfSome (snapshot_view v.flight v.published.read v.work.reads) (λ g. FindsValue (g.stamp + 1) rid (observed_of v) (observed_of w) value)
-found_snapshot v w rid place wts value rests finds = rw rests (record {
-  wts = wts;
-  met = subst (λ (n : ℕ). Met n rid wts (state_of value) (value_loaded value) v.seen.loads w.seen.loads) (limit_rests v v.published.read rests refl) finds.met;
+-- the view after a read, and what was loaded by it
+pub read_alike : (v w : View) (rid : ℕ) (value : Option (List ℕ)) (f : FindsAlike rid value v w) → w ≡ record v { work = record v.work { search = still; reads = read_version rid f.place f.wts value ∷ v.work.reads }; seen = w.seen }
+read_alike v w rid value f = f.last ∙ (λ i. record f.between { seen = sym (ap (λ (x : View). x.seen) f.last) i }) ∙ ap (λ (x : View). record x { seen = w.seen }) f.finds.view
+
+pub alike_grows : (v w : View) (rid : ℕ) (value : Option (List ℕ)) → FindsAlike rid value v w → Grows v.seen w.seen
+alike_grows v w rid value f = grows_both v.seen f.between.seen w.seen f.finds.grows (grows_loads f.between.seen w.seen _ (ap (λ (x : View). x.seen.loads) f.last) (ap (λ (x : View). x.seen.lost) f.last))
+
+pub found_snapshot : (v w : View) (rid : ℕ) (value : Option (List ℕ)) → v.flight ≡ resting → FindsAlike rid value v w → IfSome (snapshot_view v.flight v.published.read v.work.reads) (λ g. FindsInSnapshot (g.stamp + 1) rid (observed_of v) (observed_of w) value)
+found_snapshot v w rid value rests f = rw rests (record {
+  between = observed_of f.between;
+  finds = record {
+    place = f.place;
+    wts = f.wts;
+    leads = subst (λ (n : ℕ). LeadsTo n rid f.place f.wts value v.seen.loads f.between.seen.loads) (limit_rests v v.published.read rests refl) f.finds.leads;
+  };
+  minimum = f.minimum;
+  last = ap (λ (x : View). x.seen.loads) f.last;
 })
 
 -- the published write words of all seats were loaded for the minimum

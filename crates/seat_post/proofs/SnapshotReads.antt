@@ -5,12 +5,7 @@ use Rattle.std.proofs.lemmas.Bool.Decides.{eqb_tells}
 use Rattle.plain_data.specs.State.{State}
 use Rattle.core_rule.specs.View.{View, resting, Read, still}
 use Rattle.core_rule.specs.Views.{Among, IsAlone}
-use Rattle.core_rule.specs.Searching.{IsWhole, limit_of}
-use Rattle.core_rule.specs.Paths.{load}
-use Rattle.word_layout.specs.Name.{min_read}
-use Rattle.version_search.proofs.Grown.{grows_both, grows_loads}
-use Rattle.seat_post.specs.Reading.{value_loaded}
-use Rattle.seat_post.proofs.Observed.{met_after}
+use Rattle.core_rule.specs.Searching.{IsWhole}
 use Rattle.core_rule.specs.Deciding.{read_value, read_values}
 use Rattle.core_rule.specs.Snapshots.{is_read, firsts, AreAllWhole, AreAlike, AreLeft}
 use Rattle.core_rule.specs.Versions.{read_version}
@@ -112,9 +107,6 @@ module _ (kept : State → Type 0) (rid place wts n : ℕ) (value : Option (List
   view_is = step.view ∙ (λ i. record mid.view { seen = sym (ap (λ (x : View). x.seen) step.view) i })
       ∙ ap (λ (x : View). record x { seen = after'.view.seen }) finds.view
 
-  more_loads : after'.view.seen.loads ≡ mid.view.seen.loads ++ load min_read n ∷ []
-  more_loads = ap (λ (x : View). x.seen.loads) step.view
-
   reads_are : after'.view.work.reads ≡ d ∷ v.work.reads
   reads_are = ap (λ (x : View). x.work.reads) view_is
 
@@ -130,14 +122,10 @@ module _ (kept : State → Type 0) (rid place wts n : ℕ) (value : Option (List
   finds_alike = record {
     place = place;
     wts = wts;
-    finds = record {
-      view = view_is;
-      whole = finds.whole;
-      inside = finds.inside;
-      met = met_after (limit_of v.flight v.published.read) rid wts _ (value_loaded value) v.seen.loads mid.view.seen.loads after'.view.seen.loads _ more_loads finds.met;
-      grows = grows_both v.seen mid.view.seen after'.view.seen finds.grows (grows_loads mid.view.seen after'.view.seen _ more_loads (ap (λ (x : View). x.seen.lost) step.view));
-      left = finds.left;
-    };
+    between = mid.view;
+    finds = finds;
+    minimum = n;
+    last = step.view;
     alike = alike;
   }
 

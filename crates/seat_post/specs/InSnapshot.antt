@@ -1,9 +1,10 @@
 -- A snapshot at the hand of a seat: how it begins, what it has read, what one more read comes to, and how it ends.
 use Rattle.std.specs.Prelude.{◌≡◌, ℕ, ◌+◌, ◌≤◌, List, [], ◌∷◌, ◌++◌, map, Option}
 use Rattle.histories.specs.History.{IsValue, UpTo}
-use Rattle.word_layout.specs.Name.{published_write, min_write}
+use Rattle.word_layout.specs.Name.{published_write, min_write, min_read}
 use Rattle.clock_stamps.specs.Minima.{Raises, raised_write, bounded}
-use Rattle.core_rule.specs.View.{View, resting, Read, Logged, Seen, no_work}
+use Rattle.core_rule.specs.View.{View, resting, Read, Load, Logged, Seen, no_work}
+use Rattle.core_rule.specs.Paths.{load}
 use Rattle.core_rule.specs.Views.{Among}
 use Rattle.core_rule.specs.Searching.{Ends}
 use Rattle.core_rule.specs.Deciding.{read_value, read_values, entry_of, snapshot_of}
@@ -29,11 +30,19 @@ pub record Opens (stamp : ℕ) (v w : View) : Type 0 where
 abbrev pub snapshot_reads : View → List (ℕ × Option (List ℕ))
 snapshot_reads v = read_values (firsts v.work.reads)
 
--- one more version was found, in some place, with this value; each earlier read of the record has it too
+-- the view after one more load
+abbrev pub after_loading : View → Load → View
+after_loading v l = record v { seen = record v.seen { loads = v.seen.loads ++ l ∷ [] } }
+
+-- one more version was found, in some place, with this value, and then the minimum of the read stamps was loaded; each earlier read of
+-- the record has that value too
 pub record FindsAlike (rid : ℕ) (value : Option (List ℕ)) (v w : View) : Type 0 where
   pub place : ℕ
   pub wts : ℕ
-  pub finds : Finds rid place wts value v w
+  pub between : View
+  pub finds : Finds rid place wts value v between
+  pub minimum : ℕ
+  pub last : w ≡ after_loading between (load min_read minimum)
   pub alike : (d : Read) → Among d v.work.reads → d.record_number ≡ rid → read_value d ≡ value
 
 -- the log leaves this value of a record up to the read stamp

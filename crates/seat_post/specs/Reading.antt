@@ -1,9 +1,10 @@
 -- What a read answers, and why it has no answer.
-use Rattle.std.specs.Prelude.{◌≡◌, ℕ, ⊤, List, [], Option, None, Some}
+use Rattle.std.specs.Prelude.{◌≡◌, ℕ, ⊤, List, [], ◌∷◌, ◌++◌, Option, None, Some}
+use Rattle.word_layout.specs.Name.{min_read}
 use Rattle.core_rule.specs.View.{Load}
+use Rattle.core_rule.specs.Paths.{EndsAt, load}
 use Rattle.core_rule.specs.Versions.{state_of}
 use Rattle.version_search.specs.Loading.{cells_loaded}
-use Rattle.validate_core.specs.Validating.{Met}
 use Rattle.seat_post.specs.Seats.{Observed, IsAloneAt}
 use Rattle.seat_post.specs.Leaves.{LeavesValue}
 use Rattle.seat_post.specs.Post.{PostView, noted, observing}
@@ -19,11 +20,25 @@ abbrev pub value_loaded : Option (List ℕ) → (place : ℕ) → List Load
 value_loaded None place = []
 value_loaded (Some words) place = cells_loaded place 0 words
 
--- Loads led to the version of the record that is visible below the stamp. It was loaded as committed, and then its value; or, where
--- there is none, as deleted.
+-- The loads of one search, and no others, led to the version of the record that is visible below the stamp, in this place. It was loaded
+-- as committed, and then its value; or, where there is none, as deleted.
+pub record LeadsTo (stamp rid place wts : ℕ) (value : Option (List ℕ)) (before after' : List Load) : Type 0 where
+  pub there : List Load
+  pub path : EndsAt stamp rid place wts (state_of value) before there
+  pub loads : after' ≡ there ++ value_loaded value place
+
+-- a search between the two found this value, and loaded nothing else
 pub record FindsValue (stamp rid : ℕ) (before after' : Observed) (value : Option (List ℕ)) : Type 0 where
+  pub place : ℕ
   pub wts : ℕ
-  pub met : Met stamp rid wts (state_of value) (value_loaded value) before.loads after'.loads
+  pub leads : LeadsTo stamp rid place wts value before.loads after'.loads
+
+-- that of a snapshot did, and then the minimum of the read stamps was loaded
+pub record FindsInSnapshot (stamp rid : ℕ) (before after' : Observed) (value : Option (List ℕ)) : Type 0 where
+  pub between : Observed
+  pub finds : FindsValue stamp rid before between value
+  pub minimum : ℕ
+  pub last : after'.loads ≡ between.loads ++ load min_read minimum ∷ []
 
 -- a record is read as this value, and noted so with the version that the search found
 pub record ReadsAs (rid : ℕ) (value : Option (List ℕ)) (before after' : PostView) : Type 0 where

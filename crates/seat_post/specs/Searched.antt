@@ -5,11 +5,11 @@ use Rattle.core_rule.specs.View.{View, still, Search, Read}
 use Rattle.core_rule.specs.Views.{IsAlone}
 use Rattle.core_rule.specs.Searching.{Rests, IsWhole, limit_of}
 use Rattle.core_rule.specs.Deciding.{entry_of}
-use Rattle.core_rule.specs.Versions.{read_version, state_of}
+use Rattle.core_rule.specs.Versions.{read_version}
 use Rattle.stamp_base.specs.Stamp.{seat_of}
 use Rattle.version_search.specs.Growing.{Grows}
 use Rattle.validate_core.specs.Validating.{Met, no_more}
-use Rattle.seat_post.specs.Reading.{value_loaded}
+use Rattle.seat_post.specs.Reading.{LeadsTo}
 use Rattle.seat_post.specs.Leaves.{LeavesValue}
 
 -- the version of record rid in a place was found, with this value
@@ -17,8 +17,8 @@ pub record Finds (rid place wts : ℕ) (value : Option (List ℕ)) (v w : View) 
   pub view : w ≡ record v { work = record v.work { search = still; reads = read_version rid place wts value ∷ v.work.reads }; seen = w.seen }
   pub whole : IsWhole (read_version rid place wts value)
   pub inside : place < places v.size
-  -- it was loaded, with its value, and what was seen has grown
-  pub met : Met (limit_of v.flight v.published.read) rid wts (state_of value) (value_loaded value) v.seen.loads w.seen.loads
+  -- the loads of the search alone led there and to its value, and what was seen has grown
+  pub leads : LeadsTo (limit_of v.flight v.published.read) rid place wts value v.seen.loads w.seen.loads
   pub grows : Grows v.seen w.seen
   -- a seat that is alone finds what its log leaves
   pub left : IsAlone v → LeavesValue (map entry_of v.log) rid (limit_of v.flight v.published.read) value

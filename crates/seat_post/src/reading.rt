@@ -6,7 +6,6 @@ ghost use Rattle.core_rule.specs.Views.{Among};
 ghost use Rattle.core_rule.specs.Hands.{IsReady, StaysReady};
 ghost use Rattle.core_rule.specs.Searching.{Rests};
 ghost use Rattle.record_store.specs.Meaning.{value_at};
-ghost use Rattle.validate_core.specs.Validating.{Met, no_more};
 ghost use Rattle.validate_core.specs.declared.conflict.Conflict.TheVariants as conflict;
 ghost use Rattle.seat_post.specs.Observing.{Grows};
 ghost use Rattle.seat_post.specs.Post.{known_at, observing};
@@ -14,7 +13,7 @@ ghost use Rattle.seat_post.specs.Seats.{IsAloneAt};
 ghost use Rattle.seat_post.specs.Logs.{IsAbove};
 ghost use Rattle.seat_post.specs.Leaves.{LeavesValue, LeavesSome};
 ghost use Rattle.seat_post.specs.Conflicts.{IsOfAnother, IsLoaded};
-ghost use Rattle.seat_post.specs.Reading.{IfPending, ReadsAs, ReadsOne};
+ghost use Rattle.seat_post.specs.Reading.{IfPending, FindsValue, ReadsAs, ReadsOne};
 ghost use Rattle.seat_post.specs.Searched.{FindsOne, Stops};
 
 use crate::phase::Phase;
@@ -153,10 +152,10 @@ impl<J: Keeps> Post<J> {
         requires rid { rid < self.old.shared.size.records }
         requires first { known_at self.old rid ≡ None }
         ensures grows { Grows self.old.observed self.new.observed }
-        // Where it is absent, a deleted version was found; where it is present, its committed version was met.
+        // Where it is absent, a deleted version was found; where it is present, a committed one.
         ensures absent { IfOk result (λ absent. absent ≡ true → ReadsAs rid None self.old self.new) }
         ensures passed { IfOk result (λ absent. absent ≡ false → self.new ≡ observing self.old self.new.observed) }
-        ensures present { IfOk result (λ absent. absent ≡ false → (wts : ℕ) × Met self.old.stamp rid wts 3 no_more self.old.observed.loads self.new.observed.loads) }
+        ensures present { IfOk result (λ absent. absent ≡ false → (words : List ℕ) × FindsValue self.old.stamp rid self.old.observed self.new.observed (Some words)) }
         ensures left { IsAloneAt self.old.shared.size self.old.seat self.old.others → IfOk result (λ absent. absent ≡ false → LeavesSome self.old.log rid self.old.stamp) }
         ensures err { OnErr result (self.new ≡ observing self.old self.new.observed) }
         ensures loaded { IfErr result (λ fault. IfPending fault (λ wts. IsLoaded self.old.stamp (conflict.Pending rid wts) self.old.observed self.new.observed)) }

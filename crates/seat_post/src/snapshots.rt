@@ -15,7 +15,7 @@ ghost use Rattle.seat_post.specs.Logs.{AreBelow};
 ghost use Rattle.version_search.specs.Growing as growing;
 ghost use Rattle.seat_post.specs.Observing.{Grows, MeetsMinimum};
 ghost use Rattle.seat_post.specs.Post.{IsAlonePost, snapshot_begun_at, snapshot_read_at, finished_at, observing};
-ghost use Rattle.seat_post.specs.Reading.{FindsValue};
+ghost use Rattle.seat_post.specs.Reading.{FindsInSnapshot};
 ghost use Rattle.seat_post.specs.Searched.{Finds};
 
 use crate::phase::Phase;
@@ -148,7 +148,7 @@ impl<J: Keeps> Post<J> {
         ensures grows { Grows self.old.observed self.new.observed }
         ensures answer { IfSome self.new.snapshot (λ g. value_at g.reads rid ≡ Some result) }
         // It is the value of the version that the search found.
-        ensures found { IfSome self.old.snapshot (λ g. FindsValue (g.stamp + 1) rid self.old.observed self.new.observed result) }
+        ensures found { IfSome self.old.snapshot (λ g. FindsInSnapshot (g.stamp + 1) rid self.old.observed self.new.observed result) }
         ensures left { IsAlonePost self.old → IfSome self.old.snapshot (λ g. IsValue (UpTo self.old.log g.stamp) rid result) }
     {
         read_snapshot(core, &mut self.hand, rid)

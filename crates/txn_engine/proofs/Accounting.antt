@@ -31,7 +31,7 @@ use Rattle.seat_post.proofs.Leaving.{among_of, leaves_one}
 any_found : {A : Type 0} (test : A → Bool) (xs : List A) → list_any test xs ≡ true → (x : A) × Contains xs x × (test x ≡ true)
 any_found test xs on = let h = Any-from_list_any test xs on in (h.1, (h.0, h.2, h.3), h.4)
 
-any_shown : {A : Type 0} (test : A → Bool) (xs : List A) (x : A) → Contains xs x → test x ≡ true → list_any test xs ≡ true
+pub any_shown : {A : Type 0} (test : A → Bool) (xs : List A) (x : A) → Contains xs x → test x ≡ true → list_any test xs ≡ true
 any_shown test xs x there on = list_any-from_Any test xs (there.0, x, there.1, there.2, on)
 
 writes_told : (r : ℕ) (e : Entry) → writes_at r e ≡ true → Writes r e

@@ -1,7 +1,7 @@
 -- Asking for new record numbers.
-use Rattle.std.proofs.Common.{◌≡◌, ℕ, ◌<◌, ◌≤◌, ◌+◌, ◌-◌, zero, suc, true, false, Bool, ◌||◌, cond, List, [], ◌∷◌, ◌++◌, Option, None, Some, refl, sym, ap, subst, ◌∙◌, arith, length, remove, eqb, eq-eqb, inl, inr}
+use Rattle.std.proofs.Common.{◌≡◌, ◌⊎◌, Contains, ℕ, ◌<◌, ◌≤◌, ◌+◌, ◌-◌, zero, suc, true, false, Bool, ◌||◌, cond, List, [], ◌∷◌, ◌++◌, Option, None, Some, refl, sym, ap, subst, ◌∙◌, arith, length, remove, eqb, eq-eqb, inl, inr}
 use Rattle.std.proofs.lemmas.Bool.Decides.{eqb_tells}
-use Rattle.std.specs.Prelude.{IsSome, is_some, slice_get}
+use Rattle.std.specs.Prelude.{IsSome, IfSome, is_some, slice_get}
 use Rattle.std.proofs.lemmas.Option.{slice_get_within}
 use Rattle.std.proofs.lemmas.List.Edits.{length-remove}
 use Rattle.rapid_gc.specs.Queues.{Waiting}
@@ -10,7 +10,9 @@ use Rattle.validate_core.specs.declared.conflict.Conflict.{Conflict}
 use Rattle.validate_core.specs.declared.conflict.Conflict.TheVariants.{Pending, ReadLater, Overtaken}
 use Rattle.seat_post.specs.declared.phase.Phase.TheVariants.{Open}
 use Rattle.seat_post.specs.Seats.{Observed}
-use Rattle.txn_engine.specs.Pass.{PassView, observing}
+use Rattle.txn_engine.specs.Pass.{PassView, store_of, frame, observing}
+use Rattle.txn_engine.specs.Accounts.{accounted, Stays}
+use Rattle.record_store.specs.Store.{IsFresh}
 use Rattle.seat_post.specs.Post as posts
 use Rattle.seat_post.specs.Post.{PostView, known_at}
 use Rattle.seat_post.specs.Reading.{ReadsAs}
@@ -18,13 +20,13 @@ use Rattle.spare_numbers.specs.Spare.{NumbersView, is_on}
 use Rattle.txn_engine.specs.declared.faults.TxnFault.{TxnFault}
 use Rattle.txn_engine.specs.declared.faults.TxnFault.TheVariants as txn
 use Rattle.txn_engine.specs.Faults.{IfConflict, MeetsAt, MeetsAmong}
-use Rattle.txn_engine.specs.Fresh.{AreWritten, read_absent, Asks}
+use Rattle.txn_engine.specs.Fresh.{AreWritten, read_absent, IsMetAbsent, TellsAbsent, Asks}
 use Rattle.txn_engine.specs.declared.fresh.Asked.{Asked}
-use Rattle.txn_engine.specs.declared.fresh.Asked.TheVariants.{Next}
+use Rattle.txn_engine.specs.declared.fresh.Asked.TheVariants.{Given, Next}
 use Rattle.txn_engine.specs.Inside.{IsPass}
 use Rattle.seat_post.proofs.AloneSeats.{or_of}
 use Rattle.txn_engine.proofs.Passes.{pass_noted}
-use Rattle.txn_engine.proofs.Accounting.{on_removed}
+use Rattle.txn_engine.proofs.Accounting.{any_shown, on_removed, accounted_given, accounted_struck}
 
 -- a record was read, and noted where it is absent
 pub pass_asked : (p p' : PostView) (rid : ℕ) (absent : Bool) (q : Waiting) (n : NumbersView) (most : ℕ) (dead : Option Conflict) → (absent ≡ true → ReadsAs rid None p p') → (absent ≡ false → p' ≡ posts.observing p p'.observed) → IsPass p q n most dead → p.phase ≡ Open → IsPass p' q n most dead
@@ -42,10 +44,24 @@ asked_absent b p' rid true none reads passed =
     ∙ sym (ap (λ (k : Option (Option (List ℕ))). record b { post = record b.post { observed = p'.observed; reads = cond (is_some k) b.reads (b.reads ++ (rid, None) ∷ []); versions = p'.versions } }) none)
 asked_absent b p' rid false none reads passed = ap (λ (x : PostView). record b { post = x }) (passed refl)
 
--- and keeps of it
-pub asked_kept : {A : Type 0} (f : PassView → A) (b : PassView) (p' : PostView) (rid : ℕ) (absent : Bool) → known_at b.post rid ≡ None → (absent ≡ true → ReadsAs rid None b.post p') → (absent ≡ false → p' ≡ posts.observing b.post p'.observed) → ((o : Observed) (reads : List (ℕ × Option (List ℕ))) (versions : List (ℕ × ℕ)) → f (record b { post = record b.post { observed = o; reads = reads; versions = versions } }) ≡ f b) → f (record b { post = p' }) ≡ f b
-asked_kept f b p' rid true none reads passed kept = let r = reads refl in ap (λ (x : PostView). f (record b { post = x })) r.after ∙ kept p'.observed (b.reads ++ (rid, None) ∷ []) (b.versions ++ (rid, r.found.wts) ∷ [])
-asked_kept f b p' rid false none reads passed kept = ap (λ (x : PostView). f (record b { post = x })) (passed refl) ∙ kept p'.observed b.reads b.versions
+-- a record that is known is not read again
+pub known_absent : (p : PassView) (rid : ℕ) (absent : Bool) (value : Option (List ℕ)) → known_at p.post rid ≡ Some value → p ≡ observing (cond absent (read_absent p rid p.versions) p) p.observed
+known_absent p rid true value some = rw some refl
+known_absent p rid false value some = refl
+
+-- a number that is not on a list
+pub off_list : (xs : List ℕ) (r : ℕ) → is_on xs r ≡ false → Contains xs r → ⊥
+off_list xs r off there = let on = any_shown (eqb r) xs r there (eq-eqb r r refl) in cc
+
+-- a record that is not written and was met absent was not read as present
+absent_by : (w r : Option (Option (List ℕ))) → w ≡ None → (cond (is_some w) w r ≡ Some None) ⊎ (cond (is_some w) w r ≡ None) → IfSome r (λ value. value ≡ None)
+absent_by None r none (inl known) = subst (λ (x : Option (Option (List ℕ))). IfSome x (λ value. value ≡ None)) (sym known) refl
+absent_by None r none (inr unknown) = subst (λ (x : Option (Option (List ℕ))). IfSome x (λ value. value ≡ None)) (sym unknown) tt
+absent_by (Some x) r none met = cc
+
+pub absent_known : (p : PassView) (rid : ℕ) (versions : List (ℕ × ℕ)) (o u : Observed) → value_at p.writes rid ≡ None → IsMetAbsent p rid versions o u → IfSome (value_at p.reads rid) (λ value. value ≡ None)
+absent_known p rid versions o u unwritten (inl known) = absent_by (value_at p.writes rid) (value_at p.reads rid) unwritten (inl known.0)
+absent_known p rid versions o u unwritten (inr found) = absent_by (value_at p.writes rid) (value_at p.reads rid) unwritten (inr found.0)
 
 -- the number at this place is written, and so is each before the one behind it
 written_behind : (p : PassView) (i rid : ℕ) → slice_get p.spare i ≡ Some rid → IsSome (value_at p.writes rid) → AreWritten p i → AreWritten p (i + 1)
@@ -122,3 +138,29 @@ meets_among rids rid (txn.Conflict (ReadLater at wts rts)) on meets = meets
 meets_among rids rid (txn.Conflict (Overtaken at seen now)) on meets = meets
 meets_among rids rid txn.RecordsOut on meets = tt
 meets_among rids rid txn.NoMemory on meets = tt
+
+-- ---- what became of one number
+
+-- it was met absent and given out
+pub gives_one : (p q r : PassView) (i rid : ℕ) → IsFresh (store_of p) rid → slice_get p.spare i ≡ Some rid → TellsAbsent p q rid true → r ≡ record q { spare = remove q.spare i; given = q.given ++ rid ∷ [] } → Asks i rid p r Given × Stays p r
+gives_one p q r i rid fresh at tells is = subst (λ (x : PassView). Asks i rid p x Given × Stays p x) (sym is) (
+  (fresh, ap (λ (x : PassView). record x { spare = remove x.spare i; given = x.given ++ rid ∷ [] }) tells.after, tells.met_absent refl),
+  record {
+    same_frame = ap frame tells.after;
+    same_accounts = accounted_given q i rid (ap (λ (x : PassView). slice_get x.spare i) tells.after ∙ at) ∙ ap accounted tells.after;
+    grows = tells.grows;
+  },
+)
+
+-- it was met present and struck off
+pub strikes_one : (p q r : PassView) (i rid : ℕ) → value_at p.writes rid ≡ None → slice_get p.spare i ≡ Some rid → TellsAbsent p q rid false → r ≡ record q { spare = remove q.spare i } → Asks i rid p r (Next i) × Stays p r
+strikes_one p q r i rid unwritten at tells is =
+    let after = ap (λ (x : PassView). record x { spare = remove x.spare i }) tells.after in
+    subst (λ (x : PassView). Asks i rid p x (Next i) × Stays p x) (sym is) (
+      inr (after, refl, unwritten, tells.met_present refl),
+      record {
+        same_frame = ap frame tells.after;
+        same_accounts = ap accounted after ∙ accounted_struck p i rid at (λ alone. tells.left alone refl);
+        grows = tells.grows;
+      },
+    )

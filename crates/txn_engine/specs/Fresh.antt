@@ -1,15 +1,15 @@
 -- How a transaction asks for a new record number.
-use Rattle.std.specs.Prelude.{◌≡◌, ◌⊎◌, ℕ, ◌<◌, ◌+◌, List, ◌∷◌, ◌++◌, [], Option, None, Some, IsSome, slice_get, remove}
+use Rattle.std.specs.Prelude.{◌≡◌, ◌⊎◌, ℕ, ◌<◌, ◌+◌, Bool, true, false, if◌then◌else◌, List, ◌∷◌, ◌++◌, [], Option, None, Some, IsSome, slice_get, remove}
 use Rattle.record_store.specs.Meaning.{value_at, after_read}
 use Rattle.record_store.specs.Store.{IsFresh}
 use Rattle.txn_engine.specs.declared.fresh.Asked.{Asked}
 use Rattle.txn_engine.specs.declared.fresh.Asked.TheVariants.{Given, Next}
-use Rattle.validate_core.specs.Validating.{Met, no_more}
 use Rattle.seat_post.specs.Observing.{Grows}
 use Rattle.seat_post.specs.Post.{known_at}
 use Rattle.seat_post.specs.Reading.{FindsValue}
 use Rattle.seat_post.specs.Seats.{Observed}
-use Rattle.txn_engine.specs.Pass.{PassView, store_of, observing}
+use Rattle.seat_post.specs.Leaves.{IsPresent}
+use Rattle.txn_engine.specs.Pass.{PassView, IsAlone, store_of, observing}
 
 -- the record was read as absent, if it was not read before, and these are the versions read
 abbrev pub read_absent : PassView → (rid : ℕ) → List (ℕ × ℕ) → PassView
@@ -27,16 +27,24 @@ AreWritten p i = (k rid : ℕ) → k < i → slice_get p.spare k ≡ Some rid �
 abbrev pub NotesFound : PassView → (rid : ℕ) → Option (List ℕ) → (versions : List (ℕ × ℕ)) → (before after' : Observed) → Type 0
 NotesFound p rid value versions before after' = (found : FindsValue p.stamp rid before after' value) × (versions ≡ p.versions ++ (rid, found.wts) ∷ [])
 
--- the record was known to be absent, and no version is noted; or nothing was known of it, and a search found it so
+-- the record was known to be absent, no version is noted and nothing was loaded; or nothing was known of it, and a search found it so
 abbrev pub IsMetAbsent : PassView → (rid : ℕ) → (versions : List (ℕ × ℕ)) → (before after' : Observed) → Type 0
 IsMetAbsent p rid versions before after' =
-    ((known_at p.post rid ≡ Some None) × (versions ≡ p.versions))
+    ((known_at p.post rid ≡ Some None) × (versions ≡ p.versions) × (after' ≡ before))
     ⊎ ((known_at p.post rid ≡ None) × NotesFound p rid None versions before after')
 
--- it was known to be present, or loads led to its committed version
-
+-- it was known to be present, and nothing was loaded; or a search found it so, and loaded nothing else
 abbrev pub IsMetPresent : PassView → ℕ → (before after' : Observed) → Type 0
-IsMetPresent p rid before after' = ((words : List ℕ) × (known_at p.post rid ≡ Some (Some words))) ⊎ ((wts : ℕ) × Met p.stamp rid wts 3 no_more before.loads after'.loads)
+IsMetPresent p rid before after' = (words : List ℕ) × (((known_at p.post rid ≡ Some (Some words)) × (after' ≡ before)) ⊎ FindsValue p.stamp rid before after' (Some words))
+
+-- What a call tells of a record that is not written: where it is absent, it was read, if it was not before, and is noted; else nothing is.
+pub record TellsAbsent (before after' : PassView) (rid : ℕ) (absent : Bool) : Type 0 where
+  pub after : after' ≡ observing (if absent then read_absent before rid after'.versions else before) after'.observed
+  pub grows : Grows before.observed after'.observed
+  pub met_absent : absent ≡ true → IsMetAbsent before rid after'.versions before.observed after'.observed
+  pub met_present : absent ≡ false → IsMetPresent before rid before.observed after'.observed
+  -- a seat that is alone meets what its log leaves
+  pub left : IsAlone before → absent ≡ false → IsPresent before.log rid
 
 -- Numbers of the list were passed, in turn: one that is written stayed there, and one that is not and was met present was struck off.
 pub data PassesOver (p : PassView) : (numbers stayed : List ℕ) → Observed → Observed → Type 0 where

@@ -11,7 +11,7 @@ use Rattle.seat_post.specs.Ends.{Stood}
 use Rattle.seat_post.specs.Snapshot.{SnapshotView, entry_of_snapshot}
 use Rattle.seat_post.specs.Observing.{Grows, MeetsMinimum}
 use Rattle.seat_post.specs.Post.{snapshot_begun_at, snapshot_read_at, finished_at}
-use Rattle.seat_post.specs.Reading.{FindsValue}
+use Rattle.seat_post.specs.Reading.{FindsInSnapshot}
 use Rattle.seat_post.specs.Seats.{nothing_observed}
 use Rattle.txn_engine.specs.Pass.{PassView, IsAlone, no_store, observing}
 use Rattle.seat_post.specs.Logs.{AreBelow}
@@ -77,9 +77,9 @@ unread p = record p { post = record p.post { observed = nothing_observed; snapsh
 abbrev pub snapshot_read : PassView → ℕ → Option (List ℕ) → PassView
 snapshot_read p rid value = record p { post = snapshot_read_at p.post rid value }
 
--- what is read is the value of the version that the search at the stamp found
+-- what is read is the value of the version that the search at the stamp found, which loads nothing else but a minimum behind
 abbrev pub FindsSeen : (before after' : PassView) → ℕ → Option (List ℕ) → Type 0
-FindsSeen before after' rid value = IfSome before.snapshot (λ g. FindsValue (g.stamp + 1) rid before.observed after'.observed value)
+FindsSeen before after' rid value = IfSome before.snapshot (λ g. FindsInSnapshot (g.stamp + 1) rid before.observed after'.observed value)
 
 -- a seat that is alone reads what its log leaves up to the stamp
 abbrev pub ReadsLeft : PassView → ℕ → Option (List ℕ) → Type 0

@@ -6,7 +6,7 @@ use Rattle.seat_post.specs.Conflicts.{IsOfAnother}
 use Rattle.seat_post.specs.Searched.{Finds}
 use Rattle.seat_post.specs.Post.{PostView, noted, observing, observed_in}
 use Rattle.seat_post.proofs.Listed.{unread}
-use Rattle.seat_post.proofs.ReadMore.{met_at, is_open, open_at, post_room, view_room, post_read, post_stopped, post_passed, not_read, found_left, found_value, present_met}
+use Rattle.seat_post.proofs.ReadMore.{met_at, is_open, open_at, post_room, view_room, post_read, post_stopped, post_passed, not_read, found_left, found_value, present_found}
 use Rattle.seat_post.proofs.Over.{view_found, view_noted, none_of}
 use Rattle.seat_post.proofs.Stopped.{stopped_post, loaded_post}
 use Rattle.seat_post.specs.Leaves.{LeavesValue}
@@ -110,7 +110,7 @@ pub returns-then-is_some-clause-present : goal.returns-then-is_some-clause-prese
 returns-then-is_some-clause-present g c = λ off.
     let i = c.self.inside in
     let found = found_value i.hand c.search.new.hand i.phase i.stamp c.args.rid _ _ _ i.sets c.args.self.now c.self.invariant c.self.view_is c.requires.open c.in-Ok.ensures.ok in
-    present_met c.args.self.now.stamp c.args.rid c.args.self.now.observed (observed_in c.search.new.hand) c.in-Ok.read.value found (sym c.is_some.ensures ∙ c.if-is_some.true)
+    present_found c.args.self.now.stamp c.args.rid c.args.self.now.observed (observed_in c.search.new.hand) c.in-Ok.read.value found (sym c.is_some.ensures ∙ c.if-is_some.true)
 
 pub returns-else-is_some-clause-absent : goal.returns-else-is_some-clause-absent
 returns-else-is_some-clause-absent g c = λ on.

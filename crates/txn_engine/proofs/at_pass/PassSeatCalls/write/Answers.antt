@@ -1,12 +1,15 @@
-use Rattle.std.proofs.Common.{rules, ◌≡◌, ◌≤◌, ◌+◌, ap, ◌∙◌, arith, length}
+use Rattle.std.proofs.Common.{◌≡◌, ◌≤◌, ◌+◌, List, Result, ap, ◌∙◌, arith, length}
 use Rattle.record_store.specs.Meaning.{with_value}
-use Rattle.seat_post.specs.Post.{PostView}
-use Rattle.txn_engine.specs.Accounts.{accounted}
+use Rattle.rapid_gc.specs.declared.queue.Queued.{Queued}
+use Rattle.seat_post.specs.Post.{PostView, written}
+use Rattle.seat_post.proofs.Listed.{longer}
+use Rattle.txn_engine.specs.declared.faults.TxnFault.{TxnFault}
+use Rattle.txn_engine.specs.declared.faults.TxnFault.TheVariants as txn
 use Rattle.txn_engine.specs.Inside.{pass_view}
 use Rattle.txn_engine.specs.Pass.{PassView}
-use Rattle.seat_post.proofs.Listed.{longer}
+use Rattle.txn_engine.specs.Txn.{Writes}
 use Rattle.txn_engine.proofs.Passes.{pass_noted, pass_room}
-use Rattle.txn_engine.proofs.Growing.{grows_same}
+use Rattle.txn_engine.proofs.Answering.{told_on, stopped_writes, memory_writes, written_writes}
 use Rattle.txn_engine.proofs.at_pass.PassSeatCalls.write.Goals as goal
 
 pub invariant_of-self : goal.invariant_of-self
@@ -26,59 +29,41 @@ invariant_of-self-2 g c =
 
 pub returns-in_err-stopped-clause-writes : goal.returns-in_err-stopped-clause-writes
 returns-in_err-stopped-clause-writes g c =
-    record {
-      ok = search rules;
-      err = search rules;
-      spare = search rules;
-      versions = search rules;
-      stays = record { same_frame = search rules; same_accounts = search rules; grows = grows_same c.args.self.now.observed c.stopped.new.self.observed (ap (λ (x : PassView). x.observed) c.in_err-stopped.ensures.err) };
-      refuses = search rules;
-      alive = search rules;
-      never = search rules;
-      no_memory = search rules;
-    }
+    let p = c.args.self.now in
+    let q = c.stopped.new.self in
+    let f = c.in_err-stopped.field-0.0 in
+    told_on c.from_residual.result f (λ (r : Result (Unit {0}) TxnFault). Writes p q c.args.rid c.args.value.now r) c.from_residual.ensures.1 (stopped_writes p q c.args.rid c.args.value.now f c.in_err-stopped.ensures.err)
 
 pub returns-in_err-reserve-clause-writes : goal.returns-in_err-reserve-clause-writes
 returns-in_err-reserve-clause-writes g c =
-    record {
-      ok = search rules;
-      err = search rules;
-      spare = search rules;
-      versions = search rules;
-      stays = record { same_frame = search rules; same_accounts = search rules; grows = grows_same c.args.self.now.observed c.self.inside.post.observed (ap (λ (x : PassView). x.observed) (c.self.view_is ∙ c.in_ok-stopped.ensures.ok.0)) };
-      refuses = search rules;
-      alive = search rules;
-      never = search rules;
-      no_memory = search rules;
-    }
+    let p = c.args.self.now in
+    let i = c.self.inside in
+    let b = pass_view i.post i.boost i.queue i.numbers i.refusals i.commits i.dead i.counted in
+    let q = pass_view i.post i.boost c.reserve.new.self i.numbers i.refusals i.commits i.dead i.counted in
+    let same : q ≡ p = ap (λ (items : List Queued). record b { queue = items }) c.reserve.ensures.items ∙ c.self.view_is ∙ c.in_ok-stopped.ensures.ok.0 in
+    told_on c.from_residual-in_err-reserve.result txn.NoMemory (λ (r : Result (Unit {0}) TxnFault). Writes p q c.args.rid c.args.value.now r) c.from_residual-in_err-reserve.ensures.1
+    (memory_writes p q c.args.rid c.args.value.now c.in_ok-stopped.ensures.ok.1 same)
 
 pub returns-in_err-write-clause-writes : goal.returns-in_err-write-clause-writes
 returns-in_err-write-clause-writes g c =
-    record {
-      ok = search rules;
-      err = search rules;
-      spare = search rules;
-      versions = search rules;
-      stays = record { same_frame = search rules; same_accounts = search rules; grows = grows_same c.args.self.now.observed c.write.new.self.observed (ap (λ (x : PostView). x.observed) c.in_err-write.ensures.err ∙ ap (λ (x : PassView). x.observed) (c.self.view_is ∙ c.in_ok-stopped.ensures.ok.0)) };
-      refuses = search rules;
-      alive = search rules;
-      never = search rules;
-      no_memory = search rules;
-    }
+    let p = c.args.self.now in
+    let i = c.self.inside in
+    let b = pass_view i.post i.boost i.queue i.numbers i.refusals i.commits i.dead i.counted in
+    let q = pass_view c.write.new.self i.boost c.reserve.new.self i.numbers i.refusals i.commits i.dead i.counted in
+    let same : q ≡ p =
+    ap (λ (x : PostView). pass_view x i.boost c.reserve.new.self i.numbers i.refusals i.commits i.dead i.counted) c.in_err-write.ensures.err
+    ∙ ap (λ (items : List Queued). record b { queue = items }) c.reserve.ensures.items ∙ c.self.view_is ∙ c.in_ok-stopped.ensures.ok.0 in
+    told_on c.from_residual-in_err-write.result txn.NoMemory (λ (r : Result (Unit {0}) TxnFault). Writes p q c.args.rid c.args.value.now r) c.from_residual-in_err-write.ensures.1
+    (memory_writes p q c.args.rid c.args.value.now c.in_ok-stopped.ensures.ok.1 same)
 
 pub returns-clause-writes : goal.returns-clause-writes
 returns-clause-writes g c =
+    let p = c.args.self.now in
     let i = c.self.inside in
-    let accounts : accounted (pass_view c.write.new.self i.boost c.reserve.new.self i.numbers i.refusals i.commits i.dead i.counted) ≡ accounted c.args.self.now =
-    ap (λ (q : PostView). accounted (pass_view q i.boost c.reserve.new.self i.numbers i.refusals i.commits i.dead i.counted)) c.in_ok-write.ensures.ok ∙ ap accounted (c.self.view_is ∙ c.in_ok-stopped.ensures.ok.0) in
-    record {
-      ok = search rules;
-      err = search rules;
-      spare = search rules;
-      versions = search rules;
-      stays = record { same_frame = search rules; same_accounts = accounts; grows = grows_same c.args.self.now.observed c.write.new.self.observed (ap (λ (x : PostView). x.observed) c.in_ok-write.ensures.ok ∙ ap (λ (x : PassView). x.observed) (c.self.view_is ∙ c.in_ok-stopped.ensures.ok.0)) };
-      refuses = search rules;
-      alive = search rules;
-      never = search rules;
-      no_memory = search rules;
-    }
+    let b = pass_view i.post i.boost i.queue i.numbers i.refusals i.commits i.dead i.counted in
+    let q = pass_view c.write.new.self i.boost c.reserve.new.self i.numbers i.refusals i.commits i.dead i.counted in
+    let is : q ≡ record p { post = written p.post c.args.rid c.args.value.now } =
+    ap (λ (x : PostView). pass_view x i.boost c.reserve.new.self i.numbers i.refusals i.commits i.dead i.counted) c.in_ok-write.ensures.ok
+    ∙ ap (λ (items : List Queued). record b { post = written i.post c.args.rid c.args.value.now; queue = items }) c.reserve.ensures.items
+    ∙ ap (λ (x : PassView). record x { post = written x.post c.args.rid c.args.value.now }) (c.self.view_is ∙ c.in_ok-stopped.ensures.ok.0) in
+    written_writes p q c.args.rid c.args.value.now c.in_ok-stopped.ensures.ok.1 is

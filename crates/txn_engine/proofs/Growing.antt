@@ -11,7 +11,6 @@ use Rattle.txn_engine.specs.declared.faults.TxnFault.{TxnFault}
 use Rattle.txn_engine.specs.declared.faults.TxnFault.TheVariants as txn
 use Rattle.txn_engine.specs.Faults.{IfConflict}
 use Rattle.seat_post.specs.Seats.{Observed}
-use Rattle.txn_engine.specs.Pass.{PassView, observing}
 
 pub grows_none : (o : Observed) → Grows o o
 grows_none o = record { loaded = []; missed = []; loads = sym (append-nil o.loads); lost = sym (append-nil o.lost) }
@@ -26,10 +25,6 @@ grows_both o p q a b = record {
   loads = b.loads ∙ ap (λ (x : List Load). x ++ b.loaded) a.loads ∙ append_assoc o.loads a.loaded b.loaded;
   lost = b.lost ∙ ap (λ (x : List Load). x ++ b.missed) a.lost ∙ append_assoc o.lost a.missed b.missed;
 }
-
--- what the steps came upon is that of the pass itself
-pub observing_own : (q p : PassView) (o : Observed) → q ≡ observing p o → q ≡ observing p q.observed
-observing_own q p o is = subst (λ (x : Observed). q ≡ observing p x) (sym (ap (λ (x : PassView). x.observed) is)) is
 
 -- what a conflict names was loaded between two, also where the first of them was earlier
 pub loaded_earlier : (stamp : ℕ) (o p q : Observed) (conflict : Conflict) → Grows o p → IsLoaded stamp conflict p q → IsLoaded stamp conflict o q

@@ -1,4 +1,4 @@
 pub mod Limits
 pub mod Size
 pub mod Name
-pub mod Families
+pub mod First

@@ -38,27 +38,27 @@ IsNamed z (rts p) = p < places z
 IsNamed z (next p) = p < places z
 IsNamed z (cell p i) = (p < places z) × (i < cells_of_value)
 
--- the first word of the records, and that of the places
-abbrev pub first_of_records : Size → ℕ
-first_of_records z = 2 * z.seats + 2
+-- the first word of a record, and that of a place: the records stand behind the words of the seats, and the places behind the records
+abbrev pub first_of_record : Size → ℕ → ℕ
+first_of_record z r = 2 * z.seats + 2 + 3 * r
 
-abbrev pub first_of_places : Size → ℕ
-first_of_places z = first_of_records z + 3 * z.records
+abbrev pub first_of_place : Size → ℕ → ℕ
+first_of_place z p = 2 * z.seats + 2 + 3 * z.records + 36 * p
 
--- the number of a word: each family is one block, and the 32 cells of a place lie side by side
+-- the number of a word: the three words of a record lie side by side, and so do the 36 of a place, the last 32 of which are its cells
 abbrev pub word_of : Size → Name → ℕ
 word_of z (published_write s) = s
 word_of z (published_read s) = z.seats + s
 word_of z min_write = 2 * z.seats
 word_of z min_read = 2 * z.seats + 1
-word_of z (head r) = first_of_records z + r
-word_of z (lock r) = first_of_records z + z.records + r
-word_of z (floor r) = first_of_records z + 2 * z.records + r
-word_of z (status p) = first_of_places z + p
-word_of z (wts p) = first_of_places z + places z + p
-word_of z (rts p) = first_of_places z + 2 * places z + p
-word_of z (next p) = first_of_places z + 3 * places z + p
-word_of z (cell p i) = first_of_places z + 4 * places z + cells_of_value * p + i
+word_of z (head r) = first_of_record z r
+word_of z (lock r) = first_of_record z r + 1
+word_of z (floor r) = first_of_record z r + 2
+word_of z (status p) = first_of_place z p
+word_of z (wts p) = first_of_place z p + 1
+word_of z (rts p) = first_of_place z p + 2
+word_of z (next p) = first_of_place z p + 3
+word_of z (cell p i) = first_of_place z p + 4 + i
 
 -- each word of a table lies in it
 abbrev pub LiesWithin : Size → Type 0

@@ -1,19 +1,15 @@
-//! Where each family of words begins in the table.
+//! Where the words of the records begin in the table, and those of the places.
 ghost use Rattle.std.specs.Prelude.{◌≡◌};
 ghost use Rattle.word_layout.specs.Size.{IsSize, size_of};
-ghost use Rattle.word_layout.specs.Families.{first_words};
+ghost use Rattle.word_layout.specs.First.{first_words};
 
-/// The first word of each family: those of record 0, and those of place 0.
+use crate::RECORD_WORDS;
+
+/// The first word of record 0, and that of place 0.
 #[derive(Clone, Copy, Debug, PartialEq, Eq, Hash)]
 pub(crate) struct FirstWords {
-    pub(crate) head: u32,
-    pub(crate) lock: u32,
-    pub(crate) floor: u32,
-    pub(crate) status: u32,
-    pub(crate) wts: u32,
-    pub(crate) rts: u32,
-    pub(crate) next: u32,
-    pub(crate) cell: u32,
+    pub(crate) records: u32,
+    pub(crate) places: u32,
 }
 
 impl FirstWords {
@@ -22,18 +18,10 @@ impl FirstWords {
         requires { IsSize (size_of seats records spare) }
         ensures { result ≡ first_words (size_of seats records spare) }
     {
-        let places = records + spare;
-        let head = 2 * seats + 2;
-        let status = head + 3 * records;
+        let first = 2 * seats + 2;
         FirstWords {
-            head,
-            lock: head + records,
-            floor: head + 2 * records,
-            status,
-            wts: status + places,
-            rts: status + 2 * places,
-            next: status + 3 * places,
-            cell: status + 4 * places,
+            records: first,
+            places: first + RECORD_WORDS * records,
         }
     }
 }

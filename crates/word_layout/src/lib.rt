@@ -4,7 +4,7 @@
 mod first;
 
 ghost use Rattle.std.specs.Prelude.{◌≡◌, ◌<◌, ◌↔◌, IsOk, IsErr, IfOk};
-ghost use Rattle.word_layout.specs.Name.{published_write, published_read, min_write, min_read, head, lock, floor, status, wts, rts, next, cell, word_of, LiesWithin, AreApart};
+ghost use Rattle.word_layout.specs.Name.{published_write, published_read, min_write, min_read, head, lock, floor, status, wts, rts, next, cell, word_of, first_of_record, first_of_place, LiesWithin, AreApart};
 ghost use Rattle.word_layout.specs.Limits.{cells_of_value};
 ghost use Rattle.word_layout.specs.Size.{size_of, IsSize, places, words};
 
@@ -25,6 +25,11 @@ pub const MAX_SPARE: u32 = 262_144;
 /// How many words the value of a record has.
 pub const CELLS: u32 = 32;
 
+/// How many words a record has beside those of its inline place, and how many a place has: four, and the cells of a value.
+pub(crate) const RECORD_WORDS: u32 = 3;
+
+const PLACE_WORDS: u32 = 4 + CELLS;
+
 /// The error of [`Layout::new`]: a number is out of its range.
 #[derive(Clone, Copy, Debug, PartialEq, Eq, Hash)]
 pub struct Limit;
@@ -40,8 +45,8 @@ impl Error for Limit {}
 /// Where each word of a table with so many seats, records and places stands in it.
 ///
 /// Seats, records and places are numbered from 0. Place r, below `records`, is the inline place of
-/// record r; the other places are the pool's. Where each family of words begins is computed once, so that a word is found by
-/// one sum.
+/// record r; the other places are the pool's. The words of a record stand side by side, and so do those of a place, since a step that
+/// asks for one of them is mostly followed by steps that ask for the others. Where they begin is computed once.
 #[derive(Clone, Copy, Debug, PartialEq, Eq, Hash)]
 pub struct Layout {
     seats: u32,
@@ -53,7 +58,7 @@ pub struct Layout {
 impl Model for Layout {
     ghost use Rattle.std.specs.Prelude.{◌≡◌};
     ghost use Rattle.word_layout.specs.Size.{Size, size_of, IsSize};
-    ghost use Rattle.word_layout.specs.Families.{first_words};
+    ghost use Rattle.word_layout.specs.First.{first_words};
 
     ghost Value = { Size };
 
@@ -125,7 +130,7 @@ impl Layout {
         ensures within { LiesWithin self.now }
         ensures apart { AreApart self.now }
     {
-        self.first.status + 36 * self.places()
+        self.first.places + PLACE_WORDS * self.places()
     }
 
     /// The word that bounds the write stamps of seat `s` from below.
@@ -163,7 +168,7 @@ impl Layout {
         requires { r < self.now.records }
         ensures { result ≡ word_of self.now (head r) }
     {
-        self.first.head + r
+        self.record(r)
     }
 
     /// The word of the collectors' lock of record `r`.
@@ -171,7 +176,7 @@ impl Layout {
         requires { r < self.now.records }
         ensures { result ≡ word_of self.now (lock r) }
     {
-        self.first.lock + r
+        self.record(r) + 1
     }
 
     /// The word of the stamp below which versions of record `r` may be gone.
@@ -179,7 +184,7 @@ impl Layout {
         requires { r < self.now.records }
         ensures { result ≡ word_of self.now (floor r) }
     {
-        self.first.floor + r
+        self.record(r) + 2
     }
 
     /// The word of the status of place `p`.
@@ -187,7 +192,7 @@ impl Layout {
         requires { p < places self.now }
         ensures { result ≡ word_of self.now (status p) }
     {
-        self.first.status + p
+        self.place(p)
     }
 
     /// The word of the write stamp of place `p`.
@@ -195,7 +200,7 @@ impl Layout {
         requires { p < places self.now }
         ensures { result ≡ word_of self.now (wts p) }
     {
-        self.first.wts + p
+        self.place(p) + 1
     }
 
     /// The word of the read stamp of place `p`.
@@ -203,7 +208,7 @@ impl Layout {
         requires { p < places self.now }
         ensures { result ≡ word_of self.now (rts p) }
     {
-        self.first.rts + p
+        self.place(p) + 2
     }
 
     /// The word of the link from place `p` to the next older version.
@@ -211,7 +216,7 @@ impl Layout {
         requires { p < places self.now }
         ensures { result ≡ word_of self.now (next p) }
     {
-        self.first.next + p
+        self.place(p) + 3
     }
 
     /// The word of cell `i` of the value in place `p`.
@@ -220,6 +225,24 @@ impl Layout {
         requires cell { i < cells_of_value }
         ensures { result ≡ word_of self.now (cell p i) }
     {
-        self.first.cell + CELLS * p + i
+        self.place(p) + 4 + i
+    }
+
+    /// The first word of record `r`.
+    fn record(&self, r: u32) -> u32
+        requires { r < self.now.records }
+        ensures word { result ≡ first_of_record self.now r }
+        ensures in_range { IsSize self.now }
+    {
+        self.first.records + RECORD_WORDS * r
+    }
+
+    /// The first word of place `p`.
+    fn place(&self, p: u32) -> u32
+        requires { p < places self.now }
+        ensures word { result ≡ first_of_place self.now p }
+        ensures in_range { IsSize self.now }
+    {
+        self.first.places + PLACE_WORDS * p
     }
 }

@@ -1,6 +1,5 @@
 -- What a post shows and keeps where its transaction has ended.
-use Rattle.std.proofs.Common.{◌≡◌, ℕ, List, [], ◌∷◌, ◌++◌, false, Option, None, Some, refl, sym, ap, ◌∙◌}
-use Rattle.std.specs.Prelude.{is_some}
+use Rattle.std.proofs.Common.{◌≡◌, ℕ, List, [], ◌∷◌, ◌++◌, Option, None, Some, refl, sym, ap, ◌∙◌}
 use Rattle.core_rule.specs.View.{View, Flight, resting, writing, Read, Write, Search, still, Seen}
 use Rattle.core_rule.specs.Hands.{Shared, Seated, IsReady}
 use Rattle.core_rule.specs.Searching.{Ends}
@@ -110,7 +109,3 @@ view_noted hand hand' phase stamp t rid place wts value sets sets' table finds f
 pub view_stopped : (hand hand' : Seated) (phase : Phase) (stamp t bound rid wts : ℕ) (sets : SetsView) → hand'.table ≡ hand.table → Stops bound rid wts hand.view hand'.view → hand.view.flight ≡ writing t → post_of hand' phase stamp sets ≡ observing (post_of hand phase stamp sets) (observed_in hand')
 view_stopped hand hand' phase stamp t bound rid wts sets table stops flight =
     view_searched hand hand' phase stamp t sets stops.search hand.view.work.reads table stops.view flight
-
-pub none_of : (x : Option (List ℕ)) → is_some x ≡ false → x ≡ None
-none_of None off = refl
-none_of (Some words) off = cc

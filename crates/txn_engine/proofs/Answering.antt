@@ -32,8 +32,7 @@ handed_on (Ok value) e P told holds = absurd told
 handed_on (Err x) e P told holds = subst (λ (y : TxnFault). P (Err y)) (sym told) holds
 
 pub told_on : {A : Type 0} (r : Result A TxnFault) (e : TxnFault) (P : Result A TxnFault → Type 0) → IsErrAnd r (λ x. x ≡ e) → P (Err e) → P (told_by (λ f. f) r)
-told_on (Ok value) e P told holds = absurd told
-told_on (Err x) e P told holds = subst (λ (y : TxnFault). P (Err y)) (sym told) holds
+told_on r e P told holds = subst P (sym (told_same r)) (handed_on r e P told holds)
 
 -- ---- a conflict that was met before
 

@@ -7,7 +7,8 @@ use Rattle.seat_post.specs.Searched.{Finds}
 use Rattle.seat_post.specs.Post.{PostView, noted, observing, observed_in}
 use Rattle.seat_post.proofs.Listed.{unread}
 use Rattle.seat_post.proofs.ReadMore.{met_at, is_open, open_at, post_room, view_room, post_read, post_stopped, post_passed, not_read, found_left, found_value, present_found}
-use Rattle.seat_post.proofs.Over.{view_found, view_noted, none_of}
+use Rattle.record_store.proofs.Values.{is_some-false}
+use Rattle.seat_post.proofs.Over.{view_found, view_noted}
 use Rattle.seat_post.proofs.Stopped.{stopped_post, loaded_post}
 use Rattle.seat_post.specs.Leaves.{LeavesValue}
 use Rattle.seat_post.proofs.Leaving.{some_words}
@@ -59,7 +60,7 @@ invariant_of-self-in-Ok g c =
     let within = subst (λ (p : PostView). c.args.rid < p.shared.size.records) (sym c.self.view_is) c.requires.rid in
     let unread = not_read (value_at c.args.self.now.writes c.args.rid) (value_at c.args.self.now.reads c.args.rid) c.requires.first in
     let first = ap (λ ds. value_at (read_values ds) c.args.rid) r.reads ∙ ap (λ (p : PostView). value_at p.reads c.args.rid) c.self.view_is ∙ unread in
-    let none : c.in-Ok.read.value ≡ None = none_of c.in-Ok.read.value (sym c.is_some.ensures ∙ c.if-is_some.false) in
+    let none : c.in-Ok.read.value ≡ None = is_some-false c.in-Ok.read.value (sym c.is_some.ensures ∙ c.if-is_some.false) in
     let finds = subst (λ (x : Option (List ℕ)). Finds c.args.rid c.in-Ok.read.place c.in-Ok.read.wts x c.self.inside.hand.view c.search.new.hand.view) none c.in-Ok.ensures.ok in
     open_at _ _ _ _ phase (post_read c.args.core.now _ _ _ c.args.rid _ _ None _ _ room c.search.ensures.stays.ready finds within first c.read.ensures.reads c.read.ensures.writes)
 
@@ -119,7 +120,7 @@ returns-else-is_some-clause-absent g c = λ on.
     let phase = ap (λ (p : PostView). p.phase) c.self.view_is ∙ c.requires.open in
     let flight = (is_open _ _ _ _ phase c.self.invariant).at.begun.in_flight in
     let wts = c.in-Ok.read.wts in
-    let none : c.in-Ok.read.value ≡ None = none_of c.in-Ok.read.value (sym c.is_some.ensures ∙ c.if-is_some.false) in
+    let none : c.in-Ok.read.value ≡ None = is_some-false c.in-Ok.read.value (sym c.is_some.ensures ∙ c.if-is_some.false) in
     let finds = subst (λ (x : Option (List ℕ)). Finds c.args.rid c.in-Ok.read.place wts x i.hand.view c.search.new.hand.view) none c.in-Ok.ensures.ok in
     record {
       found = found_value i.hand c.search.new.hand i.phase i.stamp c.args.rid c.in-Ok.read.place wts None i.sets c.args.self.now c.self.invariant c.self.view_is c.requires.open finds;

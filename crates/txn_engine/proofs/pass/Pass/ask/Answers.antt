@@ -3,6 +3,7 @@ use Rattle.std.specs.Prelude.{IsSome, is_some, slice_get}
 use Rattle.std.proofs.lemmas.Option.{slice_get_within}
 use Rattle.record_store.specs.Meaning.{value_at}
 use Rattle.record_store.specs.Store.{IsFresh}
+use Rattle.record_store.proofs.Values.{is_some-false}
 use Rattle.spare_numbers.specs.Spare.{NumbersView}
 use Rattle.seat_post.proofs.Answered.{err_told}
 use Rattle.txn_engine.specs.declared.faults.TxnFault.{TxnFault}
@@ -18,10 +19,6 @@ pub returns-then-is_written-clause-ok : goal.returns-then-is_written-clause-ok
 returns-then-is_written-clause-ok g c =
     let some : IsSome (value_at c.args.self.now.writes c.args.rid) = ap (λ (x : PassView). is_some (value_at x.writes c.args.rid)) (sym c.self.view_is) ∙ sym c.is_written.ensures ∙ c.if-is_written.true in
     (inl (refl, some, refl), stays_so c.args.self.now)
-
-none_there : {A : Type 0} (value : Option A) → is_some value ≡ false → value ≡ None
-none_there None off = refl
-none_there (Some value) off = cc
 
 pub returns-in_err-is_absent-clause-err : goal.returns-in_err-is_absent-clause-err
 returns-in_err-is_absent-clause-err g c =
@@ -45,7 +42,7 @@ returns-then-branch-clause-ok g c =
     let q = c.is_absent.new.self in
     let i = c.self-2.inside in
     let tells = subst (λ (b : Bool). TellsAbsent a q c.args.rid b) c.if-branch.true c.in_ok-is_absent.ensures.ok in
-    let unwritten = none_there (value_at a.writes c.args.rid) (ap (λ (x : PassView). is_some (value_at x.writes c.args.rid)) (sym c.self.view_is) ∙ sym c.is_written.ensures ∙ c.if-is_written.false) in
+    let unwritten = is_some-false (value_at a.writes c.args.rid) (ap (λ (x : PassView). is_some (value_at x.writes c.args.rid)) (sym c.self.view_is) ∙ sym c.is_written.ensures ∙ c.if-is_written.false) in
     let absent = absent_known a c.args.rid q.versions a.observed q.observed unwritten (tells.met_absent refl) in
     let fresh : IsFresh (store_of a) c.args.rid = record { new = c.requires.from; within = c.requires.within; not_given = off_list a.given c.args.rid c.requires.not_given; not_written = unwritten; absent = absent } in
     let spare = ap (λ (x : PassView). x.spare) c.self-2.view_is ∙ ap (λ (x : PassView). x.spare) tells.after in
@@ -62,7 +59,7 @@ returns-else-branch-clause-ok g c =
     let q = c.is_absent.new.self in
     let i = c.self-2.inside in
     let tells = subst (λ (b : Bool). TellsAbsent a q c.args.rid b) c.if-branch.false c.in_ok-is_absent.ensures.ok in
-    let unwritten = none_there (value_at a.writes c.args.rid) (ap (λ (x : PassView). is_some (value_at x.writes c.args.rid)) (sym c.self.view_is) ∙ sym c.is_written.ensures ∙ c.if-is_written.false) in
+    let unwritten = is_some-false (value_at a.writes c.args.rid) (ap (λ (x : PassView). is_some (value_at x.writes c.args.rid)) (sym c.self.view_is) ∙ sym c.is_written.ensures ∙ c.if-is_written.false) in
     strikes_one a q (pass_view i.post i.boost i.queue c.strike.new.self i.refusals i.commits i.dead i.counted) c.args.i c.args.rid unwritten c.requires.at tells
     (ap (λ (n : NumbersView). pass_view i.post i.boost i.queue n i.refusals i.commits i.dead i.counted) c.strike.ensures
     ∙ ap (λ (x : PassView). record x { spare = remove x.spare c.args.i }) c.self-2.view_is)

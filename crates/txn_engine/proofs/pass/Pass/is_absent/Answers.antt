@@ -1,6 +1,7 @@
 use Rattle.std.proofs.Common.{◌≡◌, ◌<◌, ℕ, false, List, Option, None, Some, Err, inl, inr, not, refl, sym, subst, ap, ◌∙◌}
 use Rattle.std.specs.Prelude.{is_some}
 use Rattle.record_store.specs.Meaning.{value_at}
+use Rattle.record_store.proofs.Values.{is_some-false}
 use Rattle.seat_post.specs.Leaves.{LeavesValue, LeavesSome, IsPresent}
 use Rattle.seat_post.specs.Post.{PostView, known_at}
 use Rattle.seat_post.proofs.Leaving.{some_words, present_all}
@@ -27,10 +28,6 @@ invariant_of-self-in-Err-Pending g c = rw c.in-Err-Pending.ensures.err c.self.in
 pub invariant_of-self-in-Err-NoMemory : goal.invariant_of-self-in-Err-NoMemory
 invariant_of-self-in-Err-NoMemory g c = rw c.in-Err-NoMemory.ensures.err c.self.invariant
 
-no_words : (value : Option (List ℕ)) → is_some value ≡ false → value ≡ None
-no_words None off = cc
-no_words (Some words) off = cc
-
 pub returns-in-Some-clause-ok : goal.returns-in-Some-clause-ok
 returns-in-Some-clause-ok g c =
     let a = c.args.self.now in
@@ -41,7 +38,7 @@ returns-in-Some-clause-ok g c =
     record {
       after = known_absent a c.args.rid c.is_none.result c.value.result here;
       grows = grows_none a.observed;
-      met_absent = λ on. inl (here ∙ ap Some (no_words c.value.result (c.is_none.ensures ∙ ap not on)), refl, refl);
+      met_absent = λ on. inl (here ∙ ap Some (is_some-false c.value.result (c.is_none.ensures ∙ ap not on)), refl, refl);
       met_present = λ off. let w = some_words c.value.result (c.is_none.ensures ∙ ap not off) in (w.0, inl (here ∙ ap Some w.1, refl));
       left = λ alone off.
           let flying = ap (λ (x : PassView). x.phase) c.self.view_is ∙ c.requires.open in

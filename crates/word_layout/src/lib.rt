@@ -35,6 +35,10 @@ const PLACE_WORDS: u32 = 4 + CELLS;
 pub struct Limit;
 
 impl fmt::Display for Limit {
+    ghost use Rattle.std.specs.Prelude.{codes, Some};
+
+    ghost output = { λ _. Some (codes "limit") };
+
     fn fmt<W: fmt::Write>(&self, f: &mut fmt::Formatter<W>) -> fmt::Result {
         f.write_str("limit")
     }

@@ -1,4 +1,5 @@
 use Rattle.std.proofs.Common.{◌≡◌, ◌≤◌, ◌-◌, ℕ, [], ◌∷◌, List, length, map, length-append, ap, ◌∙◌, sym, subst, refl, arith}
+use Rattle.core_rule.specs.Offers.{MayOffer, made_of}
 use Rattle.core_rule.specs.Views.{Among}
 use Rattle.txn_engine.specs.Alone.{PartsView}
 use Rattle.txn_engine.specs.Pass.{PassView, EngineView, bare, engine_of}
@@ -6,7 +7,7 @@ use Rattle.txn_engine.specs.Sharing.{with_made, share_at, first_share}
 use Rattle.seat_post.specs.Seats.{Others}
 use Rattle.spare_numbers.specs.Spare.{NumbersView, no_numbers, every}
 use Rattle.std.specs.List.{range_with_len}
-use Rattle.txn_engine.proofs.Making.{next_share, next_made, pushed_share, count_shares}
+use Rattle.txn_engine.proofs.Making.{may_make, next_share, next_made, pushed_share, count_shares}
 use Rattle.core_rule.proofs.Among.{Among-last, Among-left}
 use Rattle.txn_engine.proofs.sharing.share_out.Goals as goal
 
@@ -106,3 +107,18 @@ returns-clause-passes g c =
     ∙ ap (λ (n : ℕ). bare (record (with_made n p) { spare = every p.shared.size.seats 0 p.spare })) at in
     let others : map bare c.loop-seat.passes.items ≡ map (share_at p) (range_with_len 1 (p.shared.size.seats - 1)) = i.passes ∙ ap (λ (n : ℕ). map (share_at p) (range_with_len 1 (n - 1))) at in
     ap (map bare) c.in-Ok-insert.ensures.items ∙ (λ k. first k ∷ others k)
+
+pub split-requires-clause-makes : goal.split-requires-clause-makes
+split-requires-clause-makes g c =
+    let plain = ap (λ (o : Others). o.splitting) c.requires.only in
+    let may = may_make c.loop-seat._seat c.args.pass.others c.loop-seat.auto._seat plain in
+    subst (λ (p : PassView). MayOffer p.others.splitting) (sym c.loop-seat.invariant.pass) may.0
+
+pub split-requires-clause-room : goal.split-requires-clause-room
+split-requires-clause-room g c =
+    let plain = ap (λ (o : Others). o.splitting) c.requires.only in
+    let may = may_make c.loop-seat._seat c.args.pass.others c.loop-seat.auto._seat plain in
+    let count = ap (λ (p : PassView). made_of p.others.splitting) c.loop-seat.invariant.pass ∙ may.1 in
+    let test = c.loop-seat-test.true in
+    let end = c.seats-seat-end.ensures.value in
+    omega arith

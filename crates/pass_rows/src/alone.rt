@@ -2,9 +2,9 @@
 ghost use Rattle.std.specs.Prelude.{◌≡◌};
 ghost use Rattle.txn_engine.specs.Pass.{IsIdleOf};
 
-use crate::due::{hold, same};
+use crate::deeds::{Deed, transact};
+use crate::due::same;
 use crate::flights::settled;
-use crate::opening::{end_alone, open_alone};
 use crate::play::{Piece, play};
 use crate::values::value;
 use histories::AnyState;
@@ -13,8 +13,8 @@ use std::process::Abort;
 use std::test::Fail;
 use txn_engine::{Alone, Engine, Settled};
 
-// Writes a record, which has to be there.
-fn put<F: Drop, S: RecordStore<Fault = F>>(store: &mut S, rid: u32) -> bool
+/// Writes a record, which has to be there.
+pub fn put<F: Drop, S: RecordStore<Fault = F>>(store: &mut S, rid: u32) -> bool
     ensures { S.rest store.new ≡ S.rest store.old }
 {
     if rid >= store.size() {
@@ -35,12 +35,8 @@ fn commit<R: Abort>(
     requires { IsIdleOf engine.now alone.old.pass }
     ensures { IsIdleOf engine.now alone.new.pass }
 {
-    let Ok(mut txn) = open_alone(alone, engine, 0) else {
-        hold(rt, false, step);
-        return;
-    };
-    hold(rt, put(&mut txn, rid), step);
-    same(rt, end_alone(txn), Some(places), step);
+    let told = transact(rt, engine, alone, Deed::Put(rid), true, step);
+    same(rt, told, Some(places), step);
 }
 
 /// Two records are written, and settled; then the first is written twice again.

@@ -2,10 +2,13 @@
 //!
 //! What is refused memory is called again, once: all is as before then.
 ghost use Rattle.std.specs.Prelude.{◌≡◌, All};
-ghost use Rattle.txn_engine.specs.Pass.{IsIdleOf};
+ghost use Rattle.txn_engine.specs.Pass.{IsIdleOf, engine_of};
+ghost use Rattle.pass_rows.specs.Seats.{IsOpen};
 
 use crate::due::{hold, same};
+use crate::limits::change_all;
 use crate::opening::{end, open, stop};
+use crate::threads::{is_left, touch};
 use crate::values::{filled, word_of};
 use histories::AnyState;
 use record_store::{RecordRead, RecordStore};
@@ -13,7 +16,7 @@ use stamp_base::{Stamp, is_clock};
 use std::process::Abort;
 use txn_engine::{
     BeginFault, ClockOut, Collected, CommitFault, Committed, Conflict, Engine, Pass, PromoteFault,
-    Promotion, Seat, TxnFault,
+    Promotion, Seat, Txn, TxnFault,
 };
 
 /// A call. A transaction is one call, from its begin at a reading to its end.
@@ -50,6 +53,12 @@ pub enum Act {
     Again(u32),
     /// It asks for two new records.
     Fresh,
+    /// It changes the records from this one up to that one, whose values are their numbers and this one, to those and one more.
+    Change(u32, u32, u32),
+    /// It reads this record, which is absent, and writes that one.
+    Touch(u32, u32),
+    /// It reads what two threads have left, where these committed.
+    Left(bool, bool),
 }
 
 /// What a call tells.
@@ -82,6 +91,10 @@ pub enum Done {
     /// It was given these records.
     Given(Result<u32, TxnFault>, Result<u32, TxnFault>),
     Fault(TxnFault),
+    /// It changed all up to this record.
+    Changed(u32),
+    /// Whether all was as it had to be.
+    Held(bool),
 }
 
 /// A call on the pass at this place of a list, and what it has to tell.
@@ -141,8 +154,8 @@ fn ask<S: RecordStore<Fault = TxnFault>>(store: &mut S, again: bool) -> Result<u
     told
 }
 
-/// Does this in a transaction; whether what is refused memory is called again there.
-pub fn act_on<S: RecordStore<Fault = TxnFault>>(store: &mut S, act: Act, again: bool) -> Done
+// Does this in a transaction; whether what is refused memory is called again there.
+fn act_on<S: RecordStore<Fault = TxnFault>>(store: &mut S, act: Act, again: bool) -> Done
     ensures { S.rest store.new ≡ S.rest store.old }
 {
     match act {
@@ -154,7 +167,26 @@ pub fn act_on<S: RecordStore<Fault = TxnFault>>(store: &mut S, act: Act, again: 
             let first = ask(store, again);
             Done::Given(first, ask(store, again))
         }
+        Act::Change(first, last, from) => Done::Changed(change_all(
+            store,
+            first,
+            last,
+            from,
+            from.wrapping_add(1),
+        )),
+        Act::Touch(read, write) => Done::Held(touch(store, read, write)),
+        Act::Left(first, second) => Done::Held(is_left(store, first, second)),
     }
+}
+
+/// Does this in a transaction of a pass, of which no more is said than its end needs.
+pub fn act_in(txn: &mut Txn<'_, AnyState>, act: Act, again: bool) -> Done
+    requires { IsOpen txn.old.seat.now }
+    ensures same_reference { txn.new.seat.ghost_name ≡ txn.old.seat.ghost_name }
+    ensures open { IsOpen txn.new.seat.now }
+    ensures of_engine { engine_of txn.new.seat.now ≡ engine_of txn.old.seat.now }
+{
+    act_on(txn, act, again)
 }
 
 /// Whether a call was refused memory.
@@ -229,7 +261,7 @@ pub fn commit(
     match open(pass, engine, reading) {
         Err(fault) => not_begun(fault),
         Ok(mut txn) => {
-            let done = act_on(&mut txn, act, again);
+            let done = act_in(&mut txn, act, again);
             let Some(told) = stopped(done) else {
                 return ended(done, end(txn));
             };

@@ -2,10 +2,10 @@
 ghost use Rattle.std.specs.Prelude.{◌≡◌, false, All};
 ghost use Rattle.txn_engine.specs.Pass.{IsIdleOf};
 
-use crate::calls::{Act, Done, Step, Told, act_on, ended, make_all};
+use crate::calls::{Act, Done, Step, Told, act_in, ended, make_all};
 use crate::coming::{meet, shared, take_one, take_two};
 use crate::due::{hold, same};
-use crate::opening::{end, open, stop};
+use crate::opening::{decide, end, link, open, publish, stop};
 use histories::AnyState;
 use std::alloc::{AllocError, Global};
 use std::process::Abort;
@@ -43,7 +43,7 @@ fn fly_open<R: Abort>(
     };
     same(rt, txn.stamp().number(), 2_560, 9);
     make_all(rt, engine, others, flight.calls);
-    let done = act_on(&mut txn, flight.act, true);
+    let done = act_in(&mut txn, flight.act, true);
     same(rt, ended(done, end(txn)), flight.due, 0);
     true
 }
@@ -65,17 +65,17 @@ fn fly_linked<R: Abort>(
         return false;
     };
     same(rt, txn.stamp().number(), 2_560, 9);
-    let done = act_on(&mut txn, flight.act, true);
-    let Ok(linked) = txn.install() else {
+    let done = act_in(&mut txn, flight.act, true);
+    let Ok(linked) = link(txn) else {
         hold(rt, false, 1);
         return true;
     };
     make_all(rt, engine, others, flight.calls);
-    let Ok(decided) = linked.decide() else {
+    let Ok(decided) = decide(linked) else {
         hold(rt, false, 2);
         return true;
     };
-    same(rt, ended(done, Ok(decided.publish())), flight.due, 3);
+    same(rt, ended(done, Ok(publish(decided))), flight.due, 3);
     true
 }
 
@@ -132,13 +132,13 @@ fn cross<R: Abort>(
     );
     same(
         rt,
-        act_on(&mut late, Act::Read(5), true),
+        act_in(&mut late, Act::Read(5), true),
         Done::Read(None),
         2,
     );
     same(
         rt,
-        act_on(&mut early, Act::Write(5), true),
+        act_in(&mut early, Act::Write(5), true),
         Done::Nothing,
         3,
     );

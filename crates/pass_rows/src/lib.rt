@@ -13,6 +13,8 @@ mod checker;
 #[cfg(test)]
 mod coming;
 #[cfg(test)]
+mod deeds;
+#[cfg(test)]
 mod due;
 #[cfg(test)]
 mod flights;

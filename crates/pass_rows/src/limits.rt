@@ -2,9 +2,11 @@
 ghost use Rattle.std.specs.Prelude.{◌≡◌, false, All, IfOk};
 ghost use Rattle.txn_engine.specs.Pass.{IsIdleOf};
 
+use crate::calls::{Act, Done, act_in};
 use crate::coming::{meet, shared, take_one};
+use crate::deeds::{Deed, transact};
 use crate::due::{hold, same};
-use crate::opening::{end, end_alone, open, open_alone, stop_alone};
+use crate::opening::{end, open};
 use crate::play::{Piece, play};
 use crate::values::value;
 use histories::AnyState;
@@ -52,8 +54,8 @@ fn change<F: Drop, S: RecordStore<Fault = F>>(store: &mut S, rid: u32, from: u32
     store.write(rid, due(rid, to)).is_ok() && has(store, rid, to)
 }
 
-// The first record from this one up to that one that is not changed, or that one.
-fn change_all<F: Drop, S: RecordStore<Fault = F>>(
+/// The first record from this one up to that one that is not changed, or that one.
+pub fn change_all<F: Drop, S: RecordStore<Fault = F>>(
     store: &mut S,
     first: u32,
     last: u32,
@@ -94,23 +96,16 @@ fn take_all<F: Drop, S: RecordStore<Fault = F>>(store: &mut S, first: u32, last:
     last
 }
 
-// Writes every record in one transaction of the seat that is alone.
-fn fill<R: process::Abort>(rt: &R, engine: &Engine<AnyState>, alone: &mut Alone<AnyState>)
-    requires { IsIdleOf engine.now alone.old.pass }
-    ensures seat { IsIdleOf engine.now alone.new.pass }
-    ensures shared { alone.new.shared ≡ alone.old.shared }
+/// Writes every record.
+pub fn fill<R: process::Abort, F: Drop, S: RecordStore<Fault = F>>(rt: &R, store: &mut S)
+    ensures { S.rest store.new ≡ S.rest store.old }
 {
-    let Ok(mut txn) = open_alone(alone, engine, 0) else {
-        hold(rt, false, 0);
-        return;
-    };
     same(
         rt,
-        change_all(&mut txn, 0, MOST_RECORDS, 0, 1),
+        change_all(store, 0, MOST_RECORDS, 0, 1),
         MOST_RECORDS,
         0,
     );
-    same(rt, end_alone(txn), Some((0, MOST_RECORDS)), 1);
 }
 
 // Changes the records from this one up to that one, in one transaction of a pass, which has to commit.
@@ -131,8 +126,8 @@ fn refill<R: process::Abort>(
     };
     same(
         rt,
-        change_all(&mut txn, first, last, from, from.wrapping_add(1)),
-        last,
+        act_in(&mut txn, Act::Change(first, last, from), false),
+        Done::Changed(last),
         2,
     );
     hold(rt, end(txn).is_ok(), 3);
@@ -176,8 +171,8 @@ fn change_own<R: Threads + process::Abort + Sync>(
     );
 }
 
-// Whether records that each pass changed, and some that the first one alone changed, read as what is left of them.
-fn is_left<F: Drop, S: RecordRead<Fault = F>>(store: &mut S) -> bool
+/// Whether records that each pass changed, and some that the first one alone changed, read as what is left of them.
+pub fn is_left<F: Drop, S: RecordRead<Fault = F>>(store: &mut S) -> bool
     ensures { S.rest store.new ≡ S.rest store.old }
 {
     has(store, 0, 2)
@@ -193,12 +188,7 @@ fn look_back<R: process::Abort>(rt: &R, engine: &Engine<AnyState>, alone: &mut A
     requires { IsIdleOf engine.now alone.old.pass }
     ensures { IsIdleOf engine.now alone.new.pass }
 {
-    let Ok(mut txn) = open_alone(alone, engine, 0) else {
-        hold(rt, false, 9);
-        return;
-    };
-    hold(rt, is_left(&mut txn), 10);
-    stop_alone(txn);
+    transact(rt, engine, alone, Deed::Look, false, 9);
     same(rt, alone.last().number(), 768, 7);
     same(rt, alone.rescan(engine), 0, 8);
 }
@@ -213,7 +203,8 @@ fn fill_and_share<R: process::Abort>(
     requires not_shared { alone.shared ≡ false }
     ensures { All (IsIdleOf engine.now) result.items }
 {
-    fill(rt, engine, &mut alone);
+    let told = transact(rt, engine, &mut alone, Deed::Fill, true, 0);
+    same(rt, told, Some((0, MOST_RECORDS)), 1);
     same(rt, alone.collect(engine).places, MOST_RECORDS, 5);
     shared(alone, engine)
 }
@@ -299,53 +290,53 @@ fn a_pass_commits_again_and_again(rt: HostRuntime) -> Result<(), Fail> {
 /// The records from here on are given out as new ones.
 const FIXED: u32 = 190_000;
 
-// Takes all new records in one transaction of the seat that is alone, and gives them a value if it is to commit.
-fn take_new<R: process::Abort>(
+/// Takes all new records, and gives them a value if the transaction is to commit.
+pub fn take_new<R: process::Abort, S: RecordStore<Fault = AloneFault>>(
+    rt: &R,
+    store: &mut S,
+    commits: bool,
+)
+    ensures { S.rest store.new ≡ S.rest store.old }
+{
+    same(rt, take_all(store, FIXED, MOST_RECORDS), MOST_RECORDS, 0);
+    same(rt, store.fresh(), Err(AloneFault::RecordsOut), 1);
+    if commits {
+        same(
+            rt,
+            change_all(store, FIXED, MOST_RECORDS, 0, 1),
+            MOST_RECORDS,
+            2,
+        );
+    }
+}
+
+/// Deletes them, while none is given out.
+pub fn delete_new<R: process::Abort, S: RecordStore<Fault = AloneFault>>(rt: &R, store: &mut S)
+    ensures { S.rest store.new ≡ S.rest store.old }
+{
+    same(rt, store.fresh(), Err(AloneFault::RecordsOut), 3);
+    same(
+        rt,
+        change_all(store, FIXED, MOST_RECORDS, 1, 0),
+        MOST_RECORDS,
+        4,
+    );
+    same(rt, store.fresh(), Err(AloneFault::RecordsOut), 5);
+}
+
+// Does this with all new records in one transaction, which has to begin and to commit.
+fn commit_new<R: process::Abort>(
     rt: &R,
     engine: &Engine<AnyState>,
     alone: &mut Alone<AnyState>,
-    commits: bool,
+    deed: Deed,
+    step: usize,
 )
     requires { IsIdleOf engine.now alone.old.pass }
     ensures { IsIdleOf engine.now alone.new.pass }
 {
-    let Ok(mut txn) = open_alone(alone, engine, 0) else {
-        hold(rt, false, 0);
-        return;
-    };
-    same(rt, take_all(&mut txn, FIXED, MOST_RECORDS), MOST_RECORDS, 0);
-    same(rt, txn.fresh(), Err(AloneFault::RecordsOut), 1);
-    if commits {
-        same(
-            rt,
-            change_all(&mut txn, FIXED, MOST_RECORDS, 0, 1),
-            MOST_RECORDS,
-            2,
-        );
-        hold(rt, end_alone(txn).is_some(), 6);
-    } else {
-        stop_alone(txn);
-    }
-}
-
-// Deletes them in one transaction, in which none is given out.
-fn delete_new<R: process::Abort>(rt: &R, engine: &Engine<AnyState>, alone: &mut Alone<AnyState>)
-    requires { IsIdleOf engine.now alone.old.pass }
-    ensures { IsIdleOf engine.now alone.new.pass }
-{
-    let Ok(mut txn) = open_alone(alone, engine, 0) else {
-        hold(rt, false, 3);
-        return;
-    };
-    same(rt, txn.fresh(), Err(AloneFault::RecordsOut), 3);
-    same(
-        rt,
-        change_all(&mut txn, FIXED, MOST_RECORDS, 1, 0),
-        MOST_RECORDS,
-        4,
-    );
-    same(rt, txn.fresh(), Err(AloneFault::RecordsOut), 5);
-    hold(rt, end_alone(txn).is_some(), 6);
+    let told = transact(rt, engine, alone, deed, true, step);
+    hold(rt, told.is_some(), 6);
 }
 
 /// Every spare number is given out, and again after deletions.
@@ -356,10 +347,10 @@ pub fn give_out_all<R: process::Abort>(
 )
     requires { IsIdleOf engine.now alone.pass }
 {
-    take_new(rt, engine, &mut alone, false);
-    take_new(rt, engine, &mut alone, true);
-    delete_new(rt, engine, &mut alone);
-    take_new(rt, engine, &mut alone, false);
+    transact(rt, engine, &mut alone, Deed::Take(false), false, 0);
+    commit_new(rt, engine, &mut alone, Deed::Take(true), 0);
+    commit_new(rt, engine, &mut alone, Deed::Delete, 3);
+    transact(rt, engine, &mut alone, Deed::Take(false), false, 0);
     same(rt, alone.last().number(), 4 * 256, 7);
 }
 

@@ -6,11 +6,12 @@ ghost use Rattle.histories.specs.contracts.AnyState.{the_row as any_state};
 ghost use Rattle.txn_engine.specs.contracts.alone.Alone.{the_row as alone_row};
 ghost use Rattle.txn_engine.specs.contracts.pass.Pass.{the_row};
 ghost use Rattle.txn_engine.specs.Pass.{IsIdleOf, engine_of};
-ghost use Rattle.pass_rows.specs.Seats.{IsOpen};
+ghost use Rattle.pass_rows.specs.Seats.{IsOpen, IsLinked, IsDecided};
 
 use histories::AnyState;
 use txn_engine::{
-    Alone, AloneTxn, BeginFault, CommitFault, Committed, Engine, Lent, Pass, Seat, Txn, TxnOver,
+    Alone, AloneTxn, BeginFault, CommitFault, Committed, Conflict, DecidedOver, Engine,
+    InstalledOver, Lent, Pass, Seat, Txn, TxnOver,
 };
 
 /// Begins a transaction.
@@ -42,6 +43,40 @@ pub fn end<E: Lent<AnyState>>(txn: TxnOver<'_, Pass<AnyState>, E>) -> Result<Com
     ensures { IsIdleOf (engine_of txn.entry.seat.now) txn.exit.0.now }
 {
     txn.commit()
+}
+
+/// Links the versions of a transaction.
+pub fn link<'a, E: Lent<AnyState>>(
+    txn: TxnOver<'a, Pass<AnyState>, E>,
+) -> Result<InstalledOver<'a, AnyState, E>, CommitFault>
+    requires { IsOpen txn.seat.now }
+    ensures* rests { sem 𝓛 (RestsIfErr (the_row any_state) txn.entry.seat (λ t. t.pass.ghost_name) result (λ p. IsIdleOf (engine_of txn.entry.seat.now) p)) }
+    ensures same_reference { IfOk result (λ t. t.pass.ghost_name ≡ txn.entry.seat.ghost_name) }
+    ensures linked { IfOk result (λ t. IsLinked t.linked.stamp t.pass.now) }
+    ensures of_engine { IfOk result (λ t. engine_of t.pass.now ≡ engine_of txn.entry.seat.now) }
+{
+    txn.install()
+}
+
+/// Decides a transaction whose versions are linked.
+pub fn decide<'a, E: Lent<AnyState>>(
+    txn: InstalledOver<'a, AnyState, E>,
+) -> Result<DecidedOver<'a, AnyState, E>, Conflict>
+    requires { IsLinked txn.linked.stamp txn.pass.now }
+    ensures* rests { sem 𝓛 (RestsIfErr (the_row any_state) txn.entry.pass (λ t. t.pass.ghost_name) result (λ p. IsIdleOf (engine_of txn.entry.pass.now) p)) }
+    ensures same_reference { IfOk result (λ t. t.pass.ghost_name ≡ txn.entry.pass.ghost_name) }
+    ensures decided { IfOk result (λ t. IsDecided t.entered.stamp t.pass.now) }
+    ensures of_engine { IfOk result (λ t. engine_of t.pass.now ≡ engine_of txn.entry.pass.now) }
+{
+    txn.decide()
+}
+
+/// Publishes the versions of a transaction that is decided.
+pub fn publish<E: Lent<AnyState>>(txn: DecidedOver<'_, AnyState, E>) -> Committed
+    requires { IsDecided txn.entered.stamp txn.pass.now }
+    ensures { IsIdleOf (engine_of txn.entry.pass.now) txn.exit.0.now }
+{
+    txn.publish()
 }
 
 /// Begins a transaction of the seat that is alone.

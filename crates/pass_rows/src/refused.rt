@@ -2,10 +2,10 @@
 ghost use Rattle.std.specs.Prelude.{◌≡◌, false};
 ghost use Rattle.txn_engine.specs.Pass.{IsIdleOf};
 
-use crate::calls::{Act, Done, Told, act_on, commit, is_refused};
+use crate::calls::{Act, Done, Told, act_in, commit, is_refused};
 use crate::coming::{shared, take_one, take_two};
 use crate::due::{hold, same};
-use crate::opening::{open, stop};
+use crate::opening::{decide, link, open, publish, stop};
 use crate::play::{Piece, play};
 use histories::AnyState;
 use std::process::Abort;
@@ -59,21 +59,21 @@ fn meet_pending<R: Abort>(
     let Ok(mut txn) = open(first, engine, 10) else {
         return None;
     };
-    if is_refused(act_on(&mut txn, Act::Write(5), false)) {
+    if is_refused(act_in(&mut txn, Act::Write(5), false)) {
         stop(txn);
         return None;
     }
-    let Ok(linked) = txn.install() else {
+    let Ok(linked) = link(txn) else {
         hold(rt, false, 2);
         return None;
     };
     let pending = Told::Stopped(Conflict::Pending { rid: 5, wts: 2_560 });
     let has_met = make(rt, engine, second, 20, Act::Read(5), pending);
-    let Ok(decided) = linked.decide() else {
+    let Ok(decided) = decide(linked) else {
         hold(rt, false, 3);
         return None;
     };
-    same(rt, decided.publish().stamp.number(), 2_560, 4);
+    same(rt, publish(decided).stamp.number(), 2_560, 4);
     Some(has_met)
 }
 

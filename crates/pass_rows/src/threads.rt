@@ -2,6 +2,7 @@
 ghost use Rattle.std.specs.Prelude.{◌≡◌, false, All};
 ghost use Rattle.txn_engine.specs.Pass.{IsIdleOf};
 
+use crate::calls::{Act, Done, act_in};
 use crate::coming::{shared, take_one};
 use crate::due::{hold, same};
 use crate::meeting::Meeting;
@@ -48,8 +49,8 @@ fn has<F: Drop, S: RecordRead<Fault = F>>(store: &mut S, rid: u32, due: Option<C
     value == due
 }
 
-// Reads one record, which is absent, and writes another.
-fn touch<F: Drop, S: RecordStore<Fault = F>>(store: &mut S, read: u32, write: u32) -> bool
+/// Reads one record, which is absent, and writes another.
+pub fn touch<F: Drop, S: RecordStore<Fault = F>>(store: &mut S, read: u32, write: u32) -> bool
     ensures { S.rest store.new ≡ S.rest store.old }
 {
     if !has(store, read, None) || write >= store.size() {
@@ -73,8 +74,8 @@ fn transact(
     let Ok(mut txn) = open(pass, engine, reading(is_first)) else {
         return (false, false);
     };
-    let touched = touch(&mut txn, read, own(is_first));
-    let met = place.come(is_first) && touched;
+    let done = act_in(&mut txn, Act::Touch(read, own(is_first)), false);
+    let met = place.come(is_first) && done == Done::Held(true);
     (met, end(txn).is_ok())
 }
 
@@ -134,6 +135,13 @@ fn left(committed: bool) -> Option<Cells> {
     if committed { value(Some(9)) } else { None }
 }
 
+/// Whether what both have left reads as that, where these committed.
+pub fn is_left<F: Drop, S: RecordRead<Fault = F>>(store: &mut S, first: bool, second: bool) -> bool
+    ensures { S.rest store.new ≡ S.rest store.old }
+{
+    has(store, own(true), left(first)) && has(store, own(false), left(second))
+}
+
 // Whether what both have left reads as that, in a later transaction.
 fn reads_back(engine: &Engine<AnyState>, pass: &mut Pass<AnyState>, committed: (bool, bool)) -> bool
     requires { IsIdleOf engine.now pass.old }
@@ -141,10 +149,9 @@ fn reads_back(engine: &Engine<AnyState>, pass: &mut Pass<AnyState>, committed: (
     let Ok(mut txn) = open(pass, engine, 30) else {
         return false;
     };
-    let is_left = has(&mut txn, own(true), left(committed.0))
-        && has(&mut txn, own(false), left(committed.1));
+    let done = act_in(&mut txn, Act::Left(committed.0, committed.1), false);
     stop(txn);
-    is_left
+    done == Done::Held(true)
 }
 
 // Both have met, and whether both committed is what is due; what was not committed was refused and is not there.

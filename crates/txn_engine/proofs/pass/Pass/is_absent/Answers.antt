@@ -1,5 +1,4 @@
-use Rattle.std.proofs.Common.{◌≡◌, ◌<◌, ℕ, false, List, Option, None, Some, Err, inl, inr, not, refl, sym, subst, ap, ◌∙◌}
-use Rattle.std.specs.Prelude.{is_some}
+use Rattle.std.proofs.Common.{◌≡◌, ◌<◌, ℕ, List, Option, None, Some, Err, inl, inr, not, refl, sym, subst, ap, ◌∙◌}
 use Rattle.record_store.specs.Meaning.{value_at}
 use Rattle.record_store.proofs.Values.{is_some-false}
 use Rattle.seat_post.specs.Leaves.{LeavesValue, LeavesSome, IsPresent}

@@ -14,7 +14,7 @@ use Rattle.stored_tables.specs.Weight.{row_adds, change_adds, adds, all_add}
 use Rattle.txn_script.specs.Grammar.{IsWithinLimits, counts, is_indexed, blocks_in, commands_in}
 use Rattle.lane_runner.specs.Loading.{rows_add}
 use Rattle.lane_runner.specs.Weighs.{blocks_add}
-use Rattle.input_runner.specs.Sizes.{AreEnough, SizesAreEnough, count_in, rows_of_run, entries_of_run, records_of_run}
+use Rattle.input_runner.specs.Sizes.{AreEnough, SizesAreEnough, count_in, records_for_rows, records_for_commands, records_of_run}
 use Rattle.input_runner.proofs.Counts.{count_blocks, brings_below}
 
 -- ---- one row or command
@@ -87,17 +87,17 @@ blocks_lightest tables blocks none =
 
 -- ---- an input
 
-sum_up : (rows blocks len brought changed all_brought all_changed : ℕ) → rows ≤ 6 * len → blocks ≤ 4 * brought + 2 * changed → all_brought ≡ brought → all_changed ≡ changed
-    → rows + blocks ≤ 4 * (len + all_brought) + 2 * (len + all_changed)
-sum_up rows blocks len brought changed all_brought all_changed light lighter same same' = omega arith
+-- records for so many rows, commands that bring one, and commands that bring or change one: with an index somewhere, and with none
+abbrev records_at : Bool → (rows brought changed : ℕ) → ℕ
+records_at indexed rows brought changed = (if indexed then 6 else 4) * rows + (8 * brought + (if indexed then 3 * changed else 0))
 
-record AreLight (rows : List (ℕ × ℕ × Row)) (indexes : List (ℕ × ℕ)) (lanes : List (List Block)) (brought changed : ℕ) : Type 0 where
-  few : brought ≤ 16384
-  few_changed : changed ≤ 16384
-  light : rows_add rows indexes + blocks_add (blocks_in lanes) (loaded rows indexes) ≤ 4 * brought + 2 * changed
-
-sum_low : (rows blocks len brought all_brought : ℕ) → rows ≤ 4 * len → blocks ≤ 4 * brought → all_brought ≡ brought → rows + blocks ≤ 4 * (len + all_brought) + 2 * 0
-sum_low rows blocks len brought all_brought light lighter same = omega arith
+record AreLight (indexed : Bool) (rows : List (ℕ × ℕ × Row)) (indexes : List (ℕ × ℕ)) (lanes : List (List Block)) : Type 0 where
+  few_rows : length rows ≤ 16384
+  few_brought : count_by (counts false) (commands_in lanes) ≤ 16384
+  few_changed : indexed ≡ true → count_by (counts true) (commands_in lanes) ≤ 16384
+  few : records_at indexed (length rows) (count_by (counts false) (commands_in lanes)) (count_by (counts true) (commands_in lanes)) ≤ 180224
+  light : rows_add rows indexes + blocks_add (blocks_in lanes) (loaded rows indexes)
+      ≤ records_at indexed (length rows) (count_by (counts false) (commands_in lanes)) (count_by (counts true) (commands_in lanes))
 
 -- an index is there
 indexed_more : (index : ℕ × ℕ) (indexes : List (ℕ × ℕ)) → is_indexed (index ∷ indexes) ≡ true
@@ -108,42 +108,55 @@ none_there [] none t = get-empty nat_cmp t
 none_there (index ∷ indexes) none t = absurd (let some = indexed_more index indexes in cc)
 
 are_light : (rows : List (ℕ × ℕ × Row)) (indexes : List (ℕ × ℕ)) (lanes : List (List Block)) → length rows + count_by (counts (is_indexed indexes)) (commands_in lanes) ≤ 16384
-    → AreLight rows indexes lanes (length rows + count_by (counts false) (commands_in lanes)) (if is_indexed indexes then length rows + count_by (counts true) (commands_in lanes) else 0)
+    → AreLight (is_indexed indexes) rows indexes lanes
 are_light rows indexes lanes = by (is_indexed indexes) (none_there indexes) where
   column : ℕ × ℕ × Row → Option ℕ
   column row = index_of row.0 (loaded [] indexes)
 
-  by : (b : Bool) → (b ≡ false → (t : ℕ) → index_of t (loaded [] indexes) ≡ None) → length rows + count_by (counts b) (commands_in lanes) ≤ 16384
-      → AreLight rows indexes lanes (length rows + count_by (counts false) (commands_in lanes)) (if b then length rows + count_by (counts true) (commands_in lanes) else 0)
+  by : (b : Bool) → (b ≡ false → (t : ℕ) → index_of t (loaded [] indexes) ≡ None) → length rows + count_by (counts b) (commands_in lanes) ≤ 16384 → AreLight b rows indexes lanes
   by true none few =
       let below = brings_below true (commands_in lanes) in
-      record {
-        few = omega arith;
-        few_changed = few;
-        light = sum_up _ _ _ _ _ _ _ (rows_light (λ (row : ℕ × ℕ × Row). row_adds (column row)) rows (λ row. row_light (column row)))
-            (blocks_light (loaded rows indexes) (blocks_in lanes)) (count_blocks false lanes) (count_blocks true lanes);
-      }
+      let rows_are = rows_light (λ (row : ℕ × ℕ × Row). row_adds (column row)) rows (λ row. row_light (column row)) in
+      let blocks_are = blocks_light (loaded rows indexes) (blocks_in lanes) in
+      let brought = count_blocks false lanes in
+      let changed = count_blocks true lanes in
+      record { few_rows = omega arith; few_brought = omega arith; few_changed = λ _. omega arith; few = omega arith; light = omega (arith, rows_are, blocks_are, brought, changed) }
   by false none few =
-      record {
-        few = few;
-        few_changed = omega arith;
-        light = sum_low _ _ _ _ _ (rows_lightest (λ (row : ℕ × ℕ × Row). row_adds (column row)) rows (λ row. let four : row_adds (column row) ≡ 4 = ap row_adds (none refl row.0) in omega arith))
-            (blocks_lightest (loaded rows indexes) (blocks_in lanes) (none refl)) (count_blocks false lanes);
-      }
+      let rows_are = rows_lightest (λ (row : ℕ × ℕ × Row). row_adds (column row)) rows (λ row. let four : row_adds (column row) ≡ 4 = ap row_adds (none refl row.0) in omega arith) in
+      let blocks_are = blocks_lightest (loaded rows indexes) (blocks_in lanes) (none refl) in
+      let brought = count_blocks false lanes in
+      record { few_rows = omega arith; few_brought = omega arith; few_changed = λ indexed. absurd (let not_true : false ≡ true = indexed in cc); few = omega arith; light = omega (arith, rows_are, blocks_are, brought) }
 
-pub entries_there : (n : ℕ) (indexes : List (ℕ × ℕ)) → 0 < length indexes → (if is_indexed indexes then n else 0) ≡ n
-entries_there n [] some = absurd (omega arith)
-entries_there n (index ∷ indexes) some = ap (λ (b : Bool). if b then n else 0) (indexed_more index indexes)
+-- what follows of the limits of an input for the sizes of its run
+pub record AreFew (input : Input) : Type 0 where
+  pub rows : length input.rows ≤ 16384
+  pub brought : count_by (counts false) (commands_in input.lanes) ≤ 16384
+  pub changed : 0 < length input.indexes → count_by (counts true) (commands_in input.lanes) ≤ 16384
+  pub records : records_for_rows input + records_for_commands input ≤ 180224
 
-pub few_of_run : (input : Input) → IsWithinLimits input → (rows_of_run input ≤ 16384) × (entries_of_run input ≤ 16384)
-few_of_run input within = let is = are_light input.rows input.indexes input.lanes within.rows_and_changes in (is.few, is.few_changed)
+pub few_of_run : (input : Input) → IsWithinLimits input → AreFew input
+few_of_run input within =
+    let is = are_light input.rows input.indexes input.lanes within.rows_and_changes in
+    record { rows = is.few_rows; brought = is.few_brought; changed = λ some. is.few_changed (there input.indexes some); records = is.few }
+  where
+    there : (indexes : List (ℕ × ℕ)) → 0 < length indexes → is_indexed indexes ≡ true
+    there [] some = absurd (omega arith)
+    there (index ∷ indexes) some = indexed_more index indexes
+
+-- by whether there is an index
+pub if_indexed : {X : Type 0} (indexes : List (ℕ × ℕ)) (some none : X) → 0 < length indexes → (if is_indexed indexes then some else none) ≡ some
+if_indexed [] some none there = absurd (omega arith)
+if_indexed (index ∷ indexes) some none there = ap (λ (b : Bool). if b then some else none) (indexed_more index indexes)
+
+pub if_not_indexed : {X : Type 0} (indexes : List (ℕ × ℕ)) (some none : X) → length indexes ≡ 0 → (if is_indexed indexes then some else none) ≡ none
+if_not_indexed [] some none empty = refl
+if_not_indexed (index ∷ indexes) some none empty = absurd (omega (arith, empty))
 
 pub sizes_are_enough : SizesAreEnough
 sizes_are_enough input seats well_formed within some most =
     let is = are_light input.rows input.indexes input.lanes within.rows_and_changes in
-    let few : rows_of_run input ≤ 16384 = is.few in
-    let few_changed : entries_of_run input ≤ 16384 = is.few_changed in
-    let light : rows_add input.rows input.indexes + blocks_add (blocks_in input.lanes) (loaded input.rows input.indexes) ≤ 4 * rows_of_run input + 2 * entries_of_run input = is.light in
+    let few : records_for_rows input + records_for_commands input ≤ 180224 = is.few in
+    let light : rows_add input.rows input.indexes + blocks_add (blocks_in input.lanes) (loaded input.rows input.indexes) ≤ records_for_rows input + records_for_commands input = is.light in
     record {
       size = record {
         has_seat = some;

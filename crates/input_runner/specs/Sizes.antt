@@ -19,20 +19,21 @@ count_in changes blocks = sum_by (λ (block : Block). count_by (counts changes) 
 abbrev pub count_in_all : (changes : Bool) → List (List Block) → ℕ
 count_in_all changes lanes = sum_by (count_in changes) lanes
 
--- its rows, and the commands that may bring one
-abbrev pub rows_of_run : Input → ℕ
-rows_of_run input = length input.rows + count_by (counts false) (commands_in input.lanes)
+-- records for the rows that are loaded: so many each of them adds at most to what tables use, with an index somewhere and with none
+abbrev pub records_for_rows : Input → ℕ
+records_for_rows input = (if is_indexed input.indexes then 6 else 4) * length input.rows
 
--- where it has an index, the same with the commands that may change a row
-abbrev pub entries_of_run : Input → ℕ
-entries_of_run input = if is_indexed input.indexes then length input.rows + count_by (counts true) (commands_in input.lanes) else 0
+-- records for the commands of all blocks: twice what one that brings a row adds at most, and where there is an index half as much again as
+-- one that brings or changes a row adds there, since each seat has a share of them
+abbrev pub records_for_commands : Input → ℕ
+records_for_commands input = 8 * count_by (counts false) (commands_in input.lanes) + (if is_indexed input.indexes then 3 * count_by (counts true) (commands_in input.lanes) else 0)
 
 -- records that are never given out: those of the tables' chains, of their trees' roots and of their indexes
 abbrev pub fixed_of_run : ℕ
 fixed_of_run = fixed_records
 
 abbrev pub records_of_run : Input → ℕ
-records_of_run input = fixed_of_run + (8 * rows_of_run input + 3 * entries_of_run input)
+records_of_run input = fixed_of_run + (records_for_rows input + records_for_commands input)
 
 -- places for versions beside one for each record: one for each record again, what a block may write, and the one that is kept
 abbrev pub spare_of_run : Input → ℕ

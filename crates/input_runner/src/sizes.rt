@@ -2,7 +2,7 @@
 
 ghost use Rattle.std.specs.Prelude.{◌≡◌, ◌+◌, ◌≤◌, count_by};
 ghost use Rattle.txn_script.specs.Grammar.{IsWithinLimits, counts};
-ghost use Rattle.input_runner.specs.Sizes.{SizesAreEnough, records_of_run, spare_of_run, rows_of_run, entries_of_run, count_in, count_in_all};
+ghost use Rattle.input_runner.specs.Sizes.{SizesAreEnough, records_of_run, spare_of_run, records_for_rows, records_for_commands, count_in, count_in_all};
 
 use replay_model::{Block, Blocks, Command, Input, Lanes};
 
@@ -19,39 +19,40 @@ pub(crate) struct Sizes {
     pub(crate) spare: u32,
 }
 
-/// The sizes of a run: eight records for each row and each command that may bring one, and, where there is an index, three for each of
-/// these and each command that may change a row.
+/// The sizes of a run.
 pub(crate) fn sizes_of(input: &Input) -> Sizes
     requires within { IsWithinLimits input.now }
     ensures records { result.records ≡ records_of_run input.now }
     ensures spare { result.spare ≡ spare_of_run input.now }
 {
-    let records = FIXED + (8 * rows_of(input) + 3 * entries_of(input));
+    let records = FIXED + (for_rows(input) + for_commands(input));
     Sizes {
         records,
         spare: records + BLOCK_PLACES,
     }
 }
 
-/// The rows, and the commands that may bring one.
-fn rows_of(input: &Input) -> u32
+/// Records for the rows that are loaded: four for each, and six where there is an index.
+fn for_rows(input: &Input) -> u32
     requires within { IsWithinLimits input.now }
-    ensures value { result ≡ rows_of_run input.now }
-    ensures few { result ≤ 16384 }
+    ensures value { result ≡ records_for_rows input.now }
 {
-    input.rows.len() as u32 + count_in_lanes(&input.lanes, false)
+    let each = if input.indexes.len() == 0 { 4 } else { 6 };
+    each * input.rows.len() as u32
 }
 
-/// Where there is an index, these and the commands that may change a row.
-fn entries_of(input: &Input) -> u32
+/// Records for the commands: eight for each that may bring a row, and, where there is an index, three for each that may bring or
+/// change one.
+fn for_commands(input: &Input) -> u32
     requires within { IsWithinLimits input.now }
-    ensures value { result ≡ entries_of_run input.now }
-    ensures few { result ≤ 16384 }
+    ensures value { result ≡ records_for_commands input.now }
 {
+    let rows = 8 * count_in_lanes(&input.lanes, false);
     if input.indexes.len() == 0 {
-        return 0;
+        rows
+    } else {
+        rows + 3 * count_in_lanes(&input.lanes, true)
     }
-    input.rows.len() as u32 + count_in_lanes(&input.lanes, true)
 }
 
 /// They are enough for the rows and all blocks.

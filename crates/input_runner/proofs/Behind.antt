@@ -1,16 +1,13 @@
 -- A snapshot behind a whole run.
-use Rattle.std.proofs.Common.{◌≡◌, ℕ, ◌+◌, ◌-◌, ◌≤◌, ◌<◌, max, true, false, List, [], ◌∷◌, ◌++◌, Option, append_assoc, refl, sym, ap, subst, ◌∙◌, inl, inr, ⊎_elim, arith, All, map}
-use Rattle.std.specs.List.{AllByRecursion}
+use Rattle.std.proofs.Common.{◌≡◌, ℕ, true, List, [], ◌∷◌, ◌++◌, Option, append_assoc, sym, ap, subst, ◌∙◌, ⊎_elim}
 use Rattle.plain_data.specs.declared.entry.Entry.{Entry}
-use Rattle.plain_data.specs.State.{State, IsEntry, overlay}
-use Rattle.stamp_base.specs.Stamp.{bound_of_clock}
+use Rattle.plain_data.specs.State.{IsEntry, overlay}
 use Rattle.core_rule.specs.Views.{Among}
 use Rattle.core_rule.proofs.Among.{Among-either}
 use Rattle.replay_model.specs.declared.input.Block.{Block}
 use Rattle.replay_model.specs.declared.input.Input.{Input}
 use Rattle.replay_model.specs.declared.outcome.Outcome.{Outcome}
 use Rattle.replay_model.specs.declared.outcome.Placed.{Placed}
-use Rattle.lane_runner.specs.Adds.{Adds}
 use Rattle.lane_runner.specs.Lanes.{AreEntries}
 use Rattle.lane_runner.specs.Lanes.AreEntries.{none, result, other}
 use Rattle.lane_runner.specs.Rows.{stands}

@@ -1,8 +1,8 @@
 -- The sizes of a run are enough for its rows and all its blocks.
-use Rattle.std.proofs.Common.{◌≡◌, ℕ, ◌+◌, ◌*◌, ◌≤◌, ◌<◌, ◌==◌, Bool, true, false, cond, not, if◌then◌else◌, List, [], ◌∷◌, length, Option, None, Some, refl, sym, ap, subst, ◌∙◌, inl, inr, arith}
+use Rattle.std.proofs.Common.{◌≡◌, ℕ, ◌+◌, ◌*◌, ◌≤◌, ◌<◌, Bool, true, false, cond, not, if◌then◌else◌, List, [], ◌∷◌, length, get_or, Option, None, Some, refl, ap, inl, inr, arith}
 use Rattle.std.specs.FinMap.{get-empty}
 use Rattle.std.specs.Ordering.{nat_cmp}
-use Rattle.std.specs.List.{flat_map, count_by, sum_by}
+use Rattle.std.specs.List.{count_by, sum_by}
 use Rattle.std.proofs.lemmas.Bool.Decides.{eqb_tells}
 use Rattle.std.proofs.lemmas.List.Sums.{sum_by-cons}
 use Rattle.replay_model.specs.declared.command.Command.{Command}
@@ -12,9 +12,8 @@ use Rattle.replay_model.specs.declared.input.Input.{Input}
 use Rattle.replay_model.specs.TableMap.{TableMap, Row, loaded, index_of}
 use Rattle.stored_tables.specs.Weight.{row_adds, change_adds, adds, all_add}
 use Rattle.txn_script.specs.Grammar.{IsWithinLimits, counts, is_indexed, blocks_in, commands_in}
-use Rattle.lane_runner.specs.Loading.{rows_add}
 use Rattle.lane_runner.specs.Weighs.{blocks_add}
-use Rattle.input_runner.specs.Sizes.{AreEnough, SizesAreEnough, count_in, records_for_rows, records_for_commands, records_of_run}
+use Rattle.input_runner.specs.Sizes.{SizesAreEnough, count_in, records_for_rows, records_for_commands}
 use Rattle.input_runner.proofs.Counts.{count_blocks, brings_below}
 
 -- ---- one row or command
@@ -67,14 +66,6 @@ sum_lowest : {X : Type 0} (f g : X → ℕ) (xs : List X) → ((x : X) → f x �
 sum_lowest f g [] each = omega arith
 sum_lowest f g (x ∷ xs) each = let first = each x in let rest = sum_lowest f g xs each in let fs = sum_by-cons f x xs in let gs = sum_by-cons g x xs in omega arith
 
-rows_light : {X : Type 0} (f : X → ℕ) (xs : List X) → ((x : X) → f x ≤ 6) → sum_by f xs ≤ 6 * length xs
-rows_light f [] each = omega arith
-rows_light f (x ∷ xs) each = let first = each x in let rest = rows_light f xs each in let fs = sum_by-cons f x xs in omega arith
-
-rows_lightest : {X : Type 0} (f : X → ℕ) (xs : List X) → ((x : X) → f x ≤ 4) → sum_by f xs ≤ 4 * length xs
-rows_lightest f [] each = omega arith
-rows_lightest f (x ∷ xs) each = let first = each x in let rest = rows_lightest f xs each in let fs = sum_by-cons f x xs in omega arith
-
 blocks_light : (tables : TableMap) (blocks : List Block) → blocks_add blocks tables ≤ 4 * count_in false blocks + 2 * count_in true blocks
 blocks_light tables blocks =
     sum_below (λ (b : Block). all_add b.commands tables) (λ (b : Block). count_by (counts false) b.commands) (λ (b : Block). count_by (counts true) b.commands) blocks
@@ -87,17 +78,16 @@ blocks_lightest tables blocks none =
 
 -- ---- an input
 
--- records for so many rows, commands that bring one, and commands that bring or change one: with an index somewhere, and with none
-abbrev records_at : Bool → (rows brought changed : ℕ) → ℕ
-records_at indexed rows brought changed = (if indexed then 6 else 4) * rows + (8 * brought + (if indexed then 3 * changed else 0))
+-- records for so many commands that bring a row, and that bring or change one: with an index somewhere, and with none
+abbrev records_at : Bool → (brought changed : ℕ) → ℕ
+records_at indexed brought changed = 8 * brought + (if indexed then 3 * changed else 0)
 
 record AreLight (indexed : Bool) (rows : List (ℕ × ℕ × Row)) (indexes : List (ℕ × ℕ)) (lanes : List (List Block)) : Type 0 where
   few_rows : length rows ≤ 16384
   few_brought : count_by (counts false) (commands_in lanes) ≤ 16384
   few_changed : indexed ≡ true → count_by (counts true) (commands_in lanes) ≤ 16384
-  few : records_at indexed (length rows) (count_by (counts false) (commands_in lanes)) (count_by (counts true) (commands_in lanes)) ≤ 180224
-  light : rows_add rows indexes + blocks_add (blocks_in lanes) (loaded rows indexes)
-      ≤ records_at indexed (length rows) (count_by (counts false) (commands_in lanes)) (count_by (counts true) (commands_in lanes))
+  few : 2 * length rows + 4 + records_at indexed (count_by (counts false) (commands_in lanes)) (count_by (counts true) (commands_in lanes)) ≤ 180228
+  light : blocks_add (blocks_in lanes) (loaded rows indexes) ≤ records_at indexed (count_by (counts false) (commands_in lanes)) (count_by (counts true) (commands_in lanes))
 
 -- an index is there
 indexed_more : (index : ℕ × ℕ) (indexes : List (ℕ × ℕ)) → is_indexed (index ∷ indexes) ≡ true
@@ -110,29 +100,24 @@ none_there (index ∷ indexes) none t = absurd (let some = indexed_more index in
 are_light : (rows : List (ℕ × ℕ × Row)) (indexes : List (ℕ × ℕ)) (lanes : List (List Block)) → length rows + count_by (counts (is_indexed indexes)) (commands_in lanes) ≤ 16384
     → AreLight (is_indexed indexes) rows indexes lanes
 are_light rows indexes lanes = by (is_indexed indexes) (none_there indexes) where
-  column : ℕ × ℕ × Row → Option ℕ
-  column row = index_of row.0 (loaded [] indexes)
-
   by : (b : Bool) → (b ≡ false → (t : ℕ) → index_of t (loaded [] indexes) ≡ None) → length rows + count_by (counts b) (commands_in lanes) ≤ 16384 → AreLight b rows indexes lanes
   by true none few =
       let below = brings_below true (commands_in lanes) in
-      let rows_are = rows_light (λ (row : ℕ × ℕ × Row). row_adds (column row)) rows (λ row. row_light (column row)) in
       let blocks_are = blocks_light (loaded rows indexes) (blocks_in lanes) in
       let brought = count_blocks false lanes in
       let changed = count_blocks true lanes in
-      record { few_rows = omega arith; few_brought = omega arith; few_changed = λ _. omega arith; few = omega arith; light = omega (arith, rows_are, blocks_are, brought, changed) }
+      record { few_rows = omega arith; few_brought = omega arith; few_changed = λ _. omega arith; few = omega arith; light = omega (arith, blocks_are, brought, changed) }
   by false none few =
-      let rows_are = rows_lightest (λ (row : ℕ × ℕ × Row). row_adds (column row)) rows (λ row. let four : row_adds (column row) ≡ 4 = ap row_adds (none refl row.0) in omega arith) in
       let blocks_are = blocks_lightest (loaded rows indexes) (blocks_in lanes) (none refl) in
       let brought = count_blocks false lanes in
-      record { few_rows = omega arith; few_brought = omega arith; few_changed = λ indexed. absurd (let not_true : false ≡ true = indexed in cc); few = omega arith; light = omega (arith, rows_are, blocks_are, brought) }
+      record { few_rows = omega arith; few_brought = omega arith; few_changed = λ indexed. absurd (let not_true : false ≡ true = indexed in cc); few = omega arith; light = omega (arith, blocks_are, brought) }
 
 -- what follows of the limits of an input for the sizes of its run
 pub record AreFew (input : Input) : Type 0 where
   pub rows : length input.rows ≤ 16384
   pub brought : count_by (counts false) (commands_in input.lanes) ≤ 16384
   pub changed : 0 < length input.indexes → count_by (counts true) (commands_in input.lanes) ≤ 16384
-  pub records : records_for_rows input + records_for_commands input ≤ 180224
+  pub records : records_for_rows input + records_for_commands input ≤ 180228
 
 pub few_of_run : (input : Input) → IsWithinLimits input → AreFew input
 few_of_run input within =
@@ -155,8 +140,8 @@ if_not_indexed (index ∷ indexes) some none empty = absurd (omega (arith, empty
 pub sizes_are_enough : SizesAreEnough
 sizes_are_enough input seats well_formed within some most =
     let is = are_light input.rows input.indexes input.lanes within.rows_and_changes in
-    let few : records_for_rows input + records_for_commands input ≤ 180224 = is.few in
-    let light : rows_add input.rows input.indexes + blocks_add (blocks_in input.lanes) (loaded input.rows input.indexes) ≤ records_for_rows input + records_for_commands input = is.light in
+    let few : records_for_rows input + records_for_commands input ≤ 180228 = is.few in
+    let light : blocks_add (blocks_in input.lanes) (loaded input.rows input.indexes) ≤ records_for_commands input = is.light in
     record {
       size = record {
         has_seat = some;
@@ -166,5 +151,6 @@ sizes_are_enough input seats well_formed within some most =
         has_spare = omega arith;
         spare_in_range = omega arith;
       };
-      records = omega arith;
+      rows = λ i d within. let each = row_light (index_of (get_or input.rows i d).0 (loaded [] input.indexes)) in omega (arith, each, within);
+      records = omega (arith, light);
     }

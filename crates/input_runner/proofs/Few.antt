@@ -1,11 +1,10 @@
 -- How many indexes an input has at most.
-use Rattle.std.proofs.Common.{◌≡◌, ℕ, suc, eqb, ◌<◌, ◌≤◌, ◌≢◌, Bool, true, false, List, [], ◌∷◌, map, length, All, AllPairs, refl, sym, ap, subst, ◌∙◌, inl, inr, arith}
-use Rattle.std.specs.Prelude.{◌||◌}
+use Rattle.std.proofs.Common.{◌≡◌, ℕ, suc, eqb, ◌<◌, ◌≤◌, ◌≢◌, true, false, List, [], ◌∷◌, map, length, All, AllPairs, refl, ap, inl, inr, arith}
 use Rattle.std.specs.List.{AllByRecursion, IsDistinct, list_any}
 use Rattle.std.proofs.lemmas.Bool.Decides.{eqb_tells}
 use Rattle.std.proofs.lemmas.List.Elements.{All-head, All-tail}
 use Rattle.std.proofs.lemmas.Map.Steps.{length-le_from_distinct_below}
-use Rattle.replay_model.specs.Input.{AreIndexes, IsIndex}
+use Rattle.replay_model.specs.Input.{AreIndexes}
 use Rattle.histories.proofs.Lists.{pairs_head, pairs_tail}
 
 abbrev tables_of : List (ℕ × ℕ) → List ℕ

@@ -1,5 +1,5 @@
 -- How many records and places the run of an input has.
-use Rattle.std.specs.Prelude.{◌≡◌, ℕ, ◌+◌, ◌*◌, ◌≤◌, if◌then◌else◌, Bool, true, false, List, length, count_by, sum_by}
+use Rattle.std.specs.Prelude.{ℕ, ◌+◌, ◌*◌, ◌≤◌, if◌then◌else◌, Bool, true, false, List, length, count_by, sum_by}
 use Rattle.replay_model.specs.declared.input.Block.{Block}
 use Rattle.replay_model.specs.declared.input.Input.{Input}
 use Rattle.replay_model.specs.Input.{IsWellFormed}
@@ -8,7 +8,7 @@ use Rattle.txn_script.specs.Grammar.{IsWithinLimits, counts, is_indexed, command
 use Rattle.word_layout.specs.Size.{IsSize, size_of}
 use Rattle.stored_tables.specs.Places.{fixed_records}
 use Rattle.lane_runner.specs.Holding.{block_places}
-use Rattle.lane_runner.specs.Loading.{rows_add}
+use Rattle.lane_runner.specs.Loading.{rows_weigh, FindRecords}
 use Rattle.lane_runner.specs.Weighs.{blocks_add}
 use Rattle.lane_threads.specs.Whole.{blocks_of}
 
@@ -19,9 +19,9 @@ count_in changes blocks = sum_by (λ (block : Block). count_by (counts changes) 
 abbrev pub count_in_all : (changes : Bool) → List (List Block) → ℕ
 count_in_all changes lanes = sum_by (count_in changes) lanes
 
--- records for the rows that are loaded: so many each of them adds at most to what tables use, with an index somewhere and with none
+-- records for the rows that are loaded: they weigh two each at most, and the last one may ask for four more
 abbrev pub records_for_rows : Input → ℕ
-records_for_rows input = (if is_indexed input.indexes then 6 else 4) * length input.rows
+records_for_rows input = 2 * length input.rows + 4
 
 -- records for the commands of all blocks: twice what one that brings a row adds at most, and where there is an index half as much again as
 -- one that brings or changes a row adds there, since each seat has a share of them
@@ -42,7 +42,8 @@ spare_of_run input = records_of_run input + block_places
 -- they are enough: an engine of so many has its size, and the rows and all blocks find records
 pub record AreEnough (input : Input) (seats : ℕ) : Type 0 where
   pub size : IsSize (size_of seats (records_of_run input) (spare_of_run input))
-  pub records : fixed_of_run + (rows_add input.rows input.indexes + blocks_add (blocks_of input.lanes) (loaded input.rows input.indexes)) ≤ records_of_run input
+  pub rows : FindRecords input.rows input.indexes fixed_of_run (records_of_run input)
+  pub records : fixed_of_run + (rows_weigh input.rows + blocks_add (blocks_of input.lanes) (loaded input.rows input.indexes)) ≤ records_of_run input
 
 abbrev pub SizesAreEnough : Type 0
 SizesAreEnough = (input : Input) (seats : ℕ) → IsWellFormed input → IsWithinLimits input → 1 ≤ seats → seats ≤ 64 → AreEnough input seats

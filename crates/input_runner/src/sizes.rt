@@ -32,13 +32,12 @@ pub(crate) fn sizes_of(input: &Input) -> Sizes
     }
 }
 
-/// Records for the rows that are loaded: four for each, and six where there is an index.
+/// Records for the rows that are loaded: two for each, and four more for the last one.
 fn for_rows(input: &Input) -> u32
     requires within { IsWithinLimits input.now }
     ensures value { result ≡ records_for_rows input.now }
 {
-    let each = if input.indexes.len() == 0 { 4 } else { 6 };
-    each * input.rows.len() as u32
+    2 * input.rows.len() as u32 + 4
 }
 
 /// Records for the commands: eight for each that may bring a row, and, where there is an index, three for each that may bring or

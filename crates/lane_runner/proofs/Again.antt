@@ -103,7 +103,7 @@ within_once overlays records log stamp rid value tables most stood each apart ab
       left = (overlays records log (rewriting stamp rid value) within.state each apart refl (all_among (λ (e : Entry). e.snapshot ≡ false → e.stamp < stamp) log above) within.left).1;
       places = within.places;
       stands_for = subst (λ (s : State). StandsFor records s within.places tables) same within.stands_for;
-      light = within.light;
+      are = within.are;
     }
 
 within_again : NextStateIsOverlay → (records : ℕ) (first log : List Entry) (tables : TableMap) (most : ℕ) → Rewritings (StandsForSome stands) records first log → All (IsEntry records) log → AllPairs StampsDiffer log → LeavesWithin records first tables most → LeavesWithin records log tables most

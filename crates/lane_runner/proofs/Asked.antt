@@ -1,5 +1,5 @@
 -- A block of commands at the seat that is alone: what it writes, and why it is never refused.
-use Rattle.std.proofs.Common.{◌≡◌, ◌⊎◌, ℕ, ◌+◌, ◌*◌, ◌<◌, ◌≤◌, true, false, List, [], ◌++◌, length, Option, None, Some, IsSome, Result, Ok, Err, sym, ap, subst, ◌∙◌, arith, ⊎_elim, Contains}
+use Rattle.std.proofs.Common.{◌≡◌, ◌⊎◌, ℕ, ◌+◌, ◌*◌, ◌<◌, ◌≤◌, true, false, List, [], ◌++◌, length, Option, None, Some, IsSome, Result, Ok, Err, refl, sym, ap, subst, ◌∙◌, arith, inl, inr, ⊎_elim, Contains}
 use Rattle.std.proofs.lemmas.Bool.{eqb-true}
 use Rattle.std.proofs.lemmas.Map.Views.{Contains-from_any}
 use Rattle.plain_data.specs.State.{State, overlay}
@@ -25,10 +25,24 @@ use Rattle.txn_engine.specs.Leaves.{NoneRemains}
 use Rattle.txn_engine.specs.Pass.{PassView}
 use Rattle.txn_engine.proofs.Accounting.{absent_taken}
 use Rattle.lane_runner.proofs.Entries.{with_none, refused_stays}
-use Rattle.lane_runner.specs.Weighs.{LeadsTo}
+use Rattle.lane_runner.specs.Weighs.{LeadsTo, RunsTo, AddsWeight}
 
-pub at_most_more : (n more : ℕ) → n ≤ n + more
+at_most_more : (n more : ℕ) → n ≤ n + more
 at_most_more n more = omega arith
+
+-- ---- steps
+
+-- commands add no more to the weight than is said of them
+pub runs_add : RunAdds → (commands : List Command) (tables : TableMap) (places after : Places) → RunsTo commands tables places after → AddsWeight (all_add commands tables) places after
+runs_add adds commands tables places after (inl follows) = adds commands tables places after follows.0 follows.1
+runs_add adds commands tables places after (inr same) = subst (λ (now : Places). weight now ≤ weight places + all_add commands tables) (sym same) (at_most_more (weight places) (all_add commands tables))
+
+-- less is said of the step
+pub leads_weaker : (records : ℕ) (reads writes : List (ℕ × Option (List ℕ))) (tables tables' : TableMap) (Step Then : Places → Places → Type 0) → ((places after : Places) → Step places after → Then places after)
+    → LeadsTo records reads writes tables tables' Step → LeadsTo records reads writes tables tables' Then
+leads_weaker records reads writes tables tables' Step Then goes leads state places agrees holds =
+    let step = leads state places agrees holds in
+    (step.0, step.1, goes places step.0 step.2)
 
 room_lighter : (fixed light most more records : ℕ) → light ≤ most → fixed + (most + more) ≤ records → fixed + (light + more) ≤ records
 room_lighter fixed light most more records below room = omega arith
@@ -51,17 +65,17 @@ module _ {S F : Type 0} (read_gives : S → ℕ → Result (Option (List ℕ)) F
       let same : length (meaning last).writes ≡ 0 = ap (λ (m : Meaning). length m.writes) called.refused in
       omega arith
 
-  -- its writes lead to the tables after it, and add no more to the weight than its commands do
+  -- its writes lead to the tables after it, by the step that its commands make
   pub leads_run : (outcome : Outcome) (tables : TableMap) → EachTables (meaning first) (meaning last) (λ _ _ tables. outcome ≡ outcome_of commands tables)
-      → Called read_gives write_gives fresh_gives meaning commands first last (Ok outcome) → ReadsGrow (meaning first) (meaning last) → (meaning first).writes ≡ [] → RunAdds
-      → LeadsTo (meaning first).size (meaning last).reads (meaning last).writes tables (tables_after commands tables) (all_add commands tables)
-  leads_run (Done answers) tables told called grow none adds state places agrees holds =
+      → Called read_gives write_gives fresh_gives meaning commands first last (Ok outcome) → ReadsGrow (meaning first) (meaning last) → (meaning first).writes ≡ []
+      → LeadsTo (meaning first).size (meaning last).reads (meaning last).writes tables (tables_after commands tables) (RunsTo commands tables)
+  leads_run (Done answers) tables told called grow none state places agrees holds =
       let left = called.done.1 state places tables agrees (with_none _ _ state places tables none holds) in
-      (left.0, subst (λ (size : ℕ). StandsFor size (overlay (meaning last).writes state) left.0 (tables_after commands tables)) grow.size left.1, adds commands tables places left.0 called.asked left.2)
-  leads_run (Refused command cause) tables told called grow none adds state places agrees holds =
+      (left.0, subst (λ (size : ℕ). StandsFor size (overlay (meaning last).writes state) left.0 (tables_after commands tables)) grow.size left.1, inl (called.asked, left.2))
+  leads_run (Refused command cause) tables told called grow none state places agrees holds =
       let stays = refused_stays commands command cause tables (told state places tables agrees (with_none _ _ state places tables none holds)) in
       let here = with_none (meaning first).size (meaning last).writes state places tables (ap (λ (m : Meaning). m.writes) called.refused) holds in
-      (places, subst (λ (after : TableMap). StandsFor (meaning first).size (overlay (meaning last).writes state) places after) (sym stays) here, at_most_more (weight places) (all_add commands tables))
+      (places, subst (λ (after : TableMap). StandsFor (meaning first).size (overlay (meaning last).writes state) places after) (sym stays) here, inr refl)
 
   -- what it has written where it came to a fault
   pub known_written : (fault : Walk F) → Called read_gives write_gives fresh_gives meaning commands first last (Err fault) → EachTables (meaning first) (meaning last) (λ state _ _. WritesKnown (meaning first) (meaning last) state)

@@ -11,7 +11,7 @@ use Rattle.replay_model.specs.declared.input.Block.{Block}
 use Rattle.replay_model.specs.declared.outcome.Outcome.{Outcome}
 use Rattle.replay_model.specs.declared.outcome.Placed.{Placed}
 use Rattle.stamp_base.specs.Stamp.{bound_of_clock}
-use Rattle.stored_tables.specs.Weight.{all_add}
+use Rattle.stored_tables.specs.Weight.{weight, all_add}
 use Rattle.stored_tables.specs.Weights.{AddsAfter}
 use Rattle.validate_core.specs.declared.conflict.Conflict.{Conflict}
 use Rattle.validate_core.specs.declared.conflict.Conflict.TheVariants.{Pending, ReadLater, Overtaken}
@@ -100,7 +100,7 @@ module _ (adds_after : AddsAfter) (p : PassView) (block : Block) (more : List Bl
   records_left = record {
     tables = weighs.after;
     most = has.records.most + blocks_add has.earlier has.records.tables;
-    leaves = within_at has.first p has.ran.entries weighs.after (has.records.most + blocks_add has.earlier has.records.tables) has.ran.adds weighs.leaves;
+    leaves = within_at has.first p has.ran.entries weighs.after (λ places. weight places ≤ has.records.most + blocks_add has.earlier has.records.tables) has.ran.adds weighs.leaves;
     room = subst (λ (e : EngineView). e.fixed + (has.records.most + blocks_add has.earlier has.records.tables + all_add block.commands weighs.after) ≤ e.size.records) (sym same_engine)
         (room_left has.first.fixed has.records.most (blocks_add has.earlier has.records.tables) (all_add block.commands has.records.tables) (blocks_add more has.records.tables)
         (blocks_add (has.earlier ++ block ∷ more) has.records.tables) (all_add block.commands weighs.after) has.first.shared.size.records

@@ -4,6 +4,7 @@ use Rattle.plain_data.specs.declared.entry.Entry.{Entry}
 use Rattle.plain_data.specs.State.{Agrees}
 use Rattle.record_store.specs.Meaning.{after_undo}
 use Rattle.replay_model.specs.TableMap.{TableMap}
+use Rattle.stored_tables.specs.Places.{Places}
 use Rattle.seat_post.specs.declared.phase.Phase.TheVariants.{Open}
 use Rattle.histories.specs.History.{Lawful}
 use Rattle.history_replay.specs.Results.{StandsForSome}
@@ -24,7 +25,7 @@ use Rattle.txn_engine.proofs.Accounting.{absent_stays}
 use Rattle.lane_runner.specs.Rows.{stands}
 use Rattle.lane_runner.specs.Adds.{Adds}
 use Rattle.lane_runner.specs.Blocks.{Commits}
-use Rattle.lane_runner.specs.Holding.{Holds, LeavesWithin, HasPlaces}
+use Rattle.lane_runner.specs.Holding.{Holds, LeavesAt, HasPlaces}
 use Rattle.lane_runner.proofs.Adding.{Adds-no_entry, Adds-trans}
 use Rattle.lane_runner.proofs.Begun.{undone_reads}
 use Rattle.lane_runner.proofs.Within.{left_agrees}
@@ -105,8 +106,8 @@ left_undone q r opened rest undone left =
     subst (λ (reads : List (ℕ × Option (List ℕ))). AreLeft q.log q.stamp reads) (undone_reads q r opened rest undone) at_stamp
 
 -- what a transaction has read agrees with the state that the log left
-pub agrees_open : (p q : PassView) (clock : ℕ) (tables : TableMap) (most : ℕ) → frame q ≡ frame (begun p clock) → Lawful (StandsForSome stands) p.shared.size.records p.log → IsAbove p.log q.stamp → AreLeft q.log q.stamp q.reads
-    → (within : LeavesWithin p.shared.size.records p.log tables most) → Agrees within.state q.reads
-agrees_open p q clock tables most kept lawful above left within =
+pub agrees_open : (p q : PassView) (clock : ℕ) (tables : TableMap) (Such : Places → Type 0) → frame q ≡ frame (begun p clock) → Lawful (StandsForSome stands) p.shared.size.records p.log → IsAbove p.log q.stamp → AreLeft q.log q.stamp q.reads
+    → (within : LeavesAt p.shared.size.records p.log tables Such) → Agrees within.state q.reads
+agrees_open p q clock tables Such kept lawful above left within =
     left_agrees (StandsForSome stands) p.shared.size.records p.log q.stamp q.reads within.state lawful above within.left
     (subst (λ (log : List Entry). AreLeft log q.stamp q.reads) (ap (λ (f : PassView). f.log) kept) left)

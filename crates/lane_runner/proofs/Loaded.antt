@@ -1,6 +1,5 @@
 -- Rows and indexes loaded, one behind the other.
-use Rattle.std.proofs.Common.{◌≡◌, ◌≢◌, ◌⊎◌, ℕ, ◌+◌, ◌<◌, ◌≤◌, Bool, false, cond, ◌==◌, ◌&&◌, List, [], ◌∷◌, ◌++◌, map, take, length, get_or, None, Some, refl, sym, ap, subst, ◌∙◌, arith, inl, inr, All, AllPairs}
-use Rattle.std.specs.Prelude.{sum_by}
+use Rattle.std.proofs.Common.{◌≡◌, ◌≢◌, ◌⊎◌, ℕ, ◌+◌, ◌*◌, ◌<◌, ◌≤◌, Bool, false, cond, ◌==◌, ◌&&◌, List, [], ◌∷◌, ◌++◌, map, take, length, get_or, None, Some, refl, sym, ap, subst, ◌∙◌, arith, inl, inr, All, AllPairs}
 use Rattle.std.specs.declared.cmp.Ordering.{Ordering}
 use Rattle.std.specs.Ordering.{nat_cmp, eq_by_cmp}
 use Rattle.std.specs.Cmp.{nat_cmp_total}
@@ -8,7 +7,7 @@ use Rattle.std.specs.FinMap.{find, insert, from_entries, from_entries_push, get-
 use Rattle.std.proofs.lemmas.Bool.Decides.{nat_tests, eqb_tells}
 use Rattle.std.proofs.lemmas.List.{map_push, take_more, length-take, get_or-take, get_or_default}
 use Rattle.std.proofs.lemmas.List.Elements.{All-nil, All-head, All-tail, All-map, All-push}
-use Rattle.std.proofs.lemmas.List.Sums.{sum_by_push, sum_by-take-le}
+use Rattle.std.proofs.lemmas.List.Sums.{sum_by_push}
 use Rattle.plain_data.specs.declared.entry.Entry.{Entry}
 use Rattle.plain_data.specs.State.{IsEntry, Fits, empty_state}
 use Rattle.core_rule.specs.Views.{Among}
@@ -22,20 +21,23 @@ use Rattle.replay_model.specs.declared.command.Command.TheVariants.{Put}
 use Rattle.replay_model.specs.declared.input.Input.{Input}
 use Rattle.replay_model.specs.Input.{AreCommands, NamesColumn, RowsDiffer}
 use Rattle.replay_model.specs.Report.{table_named}
-use Rattle.replay_model.specs.TableMap.{TableMap, RowMap, NumberMap, Row, pair_cmp, entry_of, loaded, with_value, index_of}
+use Rattle.replay_model.specs.TableMap.{TableMap, RowMap, NumberMap, Row, pair_cmp, entry_of, loaded, value_at, with_value, index_of}
 use Rattle.stored_tables.specs.Answers.{IsShort}
 use Rattle.stored_tables.specs.Declare.{IsEmpty, HasRows, with_index}
 use Rattle.stored_tables.specs.Laws.{no_places, EmptyStands, FitsMore}
+use Rattle.stored_tables.specs.Packed.{IsPacked, RowsPack, pairs_in, entries_in}
+use Rattle.stored_tables.specs.Places.{Places, with_head}
 use Rattle.stored_tables.specs.Weight.{weight, row_adds, adds, all_add}
-use Rattle.stored_tables.specs.Weights.{EmptyWeighsNothing}
 use Rattle.stored_tables.proofs.Maps.{pair_cmp_total, pair_cmp-IsAntisymmetric, pair_ties}
 use Rattle.txn_engine.specs.Pass.{PassView}
 use Rattle.lane_runner.specs.Rows.{stands}
 use Rattle.lane_runner.specs.Adds.{Adds}
 use Rattle.lane_runner.specs.Lanes.{AddsSome}
-use Rattle.lane_runner.specs.Holding.{Holds, LeavesWithin, LeavesAfter, HasRecords}
-use Rattle.lane_runner.specs.Loading.{rows_add, row_more, IsBlank, HasLoaded, LacksRows, Loads}
+use Rattle.lane_runner.specs.Holding.{Holds, LeavesAt, LeavesWithin, LeavesAfter, HasRecords}
+use Rattle.lane_runner.specs.Loading.{row_more, FindRecords, IsBlank, HasLoaded, LacksRows, Loads}
+use Rattle.lane_runner.specs.Weighs.{RunsTo}
 use Rattle.lane_runner.proofs.Adding.{Adds-none, Adds-trans}
+use Rattle.lane_runner.proofs.Within.{within_weaker, within_then}
 
 -- ---- finite maps
 
@@ -84,24 +86,50 @@ row_loaded rows indexes i row differ is within =
     ap (λ (rs : List (ℕ × ℕ × Row)). from_entries {R = pair_cmp} (map entry_of rs)) (take_more rows i row within) ∙ ap (from_entries {R = pair_cmp}) (map_push entry_of (take i rows) next) ∙ pushed in
     ap (λ (r : ℕ × ℕ × Row). with_value (loaded (take i rows) indexes) r.0 r.1 r.2) is ∙ ap (λ (m : RowMap). record { rows = m; indexes = from_entries indexes }) (sym whole)
 
-pub weight_loaded : (rows : List (ℕ × ℕ × Row)) (indexes : List (ℕ × ℕ)) (i : ℕ) (row : ℕ × ℕ × Row) → row ≡ get_or rows i row → i < length rows
-    → rows_add (take (i + 1) rows) indexes ≡ rows_add (take i rows) indexes + row_more row.0 (loaded (take i rows) indexes)
-weight_loaded rows indexes i row is within =
-    let f : ℕ × ℕ × Row → ℕ = λ r. row_adds (index_of r.0 (loaded [] indexes)) in
-    ap (sum_by f) (take_more rows i row within) ∙ sum_by_push f (take i rows) (get_or rows i row) ∙ ap (λ (r : ℕ × ℕ × Row). rows_add (take i rows) indexes + f r) (sym is)
+-- it was not there
+pub absent_row : (rows : List (ℕ × ℕ × Row)) (indexes : List (ℕ × ℕ)) (i : ℕ) (row : ℕ × ℕ × Row) → RowsDiffer rows → row ≡ get_or rows i row → i < length rows → value_at (loaded (take i rows) indexes) row.0 row.1 ≡ None
+absent_row rows indexes i row differ is within =
+    let next : ℕ × ℕ × Row = get_or rows i row in
+    ap (λ (r : ℕ × ℕ × Row). value_at (loaded (take i rows) indexes) r.0 r.1) is
+    ∙ get-from_entries pair_cmp_total (map entry_of (take i rows)) (next.0, next.1)
+    ∙ find_none pair_cmp (next.0, next.1) (map entry_of (take i rows)) (rows_apart rows i row differ within)
 
-room_more : (fixed' fixed records' records most more whole : ℕ) → fixed' ≡ fixed → records' ≡ records → fixed + whole ≤ records → most + more ≤ whole → fixed' + (most + more) ≤ records'
-room_more fixed' fixed records' records most more whole same_fixed same_records room below = omega arith
+-- ---- how tightly the tables lie
+
+few_more : (n rows : ℕ) → n ≤ rows → n ≤ rows + 1
+few_more n rows few = omega arith
+
+few_twice : (n rows : ℕ) → n ≤ 2 * rows → n ≤ 2 * (rows + 1)
+few_twice n rows few = omega arith
+
+one_more : (places : Places) (rows : ℕ) → IsPacked places rows → IsPacked places (rows + 1)
+one_more places rows packed = record { chains = packed.chains; trees = packed.trees; pairs = few_more (pairs_in places) rows packed.pairs; entries = few_twice (entries_in places) rows packed.entries }
+
+packed_row : RowsPack → (tables : TableMap) (table key : ℕ) (row : Row) (rows : ℕ) → value_at tables table key ≡ None → (places after : Places) → RunsTo (Put table key row ∷ []) tables places after → IsPacked places rows → IsPacked after (rows + 1)
+packed_row pack tables table key row rows none places after (inl follows) packed = pack.row tables table key row places after follows.0 rows none follows.1 packed
+packed_row pack tables table key row rows none places after (inr same) packed = subst (λ (now : Places). IsPacked now (rows + 1)) (sym same) (one_more places rows packed)
+
+pub packed_head : RowsPack → (table column rows : ℕ) (places after : Places) → after ≡ with_head places table column → IsPacked places rows → IsPacked after rows
+packed_head pack table column rows places after same packed = subst (λ (now : Places). IsPacked now rows) (sym same) (pack.head places table column rows packed)
+
+-- so they are within a weight
+packed_within : RowsPack → (records : ℕ) (log : List Entry) (tables : TableMap) (rows : ℕ) → LeavesAt records log tables (λ places. IsPacked places rows) → LeavesWithin records log tables (2 * rows)
+packed_within pack records log tables rows = within_weaker records log tables (λ places. IsPacked places rows) (λ places. weight places ≤ 2 * rows) (λ places packed. pack.weighs places rows packed)
+
+-- ---- room for the next row
+
+room_more : (fixed' fixed records' records most more : ℕ) → fixed' ≡ fixed → records' ≡ records → fixed + (most + more) ≤ records → fixed' + (most + more) ≤ records'
+room_more fixed' fixed records' records most more same_fixed same_records room = omega arith
 
 -- it finds room
-pub room_row : (first p : PassView) (rows : List (ℕ × ℕ × Row)) (indexes : List (ℕ × ℕ)) (i : ℕ) (row : ℕ × ℕ × Row) (fixed records : ℕ) → row ≡ get_or rows i row → i < length rows → p.fixed ≡ fixed → p.shared.size.records ≡ records → fixed + rows_add rows indexes ≤ records
-    → HasLoaded (loaded (take i rows) indexes) (rows_add (take i rows) indexes) first p → HasRecords p (row_more row.0)
-room_row first p rows indexes i row fixed records is within same_fixed same_records room so_far = record {
+pub room_row : (first p : PassView) (rows : List (ℕ × ℕ × Row)) (indexes : List (ℕ × ℕ)) (i : ℕ) (row : ℕ × ℕ × Row) (fixed records : ℕ) → row ≡ get_or rows i row → i < length rows → p.fixed ≡ fixed → p.shared.size.records ≡ records → FindRecords rows indexes fixed records
+    → RowsPack → HasLoaded (loaded (take i rows) indexes) i first p → HasRecords p (row_more row.0)
+room_row first p rows indexes i row fixed records is within same_fixed same_records room pack so_far = record {
   tables = loaded (take i rows) indexes;
-  most = rows_add (take i rows) indexes;
-  leaves = so_far.leaves;
-  room = room_more p.fixed fixed p.shared.size.records records (rows_add (take i rows) indexes) (row_more row.0 (loaded (take i rows) indexes)) (rows_add rows indexes) same_fixed same_records room
-      (subst (λ (n : ℕ). n ≤ rows_add rows indexes) (weight_loaded rows indexes i row is within) (sum_by-take-le (λ (r : ℕ × ℕ × Row). row_adds (index_of r.0 (loaded [] indexes))) rows (i + 1)));
+  most = 2 * i;
+  leaves = packed_within pack p.shared.size.records p.log (loaded (take i rows) indexes) i so_far.leaves;
+  room = room_more p.fixed fixed p.shared.size.records records (2 * i) (row_more row.0 (loaded (take i rows) indexes)) same_fixed same_records
+      (subst (λ (r : ℕ × ℕ × Row). fixed + (2 * i + row_adds (index_of r.0 (loaded [] indexes))) ≤ records) (sym is) (room i row within));
 }
 
 -- ---- one more index
@@ -125,12 +153,6 @@ index_loaded indexes i d differ within =
 nothing_before : (n : ℕ) → 0 + n ≡ n
 nothing_before n = omega arith
 
-nothing_more : (n : ℕ) → n + 0 ≡ n
-nothing_more n = omega arith
-
-pub within_same : (records : ℕ) (log : List Entry) (tables : TableMap) (most : ℕ) → LeavesWithin records log tables (most + 0) → LeavesWithin records log tables most
-within_same records log tables most within = subst (λ (n : ℕ). LeavesWithin records log tables n) (nothing_more most) within
-
 -- a table with neither a row nor an index is not told to have one
 pub nothing_there : (table : ℕ) (tables : TableMap) → IsEmpty table tables → index_of table tables ≡ None → HasRows table tables ⊎ ((other : ℕ) × (index_of table tables ≡ Some other)) → ⊥
 nothing_there table tables empty none (inl rows) = let bad : None ≡ Some rows.1 = sym (empty rows.0) ∙ rows.2 in cc
@@ -142,7 +164,7 @@ pub lacks_rows : (first p : PassView) (indexes : List (ℕ × ℕ)) (i : ℕ) (d
 lacks_rows first p indexes i d differ within so_far = record {
   holds = so_far.holds;
   tables = loaded [] (take i indexes);
-  most = 0;
+  rows = 0;
   leaves = so_far.leaves;
   empty = λ key. get-empty pair_cmp ((get_or indexes i d).0, key);
   no_index = get-from_entries nat_cmp_total (take i indexes) (get_or indexes i d).0 ∙ find_none nat_cmp (get_or indexes i d).0 (take i indexes) (indexes_apart indexes i d differ within);
@@ -150,8 +172,8 @@ lacks_rows first p indexes i d differ within so_far = record {
 
 -- ---- what is loaded so far
 
-pub HasLoaded-none : WriteBeforeIsLawful (StandsForSome stands) → EmptyStands → EmptyWeighsNothing → (p : PassView) → IsBlank p → HasLoaded (loaded [] []) 0 p p
-HasLoaded-none law stands_empty weighs p blank = record {
+pub HasLoaded-none : WriteBeforeIsLawful (StandsForSome stands) → EmptyStands → RowsPack → (p : PassView) → IsBlank p → HasLoaded (loaded [] []) 0 p p
+HasLoaded-none law stands_empty pack p blank = record {
   holds = record {
     idle = blank.idle;
     none_queued = blank.none_queued;
@@ -161,29 +183,29 @@ HasLoaded-none law stands_empty weighs p blank = record {
     absent = blank.absent;
     roomy = blank.roomy;
   };
-  leaves = subst (λ (log : List Entry). LeavesWithin p.shared.size.records log (loaded [] []) 0) (sym blank.none_logged) (record {
+  leaves = subst (λ (log : List Entry). LeavesAt p.shared.size.records log (loaded [] []) (λ places. IsPacked places 0)) (sym blank.none_logged) (record {
     state = empty_state;
     left = λ rid. inr (refl, λ other at writes. Contains-nil other at);
     places = no_places;
     stands_for = stands_empty p.shared.size.records;
-    light = let none : weight no_places ≡ 0 = weighs p.shared.size.records no_places (loaded [] []) (stands_empty p.shared.size.records) in omega arith;
+    are = pack.none;
   });
   adds = ([], Adds-none p blank.idle);
 }
 
-pub HasLoaded-more : (first p q : PassView) (tables tables' : TableMap) (most most' : ℕ) → HasLoaded tables most first p → Holds q → AddsSome p q → LeavesWithin q.shared.size.records q.log tables' most' → HasLoaded tables' most' first q
-HasLoaded-more first p q tables tables' most most' so_far holds more leaves = record {
+pub HasLoaded-more : (first p q : PassView) (tables tables' : TableMap) (rows rows' : ℕ) → HasLoaded tables rows first p → Holds q → AddsSome p q → LeavesAt q.shared.size.records q.log tables' (λ places. IsPacked places rows') → HasLoaded tables' rows' first q
+HasLoaded-more first p q tables tables' rows rows' so_far holds more leaves = record {
   holds = holds;
   leaves = leaves;
   adds = (so_far.adds.0 ++ more.0, Adds-trans first p q so_far.adds.0 more.0 so_far.adds.1 more.1);
 }
 
-pub HasLoaded-again : (first p : PassView) (tables : TableMap) (most : ℕ) → HasLoaded tables most first p → HasLoaded tables most p p
-HasLoaded-again first p tables most so_far = record { holds = so_far.holds; leaves = so_far.leaves; adds = ([], Adds-none p so_far.holds.idle) }
+pub HasLoaded-again : (first p : PassView) (tables : TableMap) (rows : ℕ) → HasLoaded tables rows first p → HasLoaded tables rows p p
+HasLoaded-again first p tables rows so_far = record { holds = so_far.holds; leaves = so_far.leaves; adds = ([], Adds-none p so_far.holds.idle) }
 
-pub HasLoaded-as : (first p : PassView) (tables tables' : TableMap) (most most' : ℕ) → tables ≡ tables' → most ≡ most' → HasLoaded tables most first p → HasLoaded tables' most' first p
-HasLoaded-as first p tables tables' most most' same weighs so_far =
-    subst (λ (n : ℕ). HasLoaded tables' n first p) weighs (subst (λ (t : TableMap). HasLoaded t most first p) same so_far)
+pub HasLoaded-as : (first p : PassView) (tables tables' : TableMap) (rows rows' : ℕ) → tables ≡ tables' → rows ≡ rows' → HasLoaded tables rows first p → HasLoaded tables' rows' first p
+HasLoaded-as first p tables tables' rows rows' same counted so_far =
+    subst (λ (n : ℕ). HasLoaded tables' n first p) counted (subst (λ (t : TableMap). HasLoaded t rows first p) same so_far)
 
 -- ---- a row as a command
 
@@ -208,20 +230,21 @@ room_put p table key row has = record {
   room = subst (λ (n : ℕ). p.fixed + (has.most + n) ≤ p.shared.size.records) (sym (put_adds table key row has.tables)) has.room;
 }
 
-pub HasLoaded-put : (first p q : PassView) (tables : TableMap) (most table key : ℕ) (row : Row) {entries : List Entry} → HasLoaded tables most first p → Holds q → Adds p q entries → LeavesAfter (Put table key row ∷ []) p q → HasLoaded (with_value tables table key row) (most + row_more table tables) first q
-HasLoaded-put first p q tables most table key row {entries} so_far holds adds leaves =
-    HasLoaded-more first p q tables (with_value tables table key row) most (most + row_more table tables) so_far holds (entries, adds)
-    (subst (λ (n : ℕ). LeavesWithin q.shared.size.records q.log (with_value tables table key row) (most + n)) (put_adds table key row tables) (leaves tables most so_far.leaves))
+pub HasLoaded-put : RowsPack → (first p q : PassView) (tables : TableMap) (rows table key : ℕ) (row : Row) {entries : List Entry} → value_at tables table key ≡ None → HasLoaded tables rows first p → Holds q → Adds p q entries → LeavesAfter (Put table key row ∷ []) p q
+    → HasLoaded (with_value tables table key row) (rows + 1) first q
+HasLoaded-put pack first p q tables rows table key row {entries} none so_far holds adds leaves =
+    HasLoaded-more first p q tables (with_value tables table key row) rows (rows + 1) so_far holds (entries, adds)
+    (within_then (Put table key row ∷ []) p q tables (λ places. IsPacked places rows) (λ places. IsPacked places (rows + 1)) (packed_row pack tables table key row rows none) leaves so_far.leaves)
 
 pub swapped : (a b : ℕ) → a + b ≡ b + a
 swapped a b = omega arith
 
 -- ---- all of it
 
-pub Loads-whole : (input : Input) (first p q : PassView) → FitsMore → q.shared.size.records ≤ record_limit → AddsSome first p → HasLoaded (loaded input.rows input.indexes) (rows_add input.rows input.indexes) p q → Loads input first q
-Loads-whole input first p q more few before so_far = record {
+pub Loads-whole : (input : Input) (first p q : PassView) → RowsPack → FitsMore → q.shared.size.records ≤ record_limit → AddsSome first p → HasLoaded (loaded input.rows input.indexes) (length input.rows) p q → Loads input first q
+Loads-whole input first p q pack more few before so_far = record {
   holds = so_far.holds;
-  leaves = so_far.leaves;
+  leaves = packed_within pack q.shared.size.records q.log (loaded input.rows input.indexes) (length input.rows) so_far.leaves;
   tables = (so_far.leaves.state, so_far.leaves.left, (so_far.leaves.places, more q.shared.size.records record_limit so_far.leaves.state so_far.leaves.places (loaded input.rows input.indexes) few so_far.leaves.stands_for));
   adds = (before.0 ++ so_far.adds.0, Adds-trans first p q before.0 so_far.adds.0 before.1 so_far.adds.1);
 }

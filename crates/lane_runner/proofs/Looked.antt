@@ -22,7 +22,6 @@ use Rattle.stored_tables.specs.Answers.{ReadsAlone}
 use Rattle.stored_tables.specs.Laws.{FitsRecords}
 use Rattle.stored_tables.specs.Places.{Places}
 use Rattle.stored_tables.specs.Tables.{StandsFor, EachTables}
-use Rattle.stored_tables.specs.Weight.{all_add}
 use Rattle.seat_post.specs.Snapshot.{SnapshotView}
 use Rattle.txn_engine.specs.Leaves.{HoldsAbsent}
 use Rattle.txn_engine.specs.Lists.{IsRoomy}
@@ -34,7 +33,8 @@ use Rattle.txn_engine.proofs.Accounting.{absent_snapshot}
 use Rattle.lane_runner.specs.Rows.{stands}
 use Rattle.lane_runner.specs.Room.{clock_after}
 use Rattle.lane_runner.specs.Adds.{IsNext, Adds}
-use Rattle.lane_runner.specs.Holding.{LeavesWithin, LeavesAfter, IsBehind}
+use Rattle.lane_runner.specs.Holding.{LeavesAt, LeavesAfter, IsBehind}
+use Rattle.lane_runner.specs.Weighs.{RunsTo}
 use Rattle.lane_runner.proofs.Held.{absent_same, roomy_same}
 use Rattle.lane_runner.proofs.Within.{within_snapshot, within_weaker, within_at}
 
@@ -220,7 +220,7 @@ torn_looked records m m' g size_is none reads torn state places tables agrees ho
 -- ---- what it leaves
 
 pub leaves_looked : (p f : PassView) (g : SnapshotView) (commands : List Command) → Adds p f (entry_of_snapshot g ∷ []) → All ReadsAlone commands → LeavesAfter commands p f
-leaves_looked p f g commands adds reads tables most within =
-    let more = within_weaker p.shared.size.records p.log tables most (most + all_add commands tables) (omega arith) within in
-    let here = within_at p f (entry_of_snapshot g ∷ []) tables (most + all_add commands tables) adds (within_snapshot p.shared.size.records p.log (entry_of_snapshot g) tables (most + all_add commands tables) refl more) in
-    subst (λ (after : TableMap). LeavesWithin f.shared.size.records f.log after (most + all_add commands tables)) (sym (reads_stay commands tables reads)) here
+leaves_looked p f g commands adds reads tables first within =
+    let more = within_weaker p.shared.size.records p.log tables (λ places. places ≡ first) (RunsTo commands tables first) (λ places same. inr same) within in
+    let here = within_at p f (entry_of_snapshot g ∷ []) tables (RunsTo commands tables first) adds (within_snapshot p.shared.size.records p.log (entry_of_snapshot g) tables (RunsTo commands tables first) refl more) in
+    subst (λ (after : TableMap). LeavesAt f.shared.size.records f.log after (RunsTo commands tables first)) (sym (reads_stay commands tables reads)) here

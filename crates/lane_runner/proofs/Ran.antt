@@ -16,9 +16,9 @@ use Rattle.record_store.specs.Writes.{WritesKnown, IsKnown, GivesFewer}
 use Rattle.replay_model.specs.declared.command.Command.{Command}
 use Rattle.replay_model.specs.declared.outcome.Outcome.{Outcome}
 use Rattle.txn_engine.specs.Alone.{AloneView}
-use Rattle.stored_tables.specs.Weight.{weight, all_add}
+use Rattle.stored_tables.specs.Weight.{all_add}
 use Rattle.stored_tables.specs.Weights.{AreKnown, RecordLeft}
-use Rattle.lane_runner.proofs.Asked.{at_most_more, known_writes, few_given, no_ask_refused}
+use Rattle.lane_runner.proofs.Asked.{known_writes, few_given, no_ask_refused}
 use Rattle.replay_model.specs.TableMap.{TableMap}
 use Rattle.seat_post.specs.Leaves.{AreLeft}
 use Rattle.txn_engine.specs.Leaves.{HoldsAbsent, NoneRemains}
@@ -33,7 +33,7 @@ use Rattle.lane_runner.specs.Adds.{Adds}
 use Rattle.lane_runner.specs.Weighs.{LeadsTo}
 use Rattle.lane_runner.specs.Lanes.{AddsSome}
 use Rattle.lane_runner.proofs.Adding.{Adds-trans}
-use Rattle.lane_runner.specs.Holding.{Holds, Awaits, Enters, HasRecords, LeavesWithin, KeepsShared}
+use Rattle.lane_runner.specs.Holding.{Holds, Awaits, Enters, HasRecords, LeavesAt, KeepsShared}
 use Rattle.lane_runner.specs.Loading.{EntersIndex}
 use Rattle.lane_runner.proofs.Begun.{kept_frame, is_open, same_records, none_written, meaning_open, Adds-committed}
 use Rattle.lane_runner.proofs.Entries.{with_none}
@@ -42,11 +42,11 @@ use Rattle.lane_runner.proofs.Within.{within_more, within_at}
 
 module _ (p b q : PassView) (clock : ℕ) (began : b ≡ begun p clock) (rest : frame q ≡ frame b) where
   -- what was said of its meaning holds of what it has read and written
-  pub leads_at : (tables tables' : TableMap) (more : ℕ) → LeadsTo (meaning_of_pass b).size (meaning_of_pass q).reads (meaning_of_pass q).writes tables tables' more → LeadsTo p.shared.size.records q.reads q.writes tables tables' more
-  leads_at tables tables' more leads =
+  pub leads_at : (tables tables' : TableMap) (Step : Places → Places → Type 0) → LeadsTo (meaning_of_pass b).size (meaning_of_pass q).reads (meaning_of_pass q).writes tables tables' Step → LeadsTo p.shared.size.records q.reads q.writes tables tables' Step
+  leads_at tables tables' Step leads =
       let size : (meaning_of_pass b).size ≡ p.shared.size.records = ap (λ (x : PassView). (meaning_of_pass x).size) began in
-      let sized : LeadsTo p.shared.size.records (meaning_of_pass q).reads (meaning_of_pass q).writes tables tables' more = subst (λ (n : ℕ). LeadsTo n (meaning_of_pass q).reads (meaning_of_pass q).writes tables tables' more) size leads in
-      subst (λ (m : Meaning). LeadsTo p.shared.size.records m.reads m.writes tables tables' more) (meaning_open q (is_open p b q clock began rest)) sized
+      let sized : LeadsTo p.shared.size.records (meaning_of_pass q).reads (meaning_of_pass q).writes tables tables' Step = subst (λ (n : ℕ). LeadsTo n (meaning_of_pass q).reads (meaning_of_pass q).writes tables tables' Step) size leads in
+      subst (λ (m : Meaning). LeadsTo p.shared.size.records m.reads m.writes tables tables' Step) (meaning_open q (is_open p b q clock began rest)) sized
 
   -- so does what is said of each state
   pub each_at : (P : State → Places → TableMap → Type 0) → EachTables (meaning_of_pass b) (meaning_of_pass q) P → (state : State) (places : Places) (tables : TableMap) → Agrees state q.reads → StandsFor p.shared.size.records state places tables → P state places tables
@@ -82,29 +82,29 @@ module _ (p b q : PassView) (clock : ℕ) (began : b ≡ begun p clock) (rest : 
 
 -- an index was declared
 module _ (p b q : PassView) (clock : ℕ) (began : b ≡ begun p clock) (rest : frame q ≡ frame b) (table column : ℕ) where
-  pub leads_declared : EachTables (meaning_of_pass b) (meaning_of_pass q) (λ state places tables. Declares table column (meaning_of_pass q) true state (places, tables)) → (tables : TableMap) → LeadsTo p.shared.size.records q.reads q.writes tables (with_index tables table column) 0
+  pub leads_declared : EachTables (meaning_of_pass b) (meaning_of_pass q) (λ state places tables. Declares table column (meaning_of_pass q) true state (places, tables)) → (tables : TableMap) → LeadsTo p.shared.size.records q.reads q.writes tables (with_index tables table column) (λ places after. after ≡ with_head places table column)
   leads_declared each tables state places agrees holds =
       let declared = each_at p b q clock began rest (λ state places tables. Declares table column (meaning_of_pass q) true state (places, tables)) each state places tables agrees holds in
       let stored : StandsFor q.shared.size.records (overlay q.writes state) (with_head places table column) (with_index tables table column) =
       subst (λ (m : Meaning). StandsFor m.size (overlay m.writes state) (with_head places table column) (with_index tables table column)) (meaning_open q (is_open p b q clock began rest)) declared.2 in
-      (with_head places table column, subst (λ (n : ℕ). StandsFor n (overlay q.writes state) (with_head places table column) (with_index tables table column)) (same_records p b q clock began rest) stored, at_most_more (weight places) 0)
+      (with_head places table column, subst (λ (n : ℕ). StandsFor n (overlay q.writes state) (with_head places table column) (with_index tables table column)) (same_records p b q clock began rest) stored, refl)
 
 -- writes that lead from tables to tables keep what is kept
-pub fits_leads : (kept : State → Type 0) (records : ℕ) (entry : Entry) (after' : TableMap → TableMap) (more : ℕ) → KeepsTables kept → records ≤ record_limit → ((tables : TableMap) → LeadsTo records entry.reads entry.writes tables (after' tables) more) → Fits kept records entry
-fits_leads kept records entry after' more keeps few leads = λ state is_state is_kept agrees.
+pub fits_leads : (kept : State → Type 0) (records : ℕ) (entry : Entry) (after' : TableMap → TableMap) (Step : Places → Places → Type 0) → KeepsTables kept → records ≤ record_limit → ((tables : TableMap) → LeadsTo records entry.reads entry.writes tables (after' tables) Step) → Fits kept records entry
+fits_leads kept records entry after' Step keeps few leads = λ state is_state is_kept agrees.
     let held = keeps.stands records state is_state is_kept in
     let step = leads held.0 state held.1.0 agrees held.1.1 in
     keeps.keeps records (overlay entry.writes state) few (after' held.0, (step.0, step.1))
 
 -- what the log leaves once such a transaction has committed
-pub leaves_committed : (p q r w : PassView) (clock : ℕ) (tables tables' : TableMap) (most more : ℕ) → NextStateIsOverlay → frame q ≡ frame (begun p clock) → Lawful (StandsForSome stands) p.shared.size.records p.log
+pub leaves_committed : (p q r w : PassView) (clock : ℕ) (tables tables' : TableMap) (Step : Places → Places → Type 0) (Such Then : Places → Type 0) → ((places after : Places) → Step places after → Such places → Then after) → NextStateIsOverlay → frame q ≡ frame (begun p clock) → Lawful (StandsForSome stands) p.shared.size.records p.log
     → Adds p r (entry_of q ∷ []) → Lawful (StandsForSome stands) r.shared.size.records r.log → IsAbove p.log q.stamp → AreLeft q.log q.stamp q.reads
-    → LeadsTo p.shared.size.records q.reads q.writes tables tables' more → Adds p w (entry_of q ∷ []) → LeavesWithin p.shared.size.records p.log tables most → LeavesWithin w.shared.size.records w.log tables' (most + more)
-leaves_committed p q r w clock tables tables' most more overlays kept lawful committed told above left leads adds within =
+    → LeadsTo p.shared.size.records q.reads q.writes tables tables' Step → Adds p w (entry_of q ∷ []) → LeavesAt p.shared.size.records p.log tables Such → LeavesAt w.shared.size.records w.log tables' Then
+leaves_committed p q r w clock tables tables' Step Such Then goes overlays kept lawful committed told above left leads adds within =
     let at_log : Lawful (StandsForSome stands) r.shared.size.records (p.log ++ entry_of q ∷ []) = subst (λ (log : List Entry). Lawful (StandsForSome stands) r.shared.size.records log) committed.log told in
     let next : Lawful (StandsForSome stands) p.shared.size.records (p.log ++ entry_of q ∷ []) = subst (λ (e : EngineView). Lawful (StandsForSome stands) e.size.records (p.log ++ entry_of q ∷ [])) committed.engine at_log in
     let reads : AreLeft p.log q.stamp q.reads = subst (λ (log : List Entry). AreLeft log q.stamp q.reads) (ap (λ (f : PassView). f.log) kept) left in
-    within_at p w (entry_of q ∷ []) tables' (most + more) adds (within_more (StandsForSome stands) p.shared.size.records p.log (entry_of q) tables tables' most more overlays lawful next.each refl above reads leads within)
+    within_at p w (entry_of q ∷ []) tables' Then adds (within_more (StandsForSome stands) p.shared.size.records p.log (entry_of q) tables tables' Step Such Then goes overlays lawful next.each refl above reads leads within)
 
 -- ---- the way of such a transaction
 
@@ -139,10 +139,10 @@ never_out p b q o commands asks left lawful reads has known fixed may fewer writ
     let kept = kept_frame p b q o.clock o.began o.rest in
     let engine = ap engine_of kept in
     let state = has.leaves.state in
-    let agrees : Agrees state q.reads = agrees_open p q o.clock has.tables has.most kept lawful o.above reads has.leaves in
+    let agrees : Agrees state q.reads = agrees_open p q o.clock has.tables _ kept lawful o.above reads has.leaves in
     no_ask_refused (StandsForSome stands) q commands asks has.most state has.leaves.places has.tables left none (lawful_at p b q o.clock o.began o.rest lawful)
     (subst (λ (log : List Entry). Leaves (Contains log) state) (sym (ap (λ (f : PassView). f.log) kept)) has.leaves.left)
-    (subst (λ (e : EngineView). StandsFor e.size.records state has.leaves.places has.tables) (sym engine) has.leaves.stands_for) has.leaves.light known
+    (subst (λ (e : EngineView). StandsFor e.size.records state has.leaves.places has.tables) (sym engine) has.leaves.stands_for) has.leaves.are known
     (each_at p b q o.clock o.began o.rest (λ _ places tables. MayAsk (run_plan commands tables) places asks) may state has.leaves.places has.tables agrees has.leaves.stands_for)
     (subst (λ (e : EngineView). fixed_records ≤ e.fixed) (sym engine) fixed)
     (subst (λ (e : EngineView). e.fixed + (has.most + all_add commands has.tables) ≤ e.size.records) (sym engine) has.room)
@@ -154,10 +154,10 @@ module _ (p b q r : PassView) (known : Bounds) (o : Opened p b q) (ends : r ≡ 
   pub adds_entered : Adds p r (entry_of q ∷ [])
   adds_entered = Adds-committed p q r o.clock known o.later o.above (kept_frame p b q o.clock o.began o.rest) ends
 
-  pub leaves_entered : NextStateIsOverlay → Holds p → AreLeft q.log q.stamp q.reads → Lawful (StandsForSome stands) r.shared.size.records r.log → (tables tables' : TableMap) (most more : ℕ)
-      → LeadsTo p.shared.size.records q.reads q.writes tables tables' more → LeavesWithin p.shared.size.records p.log tables most → LeavesWithin r.shared.size.records r.log tables' (most + more)
-  leaves_entered overlays holds left lawful tables tables' most more leads within =
-      leaves_committed p q r r o.clock tables tables' most more overlays (kept_frame p b q o.clock o.began o.rest) holds.lawful adds_entered lawful o.above left leads adds_entered within
+  pub leaves_entered : NextStateIsOverlay → Holds p → AreLeft q.log q.stamp q.reads → Lawful (StandsForSome stands) r.shared.size.records r.log → (tables tables' : TableMap) (Step : Places → Places → Type 0) (Such Then : Places → Type 0) → ((places after : Places) → Step places after → Such places → Then after)
+      → LeadsTo p.shared.size.records q.reads q.writes tables tables' Step → LeavesAt p.shared.size.records p.log tables Such → LeavesAt r.shared.size.records r.log tables' Then
+  leaves_entered overlays holds left lawful tables tables' Step Such Then goes leads within =
+      leaves_committed p q r r o.clock tables tables' Step Such Then goes overlays (kept_frame p b q o.clock o.began o.rest) holds.lawful adds_entered lawful o.above left leads adds_entered within
 
   pub clock_entered : r.clock ≤ clock_after p.clock 1
   clock_entered =
@@ -183,8 +183,8 @@ awaits_as there here awaits same = subst (λ (x : AloneView). Awaits x) (sym sam
 
 -- ---- once it is closed
 
-pub leaves_closed : (r w : PassView) (tables : TableMap) (most : ℕ) → Adds r w [] → LeavesWithin r.shared.size.records r.log tables most → LeavesWithin w.shared.size.records w.log tables most
-leaves_closed r w tables most adds within = within_at r w [] tables most adds (subst (λ (log : List Entry). LeavesWithin r.shared.size.records log tables most) (sym (append-nil r.log)) within)
+pub leaves_closed : (r w : PassView) (tables : TableMap) (Such : Places → Type 0) → Adds r w [] → LeavesAt r.shared.size.records r.log tables Such → LeavesAt w.shared.size.records w.log tables Such
+leaves_closed r w tables Such adds within = within_at r w [] tables Such adds (subst (λ (log : List Entry). LeavesAt r.shared.size.records log tables Such) (sym (append-nil r.log)) within)
 
 pub some_closed : (p r w : PassView) → AddsSome p r → Adds r w [] → AddsSome p w
 some_closed p r w some none = (some.0 ++ [], Adds-trans p r w some.0 [] some.1 none)

@@ -1,5 +1,5 @@
 -- The blocks that remain, one behind the other.
-use Rattle.std.proofs.Common.{◌≡◌, ℕ, suc, ◌+◌, true, List, [], ◌∷◌, ◌++◌, append-nil, append_assoc, length, length-append, refl, sym, ap, subst, ◌∙◌, arith, All}
+use Rattle.std.proofs.Common.{◌≡◌, ℕ, suc, ◌+◌, ◌≤◌, true, List, [], ◌∷◌, ◌++◌, append-nil, append_assoc, length, length-append, refl, sym, ap, subst, ◌∙◌, arith, All}
 use Rattle.std.specs.Prelude.{sum_by}
 use Rattle.std.proofs.lemmas.List.Elements.{All-nil, All-head, All-tail, All-push, All-append}
 use Rattle.std.proofs.lemmas.List.Sums.{sum_by-cons, sum_by-append}
@@ -12,15 +12,18 @@ use Rattle.replay_model.specs.declared.outcome.Outcome.{Outcome}
 use Rattle.replay_model.specs.declared.outcome.Placed.{Placed}
 use Rattle.replay_model.specs.Running.{tables_after}
 use Rattle.replay_model.specs.TableMap.{TableMap}
-use Rattle.stored_tables.specs.Weight.{all_add}
+use Rattle.stored_tables.specs.Weight.{weight, all_add}
 use Rattle.stored_tables.specs.Weights.{AddsAfter}
+use Rattle.stored_tables.proofs.WeightPlans.{run_adds}
 use Rattle.txn_engine.specs.Pass.{EngineView, PassView, engine_of}
 use Rattle.lane_runner.specs.declared.done.LaneDone.{LaneDone}
 use Rattle.lane_runner.specs.Blocks.{RunsBlock}
 use Rattle.lane_runner.specs.Holding.{Holds, HasRecords, LeavesAfter, IsBehind}
 use Rattle.lane_runner.specs.Finishing.{MayFinish, RunsRests, results_of, rests_of}
 use Rattle.lane_runner.specs.Weighs.{blocks_add}
+use Rattle.lane_runner.proofs.Asked.{runs_add}
 use Rattle.lane_runner.proofs.Run.{Runs-result, Runs-new}
+use Rattle.lane_runner.proofs.Within.{light_more, within_then}
 
 -- ---- room
 
@@ -47,7 +50,8 @@ pub room_next : (p q : PassView) (block : Block) (blocks : List Block) → AddsA
 room_next p q block blocks after engine leaves has = record {
   tables = tables_after block.commands has.tables;
   most = has.most + all_add block.commands has.tables;
-  leaves = leaves has.tables has.most has.leaves;
+  leaves = within_then block.commands p q has.tables (λ places. weight places ≤ has.most) (λ places. weight places ≤ has.most + all_add block.commands has.tables)
+      (λ places after runs. light_more has.most (all_add block.commands has.tables) places after (runs_add run_adds block.commands has.tables places after runs)) leaves has.leaves;
   room =
       let whole = sum_by-cons (λ (b : Block). all_add b.commands has.tables) block blocks in
       let same = blocks_after after block.commands blocks has.tables in

@@ -6,6 +6,7 @@ use Rattle.plain_data.specs.declared.entry.Entry.{Entry}
 use Rattle.histories.specs.History.{Lawful}
 use Rattle.history_replay.specs.Results.{StandsForSome}
 use Rattle.replay_model.specs.declared.input.Block.{Block}
+use Rattle.stored_tables.specs.Weight.{weight}
 use Rattle.txn_engine.specs.Collecting.{collected}
 use Rattle.seat_post.specs.Leaves.{IsPresent, LeavesAs, AreAbsent}
 use Rattle.txn_engine.specs.Lists.{IsRoomy}
@@ -81,7 +82,7 @@ pub room_order : (p t : PassView) (done order : List LaneDone) → Adds p t [] �
 room_order p t done order adds same has = record {
   tables = has.tables;
   most = has.most;
-  leaves = within_at p t [] has.tables has.most adds (subst (λ (log : List Entry). LeavesWithin p.shared.size.records log has.tables has.most) (sym (append-nil p.log)) has.leaves);
+  leaves = within_at p t [] has.tables (λ places. weight places ≤ has.most) adds (subst (λ (log : List Entry). LeavesWithin p.shared.size.records log has.tables has.most) (sym (append-nil p.log)) has.leaves);
   room =
       let whole : blocks_add (rests_of order) has.tables ≡ rests_add done has.tables = rests_add_is order has.tables ∙ sum_by-IsPermutation (λ (l : LaneDone). blocks_add l.rest has.tables) done order same in
       let fixed : t.fixed ≡ p.fixed = ap (λ (e : EngineView). e.fixed) adds.engine in

@@ -236,7 +236,7 @@ module _ (adds_after : AddsAfter) (records start : ℕ) (loading entries : List 
     after = tables;
     places = within.places;
     stands_for = within.stands_for;
-    light = within.light;
+    light = within.are;
     same = λ commands. refl;
   })
 
@@ -268,7 +268,7 @@ module _ (adds_after : AddsAfter) (records start : ℕ) (loading entries : List 
       left = leaves_all kept records (loading ++ entries) lawful last below_last;
       places = all_weigh.places;
       stands_for = all_weigh.stands_for;
-      light = all_weigh.light;
+      are = all_weigh.light;
     };
     same = all_weigh.same;
   }

@@ -8,21 +8,25 @@ use Rattle.histories.specs.History.{Lawful, Leaves}
 use Rattle.histories.specs.Laws.{NextStateIsOverlay}
 use Rattle.histories.proofs.Lists.{Contains-nil, Contains-cases}
 use Rattle.histories.proofs.States.{IsValue-same}
+use Rattle.replay_model.specs.declared.command.Command.{Command}
+use Rattle.replay_model.specs.Running.{tables_after}
 use Rattle.replay_model.specs.TableMap.{TableMap}
+use Rattle.stored_tables.specs.Places.{Places}
 use Rattle.stored_tables.specs.Weight.{weight}
 use Rattle.seat_post.specs.Leaves.{LeavesValue, AreLeft}
 use Rattle.txn_engine.specs.Pass.{EngineView, PassView}
 use Rattle.seat_post.specs.Logs.{IsAbove}
 use Rattle.seat_post.proofs.Leaving.{leaves_all, leaves_one}
 use Rattle.lane_runner.specs.Adds.{Adds}
-use Rattle.lane_runner.specs.Holding.{LeavesWithin}
-use Rattle.lane_runner.specs.Weighs.{LeadsTo}
+use Rattle.lane_runner.specs.Holding.{LeavesAt, LeavesAfter}
+use Rattle.lane_runner.specs.Weighs.{LeadsTo, RunsTo, AddsWeight}
 
-light_more : (now before most more : ℕ) → now ≤ before + more → before ≤ most → now ≤ most + more
-light_more now before most more grows light = omega arith
+light_sum : (now before most more : ℕ) → now ≤ before + more → before ≤ most → now ≤ most + more
+light_sum now before most more grows light = omega arith
 
-light_still : (now most most' : ℕ) → now ≤ most → most ≤ most' → now ≤ most'
-light_still now most most' light below = omega arith
+-- what a step that adds so much makes of a bound
+pub light_more : (most more : ℕ) (places after : Places) → AddsWeight more places after → weight places ≤ most → weight after ≤ most + more
+light_more most more places after grows light = light_sum (weight after) (weight places) most more grows light
 
 pub all_among : {X : Type 0} (P : X → Type 0) (xs : List X) → ((x : X) → Among x xs → P x) → All P xs
 all_among P [] each = All-nil P
@@ -35,10 +39,10 @@ left_agrees kept records log limit reads state lawful above leaves are =
     (λ read left. leaves_one kept records log log read.0 (state read.0) read.1 lawful (λ e h. h) (leaves read.0) (leaves_all log read.0 limit read.1 above left)) reads are
 
 -- one more commit entry, above the others, which read what they leave
-pub within_more : (kept : State → Type 0) (records : ℕ) (log : List Entry) (entry : Entry) (tables tables' : TableMap) (most more : ℕ)
-    → NextStateIsOverlay → Lawful kept records log → All (IsEntry records) (log ++ entry ∷ []) → entry.snapshot ≡ false → IsAbove log entry.stamp → AreLeft log entry.stamp entry.reads
-    → LeadsTo records entry.reads entry.writes tables tables' more → LeavesWithin records log tables most → LeavesWithin records (log ++ entry ∷ []) tables' (most + more)
-within_more kept records log entry tables tables' most more overlays lawful each commit above left leads within =
+pub within_more : (kept : State → Type 0) (records : ℕ) (log : List Entry) (entry : Entry) (tables tables' : TableMap) (Step : Places → Places → Type 0) (Such Then : Places → Type 0)
+    → ((places after : Places) → Step places after → Such places → Then after) → NextStateIsOverlay → Lawful kept records log → All (IsEntry records) (log ++ entry ∷ []) → entry.snapshot ≡ false → IsAbove log entry.stamp → AreLeft log entry.stamp entry.reads
+    → LeadsTo records entry.reads entry.writes tables tables' Step → LeavesAt records log tables Such → LeavesAt records (log ++ entry ∷ []) tables' Then
+within_more kept records log entry tables tables' Step Such Then goes overlays lawful each commit above left leads within =
     let agrees : Agrees within.state entry.reads = left_agrees kept records log entry.stamp entry.reads within.state lawful above within.left left in
     let step = leads within.state within.places agrees within.stands_for in
     record {
@@ -46,7 +50,7 @@ within_more kept records log entry tables tables' most more overlays lawful each
       left = (overlays records log entry within.state each lawful.apart commit (all_among (λ (e : Entry). e.snapshot ≡ false → e.stamp < entry.stamp) log above) within.left).1;
       places = step.0;
       stands_for = step.1;
-      light = light_more (weight step.0) (weight within.places) most more step.2 within.light;
+      are = goes within.places step.0 step.2 within.are;
     }
 
 not_kind : (e entry : Entry) → entry.snapshot ≡ true → e.snapshot ≡ false → entry ≡ e → ⊥
@@ -57,27 +61,34 @@ among_commits log entry e snapshot commit at =
     ⊎_elim (λ here. here) (λ last. absurd (⊎_elim (λ is. not_kind e entry snapshot commit is) (λ none. Contains-nil e none) (Contains-cases entry [] e last))) (Contains-append_cases log (entry ∷ []) e at)
 
 -- one more snapshot
-pub within_snapshot : (records : ℕ) (log : List Entry) (entry : Entry) (tables : TableMap) (most : ℕ) → entry.snapshot ≡ true → LeavesWithin records log tables most → LeavesWithin records (log ++ entry ∷ []) tables most
-within_snapshot records log entry tables most snapshot within = record {
+pub within_snapshot : (records : ℕ) (log : List Entry) (entry : Entry) (tables : TableMap) (Such : Places → Type 0) → entry.snapshot ≡ true → LeavesAt records log tables Such → LeavesAt records (log ++ entry ∷ []) tables Such
+within_snapshot records log entry tables Such snapshot within = record {
   state = within.state;
   left = λ rid. IsValue-same (Contains log) (Contains (log ++ entry ∷ [])) rid (within.state rid) (λ e commit at. Contains-append_left log (entry ∷ []) e at) (λ e commit at. among_commits log entry e snapshot commit at) (within.left rid);
   places = within.places;
   stands_for = within.stands_for;
-  light = within.light;
+  are = within.are;
 }
 
--- a greater bound
-pub within_weaker : (records : ℕ) (log : List Entry) (tables : TableMap) (most most' : ℕ) → most ≤ most' → LeavesWithin records log tables most → LeavesWithin records log tables most'
-within_weaker records log tables most most' below within = record {
+-- less is said of the places
+pub within_weaker : (records : ℕ) (log : List Entry) (tables : TableMap) (Such Then : Places → Type 0) → ((places : Places) → Such places → Then places) → LeavesAt records log tables Such → LeavesAt records log tables Then
+within_weaker records log tables Such Then goes within = record {
   state = within.state;
   left = within.left;
   places = within.places;
   stands_for = within.stands_for;
-  light = light_still (weight within.places) most most' within.light below;
+  are = goes within.places within.are;
 }
 
+-- so what holds of the places goes on by the step that commands make
+pub within_then : (commands : List Command) (p q : PassView) (tables : TableMap) (Such Then : Places → Type 0) → ((places after : Places) → RunsTo commands tables places after → Such places → Then after)
+    → LeavesAfter commands p q → LeavesAt p.shared.size.records p.log tables Such → LeavesAt q.shared.size.records q.log (tables_after commands tables) Then
+within_then commands p q tables Such Then goes leaves within =
+    within_weaker q.shared.size.records q.log (tables_after commands tables) (RunsTo commands tables within.places) Then (λ places runs. goes within.places places runs within.are)
+    (leaves tables within.places (record { state = within.state; left = within.left; places = within.places; stands_for = within.stands_for; are = refl }))
+
 -- the same of a pass that has added these entries
-pub within_at : (p q : PassView) (entries : List Entry) (tables : TableMap) (most : ℕ) → Adds p q entries → LeavesWithin p.shared.size.records (p.log ++ entries) tables most → LeavesWithin q.shared.size.records q.log tables most
-within_at p q entries tables most adds within =
-    let at_log : LeavesWithin p.shared.size.records q.log tables most = subst (λ (log : List Entry). LeavesWithin p.shared.size.records log tables most) (sym adds.log) within in
-    subst (λ (records : ℕ). LeavesWithin records q.log tables most) (sym (ap (λ (e : EngineView). e.size.records) adds.engine)) at_log
+pub within_at : (p q : PassView) (entries : List Entry) (tables : TableMap) (Such : Places → Type 0) → Adds p q entries → LeavesAt p.shared.size.records (p.log ++ entries) tables Such → LeavesAt q.shared.size.records q.log tables Such
+within_at p q entries tables Such adds within =
+    let at_log : LeavesAt p.shared.size.records q.log tables Such = subst (λ (log : List Entry). LeavesAt p.shared.size.records log tables Such) (sym adds.log) within in
+    subst (λ (records : ℕ). LeavesAt records q.log tables Such) (sym (ap (λ (e : EngineView). e.size.records) adds.engine)) at_log

@@ -12,7 +12,7 @@ use Rattle.replay_model.specs.Running.{tables_after}
 use Rattle.replay_model.specs.TableMap.{TableMap}
 use Rattle.stored_tables.specs.Places.{Places}
 use Rattle.stored_tables.specs.Tables.{StandsFor}
-use Rattle.stored_tables.specs.Weight.{weight, all_add}
+use Rattle.stored_tables.specs.Weight.{weight}
 use Rattle.txn_engine.specs.Alone.{AloneView}
 use Rattle.txn_engine.specs.Leaves.{HoldsAbsent}
 use Rattle.txn_engine.specs.Lists.{IsRoomy, IsRoomyOnceCollected}
@@ -20,6 +20,7 @@ use Rattle.txn_engine.specs.Pass.{EngineView, PassView, IsIdle}
 use Rattle.seat_post.specs.Logs.{IsAbove}
 use Rattle.lane_runner.specs.Rows.{stands}
 use Rattle.lane_runner.specs.Room.{clock_after}
+use Rattle.lane_runner.specs.Weighs.{RunsTo}
 use Rattle.lane_runner.specs.Blocks.{Commits}
 
 -- No transaction is in flight and nothing is queued. The log is a lawful history, below what is published. Each record from `fixed` on that
@@ -38,19 +39,23 @@ pub record Awaits (a : AloneView) : Type 0 where
   pub absent : HoldsAbsent a.pass
   pub roomy : IsRoomyOnceCollected a.pass
 
--- a log leaves a state that stands for these tables, at places that weigh so much at most
-pub record LeavesWithin (records : ℕ) (log : List Entry) (tables : TableMap) (most : ℕ) : Type 0 where
+-- a log leaves a state that stands for these tables, at such places
+pub record LeavesAt (records : ℕ) (log : List Entry) (tables : TableMap) (Such : Places → Type 0) : Type 0 where
   pub state : State
   pub left : Leaves (Contains log) state
   pub places : Places
   pub stands_for : StandsFor records state places tables
-  pub light : weight places ≤ most
+  pub are : Such places
 
--- commands lead from the tables that the log left to those that it leaves, and add no more to the weight than is said of them
+-- at places that weigh so much at most
+abbrev pub LeavesWithin : (records : ℕ) (log : List Entry) (tables : TableMap) (most : ℕ) → Type 0
+LeavesWithin records log tables most = LeavesAt records log tables (λ places. weight places ≤ most)
+
+-- commands lead from the tables that the log left to those that it leaves, and from the places of the first by the step that they make
 abbrev pub LeavesAfter : List Command → (before after' : PassView) → Type 0
 LeavesAfter commands before after' =
-    (tables : TableMap) (most : ℕ) → LeavesWithin before.shared.size.records before.log tables most
-    → LeavesWithin after'.shared.size.records after'.log (tables_after commands tables) (most + all_add commands tables)
+    (tables : TableMap) (first : Places) → LeavesAt before.shared.size.records before.log tables (λ places. places ≡ first)
+    → LeavesAt after'.shared.size.records after'.log (tables_after commands tables) (RunsTo commands tables first)
 
 -- one entry was added, that of the commands with this outcome, wherever its block has its place
 abbrev pub CommitsAt : List Command → (before after' : PassView) → (stamp : ℕ) (snap : Bool) → Outcome → Type 0

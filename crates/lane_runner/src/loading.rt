@@ -5,7 +5,7 @@ ghost use Rattle.replay_model.specs.Input.{IsWellFormed, IsColumn, IsIndex, Rows
 ghost use Rattle.replay_model.specs.TableMap.{loaded, index_of};
 ghost use Rattle.lane_runner.specs.Using.{MayUse};
 ghost use Rattle.lane_runner.specs.Holding.{Holds, Awaits, HasPlaces, HasRecords, KeepsShared};
-ghost use Rattle.lane_runner.specs.Loading.{Loads, HasLoaded, PutsRow, DeclaresIndex, EntersIndex, LacksRows, IsBlank, AreRowsOf, AreIndexesOf, rows_add, row_more};
+ghost use Rattle.lane_runner.specs.Loading.{Loads, HasLoaded, PutsRow, DeclaresIndex, EntersIndex, LacksRows, IsBlank, AreRowsOf, AreIndexesOf, FindRecords, row_more};
 ghost use Rattle.lane_runner.specs.Room.{HasRoom, clock_after};
 
 use crate::alone_block::{close, run_commands};
@@ -14,8 +14,7 @@ use record_store::{RecordStore, Walk};
 use replay_model::{Columns, Command, Input, NoMemory, Sequence};
 use std::alloc::Global;
 use stored_tables::{
-    RowsLawful, declare_index, empty_stands, empty_weighs_nothing, fits_more, fits_records,
-    keeps_tables,
+    RowsLawful, declare_index, empty_stands, fits_more, fits_records, keeps_tables, rows_pack,
 };
 use txn_engine::{Alone, AloneFault, BeginFault, Engine, Seat};
 
@@ -38,6 +37,7 @@ fn put_row(
     ensures shared { alone.new.shared ≡ alone.old.shared }
     ensures clock { OnOk result (alone.new.pass.clock ≤ clock_after alone.old.pass.clock 1) }
 {
+    rows_pack();
     let mut commands = Sequence::new(alloc);
     commands.push(Command::Put { table, key, values })?;
     run_commands(alloc, engine, alone, &commands)?;
@@ -57,12 +57,13 @@ fn put_rows(
     requires rows { AreRowsOf rows.now }
     requires differ { RowsDiffer rows.now }
     requires places { HasPlaces engine.now }
-    requires records { engine.now.fixed + rows_add rows.now indexes.now ≤ engine.now.size.records }
+    requires records { FindRecords rows.now indexes.now engine.now.fixed engine.now.size.records }
     requires room { HasRoom alone.old.pass.clock (length rows.now) }
-    ensures loaded { OnOk result (HasLoaded (loaded rows.now indexes.now) (rows_add rows.now indexes.now) alone.old.pass alone.new.pass) }
+    ensures loaded { OnOk result (HasLoaded (loaded rows.now indexes.now) (length rows.now) alone.old.pass alone.new.pass) }
     ensures shared { alone.new.shared ≡ alone.old.shared }
     ensures clock { OnOk result (alone.new.pass.clock ≤ clock_after alone.old.pass.clock (length rows.now)) }
 {
+    rows_pack();
     for row in rows {
         put_row(alloc, engine, alone, row.0, row.1, row.2)?;
     }
@@ -89,6 +90,7 @@ fn commit_index(
 {
     keeps_tables();
     fits_records();
+    rows_pack();
     next_state_is_overlay();
     // The number of records is in its range, and the seat is alone.
     engine.records();
@@ -165,7 +167,7 @@ fn declare_indexes(
 {
     write_before_is_lawful::<RowsLawful>();
     empty_stands();
-    empty_weighs_nothing();
+    rows_pack();
     for &(table, column) in indexes {
         declare(alloc, engine, alone, table, column)?;
     }
@@ -185,13 +187,14 @@ pub fn load_rows(
     requires input { IsWellFormed input.now }
     requires rows { AreRowsOf input.now.rows }
     requires places { HasPlaces engine.now }
-    requires records { engine.now.fixed + rows_add input.now.rows input.now.indexes ≤ engine.now.size.records }
+    requires records { FindRecords input.now.rows input.now.indexes engine.now.fixed engine.now.size.records }
     requires room { HasRoom alone.old.pass.clock (length input.now.rows + length input.now.indexes) }
     ensures loads { OnOk result (Loads input.now alone.old.pass alone.new.pass) }
     ensures shared { alone.new.shared ≡ alone.old.shared }
     ensures clock { OnOk result (alone.new.pass.clock ≤ clock_after alone.old.pass.clock (length input.now.rows + length input.now.indexes)) }
 {
     fits_more();
+    rows_pack();
     // The number of records is in its range.
     engine.records();
     declare_indexes(alloc, engine, alone, input.indexes.as_slice())?;

@@ -31,7 +31,7 @@ use Rattle.lane_threads.specs.Merges.IsMerge.{none as none_merged, left, right}
 use Rattle.lane_threads.specs.All.AreOfLanes.{none, next}
 use Rattle.lane_runner.specs.Weighs.{blocks_add}
 use Rattle.lane_runner.specs.Holding.{LeavesWithin}
-use Rattle.lane_runner.specs.Loading.{rows_add}
+use Rattle.lane_runner.specs.Loading.{rows_weigh}
 use Rattle.lane_runner.specs.Finishing.{MayFinish, rests_add, how_many_remain}
 use Rattle.lane_runner.specs.Behind.{ComesBehind, WeighsAfter}
 use Rattle.lane_threads.specs.Whole.{blocks_of, loaded_rows, HasRun, CanFinish, RunsCanFinish}
@@ -203,32 +203,32 @@ module _ (adds_after : AddsAfter) (input : Input) (tries due : ℕ) (loaded : Pa
   all_blocks : (f : List Block → ℕ) → IsSum f → f ran.blocks + of_rests f done ≡ f (blocks_of input.lanes)
   all_blocks f sums = ran.parts f sums ∙ sum_by-IsPermutation (λ (lane : Lane). f lane.blocks) (numbered 1 input.lanes) run.runs.taken run.runs.each_once ∙ of_numbered f 1 input.lanes sums
 
-  after : WeighsAfter records (loaded.log ++ added) tables (rows_add input.rows input.indexes + blocks_add ran.blocks tables)
-  after = runs_weigh_after adds_after records start loaded.log added ran.blocks ran.results tables (rows_add input.rows input.indexes)
+  after : WeighsAfter records (loaded.log ++ added) tables (rows_weigh input.rows + blocks_add ran.blocks tables)
+  after = runs_weigh_after adds_after records start loaded.log added ran.blocks ran.results tables (rows_weigh input.rows)
       (subst (λ (log : List Entry). Lawful (StandsForSome stands) records log) log_is lawful) run.loads.leaves up_to (λ entry among. (behind entry among).commit) ran.are_entries
 
   engine_is : engine_of alone.pass ≡ engine_of loaded
   engine_is = run.runs.together.engine_is
 
-  leaves_at : LeavesWithin alone.pass.shared.size.records alone.pass.log after.after (rows_add input.rows input.indexes + blocks_add ran.blocks tables)
-  leaves_at = subst (λ (at : EngineView × List Entry). LeavesWithin at.0.size.records at.1 after.after (rows_add input.rows input.indexes + blocks_add ran.blocks tables)) (λ i. (sym engine_is i, sym log_is i)) after.leaves
+  leaves_at : LeavesWithin alone.pass.shared.size.records alone.pass.log after.after (rows_weigh input.rows + blocks_add ran.blocks tables)
+  leaves_at = subst (λ (at : EngineView × List Entry). LeavesWithin at.0.size.records at.1 after.after (rows_weigh input.rows + blocks_add ran.blocks tables)) (λ i. (sym engine_is i, sym log_is i)) after.leaves
 
   rests_same : rests_add done after.after ≡ rests_add done tables
   rests_same = λ i. sum_by (λ (lane : LaneDone). sum_by (λ (block : Block). after.same block.commands i) lane.rest) done
 
-  room_at : loaded.fixed + (rows_add input.rows input.indexes + blocks_add (blocks_of input.lanes) tables) ≤ loaded.shared.size.records
-      → alone.pass.fixed + (rows_add input.rows input.indexes + blocks_add ran.blocks tables + rests_add done after.after) ≤ alone.pass.shared.size.records
-  room_at room = subst (λ (engine : EngineView). engine.fixed + (rows_add input.rows input.indexes + blocks_add ran.blocks tables + rests_add done after.after) ≤ engine.size.records) (sym engine_is)
+  room_at : loaded.fixed + (rows_weigh input.rows + blocks_add (blocks_of input.lanes) tables) ≤ loaded.shared.size.records
+      → alone.pass.fixed + (rows_weigh input.rows + blocks_add ran.blocks tables + rests_add done after.after) ≤ alone.pass.shared.size.records
+  room_at room = subst (λ (engine : EngineView). engine.fixed + (rows_weigh input.rows + blocks_add ran.blocks tables + rests_add done after.after) ≤ engine.size.records) (sym engine_is)
       (let all : blocks_add ran.blocks tables + rests_add done tables ≡ blocks_add (blocks_of input.lanes) tables = all_blocks (λ (blocks : List Block). blocks_add blocks tables) (adds_sum tables) in
       omega (arith, all, rests_same, room))
 
-  pub can_finish : loaded.fixed + (rows_add input.rows input.indexes + blocks_add (blocks_of input.lanes) tables) ≤ loaded.shared.size.records → CanFinish input alone done
+  pub can_finish : loaded.fixed + (rows_weigh input.rows + blocks_add (blocks_of input.lanes) tables) ≤ loaded.shared.size.records → CanFinish input alone done
   can_finish room = record {
     blocks = each_rest MayFinish records added run.runs.taken done run.runs.are_of_lanes
         (All-permutation (λ (lane : Lane). All MayFinish lane.blocks) (numbered 1 input.lanes) run.runs.taken run.runs.each_once (each_numbered MayFinish 1 input.lanes may));
     records = record {
       tables = after.after;
-      most = rows_add input.rows input.indexes + blocks_add ran.blocks tables;
+      most = rows_weigh input.rows + blocks_add ran.blocks tables;
       leaves = leaves_at;
       room = room_at room;
     };

@@ -24,7 +24,7 @@ use Rattle.lane_runner.specs.Lanes.{AreEntries}
 use Rattle.lane_threads.specs.All.{RunsAll}
 use Rattle.lane_runner.specs.Weighs.{blocks_add}
 use Rattle.lane_runner.specs.Holding.{HasRecords}
-use Rattle.lane_runner.specs.Loading.{Loads, rows_add}
+use Rattle.lane_runner.specs.Loading.{Loads, rows_weigh}
 use Rattle.lane_runner.specs.Finishing.{MayFinish, MayFinishAll, Finishes, rests_add, how_many_remain}
 
 -- all blocks, lane behind lane
@@ -92,7 +92,7 @@ RunsCanFinish =
     → HasRun input tries due loaded alone done
     → Lawful (StandsForSome stands) loaded.shared.size.records alone.pass.log
     → All (All MayFinish) input.lanes
-    → loaded.fixed + (rows_add input.rows input.indexes + blocks_add (blocks_of input.lanes) (loaded_rows input)) ≤ loaded.shared.size.records
+    → loaded.fixed + (rows_weigh input.rows + blocks_add (blocks_of input.lanes) (loaded_rows input)) ≤ loaded.shared.size.records
     → CanFinish input alone done
 
 -- and when they have run, each block of the input has run once

@@ -43,6 +43,8 @@ pub mod WeightTakes
 pub mod WeightKnown
 pub mod WeightAsks
 pub mod WeightLeft
+pub mod PackingTrees
+pub mod Packing
 pub mod RowChanges
 pub mod Commands
 pub mod Listed

@@ -16,3 +16,4 @@ pub mod Empty
 pub mod Lists
 pub mod Weights
 pub mod OneRow
+pub mod Packed

@@ -1,6 +1,7 @@
 //! Laws of the weight of tables, which bounds the new records that they use. Each function does nothing; its contract is a law.
 
 ghost use Rattle.stored_tables.specs.Weights.{SparesWithinWeight, CommandAdds, RunAdds, AddsByNumbers, AddsAfter, RoomToAsk, RoomAfterRun, RecordLeft, EmptyWeighsNothing};
+ghost use Rattle.stored_tables.specs.Packed.{RowsPack};
 
 /// Tables use no more new records than they weigh.
 pub fn spares_within_weight()
@@ -46,4 +47,9 @@ pub fn record_left()
 /// Where nothing is present, the weight is 0.
 pub fn empty_weighs_nothing()
     ensures { EmptyWeighsNothing }
+{}
+
+/// Tables into which rows were only put, each once, weigh two for each row at most.
+pub fn rows_pack()
+    ensures { RowsPack }
 {}

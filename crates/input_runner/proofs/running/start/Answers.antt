@@ -1,7 +1,7 @@
-use Rattle.std.proofs.Common.{◌≡◌, ℕ, ◌≤◌, ◌+◌, sym, ap, subst, ◌∙◌, arith}
+use Rattle.std.proofs.Common.{ap, ◌∙◌, arith}
 use Rattle.word_layout.specs.Size.{size_of}
 use Rattle.txn_engine.specs.Alone.{AloneView}
-use Rattle.txn_engine.specs.Pass.{PassView, engine_of}
+use Rattle.txn_engine.specs.Pass.{engine_of}
 use Rattle.input_runner.proofs.Few.{few_indexes}
 use Rattle.input_runner.proofs.running.start.Goals as goal
 
@@ -11,6 +11,15 @@ load_rows-requires-clause-room c =
     let rows = c.requires.within.rows_and_changes in
     let indexes = few_indexes _ c.args.input.now.indexes c.requires.well_formed.indexes in
     omega arith
+
+pub load_rows-requires-clause-records : goal.load_rows-requires-clause-records
+load_rows-requires-clause-records c = λ i d within.
+    let enough = c.sizes_are_enough.ensures c.args.input.now c.args.seats c.requires.well_formed c.requires.within c.requires.some c.requires.most in
+    let found = enough.rows i d within in
+    let fixed = c.in-Ok.ensures.fixed in
+    let size = ap (λ z. z.records) c.in-Ok.ensures.size in
+    let records = c.sizes_of-sizes.ensures.records in
+    omega (arith, found, fixed, size, records)
 
 pub returns-clause-engine : goal.returns-clause-engine
 returns-clause-engine c = record {

@@ -1,4 +1,4 @@
-use Rattle.std.proofs.Common.{◌≡◌, ◌≤◌, take}
+use Rattle.std.proofs.Common.{◌≡◌, take}
 use Rattle.std.specs.List.{count_by}
 use Rattle.txn_script.specs.Grammar.{counts}
 use Rattle.input_runner.proofs.sizes.count_in_block.Given as goal

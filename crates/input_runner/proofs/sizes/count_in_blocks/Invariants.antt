@@ -1,5 +1,4 @@
 use Rattle.std.proofs.Common.{◌≡◌, take}
-use Rattle.std.specs.List.{count_by, sum_by}
 use Rattle.input_runner.specs.Sizes.{count_in}
 use Rattle.input_runner.proofs.sizes.count_in_blocks.Given as goal
 

@@ -21,8 +21,8 @@ pub returns-clause-behind : goal.returns-clause-behind
 returns-clause-behind c = c.in_ok-done.ensures.behind
 
 pub returns-clause-leaves : goal.returns-clause-leaves
-returns-clause-leaves c = λ tables most within.
-    leaves_closed c.see_commands.new.alone.pass c.close.new.alone.pass _ _ c.close.ensures.adds (c.in_ok-done.ensures.enters.leaves c.close.ensures.lawful tables most within)
+returns-clause-leaves c = λ tables first within.
+    leaves_closed c.see_commands.new.alone.pass c.close.new.alone.pass _ _ c.close.ensures.adds (c.in_ok-done.ensures.enters.leaves c.close.ensures.lawful tables first within)
 
 pub returns-clause-clock : goal.returns-clause-clock
 returns-clause-clock c = subst (λ (n : ℕ). n ≤ clock_after c.args.alone.now.pass.clock 1) (sym c.close.ensures.clock) c.in_ok-done.ensures.enters.clock

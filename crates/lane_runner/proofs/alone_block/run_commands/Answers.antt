@@ -18,8 +18,8 @@ returns-clause-committed c = λ placed stamp kind.
     Commits-then c.args.commands.now placed c.in_ok-done.done.1 c.args.alone.now.pass c.commit_commands.new.alone.pass c.close.new.alone.pass (c.in_ok-done.ensures.enters.committed placed stamp kind) c.close.ensures.adds
 
 pub returns-clause-leaves : goal.returns-clause-leaves
-returns-clause-leaves c = λ tables most within.
-    leaves_closed c.commit_commands.new.alone.pass c.close.new.alone.pass _ _ c.close.ensures.adds (c.in_ok-done.ensures.enters.leaves c.close.ensures.lawful tables most within)
+returns-clause-leaves c = λ tables first within.
+    leaves_closed c.commit_commands.new.alone.pass c.close.new.alone.pass _ _ c.close.ensures.adds (c.in_ok-done.ensures.enters.leaves c.close.ensures.lawful tables first within)
 
 pub returns-clause-clock : goal.returns-clause-clock
 returns-clause-clock c = subst (λ (n : ℕ). n ≤ clock_after c.args.alone.now.pass.clock 1) (sym c.close.ensures.clock) c.in_ok-done.ensures.enters.clock

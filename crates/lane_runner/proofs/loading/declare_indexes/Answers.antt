@@ -10,7 +10,7 @@ use Rattle.lane_runner.proofs.loading.declare_indexes.Goals as goal
 pub loop-table-init : goal.loop-table-init
 loop-table-init c = record {
   engine = c.requires.pass.same;
-  loaded = HasLoaded-none c.write_before_is_lawful.ensures c.empty_stands.ensures c.empty_weighs_nothing.ensures c.args.alone.now.pass c.requires.blank;
+  loaded = HasLoaded-none c.write_before_is_lawful.ensures c.empty_stands.ensures c.rows_pack.ensures c.args.alone.now.pass c.requires.blank;
   clock = omega arith;
   shared = refl;
 }

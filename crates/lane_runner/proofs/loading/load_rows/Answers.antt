@@ -1,9 +1,9 @@
-use Rattle.std.proofs.Common.{◌≡◌, ℕ, ◌+◌, ◌≤◌, List, [], length, sym, subst, ◌∙◌}
+use Rattle.std.proofs.Common.{◌≡◌, ℕ, ◌≤◌, List, [], length, sym, subst, ◌∙◌}
 use Rattle.record_store.specs.Limits.{record_limit}
 use Rattle.replay_model.specs.Input.{RowsDiffer}
 use Rattle.replay_model.specs.TableMap.{Row, loaded}
 use Rattle.txn_engine.specs.Pass.{EngineView, engine_of}
-use Rattle.lane_runner.specs.Loading.{HasLoaded, AreIndexesOf, AreRowsOf, rows_add}
+use Rattle.lane_runner.specs.Loading.{HasLoaded, AreIndexesOf, AreRowsOf, FindRecords}
 use Rattle.lane_runner.specs.Room.{HasRoom, clock_after}
 use Rattle.lane_runner.proofs.Clocks.{drawn_both, room_behind, room_part}
 use Rattle.lane_runner.proofs.Answered.{no_value}
@@ -39,12 +39,12 @@ returns-clause-loads c =
     let w = c.put_rows.new.alone.pass in
     let input = c.args.input.now in
     let before = c.in_ok-declare_indexes.ensures.loaded.adds in
-    let rows : HasLoaded (loaded input.rows c.as_slice-3.result.now) (rows_add input.rows c.as_slice-3.result.now) q w =
-    subst (λ (xs : List (ℕ × ℕ × Row)). HasLoaded (loaded xs c.as_slice-3.result.now) (rows_add xs c.as_slice-3.result.now) q w) c.as_slice-2.ensures c.in_ok-put_rows.ensures.loaded in
-    let so_far : HasLoaded (loaded input.rows input.indexes) (rows_add input.rows input.indexes) q w =
-    subst (λ (xs : List (ℕ × ℕ)). HasLoaded (loaded input.rows xs) (rows_add input.rows xs) q w) c.as_slice-3.ensures rows in
+    let rows : HasLoaded (loaded input.rows c.as_slice-3.result.now) (length input.rows) q w =
+    subst (λ (xs : List (ℕ × ℕ × Row)). HasLoaded (loaded xs c.as_slice-3.result.now) (length xs) q w) c.as_slice-2.ensures c.in_ok-put_rows.ensures.loaded in
+    let so_far : HasLoaded (loaded input.rows input.indexes) (length input.rows) q w =
+    subst (λ (xs : List (ℕ × ℕ)). HasLoaded (loaded input.rows xs) (length input.rows) q w) c.as_slice-3.ensures rows in
     let engine : engine_of w ≡ c.args.engine.now = so_far.adds.1.engine ∙ before.1.engine ∙ c.requires.pass.same in
-    Loads-whole input p q w c.fits_more.ensures (subst (λ (e : EngineView). e.size.records ≤ record_limit) (sym engine) c.records.ensures.in_range.records_in_range) before so_far
+    Loads-whole input p q w c.rows_pack.ensures c.fits_more.ensures (subst (λ (e : EngineView). e.size.records ≤ record_limit) (sym engine) c.records.ensures.in_range.records_in_range) before so_far
 
 pub returns-clause-clock : goal.returns-clause-clock
 returns-clause-clock c =
@@ -84,8 +84,8 @@ put_rows-requires-clause-places c = c.requires.places
 pub put_rows-requires-clause-records : goal.put_rows-requires-clause-records
 put_rows-requires-clause-records c =
     let e = c.args.engine.now in
-    subst (λ (xs : List (ℕ × ℕ × Row)). e.fixed + rows_add xs c.as_slice-3.result.now ≤ e.size.records) (sym c.as_slice-2.ensures)
-    (subst (λ (xs : List (ℕ × ℕ)). e.fixed + rows_add c.args.input.now.rows xs ≤ e.size.records) (sym c.as_slice-3.ensures) c.requires.records)
+    subst (λ (xs : List (ℕ × ℕ × Row)). FindRecords xs c.as_slice-3.result.now e.fixed e.size.records) (sym c.as_slice-2.ensures)
+    (subst (λ (xs : List (ℕ × ℕ)). FindRecords c.args.input.now.rows xs e.fixed e.size.records) (sym c.as_slice-3.ensures) c.requires.records)
 
 pub returns-clause-shared : goal.returns-clause-shared
 returns-clause-shared c = c.put_rows.ensures.shared ∙ c.declare_indexes.ensures.shared

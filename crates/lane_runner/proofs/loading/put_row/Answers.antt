@@ -25,10 +25,10 @@ run_commands-requires-clause-records c =
     subst (λ (xs : List Command). HasRecords c.args.alone.now.pass (all_add xs)) (sym (commands_are (goal.at.run_commands-requires-clause-records c).In_ok-push)) (room_put c.args.alone.now.pass c.args.table c.args.key c.args.values c.requires.records)
 
 pub returns-clause-puts : goal.returns-clause-puts
-returns-clause-puts c = λ tables most first so_far.
+returns-clause-puts c = λ tables rows first none so_far.
     let commands = commands_are (goal.at.returns-clause-puts c).In_ok-push in
     let leaves = subst (λ (xs : List Command). LeavesAfter xs c.args.alone.now.pass c.run_commands.new.alone.pass) commands c.in_ok-run_commands.ensures.leaves in
-    HasLoaded-put first c.args.alone.now.pass c.run_commands.new.alone.pass tables most c.args.table c.args.key c.args.values so_far c.in_ok-run_commands.ensures.holds
+    HasLoaded-put c.rows_pack.ensures first c.args.alone.now.pass c.run_commands.new.alone.pass tables rows c.args.table c.args.key c.args.values none so_far c.in_ok-run_commands.ensures.holds
     (c.in_ok-run_commands.ensures.committed (record { stamp = c.in_ok-run_commands.field-0.0; snap = false; lane = 0; number = 0 }) refl refl).adds leaves
 
 pub run_commands-requires-clause-pass : goal.run_commands-requires-clause-pass

@@ -2,10 +2,9 @@ use Rattle.std.proofs.Common.{List, ℕ, ◌<◌, take, refl, sym, ap, subst, �
 use Rattle.std.proofs.lemmas.List.{take_all}
 use Rattle.replay_model.specs.TableMap.{Row, loaded}
 use Rattle.txn_engine.specs.Pass.{EngineView}
-use Rattle.lane_runner.specs.Loading.{HasLoaded, rows_add}
 use Rattle.lane_runner.proofs.Clocks.{drawn_again, drawn_most, room_among}
 use Rattle.lane_runner.proofs.Answered.{no_value}
-use Rattle.lane_runner.proofs.Loaded.{row_loaded, weight_loaded, room_row, HasLoaded-as}
+use Rattle.lane_runner.proofs.Loaded.{row_loaded, absent_row, room_row, HasLoaded-as}
 use Rattle.lane_runner.proofs.loading.put_rows.Goals as goal
 
 pub loop-row-init : goal.loop-row-init
@@ -21,7 +20,7 @@ pub put_row-requires-clause-records : goal.put_row-requires-clause-records
 put_row-requires-clause-records c =
     let engine = c.loop-row.invariant.engine in
     room_row c.args.alone.now.pass c.loop-row.alone.pass c.args.rows.now c.args.indexes.now c.loop-row.row-index c.row-item.result c.args.engine.now.fixed c.args.engine.now.size.records c.row-item.is c.loop-row-test.true
-    (ap (λ (e : EngineView). e.fixed) engine) (ap (λ (e : EngineView). e.size.records) engine) c.requires.records c.loop-row.invariant.loaded
+    (ap (λ (e : EngineView). e.fixed) engine) (ap (λ (e : EngineView). e.size.records) engine) c.requires.records c.rows_pack.ensures c.loop-row.invariant.loaded
 
 pub loop-row-preserved : goal.loop-row-preserved
 loop-row-preserved c =
@@ -30,18 +29,18 @@ loop-row-preserved c =
     let row = c.row-item.result in
     let rows = c.args.rows.now in
     let indexes = c.args.indexes.now in
-    let put = c.in_ok-put_row.ensures.puts (loaded (take at rows) indexes) (rows_add (take at rows) indexes) c.args.alone.now.pass i.loaded in
+    let put = c.in_ok-put_row.ensures.puts (loaded (take at rows) indexes) at c.args.alone.now.pass (absent_row rows indexes at row c.requires.differ c.row-item.is c.loop-row-test.true) i.loaded in
     record {
       engine = put.adds.1.engine ∙ c.requires.pass.same;
-      loaded = HasLoaded-as c.args.alone.now.pass c.put_row.new.alone.pass _ _ _ _ (row_loaded rows indexes at row c.requires.differ c.row-item.is c.loop-row-test.true) (sym (weight_loaded rows indexes at row c.row-item.is c.loop-row-test.true)) put;
+      loaded = HasLoaded-as c.args.alone.now.pass c.put_row.new.alone.pass _ _ _ _ (row_loaded rows indexes at row c.requires.differ c.row-item.is c.loop-row-test.true) refl put;
       clock = drawn_again _ _ _ _ i.clock c.in_ok-put_row.ensures.clock;
       shared = c.put_row.ensures.shared ∙ i.shared;
     }
 
 pub returns-clause-loaded : goal.returns-clause-loaded
 returns-clause-loaded c =
-    subst (λ (rows : List (ℕ × ℕ × Row)). HasLoaded (loaded rows c.args.indexes.now) (rows_add rows c.args.indexes.now) c.args.alone.now.pass c.loop-row.alone.pass)
-    (take_all c.loop-row.row-index c.args.rows.now c.loop-row-test.false) c.loop-row.invariant.loaded
+    HasLoaded-as c.args.alone.now.pass c.loop-row.alone.pass _ _ _ _ (ap (λ (rows : List (ℕ × ℕ × Row)). loaded rows c.args.indexes.now) (take_all c.loop-row.row-index c.args.rows.now c.loop-row-test.false))
+    (omega (arith, c.loop-row-test.false, c.loop-row.auto.row-index-end)) c.loop-row.invariant.loaded
 
 pub put_row-requires-clause-pass : goal.put_row-requires-clause-pass
 put_row-requires-clause-pass c = record { same = c.loop-row.invariant.engine; idle = c.loop-row.invariant.loaded.holds.idle; fixed = c.requires.pass.fixed }

@@ -27,6 +27,10 @@ import tempfile
 import time
 
 here = os.path.dirname(os.path.abspath(__file__))
+
+# As the script `cicada` does: where the system gives large pages on request alone, the C library asks for them, in each contender.
+os.environ.setdefault("GLIBC_TUNABLES", "glibc.malloc.hugetlb=1")
+
 top = os.path.dirname(here)
 
 

@@ -121,6 +121,7 @@ fn run_workers<
 }
 
 /// Puts passes, rights to take lanes, and clocks together, in their order.
+#[inline(never)]
 fn workers_of<C: Clock>(
     alloc: Global,
     passes: Vec<Pass<RowsLawful>>,

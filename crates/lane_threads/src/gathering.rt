@@ -59,6 +59,7 @@ fn gather(gathered: Gathered, left: Left) -> Result<Gathered, NoMemory>
 }
 
 /// Adds what each of these workers left, in their order.
+#[inline(never)]
 pub(crate) fn gather_others(gathered: Gathered, left: Vec<Left>) -> Result<Gathered, NoMemory>
     ensures { IfOk result (λ all. GoesOnByEach gathered left.items all) }
 {

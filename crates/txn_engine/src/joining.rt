@@ -49,6 +49,7 @@ impl<J: Keeps> Engine<J> {
     /// behind it, as they are handed in; its clock and the greatest `min_wts` that it has met are the greatest of all; it has
     /// no boost and nothing queued, and all spare numbers, each once. The refusals of the others are counted beside those of the pass;
     /// its commits are those of the pass.
+    #[inline(never)]
     pub fn alone(&self, pass: Pass<J>, others: Vec<Retired<J>>) -> Alone<J>
         requires engine { engine_of pass ≡ self.now }
         requires idle { IsIdle pass }

@@ -1,5 +1,5 @@
 -- How many records and places the run of an input has.
-use Rattle.std.specs.Prelude.{ℕ, ◌+◌, ◌*◌, ◌≤◌, if◌then◌else◌, Bool, true, false, List, length, count_by, sum_by}
+use Rattle.std.specs.Prelude.{ℕ, ◌+◌, ◌-◌, ◌*◌, ◌≤◌, min, if◌then◌else◌, Bool, true, false, List, length, count_by, sum_by}
 use Rattle.replay_model.specs.declared.input.Block.{Block}
 use Rattle.replay_model.specs.declared.input.Input.{Input}
 use Rattle.replay_model.specs.Input.{IsWellFormed}
@@ -35,13 +35,17 @@ fixed_of_run = fixed_records
 abbrev pub records_of_run : Input → ℕ
 records_of_run input = fixed_of_run + (records_for_rows input + records_for_commands input)
 
--- places for versions beside one for each record: one for each record again, what a block may write, and the one that is kept
-abbrev pub spare_of_run : Input → ℕ
-spare_of_run input = records_of_run input + block_places
+-- places for versions that wait for the slowest of several seats: 1,024 for each seat but one, and 16 for each row at most
+abbrev pub places_for_seats : Input → (seats : ℕ) → ℕ
+places_for_seats input seats = min (1024 * (seats - 1)) (16 * length input.rows)
+
+-- places for versions beside one for each record: one for each record again, what a block may write, the one that is kept, and these
+abbrev pub spare_of_run : Input → (seats : ℕ) → ℕ
+spare_of_run input seats = records_of_run input + (block_places + places_for_seats input seats)
 
 -- they are enough: an engine of so many has its size, and the rows and all blocks find records
 pub record AreEnough (input : Input) (seats : ℕ) : Type 0 where
-  pub size : IsSize (size_of seats (records_of_run input) (spare_of_run input))
+  pub size : IsSize (size_of seats (records_of_run input) (spare_of_run input seats))
   pub rows : FindRecords input.rows input.indexes fixed_of_run (records_of_run input)
   pub records : fixed_of_run + (rows_weigh input.rows + blocks_add (blocks_of input.lanes) (loaded input.rows input.indexes)) ≤ records_of_run input
 

@@ -51,7 +51,7 @@ fn start(
     ensures loaded { IfOk result (λ made. IsLoaded input.now made.0 made.1) }
 {
     sizes_are_enough();
-    let sizes = sizes_of(input);
+    let sizes = sizes_of(input, seats);
     let (engine, mut alone) = match Engine::<RowsLawful>::start(
         alloc,
         seats,

@@ -2,7 +2,7 @@
 
 ghost use Rattle.std.specs.Prelude.{◌≡◌, ◌+◌, ◌≤◌, count_by};
 ghost use Rattle.txn_script.specs.Grammar.{IsWithinLimits, counts};
-ghost use Rattle.input_runner.specs.Sizes.{SizesAreEnough, records_of_run, spare_of_run, records_for_rows, records_for_commands, count_in, count_in_all};
+ghost use Rattle.input_runner.specs.Sizes.{SizesAreEnough, records_of_run, spare_of_run, records_for_rows, records_for_commands, places_for_seats, count_in, count_in_all};
 
 use replay_model::{Block, Blocks, Command, Input, Lanes};
 
@@ -19,16 +19,18 @@ pub(crate) struct Sizes {
     pub(crate) spare: u32,
 }
 
-/// The sizes of a run.
-pub(crate) fn sizes_of(input: &Input) -> Sizes
+/// The sizes of a run with so many seats.
+pub(crate) fn sizes_of(input: &Input, seats: u32) -> Sizes
     requires within { IsWithinLimits input.now }
+    requires some { 1 ≤ seats }
+    requires most { seats ≤ 64 }
     ensures records { result.records ≡ records_of_run input.now }
-    ensures spare { result.spare ≡ spare_of_run input.now }
+    ensures spare { result.spare ≡ spare_of_run input.now seats }
 {
     let records = FIXED + (for_rows(input) + for_commands(input));
     Sizes {
         records,
-        spare: records + BLOCK_PLACES,
+        spare: records + (BLOCK_PLACES + for_seats(input, seats)),
     }
 }
 
@@ -52,6 +54,17 @@ fn for_commands(input: &Input) -> u32
     } else {
         rows + 3 * count_in_lanes(&input.lanes, true)
     }
+}
+
+/// Places for versions that wait for the slowest of several seats: 1,024 for each seat but one, and 16 for each row at most.
+fn for_seats(input: &Input, seats: u32) -> u32
+    requires within { IsWithinLimits input.now }
+    requires some { 1 ≤ seats }
+    requires most { seats ≤ 64 }
+    ensures value { result ≡ places_for_seats input.now seats }
+    ensures few { result ≤ 64512 }
+{
+    (1024 * (seats - 1)).min(16 * input.rows.len() as u32)
 }
 
 /// They are enough for the rows and all blocks.

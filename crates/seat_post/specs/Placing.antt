@@ -1,12 +1,12 @@
 -- Which places the installed writes of a transaction took, and which of them found none.
-use Rattle.std.specs.Prelude.{◌≡◌, ℕ, suc, ◌==◌, Bool, List, [], ◌∷◌, ◌++◌, Option, map, take, count_by}
+use Rattle.std.specs.Prelude.{◌≡◌, ℕ, suc, ◌==◌, Bool, false, List, [], ◌∷◌, ◌++◌, Option, map, take, count_by}
 use Rattle.word_layout.specs.Size.{Size}
 use Rattle.core_rule.specs.Views.{Among}
 use Rattle.validate_core.specs.Installing.{IsFor}
 use Rattle.seat_post.specs.Lists.{AreLinked}
-use Rattle.seat_post.specs.Observing.{MeetsNoPlace}
+use Rattle.seat_post.specs.Observing.{MeetsNoPlace, WasLost}
 use Rattle.seat_post.specs.Post.{PostView}
-use Rattle.seat_post.specs.Seats.{Placed}
+use Rattle.seat_post.specs.Seats.{Observed, Placed}
 
 -- in the inline place of its record; and how many are
 abbrev pub is_inline : Placed → Bool
@@ -19,6 +19,10 @@ count_inline placed = count_by is_inline placed
 pub record HavePlaces (size : Size) (writes : List (ℕ × Option (List ℕ))) (placed : List Placed) : Type 0 where
   pub of_each : map (λ (at : Placed). at.rid) placed ≡ map (λ (write : ℕ × Option (List ℕ)). write.0) writes
   pub each : (at : Placed) → Among at placed → IsFor size at.rid at.place
+
+-- a version was put into a pool place only where the inline place of its record was met not free
+abbrev pub AreInlineFirst : (before after' : Observed) → List Placed → Type 0
+AreInlineFirst before after' placed = (at : Placed) → Among at placed → is_inline at ≡ false → WasLost at.rid before.lost after'.lost
 
 -- so many of the writes took inline places, and the others usable pool places
 pub record CountsPlaces (size : Size) (writes : List (ℕ × Option (List ℕ))) (placed : List Placed) (inlined : ℕ) : Type 0 where

@@ -8,7 +8,7 @@ ghost use Rattle.seat_post.specs.Leaves.{AreLeft};
 ghost use Rattle.seat_post.specs.Logs.{IsAbove};
 ghost use Rattle.seat_post.specs.Lists.{AreLinked, bounds_before, AreBounded, count_raised, IsFullAt};
 ghost use Rattle.seat_post.specs.Observing.{Grows};
-ghost use Rattle.seat_post.specs.Placing.{HavePlaces, CountsPlaces, WantsPlaceAt};
+ghost use Rattle.seat_post.specs.Placing.{HavePlaces, AreInlineFirst, CountsPlaces, WantsPlaceAt};
 ghost use Rattle.seat_post.specs.Post.{with_bounds, placing, in_phase, closed, entered, entry_at, observing, IsShownAt};
 
 use crate::phase::Phase;
@@ -25,6 +25,7 @@ impl<J: Keeps> Post<J> {
         requires open { self.old.phase ≡ Phase.Open }
         ensures ok { OnOk result (self.new ≡ observing (placing (in_phase (with_bounds self.old self.new.bounds) Phase.Installed) self.new.placed) self.new.observed) }
         ensures places { OnOk result (HavePlaces self.old.shared.size self.old.writes self.new.placed) }
+        ensures inline_first { AreInlineFirst self.old.observed self.new.observed self.new.placed }
         ensures stamp { IfOk result (λ installed. installed.stamp ≡ self.old.stamp) }
         ensures err { OnErr result (self.new ≡ observing (placing (closed (with_bounds self.old self.new.bounds)) self.new.placed) self.new.observed) }
         ensures grows { Grows self.old.observed self.new.observed }

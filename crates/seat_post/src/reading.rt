@@ -3,6 +3,7 @@ ghost use Rattle.std.specs.Prelude.{ℕ, ◌≡◌, ◌≢◌, ◌<◌, List, []
 ghost use Rattle.core_rule.specs.View.{Read, writing};
 ghost use Rattle.core_rule.specs.Deciding.{read_value};
 ghost use Rattle.core_rule.specs.Views.{Among};
+ghost use Rattle.core_rule.specs.Versions.{read_version};
 ghost use Rattle.core_rule.specs.Hands.{IsReady, StaysReady};
 ghost use Rattle.core_rule.specs.Searching.{Rests};
 ghost use Rattle.record_store.specs.Meaning.{value_at};
@@ -44,6 +45,18 @@ impl From<NoMemory> for ReadFault {
     }
 }
 
+// Notes that the record was found absent. It stands apart, so that a read which finds a value clears no room for one.
+#[cold]
+#[inline(never)]
+fn note_absent(sets: &mut Sets, rid: u32, place: u32, wts: u64)
+    requires room { length sets.old.reads < sets.old.read_room }
+    requires first { (d : Read) → Among d sets.old.reads → d.record_number ≢ rid }
+    ensures reads { sets.new.reads ≡ sets.old.reads ++ read_version rid place wts None ∷ [] }
+    ensures writes { sets.new.writes ≡ sets.old.writes }
+{
+    sets.read(rid, place, wts, None);
+}
+
 // Searches for the version that is visible below the stamp in flight, and notes it with its value, where there is room.
 fn note<J: Keeps>(
     core: &Core<J>,
@@ -71,7 +84,7 @@ fn note<J: Keeps>(
             wts,
             absent: true,
         } => {
-            sets.read(rid, place, wts, None);
+            note_absent(sets, rid, place, wts);
             Ok(())
         }
         Found::Version {

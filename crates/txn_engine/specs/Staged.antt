@@ -8,7 +8,7 @@ use Rattle.seat_post.specs.Leaves.{AreLeft}
 use Rattle.seat_post.specs.Lists.{AreLinked, AreSomeLinked, bounds_before, AreBounded, count_raised}
 use Rattle.seat_post.specs.Logs.{IsAbove}
 use Rattle.seat_post.specs.Observing.{Grows}
-use Rattle.seat_post.specs.Placing.{HavePlaces, CountsPlaces}
+use Rattle.seat_post.specs.Placing.{HavePlaces, AreInlineFirst, CountsPlaces}
 use Rattle.seat_post.specs.Seats.{Bounds}
 use Rattle.txn_engine.specs.declared.faults.CommitFault.{CommitFault}
 use Rattle.txn_engine.specs.declared.faults.CommitFault.TheVariants as fault
@@ -18,12 +18,13 @@ use Rattle.txn_engine.specs.Leaves.{HoldsAbsent}
 use Rattle.txn_engine.specs.Lists.{IsFull, IsTidyOnceCollected, IsRoomyOnceCollected}
 use Rattle.txn_engine.specs.Pass.{PassView, IsAlone, with_bounds, observing, placing, with_log, entry_of, installed, decided, refused, published}
 
--- its versions are linked as pending ones, each in a place for its record
+-- its versions are linked as pending ones, each in a place for its record, the inline one where that was met free
 pub record Installs (before after' : PassView) : Type 0 where
   pub after : after' ≡ observing (placing (installed (with_bounds before after'.bounds)) after'.placed) after'.observed
   pub grows : Grows before.observed after'.observed
   pub alive : before.dead ≡ None
   pub have : HavePlaces before.shared.size before.writes after'.placed
+  pub inline_first : AreInlineFirst before.observed after'.observed after'.placed
   pub above : IsAbove before.log before.stamp
   pub read_left : IsAlone before → AreLeft before.log before.stamp before.reads
   pub first : bounds_before (length before.writes) after'.bounds ≡ before.bounds
@@ -44,6 +45,7 @@ pub record RefusesInstall (before after' : PassView) (why : CommitFault) : Type 
   pub after : after' ≡ observing (placing (refused (with_bounds before after'.bounds)) after'.placed) after'.observed
   pub grows : Grows before.observed after'.observed
   pub none_placed : IfSome before.dead (λ conflict. after'.placed ≡ before.placed)
+  pub inline_first : before.dead ≡ None → AreInlineFirst before.observed after'.observed after'.placed
   pub some_linked : AreSomeLinked before.writes before.stamp before.bounds after'.bounds
   pub places : why ≡ fault.PlacesOut → WantsPlace before after'
 

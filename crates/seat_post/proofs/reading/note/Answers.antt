@@ -20,7 +20,7 @@ returns-in-Version-default-default-true-clause-ok g c =
       wts = a.wts;
       value = None;
       finds = finds_absent c.args.stamp c.args.rid a.place a.wts v w found inside (limit_is v c.args.stamp c.requires.in_flight);
-      reads = c.read.ensures.reads;
+      reads = c.note_absent.ensures.reads;
     }
 
 pub returns-in-Version-default-default-false-clause-ok : goal.returns-in-Version-default-default-false-clause-ok

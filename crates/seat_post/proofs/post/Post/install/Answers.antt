@@ -8,7 +8,7 @@ use Rattle.seat_post.specs.declared.phase.Phase.TheVariants.{Installed}
 use Rattle.seat_post.proofs.EndMore.{at_known, post_installed, turned_written, same_values}
 use Rattle.seat_post.proofs.Over.{view_over, view_installed, post_over}
 use Rattle.seat_post.specs.Seats.{IsAloneAt, placed_of}
-use Rattle.seat_post.specs.Placing.{HavePlaces}
+use Rattle.seat_post.specs.Placing.{HavePlaces, AreInlineFirst}
 use Rattle.seat_post.specs.Lists.{bounds_before, IsFullAt}
 use Rattle.validate_core.proofs.Writes.{same_once}
 use Rattle.seat_post.proofs.ReadMore.{open_left, open_above}
@@ -17,7 +17,9 @@ use Rattle.spare_numbers.proofs.Written.{length-written}
 use Rattle.seat_post.proofs.Placed.{each_before, each_fits, have_places}
 use Rattle.seat_post.proofs.Linked.{written_values-take, post_linked, post_stuck, post_full}
 use Rattle.seat_post.proofs.Observed.{post_grows}
+use Rattle.seat_post.proofs.InlineFirst.{inline_first, none_taken}
 use Rattle.seat_post.proofs.Stuck.{meets_none, next_written}
+use Rattle.version_search.proofs.Grown.{grows_none}
 use Rattle.seat_post.proofs.post.Post.install.Goals as goal
 
 pub install-requires-clause-begun : goal.install-requires-clause-begun
@@ -144,3 +146,19 @@ returns-in-Ok-clause-places g c =
     let have = have_places z us c.args.self.now.writes (each_fits z c.self.inside.hand.view.published.write us c.self.inside.hand.view c.install.new.hand.view o.each) values in
     subst (λ (x : Shared). HavePlaces x.size c.args.self.now.writes (placed_of c.install.new.hand.view.work.linked)) (sym c.requires.core)
     (subst (λ ws. HavePlaces z c.args.self.now.writes (placed_of ws)) (sym o.installed.linked) have)
+
+pub returns-in-Ok-clause-inline_first : goal.returns-in-Ok-clause-inline_first
+returns-in-Ok-clause-inline_first g c =
+    let h = c.self.inside.hand in
+    let k = c.install.new.hand in
+    let o = c.in-Ok.ensures.ok in
+    let first = inline_first c.args.core.now.size h.view.published.write c.install.new.sets.writes h.view k.view k.view o.each (grows_none k.view.seen) o.installed.linked in
+    subst (λ (p : PostView). AreInlineFirst p.observed (observed_in k) (placed_of k.view.work.linked)) c.self.view_is first
+
+pub returns-in-Err-clause-inline_first : goal.returns-in-Err-clause-inline_first
+returns-in-Err-clause-inline_first g c =
+    let h = c.self.inside.hand in
+    let k = c.install.new.hand in
+    let f = c.in-Err.ensures.err in
+    let first = inline_first c.args.core.now.size h.view.published.write _ h.view f.installed k.view f.each (none_taken c.args.core.now.size c.install.new.sets h.view k.view f) f.linked in
+    subst (λ (p : PostView). AreInlineFirst p.observed (observed_in k) (placed_of k.view.work.linked)) c.self.view_is first

@@ -2,7 +2,8 @@ use Rattle.std.proofs.Common.{rules, ◌≡◌, List, Result, Ok, Err, refl, sym
 use Rattle.std.specs.Result.{IsErrAnd}
 use Rattle.plain_data.specs.State.{Fits}
 use Rattle.seat_post.specs.Observing.{Grows}
-use Rattle.seat_post.specs.Placing.{HavePlaces, CountsPlaces}
+use Rattle.seat_post.specs.Placing.{HavePlaces, AreInlineFirst, CountsPlaces}
+use Rattle.seat_post.proofs.InlineFirst.{inline_first_later}
 use Rattle.seat_post.specs.Seats.{Bounds, Observed, Placed}
 use Rattle.seat_post.specs.Lists.{AreBounded, count_raised, AreSomeLinked}
 use Rattle.seat_post.proofs.Answered.{on_err, err_told}
@@ -54,6 +55,7 @@ returns-in_err-entered-clause-commits g c =
           (loaded_earlier p.stamp p.observed c.install.new.self.observed c.check.new.self.observed conflict linked.grows (subst (λ n. IsLoaded n conflict c.install.new.self.observed c.check.new.self.observed) (ap (λ (q : PassView). q.stamp) linked.after) refused.loaded));
       places = search rules;
       none_placed = search rules;
+      inline_first = λ alive. subst (λ (x : List Placed). AreInlineFirst p.observed c.check.new.self.observed x) (sym placed) (inline_first_later p.observed c.install.new.self.observed c.check.new.self.observed c.install.new.self.placed refused.grows linked.inline_first);
       placed = λ alive. err_told _ (fault.Conflict conflict) (λ f. MatchStopped f (λ x. HavePlaces p.shared.size p.writes c.check.new.self.placed) ⊤) told
           (subst (λ (x : List Placed). HavePlaces p.shared.size p.writes x) (sym placed) linked.have);
       read_left = search rules;
@@ -92,6 +94,7 @@ returns-clause-commits g c =
       loaded = search rules;
       places = search rules;
       none_placed = search rules;
+      inline_first = λ alive. subst (λ (q : PassView). AreInlineFirst p.observed q.observed q.placed) (sym after) (inline_first_later p.observed c.install.new.self.observed o c.install.new.self.placed entered.grows linked.inline_first);
       placed = search rules;
       read_left = search rules;
       linked = search rules;

@@ -1,6 +1,6 @@
 -- What settling does for a record, and what shows it.
-use Rattle.std.proofs.Common.{◌≡◌, ◌≢◌, ℕ, ◌+◌, ◌<◌, ◌⊎◌, Bool, true, false, cond, List, [], ◌∷◌, ◌++◌, append_assoc, append-nil, length-append, max, refl, sym, ap, ◌∙◌, subst, inl, inr, arith}
-use Rattle.std.specs.Prelude.{sum_by}
+use Rattle.std.proofs.Common.{◌≡◌, ◌≢◌, ℕ, ◌+◌, ◌<◌, ◌⊎◌, ◌&&◌, Bool, true, false, cond, eqb, eqb-true, eq-eqb, rules, List, [], ◌∷◌, ◌++◌, append_assoc, append-nil, length-append, max, refl, sym, ap, ◌∙◌, subst, inl, inr, arith}
+use Rattle.std.specs.Prelude.{nat_lt, sum_by}
 use Rattle.std.proofs.lemmas.List.Sums.{sum_by-append, sum_by-cons}
 use Rattle.word_layout.specs.Name.{min_write}
 use Rattle.word_layout.specs.Size.{Size}
@@ -26,6 +26,17 @@ use Rattle.seat_post.specs.Settling.{FindsOther, IsHidden, LooksFirst, IsDue, Cu
 use Rattle.seat_post.proofs.Observed.{lost_before}
 
 -- ---- whether a writing again is due
+
+-- whether the version found has the stamp, which is not 0
+pub found_here : (found wts : ℕ) (same some : Bool) → eqb found wts ≡ same → nat_lt 0 wts ≡ some → (same && some) ≡ true → (found ≡ wts) × (nat_lt 0 wts ≡ true)
+found_here found wts false some first second on = absurd (let never : false ≡ true = on in cc)
+found_here found wts true false first second on = absurd (let never : false ≡ true = on in cc)
+found_here found wts true true first second on = (eqb-true found wts first, second)
+
+pub apart_or_zero : (found wts : ℕ) (same some : Bool) → eqb found wts ≡ same → nat_lt 0 wts ≡ some → (same && some) ≡ false → (found ≢ wts) ⊎ (wts ≡ 0)
+apart_or_zero found wts false some first second off = inl (λ e. let equal = eq-eqb found wts e in cc)
+apart_or_zero found wts true false first second off = inr (search rules)
+apart_or_zero found wts true true first second off = absurd (let never : true ≡ false = off in cc)
 
 pub found_other : (v r b w : View) (bound rid place found status wts : ℕ) → growing.Grows v.seen r.seen → b ≡ bounded r bound → Reads (bound + 1) rid place found status b w → (found ≢ wts) ⊎ (wts ≡ 0) → FindsOther rid wts v.seen.loads w.seen.loads
 found_other v r b w bound rid place found status wts g is reads other =

@@ -5,7 +5,6 @@ pub mod Answered
 pub mod Bounds
 pub mod EndMore
 pub mod FreedPlaces
-pub mod InlineFirst
 pub mod SnapshotReads
 pub mod ReservedPlace
 pub mod Leaving

@@ -127,13 +127,27 @@ loaded_before stamp u v w (ReadLater rid wts rts) g m = final_before stamp rid w
 loaded_before stamp u v w (Overtaken rid seen now) g m = (final_before stamp rid now no_more u.seen.loads v.seen.loads w.seen.loads g.loaded g.loads m.0, m.1)
 
 -- a place that was met not free, where the call began earlier
-pub lost_before : (place : ℕ) (u v w x : View) → growing.Grows u.seen v.seen → WasMet place v w → x.seen ≡ w.seen → WasLost place u.seen.lost x.seen.lost
-lost_before place u v w x g m same = record {
-  earlier = g.missed ++ m.earlier;
-  exchange = m.exchange;
-  later = m.later;
-  not_free = m.not_free;
-  lost = ap (λ (s : Seen). s.lost) same ∙ m.seen ∙ ap (λ (xs : List Load). xs ++ (m.earlier ++ m.exchange ∷ m.later)) g.lost
-      ∙ append_assoc u.seen.lost g.missed (m.earlier ++ m.exchange ∷ m.later)
-      ∙ ap (λ (xs : List Load). u.seen.lost ++ xs) (sym (append_assoc g.missed m.earlier (m.exchange ∷ m.later)));
+-- where the call began earlier, and where it ends later
+pub lost_earlier : (place : ℕ) (a b c ls : List Load) → b ≡ a ++ ls → WasLost place b c → WasLost place a c
+lost_earlier place a b c ls e l = record {
+  earlier = ls ++ l.earlier;
+  exchange = l.exchange;
+  later = l.later;
+  not_free = l.not_free;
+  lost = l.lost ∙ ap (λ (xs : List Load). xs ++ (l.earlier ++ l.exchange ∷ l.later)) e ∙ append_assoc a ls (l.earlier ++ l.exchange ∷ l.later)
+      ∙ ap (λ (xs : List Load). a ++ xs) (sym (append_assoc ls l.earlier (l.exchange ∷ l.later)));
 }
+
+pub lost_later : (place : ℕ) (a b c ls : List Load) → c ≡ b ++ ls → WasLost place a b → WasLost place a c
+lost_later place a b c ls e l = record {
+  earlier = l.earlier;
+  exchange = l.exchange;
+  later = l.later ++ ls;
+  not_free = l.not_free;
+  lost = e ∙ ap (λ (xs : List Load). xs ++ ls) l.lost ∙ append_assoc a (l.earlier ++ l.exchange ∷ l.later) ls
+      ∙ ap (λ (xs : List Load). a ++ xs) (append_assoc l.earlier (l.exchange ∷ l.later) ls);
+}
+
+pub lost_before : (place : ℕ) (u v w x : View) → growing.Grows u.seen v.seen → WasMet place v w → x.seen ≡ w.seen → WasLost place u.seen.lost x.seen.lost
+lost_before place u v w x g m same =
+    lost_earlier place u.seen.lost v.seen.lost x.seen.lost g.missed g.lost (record { earlier = m.earlier; exchange = m.exchange; later = m.later; not_free = m.not_free; lost = ap (λ (s : Seen). s.lost) same ∙ m.seen })

@@ -1,18 +1,24 @@
--- How many of the versions that were linked stand in inline places, as what is known of lists tells.
+-- Which of the versions that were linked stand in inline places, and how many, as what is known of lists tells.
 use Rattle.std.proofs.Common.{◌≡◌, ℕ, ◌+◌, suc, true, false, Bool, cond, not, List, [], ◌∷◌, ◌++◌, Option, None, Some, refl, sym, ap, ◌∙◌, subst, inl, inr, arith, length, length-append, lt-ltb, le-ltb, eqb, eq-eqb, ne_eqb, ◌<◌, map}
 use Rattle.std.specs.Prelude.{IsSome, nat_lt}
 use Rattle.word_layout.specs.Size.{Size}
-use Rattle.core_rule.specs.View.{View, Write, Bound, Counted, Reserved}
+use Rattle.core_rule.specs.View.{View, Write, Load, Bound, Counted, Reserved}
 use Rattle.core_rule.specs.Views.{Among}
 use Rattle.core_rule.specs.Searching.{known_of, one_more, counted_more}
 use Rattle.core_rule.specs.Deciding.{written_values, value_of}
 use Rattle.std.proofs.lemmas.List.Sums.{sum_by-cons}
 use Rattle.core_rule.specs.Hands.{Seated}
 use Rattle.validate_core.specs.Sets.{Once, count_below}
-use Rattle.validate_core.specs.Installing.{IsFor, LinksEach, none_yet, one_more as one_more_linked}
-use Rattle.validate_core.proofs.Placing.{one_view}
-use Rattle.seat_post.specs.Seats.{Bounds, Placed as PlacedAt, placed_of}
-use Rattle.seat_post.specs.Placing.{is_inline, count_inline, HavePlaces}
+use Rattle.validate_core.specs.Installing.{IsFor, LinksOne, LinksEach, none_yet, one_more as one_more_linked}
+use Rattle.validate_core.proofs.Placing.{one_view, each_grows}
+use Rattle.version_pool.specs.Takes.{IsLostOn, AreLostOn}
+use Rattle.version_search.specs.Growing.{Grows}
+use Rattle.version_search.proofs.Grown.{grows_none, grows_both}
+use Rattle.seat_post.specs.Observing.{WasLost}
+use Rattle.seat_post.specs.Observing as observing
+use Rattle.seat_post.specs.Seats.{Bounds, Observed, Placed as PlacedAt, observed_of, placed_of}
+use Rattle.seat_post.specs.Placing.{is_inline, count_inline, HavePlaces, AreInlineFirst}
+use Rattle.seat_post.proofs.Observed.{lost_earlier, lost_later}
 use Rattle.seat_post.specs.Lists.{bounds_before, AreBounded, is_raised, count_raised}
 use Rattle.seat_post.specs.Post.{bounds_in, ArePlaced}
 use Rattle.spare_numbers.proofs.Written.{length-written}
@@ -100,16 +106,29 @@ each_counted z stamp us hand hand' each kept once = λ known.
 
 -- ---- each in a place for its record
 
-pub each_fits : (z : Size) (stamp : ℕ) (us : List Write) (v w : View) → LinksEach z stamp us v w → (u : Write) → Among u us → IsFor z u.record_number u.place
-each_fits z stamp _ _ _ (none_yet v) u among = absurd among
-each_fits z stamp _ _ _ (one_more_linked us c v w x each l) u among =
-    elim (Among-split u us (c ∷ []) among) as (λ _. IsFor z u.record_number u.place) [
-      | inl old ↦ each_fits z stamp us v w each u old
-      | inr new ↦ elim new as (λ _. IsFor z u.record_number u.place) [
-        | inl same ↦ subst (λ (y : Write). IsFor z y.record_number y.place) same l.fits
+-- between two views the version was linked
+record LinkedBetween (z : Size) (stamp : ℕ) (u : Write) (v w : View) : Type 0 where
+  from : View
+  to : View
+  one : LinksOne z stamp u from to
+  before : Grows v.seen from.seen
+  behind : Grows to.seen w.seen
+
+each_between : (z : Size) (stamp : ℕ) (us : List Write) (v w : View) → LinksEach z stamp us v w → (u : Write) → Among u us → LinkedBetween z stamp u v w
+each_between z stamp _ _ _ (none_yet v) u among = absurd among
+each_between z stamp _ _ _ (one_more_linked us c v w x each l) u among =
+    elim (Among-split u us (c ∷ []) among) as (λ _. LinkedBetween z stamp u v x) [
+      | inl old ↦ (
+          let b = each_between z stamp us v w each u old in
+          record { from = b.from; to = b.to; one = b.one; before = b.before; behind = grows_both b.to.seen w.seen x.seen b.behind (each_grows z stamp (c ∷ []) w x (one_more_linked [] c w w x (none_yet w) l)) })
+      | inr new ↦ elim new as (λ _. LinkedBetween z stamp u v x) [
+        | inl same ↦ record { from = w; to = x; one = subst (λ (y : Write). LinksOne z stamp y w x) same l; before = each_grows z stamp us v w each; behind = grows_none x.seen }
         | inr none ↦ absurd none
       ]
     ]
+
+pub each_fits : (z : Size) (stamp : ℕ) (us : List Write) (v w : View) → LinksEach z stamp us v w → (u : Write) → Among u us → IsFor z u.record_number u.place
+each_fits z stamp us v w each u among = (each_between z stamp us v w each u among).one.fits
 
 -- of such a place, whether it is inline
 inline_below : (z : Size) (rid place : ℕ) → rid < z.records → IsFor z rid place → nat_lt place z.records ≡ eqb place rid
@@ -137,6 +156,37 @@ of_writes (u ∷ us) = ap (λ (rids : List ℕ). u.record_number ∷ rids) (of_w
 
 pub have_places : (z : Size) (us : List Write) (writes : List (ℕ × Option (List ℕ))) → ((u : Write) → Among u us → IsFor z u.record_number u.place) → written_values us ≡ writes → HavePlaces z writes (placed_of us)
 have_places z us writes each values = subst (λ (ws : List (ℕ × Option (List ℕ))). HavePlaces z ws (placed_of us)) values (record { of_each = of_writes us; each = placed_fit z us each })
+
+-- ---- where it is not the inline place, that was met not free
+
+-- of places that were tried in turn the first one was met not free, where another was taken
+first_lost : (rid place : ℕ) (others earlier later : List ℕ) (a lost : List Load) → rid ∷ others ≡ earlier ++ place ∷ later → AreLostOn earlier lost → eqb place rid ≡ false → WasLost rid a (a ++ lost)
+first_lost rid place others [] later a lost turn on apart = absurd (let same : place ≡ rid = cc in let equal = eq-eqb place rid same in cc)
+first_lost rid place others (e ∷ es) later a [] turn on apart = absurd on
+first_lost rid place others (e ∷ es) later a (l ∷ ls) turn on apart = record { earlier = []; exchange = l; later = ls; not_free = let same : e ≡ rid = cc in subst (λ (p : ℕ). IsLostOn p l) same on.0; lost = refl }
+
+each_first : (z : Size) (stamp : ℕ) (us : List Write) (v w : View) → LinksEach z stamp us v w → (u : Write) → Among u us → eqb u.place u.record_number ≡ false → WasLost u.record_number v.seen.lost w.seen.lost
+each_first z stamp us v w each u among apart =
+    let b = each_between z stamp us v w each u among in
+    let t = b.one.takes in
+    let met = first_lost u.record_number u.place _ t.earlier t.later b.from.seen.lost t.lost t.turn t.not_free apart in
+    let taken = subst (λ (ls : List Load). WasLost u.record_number b.from.seen.lost ls) (sym (ap (λ (x : View). x.seen.lost) t.takes.view)) met in
+    let linked = lost_later u.record_number _ _ _ b.one.linked.grows.missed b.one.linked.grows.lost taken in
+    lost_later u.record_number _ _ _ b.behind.missed b.behind.lost (lost_earlier u.record_number _ _ _ b.before.missed b.before.lost linked)
+
+placed_first : (a b : Observed) (us : List Write) → ((u : Write) → Among u us → eqb u.place u.record_number ≡ false → WasLost u.record_number a.lost b.lost) → AreInlineFirst a b (placed_of us)
+placed_first a b [] each at among = absurd among
+placed_first a b (u ∷ us) each at (inl same) = subst (λ (p : PlacedAt). is_inline p ≡ false → WasLost p.rid a.lost b.lost) same (each u (inl refl))
+placed_first a b (u ∷ us) each at (inr more) = placed_first a b us (λ c among. each c (inr among)) at more
+
+pub inline_first : (z : Size) (stamp : ℕ) (us : List Write) (v w x : View) → LinksEach z stamp us v w → Grows w.seen x.seen → x.work.linked ≡ us → AreInlineFirst (observed_of v) (observed_of x) (placed_of x.work.linked)
+inline_first z stamp us v w x each g linked =
+    subst (λ (xs : List Write). AreInlineFirst (observed_of v) (observed_of x) (placed_of xs)) (sym linked)
+    (placed_first (observed_of v) (observed_of x) us (λ u among apart. lost_later u.record_number _ _ _ g.missed g.lost (each_first z stamp us v w each u among apart)))
+
+-- it stays so where more was come upon
+pub inline_first_later : (a b c : Observed) (placed : List PlacedAt) → observing.Grows b c → AreInlineFirst a b placed → AreInlineFirst a c placed
+inline_first_later a b c placed g first at among apart = lost_later at.rid a.lost b.lost c.lost g.missed g.lost (first at among apart)
 
 -- nothing of it has changed
 pub placed_kept : (hand hand' : Seated) (us : List Write) → hand'.view.size ≡ hand.view.size → hand'.view.counts ≡ hand.view.counts → ArePlaced hand us → ArePlaced hand' us

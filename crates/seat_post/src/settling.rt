@@ -160,7 +160,7 @@ fn is_visible<J: Keeps>(core: &Core<J>, hand: &mut Hand<J>, rid: u32, first: Fir
     let bound = publish_read(core, hand);
     match find(core, hand, rid, bound, true) {
         Found::Pending { .. } => unreachable!(),
-        Found::Version { wts: found, .. } => found == first.wts && first.wts > 0,
+        Found::Version { wts: found, .. } => (found == first.wts) & (first.wts > 0),
     }
 }
 

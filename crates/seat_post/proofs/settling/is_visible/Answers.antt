@@ -1,9 +1,9 @@
-use Rattle.std.proofs.Common.{refl, rules, inl, inr}
+use Rattle.std.proofs.Common.{refl, inr}
 use Rattle.seat_post.proofs.Steady.{steady_same, steady_idle, steady_raised, steady_looked, steady_settling, steady_settles}
 use Rattle.seat_post.proofs.Searching.{only_looked}
 use Rattle.version_search.proofs.Grown.{grows_both}
 use Rattle.seat_post.proofs.Observed.{idle_grows, raises_grow}
-use Rattle.seat_post.proofs.Dues.{found_other}
+use Rattle.seat_post.proofs.Dues.{found_here, apart_or_zero, found_other}
 use Rattle.seat_post.proofs.Settlement.{visible_entered}
 use Rattle.seat_post.proofs.settling.is_visible.Goals as goal
 
@@ -13,77 +13,47 @@ publish_read-bound-requires-clause-ends g c =
     let r = c.raise_min_write in
     (steady_raised c.idle.new.hand.view r.new.hand.view r.result r.new.hand.view.seen r.ensures.view (raises_grow _ _ _ c.idle.new.hand.view r.result r.new.hand.view r.ensures.raises) r.ensures.not_back idled.ends).ends
 
-pub returns-then-found-first-clause-settling : goal.returns-then-found-first-clause-settling
-returns-then-found-first-clause-settling g c =
+pub returns-clause-settling : goal.returns-clause-settling
+returns-clause-settling g c =
     let i = c.idle.ensures in
     let r = c.raise_min_write in
     let b = c.publish_read-bound in
     let steady = steady_looked c.args.hand.now c.idle.new.hand r.new.hand b.new.hand c.find.new.hand.view r.result b.result c.args.rid c.in-Version.place c.in-Version.found _ c.requires.settling.ends i.rises i.unchanged r.ensures.view (raises_grow _ _ _ c.idle.new.hand.view r.result r.new.hand.view r.ensures.raises) r.ensures.not_back b.ensures.view b.ensures.met c.in-Version.ensures.version in
     steady_settling c.args.hand.now.view c.find.new.hand.view c.requires.settling steady
 
-pub returns-then-found-first-clause-searches : goal.returns-then-found-first-clause-searches
-returns-then-found-first-clause-searches g c =
+pub returns-clause-searches : goal.returns-clause-searches
+returns-clause-searches g c =
     let i = c.idle.ensures in
     let r = c.raise_min_write in
     let b = c.publish_read-bound in
     only_looked c.args.hand.now c.idle.new.hand r.new.hand b.new.hand c.find.new.hand.view r.result b.result _ c.args.rid c.in-Version.place c.in-Version.found _ i.rises i.unchanged r.ensures.view b.ensures.view c.in-Version.ensures.version
 
-pub returns-then-found-first-clause-settles : goal.returns-then-found-first-clause-settles
-returns-then-found-first-clause-settles g c =
+pub returns-clause-settles : goal.returns-clause-settles
+returns-clause-settles g c =
     let i = c.idle.ensures in
     let r = c.raise_min_write in
     let b = c.publish_read-bound in
     let steady = steady_looked c.args.hand.now c.idle.new.hand r.new.hand b.new.hand c.find.new.hand.view r.result b.result c.args.rid c.in-Version.place c.in-Version.found _ c.requires.settling.ends i.rises i.unchanged r.ensures.view (raises_grow _ _ _ c.idle.new.hand.view r.result r.new.hand.view r.ensures.raises) r.ensures.not_back b.ensures.view b.ensures.met c.in-Version.ensures.version in
     steady_settles g.J.Keeps.kept c.args.hand.now.view c.find.new.hand.view steady
 
-pub returns-then-found-first-clause-entered : goal.returns-then-found-first-clause-entered
-returns-then-found-first-clause-entered g c = λ above.
+pub returns-clause-entered : goal.returns-clause-entered
+returns-clause-entered g c = λ above.
     let i = c.idle.ensures in
     let r = c.raise_min_write in
     let b = c.publish_read-bound in
     let found = c.in-Version.ensures.version in
+    let here = found_here c.in-Version.found c.args.first.wts _ _ refl refl above in
     let steady = steady_looked c.args.hand.now c.idle.new.hand r.new.hand b.new.hand c.find.new.hand.view r.result b.result c.args.rid c.in-Version.place c.in-Version.found _ c.requires.settling.ends i.rises i.unchanged r.ensures.view (raises_grow _ _ _ c.idle.new.hand.view r.result r.new.hand.view r.ensures.raises) r.ensures.not_back b.ensures.view b.ensures.met found in
     let alone = (steady_settling c.args.hand.now.view c.find.new.hand.view c.requires.settling steady).alone in
-    visible_entered _ c.args.rid _ c.in-Version.found c.args.first.wts _ b.new.hand.view c.find.new.hand.view alone c.if-found-first.true above found
+    visible_entered _ c.args.rid _ c.in-Version.found c.args.first.wts _ b.new.hand.view c.find.new.hand.view alone here.0 here.1 found
 
-pub returns-then-found-first-clause-hidden : goal.returns-then-found-first-clause-hidden
-returns-then-found-first-clause-hidden g c = λ off.
+pub returns-clause-hidden : goal.returns-clause-hidden
+returns-clause-hidden g c = λ off.
     let v = c.args.hand.now.view in
     let r = c.raise_min_write in
     let b = c.publish_read-bound in
     let before = grows_both v.seen c.idle.new.hand.view.seen r.new.hand.view.seen (idle_grows c.args.hand.now c.idle.new.hand c.idle.ensures.rises c.idle.ensures.unchanged) (raises_grow _ _ _ c.idle.new.hand.view r.result r.new.hand.view r.ensures.raises) in
-    inr (found_other v r.new.hand.view b.new.hand.view c.find.new.hand.view b.result c.args.rid c.in-Version.place c.in-Version.found _ c.args.first.wts before b.ensures.view c.in-Version.ensures.version (inr (search rules)))
-
-pub returns-else-found-first-clause-hidden : goal.returns-else-found-first-clause-hidden
-returns-else-found-first-clause-hidden g c = λ off.
-    let v = c.args.hand.now.view in
-    let r = c.raise_min_write in
-    let b = c.publish_read-bound in
-    let before = grows_both v.seen c.idle.new.hand.view.seen r.new.hand.view.seen (idle_grows c.args.hand.now c.idle.new.hand c.idle.ensures.rises c.idle.ensures.unchanged) (raises_grow _ _ _ c.idle.new.hand.view r.result r.new.hand.view r.ensures.raises) in
-    inr (found_other v r.new.hand.view b.new.hand.view c.find.new.hand.view b.result c.args.rid c.in-Version.place c.in-Version.found _ c.args.first.wts before b.ensures.view c.in-Version.ensures.version (inl (λ same. search rules)))
-
-pub returns-else-found-first-clause-settling : goal.returns-else-found-first-clause-settling
-returns-else-found-first-clause-settling g c =
-    let i = c.idle.ensures in
-    let r = c.raise_min_write in
-    let b = c.publish_read-bound in
-    let steady = steady_looked c.args.hand.now c.idle.new.hand r.new.hand b.new.hand c.find.new.hand.view r.result b.result c.args.rid c.in-Version.place c.in-Version.found _ c.requires.settling.ends i.rises i.unchanged r.ensures.view (raises_grow _ _ _ c.idle.new.hand.view r.result r.new.hand.view r.ensures.raises) r.ensures.not_back b.ensures.view b.ensures.met c.in-Version.ensures.version in
-    steady_settling c.args.hand.now.view c.find.new.hand.view c.requires.settling steady
-
-pub returns-else-found-first-clause-searches : goal.returns-else-found-first-clause-searches
-returns-else-found-first-clause-searches g c =
-    let i = c.idle.ensures in
-    let r = c.raise_min_write in
-    let b = c.publish_read-bound in
-    only_looked c.args.hand.now c.idle.new.hand r.new.hand b.new.hand c.find.new.hand.view r.result b.result _ c.args.rid c.in-Version.place c.in-Version.found _ i.rises i.unchanged r.ensures.view b.ensures.view c.in-Version.ensures.version
-
-pub returns-else-found-first-clause-settles : goal.returns-else-found-first-clause-settles
-returns-else-found-first-clause-settles g c =
-    let i = c.idle.ensures in
-    let r = c.raise_min_write in
-    let b = c.publish_read-bound in
-    let steady = steady_looked c.args.hand.now c.idle.new.hand r.new.hand b.new.hand c.find.new.hand.view r.result b.result c.args.rid c.in-Version.place c.in-Version.found _ c.requires.settling.ends i.rises i.unchanged r.ensures.view (raises_grow _ _ _ c.idle.new.hand.view r.result r.new.hand.view r.ensures.raises) r.ensures.not_back b.ensures.view b.ensures.met c.in-Version.ensures.version in
-    steady_settles g.J.Keeps.kept c.args.hand.now.view c.find.new.hand.view steady
+    inr (found_other v r.new.hand.view b.new.hand.view c.find.new.hand.view b.result c.args.rid c.in-Version.place c.in-Version.found _ c.args.first.wts before b.ensures.view c.in-Version.ensures.version (apart_or_zero c.in-Version.found c.args.first.wts _ _ refl refl off))
 
 pub returns-then-not-first-clause-settles : goal.returns-then-not-first-clause-settles
 returns-then-not-first-clause-settles g c = steady_settles g.J.Keeps.kept c.args.hand.now.view c.args.hand.now.view (steady_same c.args.hand.now.view c.args.hand.now.view refl c.requires.settling.ends)

@@ -14,11 +14,10 @@ use Rattle.validate_core.proofs.Writes.{same_once}
 use Rattle.seat_post.proofs.ReadMore.{open_left, open_above}
 use Rattle.seat_post.proofs.AloneSeats.{alone_told}
 use Rattle.spare_numbers.proofs.Written.{length-written}
-use Rattle.seat_post.proofs.Placed.{each_before, each_fits, have_places}
+use Rattle.seat_post.proofs.Placed.{each_before, each_fits, have_places, inline_first}
 use Rattle.seat_post.proofs.Linked.{written_values-take, post_linked, post_stuck, post_full}
 use Rattle.seat_post.proofs.Observed.{post_grows}
-use Rattle.seat_post.proofs.InlineFirst.{inline_first, none_taken}
-use Rattle.seat_post.proofs.Stuck.{meets_none, next_written}
+use Rattle.seat_post.proofs.Stuck.{none_taken, meets_none, next_written}
 use Rattle.version_search.proofs.Grown.{grows_none}
 use Rattle.seat_post.proofs.post.Post.install.Goals as goal
 

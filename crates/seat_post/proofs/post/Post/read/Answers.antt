@@ -20,13 +20,11 @@ invariant_of-self g c =
 
 pub note-requires-clause-rests : goal.note-requires-clause-rests
 note-requires-clause-rests g c =
-    let phase = ap (λ (p : PostView). p.phase) c.self.view_is ∙ c.requires.open in
-    (is_open _ _ _ _ phase c.self.invariant).at.begun.rests
+    (is_open _ _ _ _ (ap (λ (p : PostView). p.phase) c.self.view_is ∙ c.requires.open) c.self.invariant).at.begun.rests
 
 pub note-requires-clause-in_flight : goal.note-requires-clause-in_flight
 note-requires-clause-in_flight g c =
-    let phase = ap (λ (p : PostView). p.phase) c.self.view_is ∙ c.requires.open in
-    let now = (is_open _ _ _ _ phase c.self.invariant).at in
+    let now = (is_open _ _ _ _ (ap (λ (p : PostView). p.phase) c.self.view_is ∙ c.requires.open) c.self.invariant).at in
     now.begun.in_flight ∙ ap writing (sym (c.number.ensures.value ∙ now.at))
 
 pub note-requires-clause-first : goal.note-requires-clause-first
@@ -63,8 +61,7 @@ returns-clause-ok g c =
     let r = c.reserve.ensures in
     let l = c.in-Ok.ensures.ok in
     let after = observed_in c.note.new.hand in
-    let phase = ap (λ (p : PostView). p.phase) c.self.view_is ∙ c.requires.open in
-    let flight = (is_open _ _ _ _ phase c.self.invariant).at.begun.in_flight in
+    let flight = (is_open _ _ _ _ (ap (λ (p : PostView). p.phase) c.self.view_is ∙ c.requires.open) c.self.invariant).at.begun.in_flight in
     record {
       value = l.value;
       reads = record {
@@ -87,8 +84,7 @@ returns-in-Err-clause-loaded g c =
 pub returns-in-Err-clause-err : goal.returns-in-Err-clause-err
 returns-in-Err-clause-err g c =
     let i = c.self.inside in
-    let phase = ap (λ (p : PostView). p.phase) c.self.view_is ∙ c.requires.open in
-    let flight = (is_open _ _ _ _ phase c.self.invariant).at.begun.in_flight in
+    let flight = (is_open _ _ _ _ (ap (λ (p : PostView). p.phase) c.self.view_is ∙ c.requires.open) c.self.invariant).at.begun.in_flight in
     stopped_post i.hand c.note.new.hand i.phase i.stamp _ c.args.rid c.in-Err.met.wts i.sets c.args.self.now c.self.view_is c.in-Err.ensures.err _ c.note.new.sets (c.in-Err.ensures.unread ∙ c.reserve.ensures.reads) (c.note.ensures.writes ∙ c.reserve.ensures.writes) c.note.ensures.stays.seat.same_table flight
 
 pub returns-clause-grows : goal.returns-clause-grows

@@ -24,13 +24,11 @@ invariant_of-self g c =
 
 pub search-requires-clause-rests : goal.search-requires-clause-rests
 search-requires-clause-rests g c =
-    let phase = ap (λ (p : PostView). p.phase) c.self.view_is ∙ c.requires.open in
-    (is_open _ _ _ _ phase c.self.invariant).at.begun.rests
+    (is_open _ _ _ _ (ap (λ (p : PostView). p.phase) c.self.view_is ∙ c.requires.open) c.self.invariant).at.begun.rests
 
 pub search-requires-clause-in_flight : goal.search-requires-clause-in_flight
 search-requires-clause-in_flight g c =
-    let phase = ap (λ (p : PostView). p.phase) c.self.view_is ∙ c.requires.open in
-    let now = (is_open _ _ _ _ phase c.self.invariant).at in
+    let now = (is_open _ _ _ _ (ap (λ (p : PostView). p.phase) c.self.view_is ∙ c.requires.open) c.self.invariant).at in
     now.begun.in_flight ∙ ap writing (sym (c.number.ensures.value ∙ now.at))
 
 pub invariant_of-self-in-Err : goal.invariant_of-self-in-Err
@@ -74,8 +72,7 @@ pub returns-then-is_some-clause-passed : goal.returns-then-is_some-clause-passed
 returns-then-is_some-clause-passed g c = λ off.
     let i = c.self.inside in
     let r = c.reserve.ensures in
-    let phase = ap (λ (p : PostView). p.phase) c.self.view_is ∙ c.requires.open in
-    let flight = (is_open _ _ _ _ phase c.self.invariant).at.begun.in_flight in
+    let flight = (is_open _ _ _ _ (ap (λ (p : PostView). p.phase) c.self.view_is ∙ c.requires.open) c.self.invariant).at.begun.in_flight in
     view_found i.hand c.search.new.hand i.phase i.stamp _ _ _ _ _ c.reserve.new.self c.search.ensures.stays.seat.same_table c.in-Ok.ensures.ok flight
     ∙ ap (λ (p : PostView). observing p (observed_in c.search.new.hand)) (view_room i.hand i.phase i.stamp i.sets c.reserve.new.self r.reads r.writes ∙ c.self.view_is)
 
@@ -97,8 +94,7 @@ returns-in-Err-clause-loaded g c =
 pub returns-in-Err-clause-err : goal.returns-in-Err-clause-err
 returns-in-Err-clause-err g c =
     let i = c.self.inside in
-    let phase = ap (λ (p : PostView). p.phase) c.self.view_is ∙ c.requires.open in
-    let flight = (is_open _ _ _ _ phase c.self.invariant).at.begun.in_flight in
+    let flight = (is_open _ _ _ _ (ap (λ (p : PostView). p.phase) c.self.view_is ∙ c.requires.open) c.self.invariant).at.begun.in_flight in
     stopped_post i.hand c.search.new.hand i.phase i.stamp _ c.args.rid c.in-Err.met.wts i.sets c.args.self.now c.self.view_is c.in-Err.ensures.err _ c.reserve.new.self c.reserve.ensures.reads c.reserve.ensures.writes c.search.ensures.stays.seat.same_table flight
 
 pub returns-then-is_some-clause-grows : goal.returns-then-is_some-clause-grows
@@ -117,8 +113,7 @@ pub returns-else-is_some-clause-absent : goal.returns-else-is_some-clause-absent
 returns-else-is_some-clause-absent g c = λ on.
     let i = c.self.inside in
     let r = c.reserve.ensures in
-    let phase = ap (λ (p : PostView). p.phase) c.self.view_is ∙ c.requires.open in
-    let flight = (is_open _ _ _ _ phase c.self.invariant).at.begun.in_flight in
+    let flight = (is_open _ _ _ _ (ap (λ (p : PostView). p.phase) c.self.view_is ∙ c.requires.open) c.self.invariant).at.begun.in_flight in
     let wts = c.in-Ok.read.wts in
     let none : c.in-Ok.read.value ≡ None = is_some-false c.in-Ok.read.value (sym c.is_some.ensures ∙ c.if-is_some.false) in
     let finds = subst (λ (x : Option (List ℕ)). Finds c.args.rid c.in-Ok.read.place wts x i.hand.view c.search.new.hand.view) none c.in-Ok.ensures.ok in

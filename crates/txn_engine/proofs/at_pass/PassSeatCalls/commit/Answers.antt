@@ -3,7 +3,7 @@ use Rattle.std.specs.Result.{IsErrAnd}
 use Rattle.plain_data.specs.State.{Fits}
 use Rattle.seat_post.specs.Observing.{Grows}
 use Rattle.seat_post.specs.Placing.{HavePlaces, AreInlineFirst, CountsPlaces}
-use Rattle.seat_post.proofs.InlineFirst.{inline_first_later}
+use Rattle.seat_post.proofs.Placed.{inline_first_later}
 use Rattle.seat_post.specs.Seats.{Bounds, Observed, Placed}
 use Rattle.seat_post.specs.Lists.{AreBounded, count_raised, AreSomeLinked}
 use Rattle.seat_post.proofs.Answered.{on_err, err_told}

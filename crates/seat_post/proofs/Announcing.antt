@@ -86,12 +86,11 @@ announces_of : (v w x : View) (result : ℕ) → Idles v w → result ≡ word v
 announces_of v w x result is met raised =
     let flight : x.flight ≡ w.flight = ap (λ (y : View). y.flight) raised in
     let work : x.work ≡ w.work = ap (λ (y : View). y.work) raised in
-    let raises = ap (λ (y : View). y.raises) raised in
     record {
       only = raised ∙ ap (λ (y : View). raised_write y result x.seen) is.only ∙ ap (λ (n : ℕ). raised_write (idled v w.flight w.work) n x.seen) met
           ∙ ap (λ (f : Flight). told v f w.work (record v.raises { writes = no_scan }) x.seen) (sym flight)
           ∙ ap (λ (y : Work). told v x.flight y (record v.raises { writes = no_scan }) x.seen) (sym work)
-          ∙ ap (λ (r : Raised). told v x.flight x.work r x.seen) (sym (raises ∙ ap (λ (y : View). record y.raises { writes = no_scan }) is.only));
+          ∙ ap (λ (r : Raised). told v x.flight x.work r x.seen) (sym ((ap (λ (y : View). y.raises) raised) ∙ ap (λ (y : View). record y.raises { writes = no_scan }) is.only));
       ends = subst Ends (sym work) is.ends;
       whole = λ at. subst (λ (y : Work). AreAllWhole y.reads) (sym work) (is.whole (sym flight ∙ at));
     }

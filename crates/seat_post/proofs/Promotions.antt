@@ -268,8 +268,7 @@ is_drawn stamp clock v w none view published = record {
 stopped_only : (stamp rid : ℕ) (v w : View) (conflict : Conflict) → IsStoppedWriting stamp rid v w conflict
     → w ≡ record v { places = w.places; work = w.work; counts = counted_more v.size rid stamp rid v.counts; tops = record { record_number = rid; stamp = stamp } ∷ v.tops; front = w.front; seen = w.seen }
 stopped_only stamp rid v w conflict stops =
-    let l = stops.loaded in
-    let holds = loaded_since stamp rid stops.words v l stops.loads in
+    let holds = loaded_since stamp rid stops.words v stops.loaded stops.loads in
     let log : w.log ≡ v.log = stops.stops.log ∙ ap (λ (y : View). y.log) holds.only in
     stops.stops.links.only
     ∙ ap (λ (y : View). record y { places = w.places; work = w.work; counts = counted_more y.size rid stamp rid y.counts; tops = record { record_number = rid; stamp = stamp } ∷ y.tops; front = w.front; log = w.log; seen = w.seen }) holds.only

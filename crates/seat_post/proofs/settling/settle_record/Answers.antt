@@ -64,9 +64,8 @@ returns-clause-settles g c =
 pub renew-requires-2-clause-spare : goal.renew-requires-2-clause-spare
 renew-requires-2-clause-spare g c =
     let once = c.in_ok-once.once in
-    let e = c.in_ok-once.ensures in
     let cut = c.cut_below-places-2 in
-    let kept = reserved_once c.args.rid once.stamp once.reserved _ _ _ (not_off once.reserved c.if-not-once.false) e.in_reserved cut.ensures.in_reserved in
+    let kept = reserved_once c.args.rid once.stamp once.reserved _ _ _ (not_off once.reserved c.if-not-once.false) c.in_ok-once.ensures.in_reserved cut.ensures.in_reserved in
     inr (stands_reserved c.args.rid once.stamp cut.new.hand.view.counts kept cut.ensures.cut.one)
 
 pub returns-clause-freed : goal.returns-clause-freed

@@ -130,9 +130,8 @@ returns-in-Err-clause-above g c = let i = c.self.inside in open_above i.hand i.p
 
 pub returns-in-Ok-clause-before : goal.returns-in-Ok-clause-before
 returns-in-Ok-clause-before g c =
-    let n = c.install.ensures in
     let us = c.install.new.sets.writes in
-    let values = same_values c.self.inside.sets.writes us n.same.writes ∙ ap (λ (p : PostView). p.writes) c.self.view_is in
+    let values = same_values c.self.inside.sets.writes us c.install.ensures.same.writes ∙ ap (λ (p : PostView). p.writes) c.self.view_is in
     let long : length us ≡ length c.args.self.now.writes = sym (length-written us) ∙ ap length values in
     ap (λ k. bounds_before k (bounds_in c.install.new.hand)) (sym long) ∙ each_before c.args.core.now.size c.self.inside.hand.view.published.write us c.self.inside.hand.view c.install.new.hand.view c.in-Ok.ensures.ok.each c.install.ensures.in_reserved ∙ ap (λ (p : PostView). p.bounds) c.self.view_is
 

@@ -65,14 +65,13 @@ returns-clause-grows g c =
 
 pub returns-clause-met : goal.returns-clause-met
 returns-clause-met g c =
-    let i = c.self.inside in
     let v = c.draw.new.hand.view in let w = c.promote_at.new.hand.view in
     let e = c.in_ok-stamp.ensures in
     let told = c.in_ok-told.told in
     let after = observed_in c.promote_at.new.hand in
     let came = came_upon g.J.Keeps.kept c.args.core.now.size.records c.in_ok-stamp.stamp c.args.rid v w told c.in_ok-told.ensures.ok in
     subst (λ (p : PostView). CameUpon (stamp_of (drawn_clock p.clock c.args.reading) p.seat) c.args.rid p.observed after told) c.self.view_is
-    (subst (λ (n : ℕ). CameUpon n c.args.rid (observed_in i.hand) after told) e.stamp
+    (subst (λ (n : ℕ). CameUpon n c.args.rid (observed_in c.self.inside.hand) after told) e.stamp
     (subst (λ (s : Seen). CameUpon c.in_ok-stamp.stamp c.args.rid (record { loads = s.loads; lost = s.lost }) after told) (ap (λ (x : View). x.seen) e.view) came))
 
 pub returns-in_err-told-clause-err : goal.returns-in_err-told-clause-err

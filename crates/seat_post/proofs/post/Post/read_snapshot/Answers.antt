@@ -38,8 +38,7 @@ returns-clause-grows g c =
 
 pub returns-clause-found : goal.returns-clause-found
 returns-clause-found g c =
-    let i = c.self.inside in
     let idle = at_phase _ Idle _ _ _ c.self.invariant (ap (λ (p : PostView). p.phase) c.self.view_is ∙ c.requires.idle) in
     let rests = (in_snapshot_of _ _ _ idle (subst (λ (p : PostView). IsSome p.snapshot) (sym c.self.view_is) c.requires.snapshot)).rests in
     subst (λ (p : PostView). IfSome p.snapshot (λ o. FindsInSnapshot (o.stamp + 1) c.args.rid p.observed (observed_in c.read_snapshot.new.hand) c.read_snapshot.result)) c.self.view_is
-    (found_snapshot i.hand.view c.read_snapshot.new.hand.view c.args.rid c.read_snapshot.result rests c.read_snapshot.ensures.finds_alike)
+    (found_snapshot c.self.inside.hand.view c.read_snapshot.new.hand.view c.args.rid c.read_snapshot.result rests c.read_snapshot.ensures.finds_alike)

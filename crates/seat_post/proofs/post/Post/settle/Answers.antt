@@ -57,8 +57,7 @@ returns-clause-done g c =
     let i = c.self.inside in
     let told = c.settle_all-told in
     let last = c.publish_read.new.hand in
-    let z = c.args.core.now.size in
-    let size : i.hand.view.size ≡ z = ap (λ (p : PostView). p.shared.size) c.self.view_is ∙ ap (λ (x : Shared). x.size) c.requires.core in
+    let size : i.hand.view.size ≡ c.args.core.now.size = ap (λ (p : PostView). p.shared.size) c.self.view_is ∙ ap (λ (x : Shared). x.size) c.requires.core in
     let after = post_of last i.phase i.stamp i.sets in
     if_ok_map told.result _ (SettlesAll c.args.self.now after)
     (λ all first. subst (λ (p : PostView). SettlesAll p after all) c.self.view_is

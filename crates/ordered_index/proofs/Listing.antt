@@ -12,10 +12,9 @@ use Rattle.record_store.specs.Walks.{OnlyReads}
 use Rattle.record_store.proofs.States.{each_behind, each_grown}
 use Rattle.ordered_index.specs.declared.key.Key.{Key}
 use Rattle.ordered_index.specs.declared.node.Kind.TheVariants.{Leaf}
-use Rattle.ordered_index.specs.declared.walk.Link.{Link}
+use Rattle.ordered_index.specs.declared.walk.Stored.{Stored}
 use Rattle.ordered_index.specs.Keys.{is_before, Before, InStore}
-use Rattle.ordered_index.specs.Node.{Content, Holds, IsSound}
-use Rattle.ordered_index.specs.Held.{content_of}
+use Rattle.ordered_index.specs.Node.{Content, Holds, IsSound, content_at}
 use Rattle.ordered_index.specs.Tree.{IsAt, row_entries}
 use Rattle.ordered_index.specs.Walk.{DescentReaches, node_of}
 use Rattle.ordered_index.specs.Scan.{is_between, between, ListsNothing, Appends, IsNext, Passes, HasBehind, NeedsNoMore, Scans, ScanTears, IsLeafBehind, IsNoLeaf, keys_behind}
@@ -115,23 +114,23 @@ appends_more size limit most lo hi entries old mid now room stored a is =
     }
 
 -- the next leaf that was read, over each state that agrees
-pub each_next : (first before after : Meaning) (size next : ℕ) (here link : Link) → OnlyReads first before → here.node.next ≡ Some next → IsLeafBehind size next here.node.low link → EachState before after (λ state. IsAt size state (link.at, content_of link.node)) → EachState first after (λ state. IsNext size state (node_of here) (node_of link))
+pub each_next : (first before after : Meaning) (size next : ℕ) (here link : Stored) → OnlyReads first before → (content_at here.words).next ≡ Some next → IsLeafBehind size next (content_at here.words).low link → EachState before after (λ state. IsAt size state (link.at, content_at link.words)) → EachState first after (λ state. IsNext size state (node_of here) (node_of link))
 each_next first before after size next here link earlier named leaf at = λ state agrees. record {
   named = named ∙ ap (λ r. Some r) (sym leaf.at);
   rises = leaf.rises;
-  at = each_behind first before after (λ s. IsAt size s (link.at, content_of link.node)) earlier at state agrees;
+  at = each_behind first before after (λ s. IsAt size s (link.at, content_at link.words)) earlier at state agrees;
   kind = leaf.kind;
 }
 
 -- a record that is no leaf behind
-pub each_torn : (first before after : Meaning) (size root rid next : ℕ) (lo hi : Key) (limit : ℕ) (here : Link) (old now : List (Key × ℕ)) (goes_on : Bool) → OnlyReads first before → OnlyReads before after → EachState first before (λ state. Listed size root lo hi limit state (node_of here) old now goes_on) → here.node.next ≡ Some next → rid ≡ next → EachState before after (λ state. IsNoLeaf size here.node.low state next) → EachState first after (ScanTears size root lo rid)
+pub each_torn : (first before after : Meaning) (size root rid next : ℕ) (lo hi : Key) (limit : ℕ) (here : Stored) (old now : List (Key × ℕ)) (goes_on : Bool) → OnlyReads first before → OnlyReads before after → EachState first before (λ state. Listed size root lo hi limit state (node_of here) old now goes_on) → (content_at here.words).next ≡ Some next → rid ≡ next → EachState before after (λ state. IsNoLeaf size (content_at here.words).low state next) → EachState first after (ScanTears size root lo rid)
 each_torn first before after size root rid next lo hi limit here old now goes_on earlier later listed named same unfit = λ state agrees.
     let so_far = each_grown first before after (λ s. Listed size root lo hi limit s (node_of here) old now goes_on) later listed state agrees in
-    let none = each_behind first before after (λ s. IsNoLeaf size here.node.low s next) earlier unfit state agrees in
-    let N : ℕ → Type 0 = λ r. IsNoLeaf size here.node.low (overlay first.writes state) r in
+    let none = each_behind first before after (λ s. IsNoLeaf size (content_at here.words).low s next) earlier unfit state agrees in
+    let N : ℕ → Type 0 = λ r. IsNoLeaf size (content_at here.words).low (overlay first.writes state) r in
     inr (record { passed = so_far.passed; last = node_of here; passes = so_far.passes; named = named ∙ ap (λ r. Some r) (sym same); unfit = subst N (sym same) none })
 
-pub each_ends : (first before after : Meaning) (size root : ℕ) (lo hi : Key) (limit : ℕ) (here : Link) (old now : List (Key × ℕ)) (goes_on : Bool) → OnlyReads before after → EachState first before (λ state. Listed size root lo hi limit state (node_of here) old now goes_on) → ((state : State) (passed : List (ℕ × Content)) → Agrees state after.reads → NeedsNoMore size lo hi limit (overlay first.writes state) passed (node_of here)) → EachState first after (Scans size root lo hi limit old now)
+pub each_ends : (first before after : Meaning) (size root : ℕ) (lo hi : Key) (limit : ℕ) (here : Stored) (old now : List (Key × ℕ)) (goes_on : Bool) → OnlyReads before after → EachState first before (λ state. Listed size root lo hi limit state (node_of here) old now goes_on) → ((state : State) (passed : List (ℕ × Content)) → Agrees state after.reads → NeedsNoMore size lo hi limit (overlay first.writes state) passed (node_of here)) → EachState first after (Scans size root lo hi limit old now)
 each_ends first before after size root lo hi limit here old now goes_on later listed done = λ state agrees.
     let so_far = each_grown first before after (λ s. Listed size root lo hi limit s (node_of here) old now goes_on) later listed state agrees in
     scans_by size root lo hi limit (overlay first.writes state) (node_of here) old now goes_on so_far (done state so_far.passed agrees)

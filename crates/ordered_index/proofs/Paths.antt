@@ -5,10 +5,9 @@ use Rattle.std.proofs.lemmas.Option.{same_Some, none-some}
 use Rattle.plain_data.specs.State.{State}
 use Rattle.ordered_index.specs.declared.key.Key.{Key}
 use Rattle.ordered_index.specs.declared.node.Kind.TheVariants.{Leaf, Inner}
-use Rattle.ordered_index.specs.declared.walk.Link.{Link}
+use Rattle.ordered_index.specs.declared.walk.Stored.{Stored}
 use Rattle.ordered_index.specs.Keys.{last_at, first_key}
-use Rattle.ordered_index.specs.Node.{Content, Holds}
-use Rattle.ordered_index.specs.Held.{content_of}
+use Rattle.ordered_index.specs.Node.{Content, Holds, content_at}
 use Rattle.ordered_index.specs.Tree.{IsAt, named}
 use Rattle.ordered_index.specs.Walk.{Path, DescentTears, DescentReaches, IsNoNode}
 
@@ -24,42 +23,42 @@ path_present size state key from [] node path at = (at.words, ap (λ (e : Key ×
 path_present size state key from (x ∷ nodes) node path at = (path.2.words, ap (λ (e : Key × ℕ). state e.1) path.1 ∙ path.2.here)
 
 -- how far a walk has come
-pub record Walked (size root depth : ℕ) (key : Key) (state : State) (here : Link) : Type 0 where
+pub record Walked (size root depth : ℕ) (key : Key) (state : State) (here : Stored) : Type 0 where
   pub nodes : List (ℕ × Content)
-  pub path : Path size state key (first_key, root) nodes (here.node.low, here.at)
+  pub path : Path size state key (first_key, root) nodes ((content_at here.words).low, here.at)
   pub long : length nodes + 1 ≡ depth
-  pub at : IsAt size state (here.at, content_of here.node)
+  pub at : IsAt size state (here.at, content_at here.words)
 
-pub walk_begins : (size root : ℕ) (key : Key) (state : State) (here : Link) → here.at ≡ root → here.node.low ≡ first_key → IsAt size state (here.at, content_of here.node) → Walked size root 1 key state here
+pub walk_begins : (size root : ℕ) (key : Key) (state : State) (here : Stored) → here.at ≡ root → (content_at here.words).low ≡ first_key → IsAt size state (here.at, content_at here.words) → Walked size root 1 key state here
 walk_begins size root key state here at low is = record {
   nodes = [];
-  path = ap (λ (k : Key). (k, root)) (sym low) ∙ ap (λ r. (here.node.low, r)) (sym at);
+  path = ap (λ (k : Key). (k, root)) (sym low) ∙ ap (λ r. ((content_at here.words).low, r)) (sym at);
   long = omega arith;
   at = is;
 }
 
-pub walk_steps : (size root depth : ℕ) (key : Key) (state : State) (here link : Link) (child : Key × ℕ) → Walked size root depth key state here → here.node.kind ≡ Inner → last_at here.node.entries.items key ≡ Some child → link.at ≡ child.1 → link.node.low ≡ child.0 → IsAt size state (link.at, content_of link.node) → Walked size root (depth + 1) key state link
+pub walk_steps : (size root depth : ℕ) (key : Key) (state : State) (here link : Stored) (child : Key × ℕ) → Walked size root depth key state here → (content_at here.words).kind ≡ Inner → last_at (content_at here.words).entries key ≡ Some child → link.at ≡ child.1 → (content_at link.words).low ≡ child.0 → IsAt size state (link.at, content_at link.words) → Walked size root (depth + 1) key state link
 walk_steps size root depth key state here link child walked inner last at low is = record {
-  nodes = walked.nodes ++ (here.at, content_of here.node) ∷ [];
+  nodes = walked.nodes ++ (here.at, content_at here.words) ∷ [];
   path =
-      path_to size state key (first_key, root) child (link.node.low, link.at) _ (ap (λ (k : Key). (k, child.1)) (sym low) ∙ ap (λ r. (link.node.low, r)) (sym at))
-      (path_push size state key (first_key, root) child walked.nodes (here.at, content_of here.node) walked.path walked.at inner last);
-  long = omega (arith, walked.long, length_push walked.nodes (here.at, content_of here.node));
+      path_to size state key (first_key, root) child ((content_at link.words).low, link.at) _ (ap (λ (k : Key). (k, child.1)) (sym low) ∙ ap (λ r. ((content_at link.words).low, r)) (sym at))
+      (path_push size state key (first_key, root) child walked.nodes (here.at, content_at here.words) walked.path walked.at inner last);
+  long = omega (arith, walked.long, length_push walked.nodes (here.at, content_at here.words));
   at = is;
 }
 
 -- the walk goes on to a record that is no node with its fence, or too deep
-pub walk_tears : (size root depth : ℕ) (key : Key) (state : State) (here : Link) (child : Key × ℕ) → Walked size root depth key state here → here.node.kind ≡ Inner → last_at here.node.entries.items key ≡ Some child → ((node : Content) → node.low ≡ child.0 → IsAt size state (child.1, node) → ⊥) ⊎ (24 ≤ depth) → DescentTears size root key state child.1
+pub walk_tears : (size root depth : ℕ) (key : Key) (state : State) (here : Stored) (child : Key × ℕ) → Walked size root depth key state here → (content_at here.words).kind ≡ Inner → last_at (content_at here.words).entries key ≡ Some child → ((node : Content) → node.low ≡ child.0 → IsAt size state (child.1, node) → ⊥) ⊎ (24 ≤ depth) → DescentTears size root key state child.1
 walk_tears size root depth key state here child walked inner last unfit =
-    let present = path_present size state key (first_key, root) walked.nodes (here.at, content_of here.node) walked.path walked.at in
-    let nodes : List (ℕ × Content) = walked.nodes ++ (here.at, content_of here.node) ∷ [] in
+    let present = path_present size state key (first_key, root) walked.nodes (here.at, content_at here.words) walked.path walked.at in
+    let nodes : List (ℕ × Content) = walked.nodes ++ (here.at, content_at here.words) ∷ [] in
     record {
       words = present.0;
       present = present.1;
       nodes = nodes;
       low = child.0;
-      path = path_push size state key (first_key, root) child walked.nodes (here.at, content_of here.node) walked.path walked.at inner last;
-      unfit = elim unfit as (λ _. ((node : Content) → node.low ≡ child.0 → IsAt size state (child.1, node) → ⊥) ⊎ (24 ≤ length nodes)) [ inl none ↦ inl none | inr deep ↦ inr (omega (arith, deep, walked.long, length_push walked.nodes (here.at, content_of here.node))) ];
+      path = path_push size state key (first_key, root) child walked.nodes (here.at, content_at here.words) walked.path walked.at inner last;
+      unfit = elim unfit as (λ _. ((node : Content) → node.low ≡ child.0 → IsAt size state (child.1, node) → ⊥) ⊎ (24 ≤ length nodes)) [ inl none ↦ inl none | inr deep ↦ inr (omega (arith, deep, walked.long, length_push walked.nodes (here.at, content_at here.words))) ];
     }
 
 pub not_at : (size rid : ℕ) (low : Key) (state : State) → IsNoNode size low state rid → (node : Content) → node.low ≡ low → IsAt size state (rid, node) → ⊥
@@ -81,7 +80,7 @@ root_tears size root key state unfit = record {
   unfit = inl (not_at size root first_key state unfit);
 }
 
-pub walk_ends : (size root depth : ℕ) (key : Key) (state : State) (here : Link) → Walked size root depth key state here → depth ≤ 24 → here.node.kind ≡ Leaf → DescentReaches size root key state (here.at, content_of here.node)
+pub walk_ends : (size root depth : ℕ) (key : Key) (state : State) (here : Stored) → Walked size root depth key state here → depth ≤ 24 → (content_at here.words).kind ≡ Leaf → DescentReaches size root key state (here.at, content_at here.words)
 walk_ends size root depth key state here walked few leaf = record {
   nodes = walked.nodes;
   path = walked.path;

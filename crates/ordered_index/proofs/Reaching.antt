@@ -11,7 +11,7 @@ use Rattle.ordered_index.specs.declared.node.Kind.TheVariants.{Leaf, Inner}
 use Rattle.ordered_index.specs.Keys.{first_key}
 use Rattle.ordered_index.specs.Node.{Content}
 use Rattle.ordered_index.specs.Tree.{IsAt}
-use Rattle.ordered_index.specs.declared.walk.Link.{Link}
+use Rattle.ordered_index.specs.declared.walk.Stored.{Stored}
 use Rattle.ordered_index.specs.Walk.{DescentEndsWell, LeafIs, node_of}
 use Rattle.ordered_index.specs.Enter.{ReachesBelow}
 use Rattle.ordered_index.proofs.Entering.{IsChild}
@@ -69,7 +69,7 @@ pub empty_ends : (size root : ℕ) (key : Key) (m0 m1 m2 : Meaning) (rid : ℕ) 
 empty_ends size root key m0 m1 m2 rid value absent wrote = λ state agrees. inl (absent state (rw (ap (λ (m : Meaning). m.reads) wrote) at agrees))
 
 -- the walk that came to this leaf, or found no root
-pub leaf_ends : (size root : ℕ) (key : Key) (n : ℕ) (m0 m1 m2 : Meaning) (leaf : Option Link) → n ≡ size → Extends m1.reads m2.reads → EachState m0 m1 (λ state. LeafIs n root key state leaf) → EachState m0 m2 (DescentEndsWell size root key)
+pub leaf_ends : (size root : ℕ) (key : Key) (n : ℕ) (m0 m1 m2 : Meaning) (leaf : Option Stored) → n ≡ size → Extends m1.reads m2.reads → EachState m0 m1 (λ state. LeafIs n root key state leaf) → EachState m0 m2 (DescentEndsWell size root key)
 leaf_ends size root key n m0 m1 m2 None same extends is = λ state agrees. inl (is state (agrees-extends m1.reads m2.reads state extends agrees))
 leaf_ends size root key n m0 m1 m2 (Some link) same extends is =
     let R : ℕ → Type 0 = λ k. EachState m0 m1 (λ state. LeafIs k root key state (Some link)) in

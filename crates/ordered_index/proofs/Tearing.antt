@@ -7,14 +7,13 @@ use Rattle.record_store.proofs.Agreement.{agrees-extends, writes_same}
 use Rattle.ordered_index.specs.declared.key.Key.{Key}
 use Rattle.ordered_index.specs.declared.node.Kind.{Kind}
 use Rattle.ordered_index.specs.declared.node.Kind.TheVariants.{Inner}
-use Rattle.ordered_index.specs.declared.walk.Link.{Link}
+use Rattle.ordered_index.specs.declared.walk.Stored.{Stored}
 use Rattle.ordered_index.specs.declared.enter.Entering.{Entering}
 use Rattle.ordered_index.specs.Keys.{NotAfter, Before, Above, first_key}
-use Rattle.ordered_index.specs.Node.{Content, IsSound, Begins}
-use Rattle.ordered_index.specs.Held.{content_of}
+use Rattle.ordered_index.specs.Node.{Content, IsSound, Begins, content_at}
 use Rattle.ordered_index.specs.Tree.{IsAt}
 use Rattle.record_store.specs.States.{EachState}
-use Rattle.ordered_index.specs.Walk.{IsTreeLink, ReadsNode, IsNoNode, DescentTears}
+use Rattle.ordered_index.specs.Walk.{IsTreeNode, ReadsNode, IsNoNode, DescentTears}
 use Rattle.ordered_index.specs.Enter.{IsRank, TearsBelow, EachEntered}
 use Rattle.ordered_index.proofs.Paths.{not_at, not_there}
 use Rattle.ordered_index.proofs.Entering.{IsChild, reads_of}
@@ -35,7 +34,7 @@ tears_deep size depth key entries rank m0 is some deep = λ state agrees. below_
 pub tears_unfit : (size depth rid : ℕ) (key : Key) (entries : List (Key × ℕ)) (rank : ℕ) (m0 m1 : Meaning) → IsRank key entries rank → 0 < rank → rid ≡ (get_or entries (rank - 1) (first_key, 0)).1 → EachState m0 m1 (λ state. IsNoNode size (get_or entries (rank - 1) (first_key, 0)).0 state (get_or entries (rank - 1) (first_key, 0)).1) → EachState m0 m1 (λ state. TearsBelow size depth key entries state rid)
 tears_unfit size depth rid key entries rank m0 m1 is some same unfit = λ state agrees. rw same (below_here size depth key entries rank (overlay m0.writes state) is some (inl (not_at size _ _ (overlay m0.writes state) (unfit state agrees))))
 
-pub tears_absent : (size depth : ℕ) (key : Key) (entries : List (Key × ℕ)) (rank : ℕ) (m0 m1 : Meaning) (read : Option Link) → IsRank key entries rank → 0 < rank → read ≡ None → EachState m0 m1 (λ state. ReadsNode size (get_or entries (rank - 1) (first_key, 0)).1 state read) → EachState m0 m1 (λ state. TearsBelow size depth key entries state (get_or entries (rank - 1) (first_key, 0)).1)
+pub tears_absent : (size depth : ℕ) (key : Key) (entries : List (Key × ℕ)) (rank : ℕ) (m0 m1 : Meaning) (read : Option Stored) → IsRank key entries rank → 0 < rank → read ≡ None → EachState m0 m1 (λ state. ReadsNode size (get_or entries (rank - 1) (first_key, 0)).1 state read) → EachState m0 m1 (λ state. TearsBelow size depth key entries state (get_or entries (rank - 1) (first_key, 0)).1)
 tears_absent size depth key entries rank m0 m1 read is some none absent = λ state agrees. below_here size depth key entries rank (overlay m0.writes state) is some (inl (not_there size _ _ (overlay m0.writes state) (rw none at (absent state agrees))))
 
 tears_more : (size depth rid : ℕ) (key : Key) (entries : List (Key × ℕ)) (rank : ℕ) (child : Key × ℕ) (node : Content) (state : State) → IsChild size key entries rank child node → IsAt size state (child.1, node) → node.kind ≡ Inner → TearsBelow size (depth + 1) key node.entries state rid → TearsBelow size depth key entries state rid
@@ -63,7 +62,7 @@ rank_some size node key zero sound kind low is = let P : Kind → Type 0 = λ k.
 rank_some size node key (suc r) sound kind low is = omega arith
 
 -- the child that was read
-pub child_is : (size : ℕ) (key : Key) (entries : List (Key × ℕ)) (rank : ℕ) (link : Link) → IsRank key entries rank → 0 < rank → IsTreeLink size (get_or entries (rank - 1) (first_key, 0)).1 (get_or entries (rank - 1) (first_key, 0)).0 link → IsChild size key entries rank (link.node.low, link.at) (content_of link.node)
+pub child_is : (size : ℕ) (key : Key) (entries : List (Key × ℕ)) (rank : ℕ) (link : Stored) → IsRank key entries rank → 0 < rank → IsTreeNode size (get_or entries (rank - 1) (first_key, 0)).1 (get_or entries (rank - 1) (first_key, 0)).0 link → IsChild size key entries rank ((content_at link.words).low, link.at) (content_at link.words)
 child_is size key entries rank link is some read = record {
   is = is;
   some = some;
@@ -71,7 +70,7 @@ child_is size key entries rank link is some read = record {
   fence = refl;
 }
 
-pub child_at : (size : ℕ) (rid : ℕ) (m0 m1 : Meaning) (link : Link) (read : Option Link) → read ≡ Some link → EachState m0 m1 (λ state. ReadsNode size rid state read) → EachState m0 m1 (λ state. IsAt size state (link.at, content_of link.node))
+pub child_at : (size : ℕ) (rid : ℕ) (m0 m1 : Meaning) (link : Stored) (read : Option Stored) → read ≡ Some link → EachState m0 m1 (λ state. ReadsNode size rid state read) → EachState m0 m1 (λ state. IsAt size state (link.at, content_at link.words))
 child_at size rid m0 m1 link read is each = λ state agrees. rw is at (each state agrees)
 
 pub from_reads : (m0 m1 m2 : Meaning) (key : Key) (rid : ℕ) (entries : List (Key × ℕ)) (rank : ℕ) (e e' : Entering) → OnlyReads m0 m1 → e ≡ e' → EachEntered m1 m2 key rid entries rank e → EachEntered (reads_of m0 m1) m2 key rid entries rank e'

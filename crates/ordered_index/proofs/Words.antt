@@ -1,6 +1,6 @@
 -- The words of a node: how its entries are read and written.
-use Rattle.std.proofs.Common.{◌≡◌, ℕ, ◌+◌, ◌-◌, ◌*◌, ◌<◌, ◌≤◌, zero, suc, List, [], ◌∷◌, ◌++◌, length, get_or, take, drop, set, Option, None, Some, refl, sym, ap, ◌∙◌, arith}
-use Rattle.std.specs.Prelude.{slice_index}
+use Rattle.std.proofs.Common.{◌≡◌, ℕ, ◌+◌, ◌-◌, ◌*◌, ◌<◌, ◌≤◌, zero, suc, List, [], ◌∷◌, ◌++◌, length, get_or, take, drop, set, Option, None, Some, refl, sym, ap, ◌∙◌, arith, subst, true, false}
+use Rattle.std.specs.Prelude.{Bool, IfSome, slice_index, ◌==◌}
 use lib.ListN.{replicate}
 use Rattle.std.proofs.lemmas.List.{length-append, take_at, set_at, get_or_at, append_assoc, get_or-take, length-take, length-drop, get_or-drop, take_more, length_push, length-replicate}
 use Rattle.std.proofs.lemmas.Grind.{flat_map-append}
@@ -9,7 +9,9 @@ use Rattle.ordered_index.specs.declared.node.Kind.{Kind}
 use Rattle.ordered_index.specs.declared.node.Kind.TheVariants.{Leaf, Inner}
 use Rattle.record_store.specs.Links.{link_word}
 use Rattle.record_store.proofs.Links.{named_by-link_word}
-use Rattle.ordered_index.specs.Node.{Content, Holds, in_threes, next_leaf, entry_words, tree_node_words}
+use Rattle.ordered_index.specs.Keys.{InStore, Rising, is_before}
+use Rattle.ordered_index.specs.Node.{Begins, Content, Holds, IsNode, content_at, entries_at, entry_words, in_threes, key_at, kind_at, kind_word, least, next_leaf, tree_node_words}
+use Rattle.ordered_index.proofs.Entries.{rising_before, rising_next, rising_one}
 
 abbrev pub key_of : ℕ → ℕ → Key
 key_of high low = record { high = high; low = low }
@@ -136,3 +138,113 @@ words_more words kind count high low i entries d back within few before =
     ∙ ap (λ ws. set (set (set ws (4 + 3 * i) e.0.high) (4 + 3 * i + 1) e.0.low) (4 + 3 * i + 2) e.1) (before ∙ ap (λ k. front ++ (replicate k 0 ++ back)) room)
     ∙ written_more front n (4 + 3 * i) e.0.high e.0.low e.1 back at
     ∙ ap (λ ws. kind ∷ count ∷ high ∷ low ∷ (ws ++ (replicate n 0 ++ back))) (sym (entry_words-more entries i d within))
+
+-- what words say where they stand
+pub content-entries : (words : List ℕ) → (content_at words).entries ≡ entries_at words
+unfolding content_at
+content-entries words = refl
+
+pub content-low : (words : List ℕ) → (content_at words).low ≡ key_of (slice_index words 2) (slice_index words 3)
+unfolding content_at
+content-low words = refl
+
+pub content_counted : (words : List ℕ) → length words ≡ 32 → slice_index words 1 ≤ 9 → length (content_at words).entries ≡ slice_index words 1
+unfolding content_at
+content_counted words whole few = entries_counted words (slice_index words 1) whole few
+
+-- the entry of this number stands there
+pub content_entry : (words : List ℕ) (i : ℕ) (d : Key × ℕ) → length words ≡ 32 → slice_index words 1 ≤ 9 → i < slice_index words 1 → get_or (content_at words).entries i d ≡ entry_in words i
+unfolding content_at
+content_entry words i d whole few within = get_or-take (slice_index words 1) (in_threes (drop 4 words)) i d within ∙ entry_read words i d whole (omega (arith, few, within))
+
+pub content_inner : (words : List ℕ) → (slice_index words 0 == 2) ≡ true → (content_at words).kind ≡ Inner
+unfolding content_at
+content_inner words is = rw is refl
+
+pub content_leaf : (words : List ℕ) → (slice_index words 0 == 2) ≡ false → (content_at words).kind ≡ Leaf
+unfolding content_at
+content_leaf words is = rw is refl
+
+pub content-next : (words : List ℕ) → (content_at words).next ≡ next_leaf (content_at words).kind (slice_index words 31)
+unfolding content_at
+content-next words = refl
+
+pub rid_fits : (words : List ℕ) (i size : ℕ) → length words ≡ 32 → IsNode size words → i < length (content_at words).entries → slice_index words (6 + 3 * i) < size
+rid_fits words i size whole node within =
+    let low = node.sound.records i (key_of 0 0, 0) within in
+    let same = ap (λ (e : Key × ℕ). e.1) (content_entry words i (key_of 0 0, 0) whole node.few (omega (arith, within, content_counted words whole node.few))) in
+    omega (arith, low, same)
+
+-- the keys of two entries in a row
+pub key_before : (words : List ℕ) (i : ℕ) (key : Key) (b : Bool) → length words ≡ 32 → slice_index words 1 ≤ 9 → i < slice_index words 1 → is_before key (key_at words i) ≡ b → is_before key (get_or (content_at words).entries i (key_of 0 0, 0)).0 ≡ b
+key_before words i key b whole few within is = ap (λ (e : Key × ℕ). is_before key e.0) (content_entry words i (key_of 0 0, 0) whole few within) ∙ is
+
+rising_keys : (words : List ℕ) (i : ℕ) → length words ≡ 32 → slice_index words 1 ≤ 9 → i < slice_index words 1 → 0 < i → Rising (entries_at words) → is_before (key_at words (i - 1)) (key_at words i) ≡ true
+rising_keys words i whole few within some rising =
+    let d : Key × ℕ = (key_of 0 0, 0) in
+    let n : ℕ = slice_index words 1 in
+    let xs : List (Key × ℕ) = in_threes (drop 4 words) in
+    let last : get_or (take n xs) i d ≡ entry_in words i = get_or-take n xs i d within ∙ entry_read words i d whole (omega (arith, few, within)) in
+    let first : get_or (take n xs) (i - 1) d ≡ entry_in words (i - 1) = get_or-take n xs (i - 1) d (omega (arith, within)) ∙ entry_read words (i - 1) d whole (omega (arith, few, within)) in
+    ap (λ (e : Key × ℕ). is_before e.0 (key_at words i)) (sym first)
+    ∙ ap (λ (e : Key × ℕ). is_before (get_or (take n xs) (i - 1) d).0 e.0) (sym last)
+    ∙ rising_before (take n xs) i d rising some (omega (arith, within, entries_counted words n whole few))
+
+pub no_fall : (words : List ℕ) (i : ℕ) (b : Bool) → length words ≡ 32 → slice_index words 1 ≤ 9 → i < slice_index words 1 → (i ≡ 0 → b ≡ true) → (0 < i → b ≡ is_before (key_at words (i - 1)) (key_at words i)) → b ≡ false → Rising (entries_at words) → ⊥
+no_fall words zero b whole few within first later falls rising = let is = first refl in cc
+no_fall words (suc i) b whole few within first later falls rising =
+    let is = later (omega arith) in
+    let rises = rising_keys words (suc i) whole few within (omega arith) rising in
+    cc
+
+pub rises_on : (words : List ℕ) (i : ℕ) (b : Bool) → length words ≡ 32 → i < 9 → (0 < i → b ≡ is_before (key_at words (i - 1)) (key_at words i)) → b ≡ true → Rising (take i (in_threes (drop 4 words))) → Rising (take (i + 1) (in_threes (drop 4 words)))
+rises_on words zero b whole within later is rising = rising_one (in_threes (drop 4 words))
+rises_on words (suc i) b whole within later is rising =
+    let d : Key × ℕ = (key_of 0 0, 0) in
+    let xs : List (Key × ℕ) = in_threes (drop 4 words) in
+    let before : is_before (key_at words (suc i - 1)) (key_at words (suc i)) ≡ true = sym (later (omega arith)) ∙ is in
+    rising_next xs (suc i) d (omega arith) (length-in_threes (drop 4 words) (suc i) (omega (arith, length-drop 4 words, whole))) rising
+    (ap (λ (e : Key × ℕ). is_before e.0 (get_or xs (suc i) d).0) (entry_read words (suc i - 1) d whole (omega arith))
+    ∙ ap (λ (e : Key × ℕ). is_before (key_at words (suc i - 1)) e.0) (entry_read words (suc i) d whole within)
+    ∙ before)
+
+-- what the words of a node say
+kind_said : (kind : Kind) (word : ℕ) → word ≡ kind_word kind → kind_at word ≡ kind
+kind_said Leaf word is = ap kind_at is
+kind_said Inner word is = ap kind_at is
+
+pub node_is : (size : ℕ) (words : List ℕ) (kind : Kind) → length words ≡ 32 → slice_index words 0 ≡ kind_word kind → slice_index words 1 ≤ 9 → least kind ≤ slice_index words 1 → Begins kind (content_at words).low (entries_at words) → InStore size (entries_at words) × Rising (entries_at words) → IfSome (next_leaf kind (slice_index words 31)) (λ rid. rid < size) → IsNode size words
+unfolding content_at
+node_is size words kind whole word few enough begins order next =
+    let same : kind ≡ kind_at (slice_index words 0) = sym (kind_said kind (slice_index words 0) word) in
+    let counted : length (entries_at words) ≡ slice_index words 1 = entries_counted words (slice_index words 1) whole few in
+    let L : Kind → Type 0 = λ k. least k ≤ length (entries_at words) in
+    let B : Kind → Type 0 = λ k. Begins k (key_of (slice_index words 2) (slice_index words 3)) (entries_at words) in
+    let N : Kind → Type 0 = λ k. IfSome (next_leaf k (slice_index words 31)) (λ rid. rid < size) in
+    record {
+      few = few;
+      holds = record { kind = word ∙ ap kind_word same; count = sym counted; low = refl; entries = refl; next = refl };
+      sound = record {
+        few = omega (arith, counted, few);
+        enough = subst L same (omega (arith, counted, enough));
+        rising = order.1;
+        records = order.0;
+        first = subst B same begins;
+        next = subst N same next;
+      };
+    }
+
+kind_same : (a b : Kind) → kind_word a ≡ kind_word b → a ≡ b
+kind_same Leaf Leaf same = refl
+kind_same Leaf Inner same = absurd (omega arith)
+kind_same Inner Leaf same = absurd (omega arith)
+kind_same Inner Inner same = refl
+
+pub begins_of : (words : List ℕ) (kind : Kind) (node : Content) → slice_index words 0 ≡ kind_word kind → Holds words node → Begins node.kind node.low node.entries → Begins kind (content_at words).low (entries_at words)
+begins_of words kind node word holds begins =
+    let same : node.kind ≡ kind = kind_same node.kind kind (sym holds.kind ∙ word) in
+    let low : node.low ≡ (content_at words).low = sym (content-low words ∙ holds.low) in
+    let K : Kind → Type 0 = λ k. Begins k node.low node.entries in
+    let L : Key → Type 0 = λ l. Begins kind l node.entries in
+    let E : List (Key × ℕ) → Type 0 = λ es. Begins kind (content_at words).low es in
+    subst E (sym holds.entries) (subst L low (subst K same begins))

@@ -4,10 +4,9 @@ use Rattle.plain_data.specs.State.{State}
 use Rattle.record_store.specs.Meaning.{Meaning}
 use Rattle.ordered_index.specs.declared.key.Key.{Key}
 use Rattle.ordered_index.specs.declared.node.Kind.TheVariants.{Leaf}
-use Rattle.ordered_index.specs.declared.walk.Link.{Link}
+use Rattle.ordered_index.specs.declared.walk.Stored.{Stored}
 use Rattle.ordered_index.specs.Keys.{is_before, Before}
-use Rattle.ordered_index.specs.Node.{Content, IsSound}
-use Rattle.ordered_index.specs.Held.{content_of}
+use Rattle.ordered_index.specs.Node.{Content, IsNode, content_at}
 use Rattle.ordered_index.specs.Tree.{IsAt, IsTreeBefore, row_entries}
 use Rattle.record_store.specs.States.{IsTorn}
 use Rattle.ordered_index.specs.Walk.{DescentReaches, DescentTears}
@@ -88,13 +87,13 @@ IsTornScan root key before after rid = IsTorn (ScanTears before.size root key ri
 abbrev pub keys_behind : Key → ℕ
 keys_behind key = 2 ^ 128 - (2 ^ 64 * key.high + key.low)
 
--- a leaf in memory, read at this record, with a fence behind this one
-pub record IsLeafBehind (size rid : ℕ) (fence : Key) (link : Link) : Type 0 where
-  pub at : link.at ≡ rid
-  pub kind : link.node.kind ≡ Leaf
-  pub rises : Before fence link.node.low
-  pub nearer : keys_behind link.node.low < keys_behind fence
-  pub sound : IsSound size (content_of link.node)
+-- a leaf that was read at this record, with a fence behind this one
+pub record IsLeafBehind (size rid : ℕ) (fence : Key) (here : Stored) : Type 0 where
+  pub at : here.at ≡ rid
+  pub kind : (content_at here.words).kind ≡ Leaf
+  pub rises : Before fence (content_at here.words).low
+  pub nearer : keys_behind (content_at here.words).low < keys_behind fence
+  pub node : IsNode size here.words
 
 -- the record is no leaf with a fence behind this one
 abbrev pub IsNoLeaf : ℕ → Key → State → ℕ → Type 0

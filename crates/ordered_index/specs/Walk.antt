@@ -5,10 +5,9 @@ use Rattle.record_store.specs.Meaning.{Meaning}
 use Rattle.record_store.specs.States.{IsTorn}
 use Rattle.ordered_index.specs.declared.key.Key.{Key}
 use Rattle.ordered_index.specs.declared.node.Kind.TheVariants.{Leaf, Inner}
-use Rattle.ordered_index.specs.declared.walk.Link.{Link}
+use Rattle.ordered_index.specs.declared.walk.Stored.{Stored}
 use Rattle.ordered_index.specs.Keys.{last_at, first_key}
-use Rattle.ordered_index.specs.Node.{Content, Holds, IsSound}
-use Rattle.ordered_index.specs.Held.{content_of}
+use Rattle.ordered_index.specs.Node.{Content, Holds, IsSound, IsNode, content_at}
 use Rattle.ordered_index.specs.Tree.{IsAt, IsTreeBefore, named}
 
 -- inner nodes lead from one entry to another, each by its entry for the key
@@ -42,28 +41,28 @@ DescentEndsWell size root key state = (state root ≡ None) ⊎ ((leaf : ℕ × 
 abbrev pub IsTornTree : ℕ → Key → Meaning → Meaning → ℕ → Type 0
 IsTornTree root key before after rid = IsTorn (λ state. DescentTears before.size root key state rid) (IsTreeBefore root before) before after
 
--- a node in memory with its record
-abbrev pub node_of : Link → ℕ × Content
-node_of link = (link.at, content_of link.node)
+-- a node as it was read, with its record
+abbrev pub node_of : Stored → ℕ × Content
+node_of here = (here.at, content_at here.words)
 
 -- it was read at this record with this fence
-pub record IsTreeLink (size rid : ℕ) (fence : Key) (link : Link) : Type 0 where
-  pub at : link.at ≡ rid
-  pub low : link.node.low ≡ fence
-  pub sound : IsSound size (content_of link.node)
+pub record IsTreeNode (size rid : ℕ) (fence : Key) (here : Stored) : Type 0 where
+  pub at : here.at ≡ rid
+  pub low : (content_at here.words).low ≡ fence
+  pub node : IsNode size here.words
 
-abbrev pub ReadsNode : ℕ → ℕ → State → Option Link → Type 0
+abbrev pub ReadsNode : ℕ → ℕ → State → Option Stored → Type 0
 ReadsNode size rid state None = state rid ≡ None
-ReadsNode size rid state (Some link) = IsAt size state (link.at, content_of link.node)
+ReadsNode size rid state (Some here) = IsAt size state (node_of here)
 
 -- the record is present, and no node with this fence
 abbrev pub IsNoNode : ℕ → Key → State → ℕ → Type 0
 IsNoNode size low state rid = (words : List ℕ) × (state rid ≡ Some words) × ((node : Content) → node.low ≡ low → Holds words node → IsSound size node → ⊥)
 
 -- the leaf for a key, or none where the root is absent
-abbrev pub LeafIs : ℕ → ℕ → Key → State → Option Link → Type 0
+abbrev pub LeafIs : ℕ → ℕ → Key → State → Option Stored → Type 0
 LeafIs size root key state None = state root ≡ None
-LeafIs size root key state (Some link) = DescentReaches size root key state (link.at, content_of link.node)
+LeafIs size root key state (Some here) = DescentReaches size root key state (node_of here)
 
 -- the entry of this number has the key
 pub record HasKeyAt (entries : List (Key × ℕ)) (key : Key) (index : ℕ) : Type 0 where

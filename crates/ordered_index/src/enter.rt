@@ -10,14 +10,15 @@ ghost use Rattle.ordered_index.specs.Asks.{MayAskUnder, MayAskAt, MayAskRoot, Ma
 ghost use Rattle.ordered_index.specs.declared.node.Kind.TheVariants.{Leaf, Inner};
 ghost use Rattle.ordered_index.specs.Held.{content_of};
 ghost use Rattle.ordered_index.specs.Keys.{NotAfter};
-ghost use Rattle.ordered_index.specs.Node.{IsSound};
+ghost use Rattle.ordered_index.specs.Node.{IsNode, content_at};
 ghost use Rattle.ordered_index.specs.Written.{WritesNodes};
 ghost use Rattle.record_store.specs.States.{EachState};
 ghost use Rattle.ordered_index.specs.Enter.{EachEntered, IsLeafEntered, IfTakes, IfThere, IsRank, TearsBelow, ReachesBelow, PutsEntry, PutsRoot, with_entry};
 
 use crate::key::Key;
 use crate::node::Node;
-use crate::walk::{Link, MOST_DEPTH, read_node};
+use crate::walk::{Stored, MOST_DEPTH, read_node};
+use crate::standing::{entry, is_inner, node_of, place, rank_of};
 use record_store::{RecordStore, Walk, write_node};
 
 /// What comes of an entry below a node.
@@ -35,7 +36,7 @@ pub enum Entering {
 pub fn enter<S: RecordStore>(
     store: &mut S,
     size: u32,
-    here: &Node,
+    here: &[u64; 32],
     rank: usize,
     depth: u32,
     key: Key,
@@ -44,41 +45,42 @@ pub fn enter<S: RecordStore>(
     requires size { size ≡ (S.meaning store.old).size }
     requires at_most { size ≤ record_limit }
     requires rid { rid < size }
-    requires sound { IsSound size (content_of here.now) }
-    requires rank { IsRank key here.now.entries.items rank }
-    requires low { NotAfter here.now.low key }
+    requires node { IsNode size here.now }
+    requires rank { IsRank key (content_at here.now).entries rank }
+    requires low { NotAfter (content_at here.now).low key }
     requires depth { depth ≤ 24 }
-    ensures leaf { here.now.kind ≡ Leaf → IfOk result (λ entering. IsLeafEntered key rid here.now.entries.items entering × (S.meaning store.new ≡ S.meaning store.old)) }
-    ensures inner { here.now.kind ≡ Inner → IfOk result (EachEntered (S.meaning store.old) (S.meaning store.new) key rid here.now.entries.items rank) }
+    ensures leaf { (content_at here.now).kind ≡ Leaf → IfOk result (λ entering. IsLeafEntered key rid (content_at here.now).entries entering × (S.meaning store.new ≡ S.meaning store.old)) }
+    ensures inner { (content_at here.now).kind ≡ Inner → IfOk result (EachEntered (S.meaning store.old) (S.meaning store.new) key rid (content_at here.now).entries rank) }
     ensures within { IfOk result (λ entering. IfTakes entering (λ entry. entry.1 < size)) }
     ensures there { IfOk result (λ entering. IfThere entering (OnlyReads (S.meaning store.old) (S.meaning store.new))) }
-    ensures torn { IfTorn result (λ torn. (here.now.kind ≡ Inner) × EachState (S.meaning store.old) (S.meaning store.new) (λ state. TearsBelow size depth key here.now.entries.items state torn)) }
+    ensures torn { IfTorn result (λ torn. ((content_at here.now).kind ≡ Inner) × EachState (S.meaning store.old) (S.meaning store.new) (λ state. TearsBelow size depth key (content_at here.now).entries state torn)) }
 
     // `fresh` is asked for a full node, where the key is not there
-    ensures walk { WalksCounting S.read_gives S.write_gives S.fresh_gives S.meaning S.rest (MayAskUnder key (content_of here.now)) (AsksUnder key (content_of here.now) depth) store.old store.new result }
+    ensures walk { WalksCounting S.read_gives S.write_gives S.fresh_gives S.meaning S.rest (MayAskUnder key (content_at here.now)) (AsksUnder key (content_at here.now) depth) store.old store.new result }
 
     // no record is written but one that is present, and one that was given
     ensures writes { EachWritesKnown (S.meaning store.old) (S.meaning store.new) }
-    ensures walked { here.now.kind ≡ Inner → OnOk result (EachState (S.meaning store.old) (S.meaning store.new) (ReachesBelow size depth key here.now.entries.items)) }
+    ensures walked { (content_at here.now).kind ≡ Inner → OnOk result (EachState (S.meaning store.old) (S.meaning store.new) (ReachesBelow size depth key (content_at here.now).entries)) }
 {
-    if !here.kind.is_inner() {
-        return match here.place(key) {
+    if !is_inner(here) {
+        return match place(here, key) {
             Some(_) => Ok(Entering::There),
             None => Ok(Entering::Takes((key, rid))),
         };
     }
-    let (low, at) = here.entries[rank - 1];
+    let (low, at) = entry(here, size, rank - 1);
     if depth == MOST_DEPTH {
         return Err(Walk::Torn(at));
     }
-    let Some(child) = read_node(store, size, at, low)? else {
+    let read = read_node(store, size, at, low)?;
+    let Some(child) = &read else {
         return Err(Walk::Torn(at));
     };
-    let child_rank = child.node.rank(key);
-    match enter(store, size, &child.node, child_rank, depth + 1, key, rid)? {
+    let child_rank = rank_of(&child.words, key);
+    match enter(store, size, &child.words, child_rank, depth + 1, key, rid)? {
         Entering::There => Ok(Entering::There),
         Entering::Done => Ok(Entering::Done),
-        Entering::Takes(entry) => match put_entry(store, child, child_rank, entry)? {
+        Entering::Takes(entry) => match put_entry(store, child, size, child_rank, entry)? {
             Some(new) => Ok(Entering::Takes(new)),
             None => Ok(Entering::Done),
         },
@@ -88,73 +90,115 @@ pub fn enter<S: RecordStore>(
 /// Puts an entry into a node that is not the root, and answers the entry of a new node where it was parted in two.
 fn put_entry<S: RecordStore>(
     store: &mut S,
-    mut link: Link,
+    here: &Stored,
+    size: u32,
     rank: usize,
     entry: (Key, u32),
 ) -> Result<Option<(Key, u32)>, Walk<S::Fault>>
-    requires at { link.at < (S.meaning store.old).size }
-    requires few { length link.node.entries.items ≤ 9 }
-    requires rank { rank ≤ length link.node.entries.items }
-    ensures ok { IfOk result (PutsEntry (S.meaning store.old) (S.meaning store.new) link.at (content_of link.node) (with_entry link.node.entries.items rank entry)) }
+    requires at { here.now.at < (S.meaning store.old).size }
+    requires node { IsNode size here.now.words }
+    requires rank { rank ≤ length (content_at here.now.words).entries }
+    ensures ok { IfOk result (PutsEntry (S.meaning store.old) (S.meaning store.new) here.now.at (content_at here.now.words) (with_entry (content_at here.now.words).entries rank entry)) }
     ensures torn { IfTorn result (λ _. ⊥) }
-    ensures walk { WalksByCalls S.read_gives S.write_gives S.fresh_gives S.meaning S.rest (MayAskAt link.node.entries.items) (asks_at link.node.entries.items) store.old store.new result }
-    ensures writes { WritesOnly (λ rid. rid ≡ link.at) (S.meaning store.old) (S.meaning store.new) }
-    ensures few { WritesNodes (2 * asks_at link.node.entries.items + 1) (S.meaning store.old) (S.meaning store.new) }
-    ensures parted { IfOk result (λ new. IfSome new (λ _. WritesNodes (2 * asks_at link.node.entries.items) (S.meaning store.old) (S.meaning store.new))) }
+    ensures walk { WalksByCalls S.read_gives S.write_gives S.fresh_gives S.meaning S.rest (MayAskAt (content_at here.now.words).entries) (asks_at (content_at here.now.words).entries) store.old store.new result }
+    ensures writes { WritesOnly (λ rid. rid ≡ here.now.at) (S.meaning store.old) (S.meaning store.new) }
+    ensures few { WritesNodes (2 * asks_at (content_at here.now.words).entries + 1) (S.meaning store.old) (S.meaning store.new) }
+    ensures parted { IfOk result (λ new. IfSome new (λ _. WritesNodes (2 * asks_at (content_at here.now.words).entries) (S.meaning store.old) (S.meaning store.new))) }
 {
-    link.node.entries.insert(rank, entry);
-    if !link.node.entries.is_full() {
-        write_node(store, link.at, link.node.cells())?;
+    change_node(store, here.at, node_of(&here.words, size), rank, entry)
+}
+
+/// Writes a node that is not the root with an entry more, and answers the entry of a new node where it was parted in two.
+fn change_node<S: RecordStore>(
+    store: &mut S,
+    at: u32,
+    mut node: Node,
+    rank: usize,
+    entry: (Key, u32),
+) -> Result<Option<(Key, u32)>, Walk<S::Fault>>
+    requires at { at < (S.meaning store.old).size }
+    requires few { length node.entries.items ≤ 9 }
+    requires rank { rank ≤ length node.entries.items }
+    ensures ok { IfOk result (PutsEntry (S.meaning store.old) (S.meaning store.new) at (content_of node) (with_entry node.entries.items rank entry)) }
+    ensures torn { IfTorn result (λ _. ⊥) }
+    ensures walk { WalksByCalls S.read_gives S.write_gives S.fresh_gives S.meaning S.rest (MayAskAt node.entries.items) (asks_at node.entries.items) store.old store.new result }
+    ensures writes { WritesOnly (λ rid. rid ≡ at) (S.meaning store.old) (S.meaning store.new) }
+    ensures few { WritesNodes (2 * asks_at node.entries.items + 1) (S.meaning store.old) (S.meaning store.new) }
+    ensures parted { IfOk result (λ new. IfSome new (λ _. WritesNodes (2 * asks_at node.entries.items) (S.meaning store.old) (S.meaning store.new))) }
+{
+    node.entries.insert(rank, entry);
+    if !node.entries.is_full() {
+        write_node(store, at, node.cells())?;
         return Ok(None);
     }
     let fresh = store.fresh()?;
-    let right = link.node.part(fresh);
+    let right = node.part(fresh);
     let low = right.low;
     write_node(store, fresh, right.cells())?;
-    write_node(store, link.at, link.node.cells())?;
+    write_node(store, at, node.cells())?;
     Ok(Some((low, fresh)))
 }
 
 /// Puts an entry into the root.
 pub fn put_root<S: RecordStore>(
     store: &mut S,
-    mut top: Link,
+    here: &Stored,
+    size: u32,
     rank: usize,
     entry: (Key, u32),
 ) -> Result<(), Walk<S::Fault>>
-    requires at { top.at < (S.meaning store.old).size }
-    requires few { length top.node.entries.items ≤ 9 }
-    requires rank { rank ≤ length top.node.entries.items }
-    ensures ok { OnOk result (PutsRoot (S.meaning store.old) (S.meaning store.new) top.at (content_of top.node) (with_entry top.node.entries.items rank entry)) }
+    requires at { here.now.at < (S.meaning store.old).size }
+    requires node { IsNode size here.now.words }
+    requires rank { rank ≤ length (content_at here.now.words).entries }
+    ensures ok { OnOk result (PutsRoot (S.meaning store.old) (S.meaning store.new) here.now.at (content_at here.now.words) (with_entry (content_at here.now.words).entries rank entry)) }
     ensures torn { IfTorn result (λ _. ⊥) }
-    ensures walk { WalksCounting S.read_gives S.write_gives S.fresh_gives S.meaning S.rest (MayAskRoot top.node.entries.items) (AsksRoot top.node.entries.items) store.old store.new result }
-    ensures writes { WritesOnly (λ rid. rid ≡ top.at) (S.meaning store.old) (S.meaning store.new) }
+    ensures walk { WalksCounting S.read_gives S.write_gives S.fresh_gives S.meaning S.rest (MayAskRoot (content_at here.now.words).entries) (AsksRoot (content_at here.now.words).entries) store.old store.new result }
+    ensures writes { WritesOnly (λ rid. rid ≡ here.now.at) (S.meaning store.old) (S.meaning store.new) }
 {
-    top.node.entries.insert(rank, entry);
-    if !top.node.entries.is_full() {
-        write_node(store, top.at, top.node.cells())?;
+    change_root(store, here.at, node_of(&here.words, size), rank, entry)
+}
+
+/// Writes the root with an entry more.
+fn change_root<S: RecordStore>(
+    store: &mut S,
+    at: u32,
+    mut top: Node,
+    rank: usize,
+    entry: (Key, u32),
+) -> Result<(), Walk<S::Fault>>
+    requires at { at < (S.meaning store.old).size }
+    requires few { length top.entries.items ≤ 9 }
+    requires rank { rank ≤ length top.entries.items }
+    ensures ok { OnOk result (PutsRoot (S.meaning store.old) (S.meaning store.new) at (content_of top) (with_entry top.entries.items rank entry)) }
+    ensures torn { IfTorn result (λ _. ⊥) }
+    ensures walk { WalksCounting S.read_gives S.write_gives S.fresh_gives S.meaning S.rest (MayAskRoot top.entries.items) (AsksRoot top.entries.items) store.old store.new result }
+    ensures writes { WritesOnly (λ rid. rid ≡ at) (S.meaning store.old) (S.meaning store.new) }
+{
+    top.entries.insert(rank, entry);
+    if !top.entries.is_full() {
+        write_node(store, at, top.cells())?;
         return Ok(());
     }
-    split_root(store, top)
+    split_root(store, at, top)
 }
 
 /// Writes the ten entries of the root to two new nodes, first the left one, and the root over them.
-fn split_root<S: RecordStore>(store: &mut S, mut top: Link) -> Result<(), Walk<S::Fault>>
-    requires at { top.at < (S.meaning store.old).size }
-    requires ten { length top.node.entries.items ≡ 10 }
-    ensures ok { OnOk result (PutsRoot (S.meaning store.old) (S.meaning store.new) top.at (content_of top.node) top.node.entries.items) }
+fn split_root<S: RecordStore>(store: &mut S, at: u32, mut top: Node) -> Result<(), Walk<S::Fault>>
+    requires at { at < (S.meaning store.old).size }
+    requires ten { length top.entries.items ≡ 10 }
+    ensures ok { OnOk result (PutsRoot (S.meaning store.old) (S.meaning store.new) at (content_of top) top.entries.items) }
     ensures torn { IfTorn result (λ _. ⊥) }
     ensures walk { WalksCounting S.read_gives S.write_gives S.fresh_gives S.meaning S.rest MayAskSplit AsksSplit store.old store.new result }
-    ensures writes { WritesOnly (λ rid. rid ≡ top.at) (S.meaning store.old) (S.meaning store.new) }
+    ensures writes { WritesOnly (λ rid. rid ≡ at) (S.meaning store.old) (S.meaning store.new) }
     ensures few { WritesNodes 3 (S.meaning store.old) (S.meaning store.new) }
 {
     let left = store.fresh()?;
     let right = store.fresh()?;
-    let low = top.node.low;
-    let right_node = top.node.part(right);
+    let low = top.low;
+    let right_node = top.part(right);
     let over = Node::over(low, left, right_node.low, right);
-    write_node(store, left, top.node.cells())?;
+    write_node(store, left, top.cells())?;
     write_node(store, right, right_node.cells())?;
-    write_node(store, top.at, over.cells())?;
+    write_node(store, at, over.cells())?;
     Ok(())
 }

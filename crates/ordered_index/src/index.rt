@@ -15,6 +15,7 @@ use crate::enter::{Entering, enter, put_root};
 use crate::key::Key;
 use crate::node::Node;
 use crate::walk::{FIRST, leaf_for, read_node};
+use crate::standing::{entry, node_of, place, rank_of};
 use record_store::{RecordRead, RecordStore, Walk, write_node};
 
 /// The record number beside a key in the tree of `root`.
@@ -32,8 +33,8 @@ pub fn get<S: RecordRead>(store: &mut S, root: u32, key: Key) -> Result<Option<u
     let Some(leaf) = leaf_for(store, size, root, key)? else {
         return Ok(None);
     };
-    match leaf.node.place(key) {
-        Some(index) => Ok(Some(leaf.node.entries[index].1)),
+    match place(&leaf.words, key) {
+        Some(index) => Ok(Some(entry(&leaf.words, size, index).1)),
         None => Ok(None),
     }
 }
@@ -55,14 +56,15 @@ pub fn remove<S: RecordStore>(store: &mut S, root: u32, key: Key) -> Result<bool
     ensures writes { EachWritesKnown (S.meaning store.old) (S.meaning store.new) }
 {
     let size = store.size();
-    let Some(mut leaf) = leaf_for(store, size, root, key)? else {
+    let Some(leaf) = leaf_for(store, size, root, key)? else {
         return Ok(false);
     };
-    let Some(index) = leaf.node.place(key) else {
+    let Some(index) = place(&leaf.words, key) else {
         return Ok(false);
     };
-    leaf.node.entries.remove(index);
-    write_node(store, leaf.at, leaf.node.cells())?;
+    let mut node = node_of(&leaf.words, size);
+    node.entries.remove(index);
+    write_node(store, leaf.at, node.cells())?;
     Ok(true)
 }
 
@@ -94,12 +96,12 @@ pub fn insert<S: RecordStore>(
         write_node(store, root, Node::leaf(key, rid).cells())?;
         return Ok(true);
     };
-    let rank = top.node.rank(key);
-    match enter(store, size, &top.node, rank, 1, key, rid)? {
+    let rank = rank_of(&top.words, key);
+    match enter(store, size, &top.words, rank, 1, key, rid)? {
         Entering::There => Ok(false),
         Entering::Done => Ok(true),
         Entering::Takes(entry) => {
-            put_root(store, top, rank, entry)?;
+            put_root(store, &top, size, rank, entry)?;
             Ok(true)
         }
     }

@@ -9,6 +9,7 @@ mod index;
 mod key;
 mod node;
 mod range;
+mod standing;
 mod walk;
 
 pub use index::{get, insert, remove};

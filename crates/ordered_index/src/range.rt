@@ -5,15 +5,16 @@ ghost use Rattle.record_store.specs.Limits.{record_limit};
 ghost use Rattle.std.specs.Vec.{vec_capacity};
 ghost use Rattle.record_store.specs.Goes.{GoesByReads, WalksByReads};
 ghost use Rattle.record_store.specs.Walks.{IfTorn, IfNoMemory};
-ghost use Rattle.ordered_index.specs.Held.{content_of};
+ghost use Rattle.ordered_index.specs.Node.{IsNode, content_at};
+ghost use Rattle.ordered_index.specs.Walk.{node_of};
 ghost use Rattle.ordered_index.specs.Keys.{is_before as is_before_of, Rising};
 ghost use Rattle.ordered_index.specs.Tree.{EachTree, IsAt, row_entries};
 ghost use Rattle.record_store.specs.States.{EachState};
 ghost use Rattle.ordered_index.specs.Scan.{between, Appends, ListsNothing, Scans, ScanTears, IsTornScan, HasBehind, IsLeafBehind, IsNoLeaf, keys_behind};
 
 use crate::key::Key;
-use crate::node::Node;
-use crate::walk::{Link, leaf_for};
+use crate::walk::{Stored, leaf_for};
+use crate::standing::{entry, fence, is_inner, is_node, next};
 use record_store::{RecordRead, Walk};
 
 /// Appends to `out` the first `limit` pairs of the tree of `root` whose keys lie from `lo` to `hi`, both taken in, by rising key.
@@ -78,40 +79,48 @@ fn scan_leaves<S: RecordRead>(
     let Some(mut here) = leaf_for(store, size, root, lo)? else {
         return Ok(());
     };
-    let mut goes_on = take_between(&here.node, lo, hi, most, out);
+    let mut goes_on = take_between(&here.words, size, lo, hi, most, out);
     while goes_on {
-        let Some(next) = here.node.next else {
+        let Some(next) = next(&here.words, size) else {
             return Ok(());
         };
-        let link = read_next_leaf(store, size, next, here.node.low)?;
-        if hi.is_before(link.node.low) {
+        let link = read_next_leaf(store, size, next, fence(&here.words))?;
+        if hi.is_before(fence(&link.words)) {
             return Ok(());
         }
         here = link;
-        goes_on = take_between(&here.node, lo, hi, most, out);
+        goes_on = take_between(&here.words, size, lo, hi, most, out);
     }
     Ok(())
 }
 
 /// Appends a node's entries with keys from `lo` to `hi` until the list has `most`, and answers whether nodes behind it may have
 /// more.
-fn take_between(node: &Node, lo: Key, hi: Key, most: usize, out: &mut Vec<(Key, u32)>) -> bool
-    requires rising { Rising node.now.entries.items }
+fn take_between(
+    words: &[u64; 32],
+    size: u32,
+    lo: Key,
+    hi: Key,
+    most: usize,
+    out: &mut Vec<(Key, u32)>,
+) -> bool
+    requires node { IsNode size words.now }
     requires some { vec_len out.old < most }
     requires room { most ≤ vec_capacity out.old }
-    ensures items { out.new.items ≡ out.old.items ++ take (most - length out.old.items) (between lo hi node.now.entries.items) }
+    ensures items { out.new.items ≡ out.old.items ++ take (most - length out.old.items) (between lo hi (content_at words.now).entries) }
     ensures room { most ≤ vec_capacity out.new }
     ensures goes_on { result ≡ true → vec_len out.new < most }
-    ensures ends { result ≡ false → HasBehind hi node.now.entries.items ⊎ (vec_len out.new ≡ most) }
+    ensures ends { result ≡ false → HasBehind hi (content_at words.now).entries ⊎ (vec_len out.new ≡ most) }
 {
-    for entry in node.entries.as_slice() {
-        if hi.is_before(entry.0) {
+    for i in 0..words[1] as usize {
+        let pair = entry(words, size, i);
+        if hi.is_before(pair.0) {
             return false;
         }
-        if entry.0.is_before(lo) {
+        if pair.0.is_before(lo) {
             continue;
         }
-        if out.push(*entry).is_err() {
+        if out.push(pair).is_err() {
             unreachable!();
         }
         if out.len() == most {
@@ -127,25 +136,30 @@ fn read_next_leaf<S: RecordRead>(
     size: u32,
     rid: u32,
     before: Key,
-) -> Result<Link, Walk<S::Fault>>
+) -> Result<Stored, Walk<S::Fault>>
     requires size { size ≡ (S.meaning store.old).size }
     requires at_most { size ≤ record_limit }
     requires rid { rid < size }
     ensures leaf { IfOk result (IsLeafBehind size rid before) }
-    ensures read { IfOk result (λ link. EachState (S.meaning store.old) (S.meaning store.new) (λ state. IsAt size state (link.at, content_of link.node))) }
+    ensures read { IfOk result (λ link. EachState (S.meaning store.old) (S.meaning store.new) (λ state. IsAt size state (node_of link))) }
     ensures torn { IfTorn result (λ torn. (torn ≡ rid) × EachState (S.meaning store.old) (S.meaning store.new) (λ state. IsNoLeaf size before state rid)) }
     ensures walk { WalksByReads S.read_gives S.meaning S.rest store.old store.new result }
 {
-    let Some(cells) = store.read(rid)? else {
+    let read = store.read(rid)?;
+    let Some(cells) = &read else {
         return Err(Walk::Torn(rid));
     };
-    let Some(node) = Node::read(&cells, size) else {
-        return Err(Walk::Torn(rid));
+    let here = Stored {
+        at: rid,
+        words: cells.words(),
     };
-    if node.kind.is_inner() || !rises(before, node.low) {
+    if !is_node(&here.words, size) {
         return Err(Walk::Torn(rid));
     }
-    Ok(Link { at: rid, node })
+    if is_inner(&here.words) || !rises(before, fence(&here.words)) {
+        return Err(Walk::Torn(rid));
+    }
+    Ok(here)
 }
 
 /// Whether a fence rises to the next one.

@@ -4,13 +4,12 @@ ghost use Rattle.std.specs.Prelude.{◌≡◌, ℕ, ◌+◌, ◌<◌, ◌≤◌,
 ghost use Rattle.record_store.specs.Limits.{record_limit};
 ghost use Rattle.record_store.specs.Goes.{WalksByReads};
 ghost use Rattle.record_store.specs.Walks.{IfTorn};
-ghost use Rattle.ordered_index.specs.Held.{content_of};
-ghost use Rattle.ordered_index.specs.Node.{IsSound};
+ghost use Rattle.ordered_index.specs.Node.{IsNode};
 ghost use Rattle.record_store.specs.States.{EachState};
-ghost use Rattle.ordered_index.specs.Walk.{IsTreeLink, ReadsNode, IsNoNode, DescentTears, LeafIs};
+ghost use Rattle.ordered_index.specs.Walk.{IsTreeNode, ReadsNode, IsNoNode, DescentTears, LeafIs};
 
 use crate::key::Key;
-use crate::node::Node;
+use crate::standing::{child, fence, is_inner, is_node};
 use record_store::{RecordRead, Walk};
 
 /// The most nodes on a walk.
@@ -19,11 +18,11 @@ pub const MOST_DEPTH: u32 = 24;
 /// The low fence of the root.
 pub const FIRST: Key = Key { high: 0, low: 0 };
 
-/// A node that was read, with its record.
+/// A node as it was read, with its record.
 #[derive(Drop)]
-pub struct Link {
+pub struct Stored {
     pub at: u32,
-    pub node: Node,
+    pub words: [u64; 32],
 }
 
 /// The leaf for a key, or `None` where the root is absent.
@@ -32,12 +31,12 @@ pub fn leaf_for<S: RecordRead>(
     size: u32,
     root: u32,
     key: Key,
-) -> Result<Option<Link>, Walk<S::Fault>>
+) -> Result<Option<Stored>, Walk<S::Fault>>
     requires size { size ≡ (S.meaning store.old).size }
     requires at_most { size ≤ record_limit }
     requires root { root < size }
     ensures leaf { IfOk result (λ leaf. EachState (S.meaning store.old) (S.meaning store.new) (λ state. LeafIs size root key state leaf)) }
-    ensures within { IfOk result (λ leaf. IfSome leaf (λ link. (link.at < size) × IsSound size (content_of link.node))) }
+    ensures within { IfOk result (λ leaf. IfSome leaf (λ here. (here.at < size) × IsNode size here.words)) }
     ensures torn { IfTorn result (λ rid. EachState (S.meaning store.old) (S.meaning store.new) (λ state. DescentTears size root key state rid)) }
     ensures walk { WalksByReads S.read_gives S.meaning S.rest store.old store.new result }
 {
@@ -45,8 +44,8 @@ pub fn leaf_for<S: RecordRead>(
         return Ok(None);
     };
     let mut depth = 1;
-    while here.node.kind.is_inner() {
-        let (low, rid) = here.node.child(key);
+    while is_inner(&here.words) {
+        let (low, rid) = child(&here.words, size, key);
         if depth == MOST_DEPTH {
             return Err(Walk::Torn(rid));
         }
@@ -65,23 +64,28 @@ pub fn read_node<S: RecordRead>(
     size: u32,
     rid: u32,
     low: Key,
-) -> Result<Option<Link>, Walk<S::Fault>>
+) -> Result<Option<Stored>, Walk<S::Fault>>
     requires size { size ≡ (S.meaning store.old).size }
     requires at_most { size ≤ record_limit }
     requires rid { rid < size }
-    ensures link { IfOk result (λ link. IfSome link (IsTreeLink size rid low)) }
-    ensures read { IfOk result (λ link. EachState (S.meaning store.old) (S.meaning store.new) (λ state. ReadsNode size rid state link)) }
+    ensures node { IfOk result (λ here. IfSome here (IsTreeNode size rid low)) }
+    ensures read { IfOk result (λ here. EachState (S.meaning store.old) (S.meaning store.new) (λ state. ReadsNode size rid state here)) }
     ensures torn { IfTorn result (λ torn. (torn ≡ rid) × EachState (S.meaning store.old) (S.meaning store.new) (λ state. IsNoNode size low state rid)) }
     ensures walk { WalksByReads S.read_gives S.meaning S.rest store.old store.new result }
 {
-    let Some(cells) = store.read(rid)? else {
+    let read = store.read(rid)?;
+    let Some(cells) = &read else {
         return Ok(None);
     };
-    let Some(node) = Node::read(&cells, size) else {
-        return Err(Walk::Torn(rid));
+    let here = Stored {
+        at: rid,
+        words: cells.words(),
     };
-    if node.low != low {
+    if !is_node(&here.words, size) {
         return Err(Walk::Torn(rid));
     }
-    Ok(Some(Link { at: rid, node }))
+    if fence(&here.words) != low {
+        return Err(Walk::Torn(rid));
+    }
+    Ok(Some(here))
 }

@@ -1,14 +1,14 @@
 use Rattle.std.proofs.Common.{◌+◌, ◌<◌, ℕ, Some, None, Ok, refl, sym, ◌∙◌, ap, arith, subst}
 use Rattle.std.specs.Prelude.{is_some}
+use Rattle.ordered_index.specs.Node.{content_at}
 use Rattle.record_store.specs.Calls.Calls.{none}
 use Rattle.record_store.proofs.Refusals.{fault_moved, torn_moved, IfStore-map, IfTorn-map}
 use Rattle.record_store.proofs.Agreement.{OnlyReads-refl, extends-refl, size_same, OnlyReads-trans, ReadsGrow-only, ReadsGrow-behind, ReadsGrow-trans, ReadsGrow-refl}
 use Rattle.record_store.proofs.Known.{gives-reads, gives-behind, gives-trans, fewer-behind, known-reads, known-behind, known-then-found}
 use Rattle.record_store.proofs.Paths.{Calls-trans, Calls-reads, CallFault-read, CallFault-behind}
 use Rattle.ordered_index.specs.Keys.{first_key}
-use Rattle.ordered_index.specs.Held.{content_of}
 use Rattle.record_store.specs.States.{EachState}
-use Rattle.ordered_index.specs.Walk.{IsTreeLink}
+use Rattle.ordered_index.specs.Walk.{IsTreeNode}
 use Rattle.ordered_index.specs.Tree.{IsAt}
 use Rattle.ordered_index.specs.Asks.{asks_at}
 use Rattle.ordered_index.proofs.Asking.{asks_leaf, asks_reads, below_err, below_there, below_done, put_due, takes_err, takes_none, takes_more, due_behind, one_at}
@@ -25,14 +25,14 @@ use Rattle.ordered_index.proofs.enter.+enter.Goals as goal
 pub returns-in-Some-clause-leaf : goal.returns-in-Some-clause-leaf
 returns-in-Some-clause-leaf g t c = λ kind.
     let place = rw c.in-Some.is at c.place.ensures.place in
-    (ap is_some (entry_at-place c.args.here.now.entries.items c.in-Some.field-0 (first_key, 0) c.args.key c.requires.sound.rising place.within (place.here (first_key, 0))), refl)
+    (ap is_some (entry_at-place (content_at c.args.here.now).entries c.in-Some.field-0 (first_key, 0) c.args.key c.requires.node.sound.rising place.within (place.here (first_key, 0))), refl)
 
 pub returns-in-Some-clause-walk : goal.returns-in-Some-clause-walk
 returns-in-Some-clause-walk g t c =
     record {
       asked = 0;
       walk = calls_reads _ c.args.store.now c.args.store.now _ (reads_none c.args.store.now _ (tt, tt));
-      asks = asks_leaf c.args.key c.args.here.now.kind c.args.here.now.entries.items c.args.depth (g.S.RecordRead.meaning c.args.store.now) _ (c.is_inner.ensures.leaf c.if-not-is_inner.true) c.requires.depth;
+      asks = asks_leaf c.args.key (content_at c.args.here.now).kind (content_at c.args.here.now).entries c.args.depth (g.S.RecordRead.meaning c.args.store.now) _ (c.is_inner.ensures.leaf c.if-not-is_inner.true) c.requires.depth;
     }
 
 pub returns-in-None-clause-walk : goal.returns-in-None-clause-walk
@@ -40,286 +40,286 @@ returns-in-None-clause-walk g t c =
     record {
       asked = 0;
       walk = calls_reads _ c.args.store.now c.args.store.now _ (reads_none c.args.store.now _ (tt, tt));
-      asks = asks_leaf c.args.key c.args.here.now.kind c.args.here.now.entries.items c.args.depth (g.S.RecordRead.meaning c.args.store.now) _ (c.is_inner.ensures.leaf c.if-not-is_inner.true) c.requires.depth;
+      asks = asks_leaf c.args.key (content_at c.args.here.now).kind (content_at c.args.here.now).entries c.args.depth (g.S.RecordRead.meaning c.args.store.now) _ (c.is_inner.ensures.leaf c.if-not-is_inner.true) c.requires.depth;
     }
 
 pub returns-then-depth-eq-MOST_DEPTH-clause-torn : goal.returns-then-depth-eq-MOST_DEPTH-clause-torn
 returns-then-depth-eq-MOST_DEPTH-clause-torn g t c =
     let kind = c.is_inner.ensures.inner c.if-not-is_inner.false in
-    let some = rank_some c.args.size (content_of c.args.here.now) c.args.key c.args.rank c.requires.sound kind c.requires.low c.requires.rank in
-    (kind, rw c.deref.ensures.0 (tears_deep c.args.size c.args.depth c.args.key c.args.here.now.entries.items c.args.rank (g.S.RecordRead.meaning c.args.store.now) c.requires.rank some c.if-depth-eq-MOST_DEPTH.true))
+    let some = rank_some c.args.size (content_at c.args.here.now) c.args.key c.args.rank c.requires.node.sound kind c.requires.low c.requires.rank in
+    (kind, rw c.entry-at.ensures (tears_deep c.args.size c.args.depth c.args.key (content_at c.args.here.now).entries c.args.rank (g.S.RecordRead.meaning c.args.store.now) c.requires.rank some c.if-depth-eq-MOST_DEPTH.true))
 
 pub returns-then-depth-eq-MOST_DEPTH-clause-walk : goal.returns-then-depth-eq-MOST_DEPTH-clause-walk
 returns-then-depth-eq-MOST_DEPTH-clause-walk g t c =
     record {
       asked = 0;
       walk = calls_reads _ c.args.store.now c.args.store.now _ (reads_none c.args.store.now _ (tt, tt));
-      asks = asks_reads c.args.key c.args.here.now.kind c.args.here.now.entries.items c.args.depth (g.S.RecordRead.meaning c.args.store.now) (g.S.RecordRead.meaning c.args.store.now) _ refl c.requires.depth (OnlyReads-refl (g.S.RecordRead.meaning c.args.store.now));
+      asks = asks_reads c.args.key (content_at c.args.here.now).kind (content_at c.args.here.now).entries c.args.depth (g.S.RecordRead.meaning c.args.store.now) (g.S.RecordRead.meaning c.args.store.now) _ refl c.requires.depth (OnlyReads-refl (g.S.RecordRead.meaning c.args.store.now));
     }
 
-pub returns-in_err-child-clause-torn : goal.returns-in_err-child-clause-torn
-returns-in_err-child-clause-torn g t c =
+pub returns-in_err-read-clause-torn : goal.returns-in_err-read-clause-torn
+returns-in_err-read-clause-torn g t c =
     let kind = c.is_inner.ensures.inner c.if-not-is_inner.false in
-    let some = rank_some c.args.size (content_of c.args.here.now) c.args.key c.args.rank c.requires.sound kind c.requires.low c.requires.rank in
-    torn_moved c.from_residual.result c.read_node.result c.in_err-child.field-0.0 _ c.in_err-child.was c.from_residual.ensures.1
+    let some = rank_some c.args.size (content_at c.args.here.now) c.args.key c.args.rank c.requires.node.sound kind c.requires.low c.requires.rank in
+    torn_moved c.from_residual.result c.read_node.result c.in_err-read.field-0.0 _ c.in_err-read.was c.from_residual.ensures.1
     (IfTorn-map c.read_node.result
-    (λ rid torn. (kind, tears_unfit c.args.size c.args.depth rid c.args.key c.args.here.now.entries.items c.args.rank (g.S.RecordRead.meaning c.args.store.now) (g.S.RecordRead.meaning c.read_node.new.store) c.requires.rank some (rw c.deref.ensures.0 at torn.0) (rw c.deref.ensures.0 at torn.1)))
+    (λ rid torn. (kind, tears_unfit c.args.size c.args.depth rid c.args.key (content_at c.args.here.now).entries c.args.rank (g.S.RecordRead.meaning c.args.store.now) (g.S.RecordRead.meaning c.read_node.new.store) c.requires.rank some (rw c.entry-at.ensures at torn.0) (rw c.entry-at.ensures at torn.1)))
     c.read_node.ensures.torn)
 
-pub returns-in_err-child-clause-walk : goal.returns-in_err-child-clause-walk
-returns-in_err-child-clause-walk g t c =
+pub returns-in_err-read-clause-walk : goal.returns-in_err-read-clause-walk
+returns-in_err-read-clause-walk g t c =
     record {
       asked = 0;
-      walk = calls_reads _ c.args.store.now c.read_node.new.store c.from_residual.result (reads_moved c.args.store.now c.read_node.new.store c.from_residual.result c.read_node.result c.in_err-child.field-0.0 c.in_err-child.was c.from_residual.ensures.1 c.read_node.ensures.walk);
-      asks = asks_reads c.args.key c.args.here.now.kind c.args.here.now.entries.items c.args.depth (g.S.RecordRead.meaning c.args.store.now) (g.S.RecordRead.meaning c.read_node.new.store) _ c.from_residual.ensures.0 c.requires.depth c.read_node.ensures.walk.by.only;
+      walk = calls_reads _ c.args.store.now c.read_node.new.store c.from_residual.result (reads_moved c.args.store.now c.read_node.new.store c.from_residual.result c.read_node.result c.in_err-read.field-0.0 c.in_err-read.was c.from_residual.ensures.1 c.read_node.ensures.walk);
+      asks = asks_reads c.args.key (content_at c.args.here.now).kind (content_at c.args.here.now).entries c.args.depth (g.S.RecordRead.meaning c.args.store.now) (g.S.RecordRead.meaning c.read_node.new.store) _ c.from_residual.ensures.0 c.requires.depth c.read_node.ensures.walk.by.only;
     }
 
 pub returns-in_default-clause-torn : goal.returns-in_default-clause-torn
 returns-in_default-clause-torn g t c =
     let kind = c.is_inner.ensures.inner c.if-not-is_inner.false in
-    let some = rank_some c.args.size (content_of c.args.here.now) c.args.key c.args.rank c.requires.sound kind c.requires.low c.requires.rank in
-    (kind, rw c.deref.ensures.0 (tears_absent c.args.size c.args.depth c.args.key c.args.here.now.entries.items c.args.rank (g.S.RecordRead.meaning c.args.store.now) (g.S.RecordRead.meaning c.read_node.new.store) c.in_ok-child.field-0 c.requires.rank some c.in_default.is (rw c.deref.ensures.0 at c.in_ok-child.ensures.read)))
+    let some = rank_some c.args.size (content_at c.args.here.now) c.args.key c.args.rank c.requires.node.sound kind c.requires.low c.requires.rank in
+    (kind, rw c.entry-at.ensures (tears_absent c.args.size c.args.depth c.args.key (content_at c.args.here.now).entries c.args.rank (g.S.RecordRead.meaning c.args.store.now) (g.S.RecordRead.meaning c.read_node.new.store) c.in_ok-read.read c.requires.rank some c.in_default.is (rw c.entry-at.ensures at c.in_ok-read.ensures.read)))
 
 pub returns-in_default-clause-walk : goal.returns-in_default-clause-walk
 returns-in_default-clause-walk g t c =
     record {
       asked = 0;
       walk = calls_reads _ c.args.store.now c.read_node.new.store _ (reads_quiet c.args.store.now c.read_node.new.store _ c.read_node.result (tt, tt) c.read_node.ensures.walk);
-      asks = asks_reads c.args.key c.args.here.now.kind c.args.here.now.entries.items c.args.depth (g.S.RecordRead.meaning c.args.store.now) (g.S.RecordRead.meaning c.read_node.new.store) _ refl c.requires.depth c.read_node.ensures.walk.by.only;
+      asks = asks_reads c.args.key (content_at c.args.here.now).kind (content_at c.args.here.now).entries c.args.depth (g.S.RecordRead.meaning c.args.store.now) (g.S.RecordRead.meaning c.read_node.new.store) _ refl c.requires.depth c.read_node.ensures.walk.by.only;
     }
 
 pub enter-requires : goal.enter-requires
 enter-requires g t c κs within =
     let kind = c.is_inner.ensures.inner c.if-not-is_inner.false in
-    let some = rank_some c.args.size (content_of c.args.here.now) c.args.key c.args.rank c.requires.sound kind c.requires.low c.requires.rank in
-    let read = rw c.deref.ensures.0 at c.in_ok-child.ensures.link in
-    let link = at_some (IsTreeLink c.args.size _ _) c.in-Some-2.child c.in-Some-2.is read in
-    let low = child_low c.args.size c.args.key c.args.here.now.entries.items c.args.rank (c.in-Some-2.child.node.low, c.in-Some-2.child.at) (content_of c.in-Some-2.child.node) (child_is c.args.size c.args.key c.args.here.now.entries.items c.args.rank c.in-Some-2.child c.requires.rank some link) in
-    let size = c.requires.size ∙ sym (size_same (g.S.RecordRead.meaning c.args.store.now) (g.S.RecordRead.meaning c.read_node.new.store) c.in_ok-child.ensures.walk.by.only) in
-    (omega (arith, c.decreases, c.requires.depth, c.if-depth-eq-MOST_DEPTH.false), (within.0, (within.1, (size, (c.requires.at_most, (c.requires.rid, (link.sound, (c.rank-child_rank.ensures.rank, (low, omega (arith, c.requires.depth, c.if-depth-eq-MOST_DEPTH.false))))))))))
+    let some = rank_some c.args.size (content_at c.args.here.now) c.args.key c.args.rank c.requires.node.sound kind c.requires.low c.requires.rank in
+    let read = rw c.entry-at.ensures at c.in_ok-read.ensures.node in
+    let link = at_some (IsTreeNode c.args.size _ _) c.in-Some-read.child c.in-Some-read.is read in
+    let low = child_low c.args.size c.args.key (content_at c.args.here.now).entries c.args.rank ((content_at c.in-Some-read.child.words).low, c.in-Some-read.child.at) (content_at c.in-Some-read.child.words) (child_is c.args.size c.args.key (content_at c.args.here.now).entries c.args.rank c.in-Some-read.child c.requires.rank some link) in
+    let size = c.requires.size ∙ sym (size_same (g.S.RecordRead.meaning c.args.store.now) (g.S.RecordRead.meaning c.read_node.new.store) c.in_ok-read.ensures.walk.by.only) in
+    (omega (arith, c.decreases, c.requires.depth, c.if-depth-eq-MOST_DEPTH.false), (within.0, (within.1, (size, (c.requires.at_most, (c.requires.rid, (link.node, (c.rank_of-child_rank.ensures.rank, (low, omega (arith, c.requires.depth, c.if-depth-eq-MOST_DEPTH.false))))))))))
 
 pub returns-in_err-enter-clause-torn : goal.returns-in_err-enter-clause-torn
 returns-in_err-enter-clause-torn g t c =
     let kind = c.is_inner.ensures.inner c.if-not-is_inner.false in
-    let some = rank_some c.args.size (content_of c.args.here.now) c.args.key c.args.rank c.requires.sound kind c.requires.low c.requires.rank in
-    let read = rw c.deref.ensures.0 at c.in_ok-child.ensures.link in
-    let link = at_some (IsTreeLink c.args.size _ _) c.in-Some-2.child c.in-Some-2.is read in
-    let child = child_is c.args.size c.args.key c.args.here.now.entries.items c.args.rank c.in-Some-2.child c.requires.rank some link in
+    let some = rank_some c.args.size (content_at c.args.here.now) c.args.key c.args.rank c.requires.node.sound kind c.requires.low c.requires.rank in
+    let read = rw c.entry-at.ensures at c.in_ok-read.ensures.node in
+    let link = at_some (IsTreeNode c.args.size _ _) c.in-Some-read.child c.in-Some-read.is read in
+    let child = child_is c.args.size c.args.key (content_at c.args.here.now).entries c.args.rank c.in-Some-read.child c.requires.rank some link in
     torn_moved c.from_residual-in_err-enter.result c.enter.result c.in_err-enter.field-0.0 _ c.in_err-enter.was c.from_residual-in_err-enter.ensures.1
     (IfTorn-map c.enter.result
-    (λ rid torn. (kind, tears_below c.args.size c.args.depth rid c.args.key c.args.here.now.entries.items c.args.rank (c.in-Some-2.child.node.low, c.in-Some-2.child.at) (content_of c.in-Some-2.child.node) (g.S.RecordRead.meaning c.args.store.now) (g.S.RecordRead.meaning c.read_node.new.store) (g.S.RecordRead.meaning c.enter.new.store) c.in_ok-child.ensures.walk.by.only c.enter.ensures.walk.walk.by.grow child (child_at c.args.size _ (g.S.RecordRead.meaning c.args.store.now) (g.S.RecordRead.meaning c.read_node.new.store) c.in-Some-2.child c.in_ok-child.field-0 c.in-Some-2.is c.in_ok-child.ensures.read) torn.0 torn.1))
+    (λ rid torn. (kind, tears_below c.args.size c.args.depth rid c.args.key (content_at c.args.here.now).entries c.args.rank ((content_at c.in-Some-read.child.words).low, c.in-Some-read.child.at) (content_at c.in-Some-read.child.words) (g.S.RecordRead.meaning c.args.store.now) (g.S.RecordRead.meaning c.read_node.new.store) (g.S.RecordRead.meaning c.enter.new.store) c.in_ok-read.ensures.walk.by.only c.enter.ensures.walk.walk.by.grow child (child_at c.args.size _ (g.S.RecordRead.meaning c.args.store.now) (g.S.RecordRead.meaning c.read_node.new.store) c.in-Some-read.child c.in_ok-read.read c.in-Some-read.is c.in_ok-read.ensures.read) torn.0 torn.1))
     c.enter.ensures.torn)
 
 pub returns-in_err-enter-clause-walk : goal.returns-in_err-enter-clause-walk
 returns-in_err-enter-clause-walk g t c =
     let kind = c.is_inner.ensures.inner c.if-not-is_inner.false in
-    let some = rank_some c.args.size (content_of c.args.here.now) c.args.key c.args.rank c.requires.sound kind c.requires.low c.requires.rank in
-    let read = rw c.deref.ensures.0 at c.in_ok-child.ensures.link in
-    let link = at_some (IsTreeLink c.args.size _ _) c.in-Some-2.child c.in-Some-2.is read in
-    let child = child_is c.args.size c.args.key c.args.here.now.entries.items c.args.rank c.in-Some-2.child c.requires.rank some link in
-    let at = child_at c.args.size _ (g.S.RecordRead.meaning c.args.store.now) (g.S.RecordRead.meaning c.read_node.new.store) c.in-Some-2.child c.in_ok-child.field-0 c.in-Some-2.is c.in_ok-child.ensures.read in
-    let C : ℕ → Type 0 = λ n. IsChild n c.args.key c.args.here.now.entries.items c.args.rank (c.in-Some-2.child.node.low, c.in-Some-2.child.at) (content_of c.in-Some-2.child.node) in
-    let A : ℕ → Type 0 = λ n. EachState (g.S.RecordRead.meaning c.args.store.now) (g.S.RecordRead.meaning c.read_node.new.store) (λ state. IsAt n state (c.in-Some-2.child.at, content_of c.in-Some-2.child.node)) in
+    let some = rank_some c.args.size (content_at c.args.here.now) c.args.key c.args.rank c.requires.node.sound kind c.requires.low c.requires.rank in
+    let read = rw c.entry-at.ensures at c.in_ok-read.ensures.node in
+    let link = at_some (IsTreeNode c.args.size _ _) c.in-Some-read.child c.in-Some-read.is read in
+    let child = child_is c.args.size c.args.key (content_at c.args.here.now).entries c.args.rank c.in-Some-read.child c.requires.rank some link in
+    let at = child_at c.args.size _ (g.S.RecordRead.meaning c.args.store.now) (g.S.RecordRead.meaning c.read_node.new.store) c.in-Some-read.child c.in_ok-read.read c.in-Some-read.is c.in_ok-read.ensures.read in
+    let C : ℕ → Type 0 = λ n. IsChild n c.args.key (content_at c.args.here.now).entries c.args.rank ((content_at c.in-Some-read.child.words).low, c.in-Some-read.child.at) (content_at c.in-Some-read.child.words) in
+    let A : ℕ → Type 0 = λ n. EachState (g.S.RecordRead.meaning c.args.store.now) (g.S.RecordRead.meaning c.read_node.new.store) (λ state. IsAt n state (c.in-Some-read.child.at, content_at c.in-Some-read.child.words)) in
     record {
       asked = c.enter.ensures.walk.asked;
-      walk = calls_moved c.args.store.now c.enter.new.store c.from_residual-in_err-enter.result c.enter.result c.in_err-enter.field-0.0 c.in_err-enter.was c.from_residual-in_err-enter.ensures.1 (calls_behind _ c.enter.ensures.walk.asked c.args.store.now c.read_node.new.store c.enter.new.store c.read_node.result c.enter.result c.read_node.ensures.walk c.enter.ensures.walk.walk (λ asks later. (kind, due_behind (g.S.RecordRead.meaning c.args.store.now) (g.S.RecordRead.meaning c.read_node.new.store) (g.S.RecordRead.meaning c.enter.new.store) c.args.key c.args.here.now.entries.items c.args.rank (c.in-Some-2.child.node.low, c.in-Some-2.child.at) (content_of c.in-Some-2.child.node) asks c.in_ok-child.ensures.walk.by.only c.enter.ensures.walk.walk.by.grow.reads (subst C c.requires.size child) (subst A c.requires.size at) later)));
-      asks = below_err (g.S.RecordRead.meaning c.args.store.now) (g.S.RecordRead.meaning c.read_node.new.store) (g.S.RecordRead.meaning c.enter.new.store) (g.S.RecordRead.meaning c.enter.new.store) c.args.key c.args.here.now.entries.items c.args.rank (c.in-Some-2.child.node.low, c.in-Some-2.child.at) (content_of c.in-Some-2.child.node) c.enter.ensures.walk.asked c.args.depth c.args.here.now.kind kind c.in_ok-child.ensures.walk.by.only c.enter.ensures.walk.walk.by.grow.reads (extends-refl (g.S.RecordRead.meaning c.enter.new.store).reads) (subst C c.requires.size child) (subst A c.requires.size at) c.enter.result c.enter.ensures.walk.asks c.from_residual-in_err-enter.result c.from_residual-in_err-enter.ensures.0 refl;
+      walk = calls_moved c.args.store.now c.enter.new.store c.from_residual-in_err-enter.result c.enter.result c.in_err-enter.field-0.0 c.in_err-enter.was c.from_residual-in_err-enter.ensures.1 (calls_behind _ c.enter.ensures.walk.asked c.args.store.now c.read_node.new.store c.enter.new.store c.read_node.result c.enter.result c.read_node.ensures.walk c.enter.ensures.walk.walk (λ asks later. (kind, due_behind (g.S.RecordRead.meaning c.args.store.now) (g.S.RecordRead.meaning c.read_node.new.store) (g.S.RecordRead.meaning c.enter.new.store) c.args.key (content_at c.args.here.now).entries c.args.rank ((content_at c.in-Some-read.child.words).low, c.in-Some-read.child.at) (content_at c.in-Some-read.child.words) asks c.in_ok-read.ensures.walk.by.only c.enter.ensures.walk.walk.by.grow.reads (subst C c.requires.size child) (subst A c.requires.size at) later)));
+      asks = below_err (g.S.RecordRead.meaning c.args.store.now) (g.S.RecordRead.meaning c.read_node.new.store) (g.S.RecordRead.meaning c.enter.new.store) (g.S.RecordRead.meaning c.enter.new.store) c.args.key (content_at c.args.here.now).entries c.args.rank ((content_at c.in-Some-read.child.words).low, c.in-Some-read.child.at) (content_at c.in-Some-read.child.words) c.enter.ensures.walk.asked c.args.depth (content_at c.args.here.now).kind kind c.in_ok-read.ensures.walk.by.only c.enter.ensures.walk.walk.by.grow.reads (extends-refl (g.S.RecordRead.meaning c.enter.new.store).reads) (subst C c.requires.size child) (subst A c.requires.size at) c.enter.result c.enter.ensures.walk.asks c.from_residual-in_err-enter.result c.from_residual-in_err-enter.ensures.0 refl;
     }
 
 pub returns-in_err-new-in-Takes-clause-walk : goal.returns-in_err-new-in-Takes-clause-walk
 returns-in_err-new-in-Takes-clause-walk g t c =
     let kind = c.is_inner.ensures.inner c.if-not-is_inner.false in
-    let some = rank_some c.args.size (content_of c.args.here.now) c.args.key c.args.rank c.requires.sound kind c.requires.low c.requires.rank in
-    let read = rw c.deref.ensures.0 at c.in_ok-child.ensures.link in
-    let link = at_some (IsTreeLink c.args.size _ _) c.in-Some-2.child c.in-Some-2.is read in
-    let child = child_is c.args.size c.args.key c.args.here.now.entries.items c.args.rank c.in-Some-2.child c.requires.rank some link in
-    let at = child_at c.args.size _ (g.S.RecordRead.meaning c.args.store.now) (g.S.RecordRead.meaning c.read_node.new.store) c.in-Some-2.child c.in_ok-child.field-0 c.in-Some-2.is c.in_ok-child.ensures.read in
-    let C : ℕ → Type 0 = λ n. IsChild n c.args.key c.args.here.now.entries.items c.args.rank (c.in-Some-2.child.node.low, c.in-Some-2.child.at) (content_of c.in-Some-2.child.node) in
-    let A : ℕ → Type 0 = λ n. EachState (g.S.RecordRead.meaning c.args.store.now) (g.S.RecordRead.meaning c.read_node.new.store) (λ state. IsAt n state (c.in-Some-2.child.at, content_of c.in-Some-2.child.node)) in
+    let some = rank_some c.args.size (content_at c.args.here.now) c.args.key c.args.rank c.requires.node.sound kind c.requires.low c.requires.rank in
+    let read = rw c.entry-at.ensures at c.in_ok-read.ensures.node in
+    let link = at_some (IsTreeNode c.args.size _ _) c.in-Some-read.child c.in-Some-read.is read in
+    let child = child_is c.args.size c.args.key (content_at c.args.here.now).entries c.args.rank c.in-Some-read.child c.requires.rank some link in
+    let at = child_at c.args.size _ (g.S.RecordRead.meaning c.args.store.now) (g.S.RecordRead.meaning c.read_node.new.store) c.in-Some-read.child c.in_ok-read.read c.in-Some-read.is c.in_ok-read.ensures.read in
+    let C : ℕ → Type 0 = λ n. IsChild n c.args.key (content_at c.args.here.now).entries c.args.rank ((content_at c.in-Some-read.child.words).low, c.in-Some-read.child.at) (content_at c.in-Some-read.child.words) in
+    let A : ℕ → Type 0 = λ n. EachState (g.S.RecordRead.meaning c.args.store.now) (g.S.RecordRead.meaning c.read_node.new.store) (λ state. IsAt n state (c.in-Some-read.child.at, content_at c.in-Some-read.child.words)) in
     record {
-      asked = c.enter.ensures.walk.asked + asks_at c.in-Some-2.child.node.entries.items;
-      walk = calls_moved c.args.store.now c.put_entry.new.store c.from_residual-in_err-new-in-Takes.result c.put_entry.result c.in_err-new-in-Takes.field-0.0 c.in_err-new-in-Takes.was c.from_residual-in_err-new-in-Takes.ensures.1 (calls_then _ c.enter.ensures.walk.asked (asks_at c.in-Some-2.child.node.entries.items) c.args.store.now c.enter.new.store c.put_entry.new.store c.enter.result c.put_entry.result (calls_behind (λ _. Unit {0}) c.enter.ensures.walk.asked c.args.store.now c.read_node.new.store c.enter.new.store c.read_node.result c.enter.result c.read_node.ensures.walk c.enter.ensures.walk.walk (λ asks later. tt)) c.put_entry.ensures.walk (λ asks one. (kind, put_due (g.S.RecordRead.meaning c.args.store.now) (g.S.RecordRead.meaning c.read_node.new.store) (g.S.RecordRead.meaning c.enter.new.store) (g.S.RecordRead.meaning c.put_entry.new.store) c.args.key c.args.here.now.entries.items c.args.rank (c.in-Some-2.child.node.low, c.in-Some-2.child.at) (content_of c.in-Some-2.child.node) c.enter.ensures.walk.asked c.args.depth c.args.here.now.kind kind c.in_ok-child.ensures.walk.by.only c.enter.ensures.walk.walk.by.grow.reads c.put_entry.ensures.walk.by.grow.reads (subst C c.requires.size child) (subst A c.requires.size at) c.enter.result c.enter.ensures.walk.asks c.args.rid c.rank-child_rank.result c.in-Takes.entry (c.in_ok-enter.was ∙ ap (λ e. Ok e) c.in-Takes.is) (λ leaf. (let l = rw c.in-Takes.is at (c.in_ok-enter.ensures.leaf leaf) in l.0.1)) (λ inner. from_reads (g.S.RecordRead.meaning c.args.store.now) (g.S.RecordRead.meaning c.read_node.new.store) (g.S.RecordRead.meaning c.enter.new.store) c.args.key c.args.rid c.in-Some-2.child.node.entries.items c.rank-child_rank.result c.in_ok-enter.field-0 _ c.in_ok-child.ensures.walk.by.only c.in-Takes.is (c.in_ok-enter.ensures.inner inner)) asks (one_at c.in-Some-2.child.node.entries.items asks one))));
-      asks = takes_err (g.S.RecordRead.meaning c.args.store.now) (g.S.RecordRead.meaning c.read_node.new.store) (g.S.RecordRead.meaning c.enter.new.store) (g.S.RecordRead.meaning c.put_entry.new.store) c.args.key c.args.here.now.entries.items c.args.rank (c.in-Some-2.child.node.low, c.in-Some-2.child.at) (content_of c.in-Some-2.child.node) c.enter.ensures.walk.asked c.args.depth c.args.here.now.kind kind c.in_ok-child.ensures.walk.by.only c.enter.ensures.walk.walk.by.grow.reads c.put_entry.ensures.walk.by.grow.reads (subst C c.requires.size child) (subst A c.requires.size at) c.enter.result c.enter.ensures.walk.asks c.args.rid c.rank-child_rank.result c.in-Takes.entry (c.in_ok-enter.was ∙ ap (λ e. Ok e) c.in-Takes.is) (λ leaf. (let l = rw c.in-Takes.is at (c.in_ok-enter.ensures.leaf leaf) in l.0.1)) (λ inner. from_reads (g.S.RecordRead.meaning c.args.store.now) (g.S.RecordRead.meaning c.read_node.new.store) (g.S.RecordRead.meaning c.enter.new.store) c.args.key c.args.rid c.in-Some-2.child.node.entries.items c.rank-child_rank.result c.in_ok-enter.field-0 _ c.in_ok-child.ensures.walk.by.only c.in-Takes.is (c.in_ok-enter.ensures.inner inner)) c.from_residual-in_err-new-in-Takes.result c.from_residual-in_err-new-in-Takes.ensures.0 c.put_entry.ensures.few;
+      asked = c.enter.ensures.walk.asked + asks_at (content_at c.in-Some-read.child.words).entries;
+      walk = calls_moved c.args.store.now c.put_entry.new.store c.from_residual-in_err-new-in-Takes.result c.put_entry.result c.in_err-new-in-Takes.field-0.0 c.in_err-new-in-Takes.was c.from_residual-in_err-new-in-Takes.ensures.1 (calls_then _ c.enter.ensures.walk.asked (asks_at (content_at c.in-Some-read.child.words).entries) c.args.store.now c.enter.new.store c.put_entry.new.store c.enter.result c.put_entry.result (calls_behind (λ _. Unit {0}) c.enter.ensures.walk.asked c.args.store.now c.read_node.new.store c.enter.new.store c.read_node.result c.enter.result c.read_node.ensures.walk c.enter.ensures.walk.walk (λ asks later. tt)) c.put_entry.ensures.walk (λ asks one. (kind, put_due (g.S.RecordRead.meaning c.args.store.now) (g.S.RecordRead.meaning c.read_node.new.store) (g.S.RecordRead.meaning c.enter.new.store) (g.S.RecordRead.meaning c.put_entry.new.store) c.args.key (content_at c.args.here.now).entries c.args.rank ((content_at c.in-Some-read.child.words).low, c.in-Some-read.child.at) (content_at c.in-Some-read.child.words) c.enter.ensures.walk.asked c.args.depth (content_at c.args.here.now).kind kind c.in_ok-read.ensures.walk.by.only c.enter.ensures.walk.walk.by.grow.reads c.put_entry.ensures.walk.by.grow.reads (subst C c.requires.size child) (subst A c.requires.size at) c.enter.result c.enter.ensures.walk.asks c.args.rid c.rank_of-child_rank.result c.in-Takes.entry (c.in_ok-enter.was ∙ ap (λ e. Ok e) c.in-Takes.is) (λ leaf. (let l = rw c.in-Takes.is at (c.in_ok-enter.ensures.leaf leaf) in l.0.1)) (λ inner. from_reads (g.S.RecordRead.meaning c.args.store.now) (g.S.RecordRead.meaning c.read_node.new.store) (g.S.RecordRead.meaning c.enter.new.store) c.args.key c.args.rid (content_at c.in-Some-read.child.words).entries c.rank_of-child_rank.result c.in_ok-enter.field-0 _ c.in_ok-read.ensures.walk.by.only c.in-Takes.is (c.in_ok-enter.ensures.inner inner)) asks (one_at (content_at c.in-Some-read.child.words).entries asks one))));
+      asks = takes_err (g.S.RecordRead.meaning c.args.store.now) (g.S.RecordRead.meaning c.read_node.new.store) (g.S.RecordRead.meaning c.enter.new.store) (g.S.RecordRead.meaning c.put_entry.new.store) c.args.key (content_at c.args.here.now).entries c.args.rank ((content_at c.in-Some-read.child.words).low, c.in-Some-read.child.at) (content_at c.in-Some-read.child.words) c.enter.ensures.walk.asked c.args.depth (content_at c.args.here.now).kind kind c.in_ok-read.ensures.walk.by.only c.enter.ensures.walk.walk.by.grow.reads c.put_entry.ensures.walk.by.grow.reads (subst C c.requires.size child) (subst A c.requires.size at) c.enter.result c.enter.ensures.walk.asks c.args.rid c.rank_of-child_rank.result c.in-Takes.entry (c.in_ok-enter.was ∙ ap (λ e. Ok e) c.in-Takes.is) (λ leaf. (let l = rw c.in-Takes.is at (c.in_ok-enter.ensures.leaf leaf) in l.0.1)) (λ inner. from_reads (g.S.RecordRead.meaning c.args.store.now) (g.S.RecordRead.meaning c.read_node.new.store) (g.S.RecordRead.meaning c.enter.new.store) c.args.key c.args.rid (content_at c.in-Some-read.child.words).entries c.rank_of-child_rank.result c.in_ok-enter.field-0 _ c.in_ok-read.ensures.walk.by.only c.in-Takes.is (c.in_ok-enter.ensures.inner inner)) c.from_residual-in_err-new-in-Takes.result c.from_residual-in_err-new-in-Takes.ensures.0 c.put_entry.ensures.few;
     }
 
 pub returns-in-There-clause-inner : goal.returns-in-There-clause-inner
 returns-in-There-clause-inner g t c = λ kind.
-    let some = rank_some c.args.size (content_of c.args.here.now) c.args.key c.args.rank c.requires.sound kind c.requires.low c.requires.rank in
-    let read = rw c.deref.ensures.0 at c.in_ok-child.ensures.link in
-    let link = at_some (IsTreeLink c.args.size _ _) c.in-Some-2.child c.in-Some-2.is read in
-    let child = child_is c.args.size c.args.key c.args.here.now.entries.items c.args.rank c.in-Some-2.child c.requires.rank some link in
-    let at = child_at c.args.size _ (g.S.RecordRead.meaning c.args.store.now) (g.S.RecordRead.meaning c.read_node.new.store) c.in-Some-2.child c.in_ok-child.field-0 c.in-Some-2.is c.in_ok-child.ensures.read in
-    let C : ℕ → Type 0 = λ n. IsChild n c.args.key c.args.here.now.entries.items c.args.rank (c.in-Some-2.child.node.low, c.in-Some-2.child.at) (content_of c.in-Some-2.child.node) in
-    let A : ℕ → Type 0 = λ n. EachState (g.S.RecordRead.meaning c.args.store.now) (g.S.RecordRead.meaning c.read_node.new.store) (λ state. IsAt n state (c.in-Some-2.child.at, content_of c.in-Some-2.child.node)) in
-    enter_there (g.S.RecordRead.meaning c.args.store.now) (g.S.RecordRead.meaning c.read_node.new.store) (g.S.RecordRead.meaning c.enter.new.store) c.args.key c.args.rid c.args.here.now.entries.items c.args.rank (c.in-Some-2.child.node.low, c.in-Some-2.child.at) (content_of c.in-Some-2.child.node) c.rank-child_rank.result
+    let some = rank_some c.args.size (content_at c.args.here.now) c.args.key c.args.rank c.requires.node.sound kind c.requires.low c.requires.rank in
+    let read = rw c.entry-at.ensures at c.in_ok-read.ensures.node in
+    let link = at_some (IsTreeNode c.args.size _ _) c.in-Some-read.child c.in-Some-read.is read in
+    let child = child_is c.args.size c.args.key (content_at c.args.here.now).entries c.args.rank c.in-Some-read.child c.requires.rank some link in
+    let at = child_at c.args.size _ (g.S.RecordRead.meaning c.args.store.now) (g.S.RecordRead.meaning c.read_node.new.store) c.in-Some-read.child c.in_ok-read.read c.in-Some-read.is c.in_ok-read.ensures.read in
+    let C : ℕ → Type 0 = λ n. IsChild n c.args.key (content_at c.args.here.now).entries c.args.rank ((content_at c.in-Some-read.child.words).low, c.in-Some-read.child.at) (content_at c.in-Some-read.child.words) in
+    let A : ℕ → Type 0 = λ n. EachState (g.S.RecordRead.meaning c.args.store.now) (g.S.RecordRead.meaning c.read_node.new.store) (λ state. IsAt n state (c.in-Some-read.child.at, content_at c.in-Some-read.child.words)) in
+    enter_there (g.S.RecordRead.meaning c.args.store.now) (g.S.RecordRead.meaning c.read_node.new.store) (g.S.RecordRead.meaning c.enter.new.store) c.args.key c.args.rid (content_at c.args.here.now).entries c.args.rank ((content_at c.in-Some-read.child.words).low, c.in-Some-read.child.at) (content_at c.in-Some-read.child.words) c.rank_of-child_rank.result
     c.enter.ensures.walk.walk.by.grow.reads (subst C c.requires.size child) (subst A c.requires.size at)
     (λ leaf. (let l = c.in_ok-enter.ensures.leaf leaf in (rw c.in-There.is at l).0))
-    (λ inner. from_reads (g.S.RecordRead.meaning c.args.store.now) (g.S.RecordRead.meaning c.read_node.new.store) (g.S.RecordRead.meaning c.enter.new.store) c.args.key c.args.rid c.in-Some-2.child.node.entries.items c.rank-child_rank.result c.in_ok-enter.field-0 _ c.in_ok-child.ensures.walk.by.only c.in-There.is (c.in_ok-enter.ensures.inner inner))
+    (λ inner. from_reads (g.S.RecordRead.meaning c.args.store.now) (g.S.RecordRead.meaning c.read_node.new.store) (g.S.RecordRead.meaning c.enter.new.store) c.args.key c.args.rid (content_at c.in-Some-read.child.words).entries c.rank_of-child_rank.result c.in_ok-enter.field-0 _ c.in_ok-read.ensures.walk.by.only c.in-There.is (c.in_ok-enter.ensures.inner inner))
 
 pub returns-in-There-clause-walk : goal.returns-in-There-clause-walk
 returns-in-There-clause-walk g t c =
     let kind = c.is_inner.ensures.inner c.if-not-is_inner.false in
-    let some = rank_some c.args.size (content_of c.args.here.now) c.args.key c.args.rank c.requires.sound kind c.requires.low c.requires.rank in
-    let read = rw c.deref.ensures.0 at c.in_ok-child.ensures.link in
-    let link = at_some (IsTreeLink c.args.size _ _) c.in-Some-2.child c.in-Some-2.is read in
-    let child = child_is c.args.size c.args.key c.args.here.now.entries.items c.args.rank c.in-Some-2.child c.requires.rank some link in
-    let at = child_at c.args.size _ (g.S.RecordRead.meaning c.args.store.now) (g.S.RecordRead.meaning c.read_node.new.store) c.in-Some-2.child c.in_ok-child.field-0 c.in-Some-2.is c.in_ok-child.ensures.read in
-    let C : ℕ → Type 0 = λ n. IsChild n c.args.key c.args.here.now.entries.items c.args.rank (c.in-Some-2.child.node.low, c.in-Some-2.child.at) (content_of c.in-Some-2.child.node) in
-    let A : ℕ → Type 0 = λ n. EachState (g.S.RecordRead.meaning c.args.store.now) (g.S.RecordRead.meaning c.read_node.new.store) (λ state. IsAt n state (c.in-Some-2.child.at, content_of c.in-Some-2.child.node)) in
+    let some = rank_some c.args.size (content_at c.args.here.now) c.args.key c.args.rank c.requires.node.sound kind c.requires.low c.requires.rank in
+    let read = rw c.entry-at.ensures at c.in_ok-read.ensures.node in
+    let link = at_some (IsTreeNode c.args.size _ _) c.in-Some-read.child c.in-Some-read.is read in
+    let child = child_is c.args.size c.args.key (content_at c.args.here.now).entries c.args.rank c.in-Some-read.child c.requires.rank some link in
+    let at = child_at c.args.size _ (g.S.RecordRead.meaning c.args.store.now) (g.S.RecordRead.meaning c.read_node.new.store) c.in-Some-read.child c.in_ok-read.read c.in-Some-read.is c.in_ok-read.ensures.read in
+    let C : ℕ → Type 0 = λ n. IsChild n c.args.key (content_at c.args.here.now).entries c.args.rank ((content_at c.in-Some-read.child.words).low, c.in-Some-read.child.at) (content_at c.in-Some-read.child.words) in
+    let A : ℕ → Type 0 = λ n. EachState (g.S.RecordRead.meaning c.args.store.now) (g.S.RecordRead.meaning c.read_node.new.store) (λ state. IsAt n state (c.in-Some-read.child.at, content_at c.in-Some-read.child.words)) in
     record {
       asked = c.enter.ensures.walk.asked;
       walk = calls_quiet _ c.args.store.now c.enter.new.store _ c.enter.result (tt, tt) (calls_behind (λ _. Unit {0}) c.enter.ensures.walk.asked c.args.store.now c.read_node.new.store c.enter.new.store c.read_node.result c.enter.result c.read_node.ensures.walk c.enter.ensures.walk.walk (λ asks later. tt));
-      asks = below_there (g.S.RecordRead.meaning c.args.store.now) (g.S.RecordRead.meaning c.read_node.new.store) (g.S.RecordRead.meaning c.enter.new.store) (g.S.RecordRead.meaning c.enter.new.store) c.args.key c.args.here.now.entries.items c.args.rank (c.in-Some-2.child.node.low, c.in-Some-2.child.at) (content_of c.in-Some-2.child.node) c.enter.ensures.walk.asked c.args.depth c.args.here.now.kind kind c.in_ok-child.ensures.walk.by.only c.enter.ensures.walk.walk.by.grow.reads (extends-refl (g.S.RecordRead.meaning c.enter.new.store).reads) (subst C c.requires.size child) (subst A c.requires.size at) c.enter.result c.enter.ensures.walk.asks (c.in_ok-enter.was ∙ ap (λ e. Ok e) c.in-There.is) refl;
+      asks = below_there (g.S.RecordRead.meaning c.args.store.now) (g.S.RecordRead.meaning c.read_node.new.store) (g.S.RecordRead.meaning c.enter.new.store) (g.S.RecordRead.meaning c.enter.new.store) c.args.key (content_at c.args.here.now).entries c.args.rank ((content_at c.in-Some-read.child.words).low, c.in-Some-read.child.at) (content_at c.in-Some-read.child.words) c.enter.ensures.walk.asked c.args.depth (content_at c.args.here.now).kind kind c.in_ok-read.ensures.walk.by.only c.enter.ensures.walk.walk.by.grow.reads (extends-refl (g.S.RecordRead.meaning c.enter.new.store).reads) (subst C c.requires.size child) (subst A c.requires.size at) c.enter.result c.enter.ensures.walk.asks (c.in_ok-enter.was ∙ ap (λ e. Ok e) c.in-There.is) refl;
     }
 
 pub returns-in-Done-clause-inner : goal.returns-in-Done-clause-inner
 returns-in-Done-clause-inner g t c = λ kind.
-    let some = rank_some c.args.size (content_of c.args.here.now) c.args.key c.args.rank c.requires.sound kind c.requires.low c.requires.rank in
-    let read = rw c.deref.ensures.0 at c.in_ok-child.ensures.link in
-    let link = at_some (IsTreeLink c.args.size _ _) c.in-Some-2.child c.in-Some-2.is read in
-    let child = child_is c.args.size c.args.key c.args.here.now.entries.items c.args.rank c.in-Some-2.child c.requires.rank some link in
-    let at = child_at c.args.size _ (g.S.RecordRead.meaning c.args.store.now) (g.S.RecordRead.meaning c.read_node.new.store) c.in-Some-2.child c.in_ok-child.field-0 c.in-Some-2.is c.in_ok-child.ensures.read in
-    let C : ℕ → Type 0 = λ n. IsChild n c.args.key c.args.here.now.entries.items c.args.rank (c.in-Some-2.child.node.low, c.in-Some-2.child.at) (content_of c.in-Some-2.child.node) in
-    let A : ℕ → Type 0 = λ n. EachState (g.S.RecordRead.meaning c.args.store.now) (g.S.RecordRead.meaning c.read_node.new.store) (λ state. IsAt n state (c.in-Some-2.child.at, content_of c.in-Some-2.child.node)) in
-    enter_done (g.S.RecordRead.meaning c.args.store.now) (g.S.RecordRead.meaning c.read_node.new.store) (g.S.RecordRead.meaning c.enter.new.store) c.args.key c.args.rid c.args.here.now.entries.items c.args.rank (c.in-Some-2.child.node.low, c.in-Some-2.child.at) (content_of c.in-Some-2.child.node) c.rank-child_rank.result
+    let some = rank_some c.args.size (content_at c.args.here.now) c.args.key c.args.rank c.requires.node.sound kind c.requires.low c.requires.rank in
+    let read = rw c.entry-at.ensures at c.in_ok-read.ensures.node in
+    let link = at_some (IsTreeNode c.args.size _ _) c.in-Some-read.child c.in-Some-read.is read in
+    let child = child_is c.args.size c.args.key (content_at c.args.here.now).entries c.args.rank c.in-Some-read.child c.requires.rank some link in
+    let at = child_at c.args.size _ (g.S.RecordRead.meaning c.args.store.now) (g.S.RecordRead.meaning c.read_node.new.store) c.in-Some-read.child c.in_ok-read.read c.in-Some-read.is c.in_ok-read.ensures.read in
+    let C : ℕ → Type 0 = λ n. IsChild n c.args.key (content_at c.args.here.now).entries c.args.rank ((content_at c.in-Some-read.child.words).low, c.in-Some-read.child.at) (content_at c.in-Some-read.child.words) in
+    let A : ℕ → Type 0 = λ n. EachState (g.S.RecordRead.meaning c.args.store.now) (g.S.RecordRead.meaning c.read_node.new.store) (λ state. IsAt n state (c.in-Some-read.child.at, content_at c.in-Some-read.child.words)) in
+    enter_done (g.S.RecordRead.meaning c.args.store.now) (g.S.RecordRead.meaning c.read_node.new.store) (g.S.RecordRead.meaning c.enter.new.store) c.args.key c.args.rid (content_at c.args.here.now).entries c.args.rank ((content_at c.in-Some-read.child.words).low, c.in-Some-read.child.at) (content_at c.in-Some-read.child.words) c.rank_of-child_rank.result
     c.enter.ensures.walk.walk.by.grow.reads (subst C c.requires.size child) (subst A c.requires.size at)
     (λ leaf. (let l = c.in_ok-enter.ensures.leaf leaf in (rw c.in-Done.is at l).0))
-    (λ inner. from_reads (g.S.RecordRead.meaning c.args.store.now) (g.S.RecordRead.meaning c.read_node.new.store) (g.S.RecordRead.meaning c.enter.new.store) c.args.key c.args.rid c.in-Some-2.child.node.entries.items c.rank-child_rank.result c.in_ok-enter.field-0 _ c.in_ok-child.ensures.walk.by.only c.in-Done.is (c.in_ok-enter.ensures.inner inner))
+    (λ inner. from_reads (g.S.RecordRead.meaning c.args.store.now) (g.S.RecordRead.meaning c.read_node.new.store) (g.S.RecordRead.meaning c.enter.new.store) c.args.key c.args.rid (content_at c.in-Some-read.child.words).entries c.rank_of-child_rank.result c.in_ok-enter.field-0 _ c.in_ok-read.ensures.walk.by.only c.in-Done.is (c.in_ok-enter.ensures.inner inner))
 
 pub returns-in-Done-clause-walk : goal.returns-in-Done-clause-walk
 returns-in-Done-clause-walk g t c =
     let kind = c.is_inner.ensures.inner c.if-not-is_inner.false in
-    let some = rank_some c.args.size (content_of c.args.here.now) c.args.key c.args.rank c.requires.sound kind c.requires.low c.requires.rank in
-    let read = rw c.deref.ensures.0 at c.in_ok-child.ensures.link in
-    let link = at_some (IsTreeLink c.args.size _ _) c.in-Some-2.child c.in-Some-2.is read in
-    let child = child_is c.args.size c.args.key c.args.here.now.entries.items c.args.rank c.in-Some-2.child c.requires.rank some link in
-    let at = child_at c.args.size _ (g.S.RecordRead.meaning c.args.store.now) (g.S.RecordRead.meaning c.read_node.new.store) c.in-Some-2.child c.in_ok-child.field-0 c.in-Some-2.is c.in_ok-child.ensures.read in
-    let C : ℕ → Type 0 = λ n. IsChild n c.args.key c.args.here.now.entries.items c.args.rank (c.in-Some-2.child.node.low, c.in-Some-2.child.at) (content_of c.in-Some-2.child.node) in
-    let A : ℕ → Type 0 = λ n. EachState (g.S.RecordRead.meaning c.args.store.now) (g.S.RecordRead.meaning c.read_node.new.store) (λ state. IsAt n state (c.in-Some-2.child.at, content_of c.in-Some-2.child.node)) in
+    let some = rank_some c.args.size (content_at c.args.here.now) c.args.key c.args.rank c.requires.node.sound kind c.requires.low c.requires.rank in
+    let read = rw c.entry-at.ensures at c.in_ok-read.ensures.node in
+    let link = at_some (IsTreeNode c.args.size _ _) c.in-Some-read.child c.in-Some-read.is read in
+    let child = child_is c.args.size c.args.key (content_at c.args.here.now).entries c.args.rank c.in-Some-read.child c.requires.rank some link in
+    let at = child_at c.args.size _ (g.S.RecordRead.meaning c.args.store.now) (g.S.RecordRead.meaning c.read_node.new.store) c.in-Some-read.child c.in_ok-read.read c.in-Some-read.is c.in_ok-read.ensures.read in
+    let C : ℕ → Type 0 = λ n. IsChild n c.args.key (content_at c.args.here.now).entries c.args.rank ((content_at c.in-Some-read.child.words).low, c.in-Some-read.child.at) (content_at c.in-Some-read.child.words) in
+    let A : ℕ → Type 0 = λ n. EachState (g.S.RecordRead.meaning c.args.store.now) (g.S.RecordRead.meaning c.read_node.new.store) (λ state. IsAt n state (c.in-Some-read.child.at, content_at c.in-Some-read.child.words)) in
     record {
       asked = c.enter.ensures.walk.asked;
       walk = calls_quiet _ c.args.store.now c.enter.new.store _ c.enter.result (tt, tt) (calls_behind (λ _. Unit {0}) c.enter.ensures.walk.asked c.args.store.now c.read_node.new.store c.enter.new.store c.read_node.result c.enter.result c.read_node.ensures.walk c.enter.ensures.walk.walk (λ asks later. tt));
-      asks = below_done (g.S.RecordRead.meaning c.args.store.now) (g.S.RecordRead.meaning c.read_node.new.store) (g.S.RecordRead.meaning c.enter.new.store) (g.S.RecordRead.meaning c.enter.new.store) c.args.key c.args.here.now.entries.items c.args.rank (c.in-Some-2.child.node.low, c.in-Some-2.child.at) (content_of c.in-Some-2.child.node) c.enter.ensures.walk.asked c.args.depth c.args.here.now.kind kind c.in_ok-child.ensures.walk.by.only c.enter.ensures.walk.walk.by.grow.reads (extends-refl (g.S.RecordRead.meaning c.enter.new.store).reads) (subst C c.requires.size child) (subst A c.requires.size at) c.enter.result c.enter.ensures.walk.asks (c.in_ok-enter.was ∙ ap (λ e. Ok e) c.in-Done.is) (λ leaf. (let l = c.in_ok-enter.ensures.leaf leaf in (rw c.in-Done.is at l).0)) refl;
+      asks = below_done (g.S.RecordRead.meaning c.args.store.now) (g.S.RecordRead.meaning c.read_node.new.store) (g.S.RecordRead.meaning c.enter.new.store) (g.S.RecordRead.meaning c.enter.new.store) c.args.key (content_at c.args.here.now).entries c.args.rank ((content_at c.in-Some-read.child.words).low, c.in-Some-read.child.at) (content_at c.in-Some-read.child.words) c.enter.ensures.walk.asked c.args.depth (content_at c.args.here.now).kind kind c.in_ok-read.ensures.walk.by.only c.enter.ensures.walk.walk.by.grow.reads (extends-refl (g.S.RecordRead.meaning c.enter.new.store).reads) (subst C c.requires.size child) (subst A c.requires.size at) c.enter.result c.enter.ensures.walk.asks (c.in_ok-enter.was ∙ ap (λ e. Ok e) c.in-Done.is) (λ leaf. (let l = c.in_ok-enter.ensures.leaf leaf in (rw c.in-Done.is at l).0)) refl;
     }
 
-pub returns-in-Some-3-clause-inner : goal.returns-in-Some-3-clause-inner
-returns-in-Some-3-clause-inner g t c = λ kind.
-    let some = rank_some c.args.size (content_of c.args.here.now) c.args.key c.args.rank c.requires.sound kind c.requires.low c.requires.rank in
-    let read = rw c.deref.ensures.0 at c.in_ok-child.ensures.link in
-    let link = at_some (IsTreeLink c.args.size _ _) c.in-Some-2.child c.in-Some-2.is read in
-    let child = child_is c.args.size c.args.key c.args.here.now.entries.items c.args.rank c.in-Some-2.child c.requires.rank some link in
-    let at = child_at c.args.size _ (g.S.RecordRead.meaning c.args.store.now) (g.S.RecordRead.meaning c.read_node.new.store) c.in-Some-2.child c.in_ok-child.field-0 c.in-Some-2.is c.in_ok-child.ensures.read in
-    let C : ℕ → Type 0 = λ n. IsChild n c.args.key c.args.here.now.entries.items c.args.rank (c.in-Some-2.child.node.low, c.in-Some-2.child.at) (content_of c.in-Some-2.child.node) in
-    let A : ℕ → Type 0 = λ n. EachState (g.S.RecordRead.meaning c.args.store.now) (g.S.RecordRead.meaning c.read_node.new.store) (λ state. IsAt n state (c.in-Some-2.child.at, content_of c.in-Some-2.child.node)) in
-    let low = child_low c.args.size c.args.key c.args.here.now.entries.items c.args.rank (c.in-Some-2.child.node.low, c.in-Some-2.child.at) (content_of c.in-Some-2.child.node) child in
+pub returns-in-Some-2-clause-inner : goal.returns-in-Some-2-clause-inner
+returns-in-Some-2-clause-inner g t c = λ kind.
+    let some = rank_some c.args.size (content_at c.args.here.now) c.args.key c.args.rank c.requires.node.sound kind c.requires.low c.requires.rank in
+    let read = rw c.entry-at.ensures at c.in_ok-read.ensures.node in
+    let link = at_some (IsTreeNode c.args.size _ _) c.in-Some-read.child c.in-Some-read.is read in
+    let child = child_is c.args.size c.args.key (content_at c.args.here.now).entries c.args.rank c.in-Some-read.child c.requires.rank some link in
+    let at = child_at c.args.size _ (g.S.RecordRead.meaning c.args.store.now) (g.S.RecordRead.meaning c.read_node.new.store) c.in-Some-read.child c.in_ok-read.read c.in-Some-read.is c.in_ok-read.ensures.read in
+    let C : ℕ → Type 0 = λ n. IsChild n c.args.key (content_at c.args.here.now).entries c.args.rank ((content_at c.in-Some-read.child.words).low, c.in-Some-read.child.at) (content_at c.in-Some-read.child.words) in
+    let A : ℕ → Type 0 = λ n. EachState (g.S.RecordRead.meaning c.args.store.now) (g.S.RecordRead.meaning c.read_node.new.store) (λ state. IsAt n state (c.in-Some-read.child.at, content_at c.in-Some-read.child.words)) in
+    let low = child_low c.args.size c.args.key (content_at c.args.here.now).entries c.args.rank ((content_at c.in-Some-read.child.words).low, c.in-Some-read.child.at) (content_at c.in-Some-read.child.words) child in
     let L : ℕ → Type 0 = λ n. c.args.rid < n in
     let N : ℕ → Type 0 = λ n. c.in-Takes.entry.1 < n in
     let within = rw c.in-Takes.is at c.in_ok-enter.ensures.within in
-    let puts = rw c.in-Some-3.is at c.in_ok-new-in-Takes.ensures.ok in
-    enter_takes (Some c.in-Some-3.new) (g.S.RecordRead.meaning c.args.store.now) (g.S.RecordRead.meaning c.read_node.new.store) (g.S.RecordRead.meaning c.enter.new.store) (g.S.RecordRead.meaning c.put_entry.new.store) c.args.key c.args.rid c.args.here.now.entries.items c.args.rank (c.in-Some-2.child.node.low, c.in-Some-2.child.at) (content_of c.in-Some-2.child.node) c.rank-child_rank.result c.in-Takes.entry
-    c.in_ok-child.ensures.walk.by.only c.enter.ensures.walk.walk.by.grow c.put_entry.ensures.walk.by.grow (subst L c.requires.size c.requires.rid) (subst N c.requires.size within) (subst C c.requires.size child) c.rank-child_rank.ensures.rank
-    (λ inner. rank_some c.args.size (content_of c.in-Some-2.child.node) c.args.key c.rank-child_rank.result link.sound inner low c.rank-child_rank.ensures.rank) (subst A c.requires.size at)
+    let puts = rw c.in-Some-2.is at c.in_ok-new-in-Takes.ensures.ok in
+    enter_takes (Some c.in-Some-2.new) (g.S.RecordRead.meaning c.args.store.now) (g.S.RecordRead.meaning c.read_node.new.store) (g.S.RecordRead.meaning c.enter.new.store) (g.S.RecordRead.meaning c.put_entry.new.store) c.args.key c.args.rid (content_at c.args.here.now).entries c.args.rank ((content_at c.in-Some-read.child.words).low, c.in-Some-read.child.at) (content_at c.in-Some-read.child.words) c.rank_of-child_rank.result c.in-Takes.entry
+    c.in_ok-read.ensures.walk.by.only c.enter.ensures.walk.walk.by.grow c.put_entry.ensures.walk.by.grow (subst L c.requires.size c.requires.rid) (subst N c.requires.size within) (subst C c.requires.size child) c.rank_of-child_rank.ensures.rank
+    (λ inner. rank_some c.args.size (content_at c.in-Some-read.child.words) c.args.key c.rank_of-child_rank.result link.node.sound inner low c.rank_of-child_rank.ensures.rank) (subst A c.requires.size at)
     (λ leaf. (let l = rw c.in-Takes.is at (c.in_ok-enter.ensures.leaf leaf) in (l.0.0, l.0.1, l.1)))
-    (λ inner. from_reads (g.S.RecordRead.meaning c.args.store.now) (g.S.RecordRead.meaning c.read_node.new.store) (g.S.RecordRead.meaning c.enter.new.store) c.args.key c.args.rid c.in-Some-2.child.node.entries.items c.rank-child_rank.result c.in_ok-enter.field-0 _ c.in_ok-child.ensures.walk.by.only c.in-Takes.is (c.in_ok-enter.ensures.inner inner)) puts
+    (λ inner. from_reads (g.S.RecordRead.meaning c.args.store.now) (g.S.RecordRead.meaning c.read_node.new.store) (g.S.RecordRead.meaning c.enter.new.store) c.args.key c.args.rid (content_at c.in-Some-read.child.words).entries c.rank_of-child_rank.result c.in_ok-enter.field-0 _ c.in_ok-read.ensures.walk.by.only c.in-Takes.is (c.in_ok-enter.ensures.inner inner)) puts
 
-pub returns-in-Some-3-clause-walk : goal.returns-in-Some-3-clause-walk
-returns-in-Some-3-clause-walk g t c =
+pub returns-in-Some-2-clause-walk : goal.returns-in-Some-2-clause-walk
+returns-in-Some-2-clause-walk g t c =
     let kind = c.is_inner.ensures.inner c.if-not-is_inner.false in
-    let some = rank_some c.args.size (content_of c.args.here.now) c.args.key c.args.rank c.requires.sound kind c.requires.low c.requires.rank in
-    let read = rw c.deref.ensures.0 at c.in_ok-child.ensures.link in
-    let link = at_some (IsTreeLink c.args.size _ _) c.in-Some-2.child c.in-Some-2.is read in
-    let child = child_is c.args.size c.args.key c.args.here.now.entries.items c.args.rank c.in-Some-2.child c.requires.rank some link in
-    let at = child_at c.args.size _ (g.S.RecordRead.meaning c.args.store.now) (g.S.RecordRead.meaning c.read_node.new.store) c.in-Some-2.child c.in_ok-child.field-0 c.in-Some-2.is c.in_ok-child.ensures.read in
-    let C : ℕ → Type 0 = λ n. IsChild n c.args.key c.args.here.now.entries.items c.args.rank (c.in-Some-2.child.node.low, c.in-Some-2.child.at) (content_of c.in-Some-2.child.node) in
-    let A : ℕ → Type 0 = λ n. EachState (g.S.RecordRead.meaning c.args.store.now) (g.S.RecordRead.meaning c.read_node.new.store) (λ state. IsAt n state (c.in-Some-2.child.at, content_of c.in-Some-2.child.node)) in
-    let puts = rw c.in-Some-3.is at c.in_ok-new-in-Takes.ensures.ok in
-    let two = rw c.in-Some-3.is at c.in_ok-new-in-Takes.ensures.parted in
+    let some = rank_some c.args.size (content_at c.args.here.now) c.args.key c.args.rank c.requires.node.sound kind c.requires.low c.requires.rank in
+    let read = rw c.entry-at.ensures at c.in_ok-read.ensures.node in
+    let link = at_some (IsTreeNode c.args.size _ _) c.in-Some-read.child c.in-Some-read.is read in
+    let child = child_is c.args.size c.args.key (content_at c.args.here.now).entries c.args.rank c.in-Some-read.child c.requires.rank some link in
+    let at = child_at c.args.size _ (g.S.RecordRead.meaning c.args.store.now) (g.S.RecordRead.meaning c.read_node.new.store) c.in-Some-read.child c.in_ok-read.read c.in-Some-read.is c.in_ok-read.ensures.read in
+    let C : ℕ → Type 0 = λ n. IsChild n c.args.key (content_at c.args.here.now).entries c.args.rank ((content_at c.in-Some-read.child.words).low, c.in-Some-read.child.at) (content_at c.in-Some-read.child.words) in
+    let A : ℕ → Type 0 = λ n. EachState (g.S.RecordRead.meaning c.args.store.now) (g.S.RecordRead.meaning c.read_node.new.store) (λ state. IsAt n state (c.in-Some-read.child.at, content_at c.in-Some-read.child.words)) in
+    let puts = rw c.in-Some-2.is at c.in_ok-new-in-Takes.ensures.ok in
+    let two = rw c.in-Some-2.is at c.in_ok-new-in-Takes.ensures.parted in
     record {
-      asked = c.enter.ensures.walk.asked + asks_at c.in-Some-2.child.node.entries.items;
-      walk = calls_quiet _ c.args.store.now c.put_entry.new.store _ c.put_entry.result (tt, tt) (calls_then (λ _. Unit {0}) c.enter.ensures.walk.asked (asks_at c.in-Some-2.child.node.entries.items) c.args.store.now c.enter.new.store c.put_entry.new.store c.enter.result c.put_entry.result (calls_behind (λ _. Unit {0}) c.enter.ensures.walk.asked c.args.store.now c.read_node.new.store c.enter.new.store c.read_node.result c.enter.result c.read_node.ensures.walk c.enter.ensures.walk.walk (λ asks later. tt)) c.put_entry.ensures.walk (λ asks later. tt));
-      asks = takes_more (g.S.RecordRead.meaning c.args.store.now) (g.S.RecordRead.meaning c.read_node.new.store) (g.S.RecordRead.meaning c.enter.new.store) (g.S.RecordRead.meaning c.put_entry.new.store) c.args.key c.args.here.now.entries.items c.args.rank (c.in-Some-2.child.node.low, c.in-Some-2.child.at) (content_of c.in-Some-2.child.node) c.enter.ensures.walk.asked c.args.depth c.args.here.now.kind kind c.in_ok-child.ensures.walk.by.only c.enter.ensures.walk.walk.by.grow.reads c.put_entry.ensures.walk.by.grow.reads (subst C c.requires.size child) (subst A c.requires.size at) c.enter.result c.enter.ensures.walk.asks c.args.rid c.rank-child_rank.result c.in-Takes.entry (c.in_ok-enter.was ∙ ap (λ e. Ok e) c.in-Takes.is) (λ leaf. (let l = rw c.in-Takes.is at (c.in_ok-enter.ensures.leaf leaf) in l.0.1)) (λ inner. from_reads (g.S.RecordRead.meaning c.args.store.now) (g.S.RecordRead.meaning c.read_node.new.store) (g.S.RecordRead.meaning c.enter.new.store) c.args.key c.args.rid c.in-Some-2.child.node.entries.items c.rank-child_rank.result c.in_ok-enter.field-0 _ c.in_ok-child.ensures.walk.by.only c.in-Takes.is (c.in_ok-enter.ensures.inner inner)) c.in-Some-3.new (omega (arith, puts.0, length-with c.in-Some-2.child.node.entries.items c.rank-child_rank.result c.in-Takes.entry)) c.put_entry.ensures.few two;
+      asked = c.enter.ensures.walk.asked + asks_at (content_at c.in-Some-read.child.words).entries;
+      walk = calls_quiet _ c.args.store.now c.put_entry.new.store _ c.put_entry.result (tt, tt) (calls_then (λ _. Unit {0}) c.enter.ensures.walk.asked (asks_at (content_at c.in-Some-read.child.words).entries) c.args.store.now c.enter.new.store c.put_entry.new.store c.enter.result c.put_entry.result (calls_behind (λ _. Unit {0}) c.enter.ensures.walk.asked c.args.store.now c.read_node.new.store c.enter.new.store c.read_node.result c.enter.result c.read_node.ensures.walk c.enter.ensures.walk.walk (λ asks later. tt)) c.put_entry.ensures.walk (λ asks later. tt));
+      asks = takes_more (g.S.RecordRead.meaning c.args.store.now) (g.S.RecordRead.meaning c.read_node.new.store) (g.S.RecordRead.meaning c.enter.new.store) (g.S.RecordRead.meaning c.put_entry.new.store) c.args.key (content_at c.args.here.now).entries c.args.rank ((content_at c.in-Some-read.child.words).low, c.in-Some-read.child.at) (content_at c.in-Some-read.child.words) c.enter.ensures.walk.asked c.args.depth (content_at c.args.here.now).kind kind c.in_ok-read.ensures.walk.by.only c.enter.ensures.walk.walk.by.grow.reads c.put_entry.ensures.walk.by.grow.reads (subst C c.requires.size child) (subst A c.requires.size at) c.enter.result c.enter.ensures.walk.asks c.args.rid c.rank_of-child_rank.result c.in-Takes.entry (c.in_ok-enter.was ∙ ap (λ e. Ok e) c.in-Takes.is) (λ leaf. (let l = rw c.in-Takes.is at (c.in_ok-enter.ensures.leaf leaf) in l.0.1)) (λ inner. from_reads (g.S.RecordRead.meaning c.args.store.now) (g.S.RecordRead.meaning c.read_node.new.store) (g.S.RecordRead.meaning c.enter.new.store) c.args.key c.args.rid (content_at c.in-Some-read.child.words).entries c.rank_of-child_rank.result c.in_ok-enter.field-0 _ c.in_ok-read.ensures.walk.by.only c.in-Takes.is (c.in_ok-enter.ensures.inner inner)) c.in-Some-2.new (omega (arith, puts.0, length-with (content_at c.in-Some-read.child.words).entries c.rank_of-child_rank.result c.in-Takes.entry)) c.put_entry.ensures.few two;
     }
 
 pub returns-in-None-2-clause-inner : goal.returns-in-None-2-clause-inner
 returns-in-None-2-clause-inner g t c = λ kind.
-    let some = rank_some c.args.size (content_of c.args.here.now) c.args.key c.args.rank c.requires.sound kind c.requires.low c.requires.rank in
-    let read = rw c.deref.ensures.0 at c.in_ok-child.ensures.link in
-    let link = at_some (IsTreeLink c.args.size _ _) c.in-Some-2.child c.in-Some-2.is read in
-    let child = child_is c.args.size c.args.key c.args.here.now.entries.items c.args.rank c.in-Some-2.child c.requires.rank some link in
-    let at = child_at c.args.size _ (g.S.RecordRead.meaning c.args.store.now) (g.S.RecordRead.meaning c.read_node.new.store) c.in-Some-2.child c.in_ok-child.field-0 c.in-Some-2.is c.in_ok-child.ensures.read in
-    let C : ℕ → Type 0 = λ n. IsChild n c.args.key c.args.here.now.entries.items c.args.rank (c.in-Some-2.child.node.low, c.in-Some-2.child.at) (content_of c.in-Some-2.child.node) in
-    let A : ℕ → Type 0 = λ n. EachState (g.S.RecordRead.meaning c.args.store.now) (g.S.RecordRead.meaning c.read_node.new.store) (λ state. IsAt n state (c.in-Some-2.child.at, content_of c.in-Some-2.child.node)) in
-    let low = child_low c.args.size c.args.key c.args.here.now.entries.items c.args.rank (c.in-Some-2.child.node.low, c.in-Some-2.child.at) (content_of c.in-Some-2.child.node) child in
+    let some = rank_some c.args.size (content_at c.args.here.now) c.args.key c.args.rank c.requires.node.sound kind c.requires.low c.requires.rank in
+    let read = rw c.entry-at.ensures at c.in_ok-read.ensures.node in
+    let link = at_some (IsTreeNode c.args.size _ _) c.in-Some-read.child c.in-Some-read.is read in
+    let child = child_is c.args.size c.args.key (content_at c.args.here.now).entries c.args.rank c.in-Some-read.child c.requires.rank some link in
+    let at = child_at c.args.size _ (g.S.RecordRead.meaning c.args.store.now) (g.S.RecordRead.meaning c.read_node.new.store) c.in-Some-read.child c.in_ok-read.read c.in-Some-read.is c.in_ok-read.ensures.read in
+    let C : ℕ → Type 0 = λ n. IsChild n c.args.key (content_at c.args.here.now).entries c.args.rank ((content_at c.in-Some-read.child.words).low, c.in-Some-read.child.at) (content_at c.in-Some-read.child.words) in
+    let A : ℕ → Type 0 = λ n. EachState (g.S.RecordRead.meaning c.args.store.now) (g.S.RecordRead.meaning c.read_node.new.store) (λ state. IsAt n state (c.in-Some-read.child.at, content_at c.in-Some-read.child.words)) in
+    let low = child_low c.args.size c.args.key (content_at c.args.here.now).entries c.args.rank ((content_at c.in-Some-read.child.words).low, c.in-Some-read.child.at) (content_at c.in-Some-read.child.words) child in
     let L : ℕ → Type 0 = λ n. c.args.rid < n in
     let N : ℕ → Type 0 = λ n. c.in-Takes.entry.1 < n in
     let within = rw c.in-Takes.is at c.in_ok-enter.ensures.within in
     let puts = rw c.in-None-2.is at c.in_ok-new-in-Takes.ensures.ok in
-    enter_takes None (g.S.RecordRead.meaning c.args.store.now) (g.S.RecordRead.meaning c.read_node.new.store) (g.S.RecordRead.meaning c.enter.new.store) (g.S.RecordRead.meaning c.put_entry.new.store) c.args.key c.args.rid c.args.here.now.entries.items c.args.rank (c.in-Some-2.child.node.low, c.in-Some-2.child.at) (content_of c.in-Some-2.child.node) c.rank-child_rank.result c.in-Takes.entry
-    c.in_ok-child.ensures.walk.by.only c.enter.ensures.walk.walk.by.grow c.put_entry.ensures.walk.by.grow (subst L c.requires.size c.requires.rid) (subst N c.requires.size within) (subst C c.requires.size child) c.rank-child_rank.ensures.rank
-    (λ inner. rank_some c.args.size (content_of c.in-Some-2.child.node) c.args.key c.rank-child_rank.result link.sound inner low c.rank-child_rank.ensures.rank) (subst A c.requires.size at)
+    enter_takes None (g.S.RecordRead.meaning c.args.store.now) (g.S.RecordRead.meaning c.read_node.new.store) (g.S.RecordRead.meaning c.enter.new.store) (g.S.RecordRead.meaning c.put_entry.new.store) c.args.key c.args.rid (content_at c.args.here.now).entries c.args.rank ((content_at c.in-Some-read.child.words).low, c.in-Some-read.child.at) (content_at c.in-Some-read.child.words) c.rank_of-child_rank.result c.in-Takes.entry
+    c.in_ok-read.ensures.walk.by.only c.enter.ensures.walk.walk.by.grow c.put_entry.ensures.walk.by.grow (subst L c.requires.size c.requires.rid) (subst N c.requires.size within) (subst C c.requires.size child) c.rank_of-child_rank.ensures.rank
+    (λ inner. rank_some c.args.size (content_at c.in-Some-read.child.words) c.args.key c.rank_of-child_rank.result link.node.sound inner low c.rank_of-child_rank.ensures.rank) (subst A c.requires.size at)
     (λ leaf. (let l = rw c.in-Takes.is at (c.in_ok-enter.ensures.leaf leaf) in (l.0.0, l.0.1, l.1)))
-    (λ inner. from_reads (g.S.RecordRead.meaning c.args.store.now) (g.S.RecordRead.meaning c.read_node.new.store) (g.S.RecordRead.meaning c.enter.new.store) c.args.key c.args.rid c.in-Some-2.child.node.entries.items c.rank-child_rank.result c.in_ok-enter.field-0 _ c.in_ok-child.ensures.walk.by.only c.in-Takes.is (c.in_ok-enter.ensures.inner inner)) puts
+    (λ inner. from_reads (g.S.RecordRead.meaning c.args.store.now) (g.S.RecordRead.meaning c.read_node.new.store) (g.S.RecordRead.meaning c.enter.new.store) c.args.key c.args.rid (content_at c.in-Some-read.child.words).entries c.rank_of-child_rank.result c.in_ok-enter.field-0 _ c.in_ok-read.ensures.walk.by.only c.in-Takes.is (c.in_ok-enter.ensures.inner inner)) puts
 
 pub returns-in-None-2-clause-walk : goal.returns-in-None-2-clause-walk
 returns-in-None-2-clause-walk g t c =
     let kind = c.is_inner.ensures.inner c.if-not-is_inner.false in
-    let some = rank_some c.args.size (content_of c.args.here.now) c.args.key c.args.rank c.requires.sound kind c.requires.low c.requires.rank in
-    let read = rw c.deref.ensures.0 at c.in_ok-child.ensures.link in
-    let link = at_some (IsTreeLink c.args.size _ _) c.in-Some-2.child c.in-Some-2.is read in
-    let child = child_is c.args.size c.args.key c.args.here.now.entries.items c.args.rank c.in-Some-2.child c.requires.rank some link in
-    let at = child_at c.args.size _ (g.S.RecordRead.meaning c.args.store.now) (g.S.RecordRead.meaning c.read_node.new.store) c.in-Some-2.child c.in_ok-child.field-0 c.in-Some-2.is c.in_ok-child.ensures.read in
-    let C : ℕ → Type 0 = λ n. IsChild n c.args.key c.args.here.now.entries.items c.args.rank (c.in-Some-2.child.node.low, c.in-Some-2.child.at) (content_of c.in-Some-2.child.node) in
-    let A : ℕ → Type 0 = λ n. EachState (g.S.RecordRead.meaning c.args.store.now) (g.S.RecordRead.meaning c.read_node.new.store) (λ state. IsAt n state (c.in-Some-2.child.at, content_of c.in-Some-2.child.node)) in
+    let some = rank_some c.args.size (content_at c.args.here.now) c.args.key c.args.rank c.requires.node.sound kind c.requires.low c.requires.rank in
+    let read = rw c.entry-at.ensures at c.in_ok-read.ensures.node in
+    let link = at_some (IsTreeNode c.args.size _ _) c.in-Some-read.child c.in-Some-read.is read in
+    let child = child_is c.args.size c.args.key (content_at c.args.here.now).entries c.args.rank c.in-Some-read.child c.requires.rank some link in
+    let at = child_at c.args.size _ (g.S.RecordRead.meaning c.args.store.now) (g.S.RecordRead.meaning c.read_node.new.store) c.in-Some-read.child c.in_ok-read.read c.in-Some-read.is c.in_ok-read.ensures.read in
+    let C : ℕ → Type 0 = λ n. IsChild n c.args.key (content_at c.args.here.now).entries c.args.rank ((content_at c.in-Some-read.child.words).low, c.in-Some-read.child.at) (content_at c.in-Some-read.child.words) in
+    let A : ℕ → Type 0 = λ n. EachState (g.S.RecordRead.meaning c.args.store.now) (g.S.RecordRead.meaning c.read_node.new.store) (λ state. IsAt n state (c.in-Some-read.child.at, content_at c.in-Some-read.child.words)) in
     let puts = rw c.in-None-2.is at c.in_ok-new-in-Takes.ensures.ok in
     record {
-      asked = c.enter.ensures.walk.asked + asks_at c.in-Some-2.child.node.entries.items;
-      walk = calls_quiet _ c.args.store.now c.put_entry.new.store _ c.put_entry.result (tt, tt) (calls_then (λ _. Unit {0}) c.enter.ensures.walk.asked (asks_at c.in-Some-2.child.node.entries.items) c.args.store.now c.enter.new.store c.put_entry.new.store c.enter.result c.put_entry.result (calls_behind (λ _. Unit {0}) c.enter.ensures.walk.asked c.args.store.now c.read_node.new.store c.enter.new.store c.read_node.result c.enter.result c.read_node.ensures.walk c.enter.ensures.walk.walk (λ asks later. tt)) c.put_entry.ensures.walk (λ asks later. tt));
-      asks = takes_none (g.S.RecordRead.meaning c.args.store.now) (g.S.RecordRead.meaning c.read_node.new.store) (g.S.RecordRead.meaning c.enter.new.store) (g.S.RecordRead.meaning c.put_entry.new.store) c.args.key c.args.here.now.entries.items c.args.rank (c.in-Some-2.child.node.low, c.in-Some-2.child.at) (content_of c.in-Some-2.child.node) c.enter.ensures.walk.asked c.args.depth c.args.here.now.kind kind c.in_ok-child.ensures.walk.by.only c.enter.ensures.walk.walk.by.grow.reads c.put_entry.ensures.walk.by.grow.reads (subst C c.requires.size child) (subst A c.requires.size at) c.enter.result c.enter.ensures.walk.asks c.args.rid c.rank-child_rank.result c.in-Takes.entry (c.in_ok-enter.was ∙ ap (λ e. Ok e) c.in-Takes.is) (λ leaf. (let l = rw c.in-Takes.is at (c.in_ok-enter.ensures.leaf leaf) in l.0.1)) (λ inner. from_reads (g.S.RecordRead.meaning c.args.store.now) (g.S.RecordRead.meaning c.read_node.new.store) (g.S.RecordRead.meaning c.enter.new.store) c.args.key c.args.rid c.in-Some-2.child.node.entries.items c.rank-child_rank.result c.in_ok-enter.field-0 _ c.in_ok-child.ensures.walk.by.only c.in-Takes.is (c.in_ok-enter.ensures.inner inner)) (λ nine. omega (arith, nine, puts.0, length-with c.in-Some-2.child.node.entries.items c.rank-child_rank.result c.in-Takes.entry)) c.put_entry.ensures.few;
+      asked = c.enter.ensures.walk.asked + asks_at (content_at c.in-Some-read.child.words).entries;
+      walk = calls_quiet _ c.args.store.now c.put_entry.new.store _ c.put_entry.result (tt, tt) (calls_then (λ _. Unit {0}) c.enter.ensures.walk.asked (asks_at (content_at c.in-Some-read.child.words).entries) c.args.store.now c.enter.new.store c.put_entry.new.store c.enter.result c.put_entry.result (calls_behind (λ _. Unit {0}) c.enter.ensures.walk.asked c.args.store.now c.read_node.new.store c.enter.new.store c.read_node.result c.enter.result c.read_node.ensures.walk c.enter.ensures.walk.walk (λ asks later. tt)) c.put_entry.ensures.walk (λ asks later. tt));
+      asks = takes_none (g.S.RecordRead.meaning c.args.store.now) (g.S.RecordRead.meaning c.read_node.new.store) (g.S.RecordRead.meaning c.enter.new.store) (g.S.RecordRead.meaning c.put_entry.new.store) c.args.key (content_at c.args.here.now).entries c.args.rank ((content_at c.in-Some-read.child.words).low, c.in-Some-read.child.at) (content_at c.in-Some-read.child.words) c.enter.ensures.walk.asked c.args.depth (content_at c.args.here.now).kind kind c.in_ok-read.ensures.walk.by.only c.enter.ensures.walk.walk.by.grow.reads c.put_entry.ensures.walk.by.grow.reads (subst C c.requires.size child) (subst A c.requires.size at) c.enter.result c.enter.ensures.walk.asks c.args.rid c.rank_of-child_rank.result c.in-Takes.entry (c.in_ok-enter.was ∙ ap (λ e. Ok e) c.in-Takes.is) (λ leaf. (let l = rw c.in-Takes.is at (c.in_ok-enter.ensures.leaf leaf) in l.0.1)) (λ inner. from_reads (g.S.RecordRead.meaning c.args.store.now) (g.S.RecordRead.meaning c.read_node.new.store) (g.S.RecordRead.meaning c.enter.new.store) c.args.key c.args.rid (content_at c.in-Some-read.child.words).entries c.rank_of-child_rank.result c.in_ok-enter.field-0 _ c.in_ok-read.ensures.walk.by.only c.in-Takes.is (c.in_ok-enter.ensures.inner inner)) (λ nine. omega (arith, nine, puts.0, length-with (content_at c.in-Some-read.child.words).entries c.rank_of-child_rank.result c.in-Takes.entry)) c.put_entry.ensures.few;
     }
 
 pub returns-in-There-clause-walked : goal.returns-in-There-clause-walked
 returns-in-There-clause-walked g t c =
     λ here.
     let kind = c.is_inner.ensures.inner c.if-not-is_inner.false in
-    let some = rank_some c.args.size (content_of c.args.here.now) c.args.key c.args.rank c.requires.sound kind c.requires.low c.requires.rank in
-    let read = rw c.deref.ensures.0 at c.in_ok-child.ensures.link in
-    let link = at_some (IsTreeLink c.args.size _ _) c.in-Some-2.child c.in-Some-2.is read in
-    let child = child_is c.args.size c.args.key c.args.here.now.entries.items c.args.rank c.in-Some-2.child c.requires.rank some link in
-    let at = child_at c.args.size _ (g.S.RecordRead.meaning c.args.store.now) (g.S.RecordRead.meaning c.read_node.new.store) c.in-Some-2.child c.in_ok-child.field-0 c.in-Some-2.is c.in_ok-child.ensures.read in
-    each_reaches c.args.size c.args.depth c.args.key c.args.here.now.entries.items c.args.rank (c.in-Some-2.child.node.low, c.in-Some-2.child.at) (content_of c.in-Some-2.child.node) (g.S.RecordRead.meaning c.args.store.now) (g.S.RecordRead.meaning c.read_node.new.store) (g.S.RecordRead.meaning c.enter.new.store) (g.S.RecordRead.meaning c.enter.new.store) c.in_ok-child.ensures.walk.by.only c.enter.ensures.walk.walk.by.grow.reads (extends-refl (g.S.RecordRead.meaning c.enter.new.store).reads) child at (omega (arith, c.requires.depth, c.if-depth-eq-MOST_DEPTH.false)) c.in_ok-enter.ensures.walked
+    let some = rank_some c.args.size (content_at c.args.here.now) c.args.key c.args.rank c.requires.node.sound kind c.requires.low c.requires.rank in
+    let read = rw c.entry-at.ensures at c.in_ok-read.ensures.node in
+    let link = at_some (IsTreeNode c.args.size _ _) c.in-Some-read.child c.in-Some-read.is read in
+    let child = child_is c.args.size c.args.key (content_at c.args.here.now).entries c.args.rank c.in-Some-read.child c.requires.rank some link in
+    let at = child_at c.args.size _ (g.S.RecordRead.meaning c.args.store.now) (g.S.RecordRead.meaning c.read_node.new.store) c.in-Some-read.child c.in_ok-read.read c.in-Some-read.is c.in_ok-read.ensures.read in
+    each_reaches c.args.size c.args.depth c.args.key (content_at c.args.here.now).entries c.args.rank ((content_at c.in-Some-read.child.words).low, c.in-Some-read.child.at) (content_at c.in-Some-read.child.words) (g.S.RecordRead.meaning c.args.store.now) (g.S.RecordRead.meaning c.read_node.new.store) (g.S.RecordRead.meaning c.enter.new.store) (g.S.RecordRead.meaning c.enter.new.store) c.in_ok-read.ensures.walk.by.only c.enter.ensures.walk.walk.by.grow.reads (extends-refl (g.S.RecordRead.meaning c.enter.new.store).reads) child at (omega (arith, c.requires.depth, c.if-depth-eq-MOST_DEPTH.false)) c.in_ok-enter.ensures.walked
 
 pub returns-in-Done-clause-walked : goal.returns-in-Done-clause-walked
 returns-in-Done-clause-walked g t c =
     λ here.
     let kind = c.is_inner.ensures.inner c.if-not-is_inner.false in
-    let some = rank_some c.args.size (content_of c.args.here.now) c.args.key c.args.rank c.requires.sound kind c.requires.low c.requires.rank in
-    let read = rw c.deref.ensures.0 at c.in_ok-child.ensures.link in
-    let link = at_some (IsTreeLink c.args.size _ _) c.in-Some-2.child c.in-Some-2.is read in
-    let child = child_is c.args.size c.args.key c.args.here.now.entries.items c.args.rank c.in-Some-2.child c.requires.rank some link in
-    let at = child_at c.args.size _ (g.S.RecordRead.meaning c.args.store.now) (g.S.RecordRead.meaning c.read_node.new.store) c.in-Some-2.child c.in_ok-child.field-0 c.in-Some-2.is c.in_ok-child.ensures.read in
-    each_reaches c.args.size c.args.depth c.args.key c.args.here.now.entries.items c.args.rank (c.in-Some-2.child.node.low, c.in-Some-2.child.at) (content_of c.in-Some-2.child.node) (g.S.RecordRead.meaning c.args.store.now) (g.S.RecordRead.meaning c.read_node.new.store) (g.S.RecordRead.meaning c.enter.new.store) (g.S.RecordRead.meaning c.enter.new.store) c.in_ok-child.ensures.walk.by.only c.enter.ensures.walk.walk.by.grow.reads (extends-refl (g.S.RecordRead.meaning c.enter.new.store).reads) child at (omega (arith, c.requires.depth, c.if-depth-eq-MOST_DEPTH.false)) c.in_ok-enter.ensures.walked
+    let some = rank_some c.args.size (content_at c.args.here.now) c.args.key c.args.rank c.requires.node.sound kind c.requires.low c.requires.rank in
+    let read = rw c.entry-at.ensures at c.in_ok-read.ensures.node in
+    let link = at_some (IsTreeNode c.args.size _ _) c.in-Some-read.child c.in-Some-read.is read in
+    let child = child_is c.args.size c.args.key (content_at c.args.here.now).entries c.args.rank c.in-Some-read.child c.requires.rank some link in
+    let at = child_at c.args.size _ (g.S.RecordRead.meaning c.args.store.now) (g.S.RecordRead.meaning c.read_node.new.store) c.in-Some-read.child c.in_ok-read.read c.in-Some-read.is c.in_ok-read.ensures.read in
+    each_reaches c.args.size c.args.depth c.args.key (content_at c.args.here.now).entries c.args.rank ((content_at c.in-Some-read.child.words).low, c.in-Some-read.child.at) (content_at c.in-Some-read.child.words) (g.S.RecordRead.meaning c.args.store.now) (g.S.RecordRead.meaning c.read_node.new.store) (g.S.RecordRead.meaning c.enter.new.store) (g.S.RecordRead.meaning c.enter.new.store) c.in_ok-read.ensures.walk.by.only c.enter.ensures.walk.walk.by.grow.reads (extends-refl (g.S.RecordRead.meaning c.enter.new.store).reads) child at (omega (arith, c.requires.depth, c.if-depth-eq-MOST_DEPTH.false)) c.in_ok-enter.ensures.walked
 
-pub returns-in-Some-3-clause-walked : goal.returns-in-Some-3-clause-walked
-returns-in-Some-3-clause-walked g t c =
+pub returns-in-Some-2-clause-walked : goal.returns-in-Some-2-clause-walked
+returns-in-Some-2-clause-walked g t c =
     λ here.
     let kind = c.is_inner.ensures.inner c.if-not-is_inner.false in
-    let some = rank_some c.args.size (content_of c.args.here.now) c.args.key c.args.rank c.requires.sound kind c.requires.low c.requires.rank in
-    let read = rw c.deref.ensures.0 at c.in_ok-child.ensures.link in
-    let link = at_some (IsTreeLink c.args.size _ _) c.in-Some-2.child c.in-Some-2.is read in
-    let child = child_is c.args.size c.args.key c.args.here.now.entries.items c.args.rank c.in-Some-2.child c.requires.rank some link in
-    let at = child_at c.args.size _ (g.S.RecordRead.meaning c.args.store.now) (g.S.RecordRead.meaning c.read_node.new.store) c.in-Some-2.child c.in_ok-child.field-0 c.in-Some-2.is c.in_ok-child.ensures.read in
-    each_reaches c.args.size c.args.depth c.args.key c.args.here.now.entries.items c.args.rank (c.in-Some-2.child.node.low, c.in-Some-2.child.at) (content_of c.in-Some-2.child.node) (g.S.RecordRead.meaning c.args.store.now) (g.S.RecordRead.meaning c.read_node.new.store) (g.S.RecordRead.meaning c.enter.new.store) (g.S.RecordRead.meaning c.put_entry.new.store) c.in_ok-child.ensures.walk.by.only c.enter.ensures.walk.walk.by.grow.reads c.put_entry.ensures.walk.by.grow.reads child at (omega (arith, c.requires.depth, c.if-depth-eq-MOST_DEPTH.false)) c.in_ok-enter.ensures.walked
+    let some = rank_some c.args.size (content_at c.args.here.now) c.args.key c.args.rank c.requires.node.sound kind c.requires.low c.requires.rank in
+    let read = rw c.entry-at.ensures at c.in_ok-read.ensures.node in
+    let link = at_some (IsTreeNode c.args.size _ _) c.in-Some-read.child c.in-Some-read.is read in
+    let child = child_is c.args.size c.args.key (content_at c.args.here.now).entries c.args.rank c.in-Some-read.child c.requires.rank some link in
+    let at = child_at c.args.size _ (g.S.RecordRead.meaning c.args.store.now) (g.S.RecordRead.meaning c.read_node.new.store) c.in-Some-read.child c.in_ok-read.read c.in-Some-read.is c.in_ok-read.ensures.read in
+    each_reaches c.args.size c.args.depth c.args.key (content_at c.args.here.now).entries c.args.rank ((content_at c.in-Some-read.child.words).low, c.in-Some-read.child.at) (content_at c.in-Some-read.child.words) (g.S.RecordRead.meaning c.args.store.now) (g.S.RecordRead.meaning c.read_node.new.store) (g.S.RecordRead.meaning c.enter.new.store) (g.S.RecordRead.meaning c.put_entry.new.store) c.in_ok-read.ensures.walk.by.only c.enter.ensures.walk.walk.by.grow.reads c.put_entry.ensures.walk.by.grow.reads child at (omega (arith, c.requires.depth, c.if-depth-eq-MOST_DEPTH.false)) c.in_ok-enter.ensures.walked
 
 pub returns-in-None-2-clause-walked : goal.returns-in-None-2-clause-walked
 returns-in-None-2-clause-walked g t c =
     λ here.
     let kind = c.is_inner.ensures.inner c.if-not-is_inner.false in
-    let some = rank_some c.args.size (content_of c.args.here.now) c.args.key c.args.rank c.requires.sound kind c.requires.low c.requires.rank in
-    let read = rw c.deref.ensures.0 at c.in_ok-child.ensures.link in
-    let link = at_some (IsTreeLink c.args.size _ _) c.in-Some-2.child c.in-Some-2.is read in
-    let child = child_is c.args.size c.args.key c.args.here.now.entries.items c.args.rank c.in-Some-2.child c.requires.rank some link in
-    let at = child_at c.args.size _ (g.S.RecordRead.meaning c.args.store.now) (g.S.RecordRead.meaning c.read_node.new.store) c.in-Some-2.child c.in_ok-child.field-0 c.in-Some-2.is c.in_ok-child.ensures.read in
-    each_reaches c.args.size c.args.depth c.args.key c.args.here.now.entries.items c.args.rank (c.in-Some-2.child.node.low, c.in-Some-2.child.at) (content_of c.in-Some-2.child.node) (g.S.RecordRead.meaning c.args.store.now) (g.S.RecordRead.meaning c.read_node.new.store) (g.S.RecordRead.meaning c.enter.new.store) (g.S.RecordRead.meaning c.put_entry.new.store) c.in_ok-child.ensures.walk.by.only c.enter.ensures.walk.walk.by.grow.reads c.put_entry.ensures.walk.by.grow.reads child at (omega (arith, c.requires.depth, c.if-depth-eq-MOST_DEPTH.false)) c.in_ok-enter.ensures.walked
+    let some = rank_some c.args.size (content_at c.args.here.now) c.args.key c.args.rank c.requires.node.sound kind c.requires.low c.requires.rank in
+    let read = rw c.entry-at.ensures at c.in_ok-read.ensures.node in
+    let link = at_some (IsTreeNode c.args.size _ _) c.in-Some-read.child c.in-Some-read.is read in
+    let child = child_is c.args.size c.args.key (content_at c.args.here.now).entries c.args.rank c.in-Some-read.child c.requires.rank some link in
+    let at = child_at c.args.size _ (g.S.RecordRead.meaning c.args.store.now) (g.S.RecordRead.meaning c.read_node.new.store) c.in-Some-read.child c.in_ok-read.read c.in-Some-read.is c.in_ok-read.ensures.read in
+    each_reaches c.args.size c.args.depth c.args.key (content_at c.args.here.now).entries c.args.rank ((content_at c.in-Some-read.child.words).low, c.in-Some-read.child.at) (content_at c.in-Some-read.child.words) (g.S.RecordRead.meaning c.args.store.now) (g.S.RecordRead.meaning c.read_node.new.store) (g.S.RecordRead.meaning c.enter.new.store) (g.S.RecordRead.meaning c.put_entry.new.store) c.in_ok-read.ensures.walk.by.only c.enter.ensures.walk.walk.by.grow.reads c.put_entry.ensures.walk.by.grow.reads child at (omega (arith, c.requires.depth, c.if-depth-eq-MOST_DEPTH.false)) c.in_ok-enter.ensures.walked
 
 -- what is written
 pub returns-in-Some-clause-writes : goal.returns-in-Some-clause-writes
@@ -334,8 +334,8 @@ pub returns-then-depth-eq-MOST_DEPTH-clause-writes : goal.returns-then-depth-eq-
 returns-then-depth-eq-MOST_DEPTH-clause-writes g t c =
     known-reads (g.S.RecordRead.meaning c.args.store.now) (g.S.RecordRead.meaning c.args.store.now) (OnlyReads-refl (g.S.RecordRead.meaning c.args.store.now))
 
-pub returns-in_err-child-clause-writes : goal.returns-in_err-child-clause-writes
-returns-in_err-child-clause-writes g t c =
+pub returns-in_err-read-clause-writes : goal.returns-in_err-read-clause-writes
+returns-in_err-read-clause-writes g t c =
     known-reads (g.S.RecordRead.meaning c.args.store.now) (g.S.RecordRead.meaning c.read_node.new.store) c.read_node.ensures.walk.by.only
 
 pub returns-in_default-clause-writes : goal.returns-in_default-clause-writes
@@ -344,58 +344,58 @@ returns-in_default-clause-writes g t c =
 
 pub returns-in_err-enter-clause-writes : goal.returns-in_err-enter-clause-writes
 returns-in_err-enter-clause-writes g t c =
-    known-behind (g.S.RecordRead.meaning c.args.store.now) (g.S.RecordRead.meaning c.read_node.new.store) (g.S.RecordRead.meaning c.enter.new.store) c.in_ok-child.ensures.walk.by.only c.enter.ensures.writes
+    known-behind (g.S.RecordRead.meaning c.args.store.now) (g.S.RecordRead.meaning c.read_node.new.store) (g.S.RecordRead.meaning c.enter.new.store) c.in_ok-read.ensures.walk.by.only c.enter.ensures.writes
 
 pub returns-in-There-clause-writes : goal.returns-in-There-clause-writes
 returns-in-There-clause-writes g t c =
-    known-behind (g.S.RecordRead.meaning c.args.store.now) (g.S.RecordRead.meaning c.read_node.new.store) (g.S.RecordRead.meaning c.enter.new.store) c.in_ok-child.ensures.walk.by.only c.enter.ensures.writes
+    known-behind (g.S.RecordRead.meaning c.args.store.now) (g.S.RecordRead.meaning c.read_node.new.store) (g.S.RecordRead.meaning c.enter.new.store) c.in_ok-read.ensures.walk.by.only c.enter.ensures.writes
 
 pub returns-in-Done-clause-writes : goal.returns-in-Done-clause-writes
 returns-in-Done-clause-writes g t c =
-    known-behind (g.S.RecordRead.meaning c.args.store.now) (g.S.RecordRead.meaning c.read_node.new.store) (g.S.RecordRead.meaning c.enter.new.store) c.in_ok-child.ensures.walk.by.only c.enter.ensures.writes
+    known-behind (g.S.RecordRead.meaning c.args.store.now) (g.S.RecordRead.meaning c.read_node.new.store) (g.S.RecordRead.meaning c.enter.new.store) c.in_ok-read.ensures.walk.by.only c.enter.ensures.writes
 
 pub returns-in_err-new-in-Takes-clause-writes : goal.returns-in_err-new-in-Takes-clause-writes
 returns-in_err-new-in-Takes-clause-writes g t c =
-    let at = child_at c.args.size _ (g.S.RecordRead.meaning c.args.store.now) (g.S.RecordRead.meaning c.read_node.new.store) c.in-Some-2.child c.in_ok-child.field-0 c.in-Some-2.is c.in_ok-child.ensures.read in
-    known-then-found (asks_at c.in-Some-2.child.node.entries.items) (g.S.RecordRead.meaning c.args.store.now) (g.S.RecordRead.meaning c.read_node.new.store) (g.S.RecordRead.meaning c.enter.new.store) (g.S.RecordRead.meaning c.put_entry.new.store) c.in-Some-2.child.at (known-behind (g.S.RecordRead.meaning c.args.store.now) (g.S.RecordRead.meaning c.read_node.new.store) (g.S.RecordRead.meaning c.enter.new.store) c.in_ok-child.ensures.walk.by.only c.enter.ensures.writes) c.enter.ensures.walk.walk.by.grow.reads c.put_entry.ensures.walk.by.grow.reads c.put_entry.ensures.walk.by.given c.put_entry.ensures.writes (λ state agrees. (let is = at state agrees in (is.words, is.here)))
+    let at = child_at c.args.size _ (g.S.RecordRead.meaning c.args.store.now) (g.S.RecordRead.meaning c.read_node.new.store) c.in-Some-read.child c.in_ok-read.read c.in-Some-read.is c.in_ok-read.ensures.read in
+    known-then-found (asks_at (content_at c.in-Some-read.child.words).entries) (g.S.RecordRead.meaning c.args.store.now) (g.S.RecordRead.meaning c.read_node.new.store) (g.S.RecordRead.meaning c.enter.new.store) (g.S.RecordRead.meaning c.put_entry.new.store) c.in-Some-read.child.at (known-behind (g.S.RecordRead.meaning c.args.store.now) (g.S.RecordRead.meaning c.read_node.new.store) (g.S.RecordRead.meaning c.enter.new.store) c.in_ok-read.ensures.walk.by.only c.enter.ensures.writes) c.enter.ensures.walk.walk.by.grow.reads c.put_entry.ensures.walk.by.grow.reads c.put_entry.ensures.walk.by.given c.put_entry.ensures.writes (λ state agrees. (let is = at state agrees in (is.words, is.here)))
 
-pub returns-in-Some-3-clause-writes : goal.returns-in-Some-3-clause-writes
-returns-in-Some-3-clause-writes g t c =
-    let at = child_at c.args.size _ (g.S.RecordRead.meaning c.args.store.now) (g.S.RecordRead.meaning c.read_node.new.store) c.in-Some-2.child c.in_ok-child.field-0 c.in-Some-2.is c.in_ok-child.ensures.read in
-    known-then-found (asks_at c.in-Some-2.child.node.entries.items) (g.S.RecordRead.meaning c.args.store.now) (g.S.RecordRead.meaning c.read_node.new.store) (g.S.RecordRead.meaning c.enter.new.store) (g.S.RecordRead.meaning c.put_entry.new.store) c.in-Some-2.child.at (known-behind (g.S.RecordRead.meaning c.args.store.now) (g.S.RecordRead.meaning c.read_node.new.store) (g.S.RecordRead.meaning c.enter.new.store) c.in_ok-child.ensures.walk.by.only c.enter.ensures.writes) c.enter.ensures.walk.walk.by.grow.reads c.put_entry.ensures.walk.by.grow.reads c.put_entry.ensures.walk.by.given c.put_entry.ensures.writes (λ state agrees. (let is = at state agrees in (is.words, is.here)))
+pub returns-in-Some-2-clause-writes : goal.returns-in-Some-2-clause-writes
+returns-in-Some-2-clause-writes g t c =
+    let at = child_at c.args.size _ (g.S.RecordRead.meaning c.args.store.now) (g.S.RecordRead.meaning c.read_node.new.store) c.in-Some-read.child c.in_ok-read.read c.in-Some-read.is c.in_ok-read.ensures.read in
+    known-then-found (asks_at (content_at c.in-Some-read.child.words).entries) (g.S.RecordRead.meaning c.args.store.now) (g.S.RecordRead.meaning c.read_node.new.store) (g.S.RecordRead.meaning c.enter.new.store) (g.S.RecordRead.meaning c.put_entry.new.store) c.in-Some-read.child.at (known-behind (g.S.RecordRead.meaning c.args.store.now) (g.S.RecordRead.meaning c.read_node.new.store) (g.S.RecordRead.meaning c.enter.new.store) c.in_ok-read.ensures.walk.by.only c.enter.ensures.writes) c.enter.ensures.walk.walk.by.grow.reads c.put_entry.ensures.walk.by.grow.reads c.put_entry.ensures.walk.by.given c.put_entry.ensures.writes (λ state agrees. (let is = at state agrees in (is.words, is.here)))
 
 pub returns-in-None-2-clause-writes : goal.returns-in-None-2-clause-writes
 returns-in-None-2-clause-writes g t c =
-    let at = child_at c.args.size _ (g.S.RecordRead.meaning c.args.store.now) (g.S.RecordRead.meaning c.read_node.new.store) c.in-Some-2.child c.in_ok-child.field-0 c.in-Some-2.is c.in_ok-child.ensures.read in
-    known-then-found (asks_at c.in-Some-2.child.node.entries.items) (g.S.RecordRead.meaning c.args.store.now) (g.S.RecordRead.meaning c.read_node.new.store) (g.S.RecordRead.meaning c.enter.new.store) (g.S.RecordRead.meaning c.put_entry.new.store) c.in-Some-2.child.at (known-behind (g.S.RecordRead.meaning c.args.store.now) (g.S.RecordRead.meaning c.read_node.new.store) (g.S.RecordRead.meaning c.enter.new.store) c.in_ok-child.ensures.walk.by.only c.enter.ensures.writes) c.enter.ensures.walk.walk.by.grow.reads c.put_entry.ensures.walk.by.grow.reads c.put_entry.ensures.walk.by.given c.put_entry.ensures.writes (λ state agrees. (let is = at state agrees in (is.words, is.here)))
+    let at = child_at c.args.size _ (g.S.RecordRead.meaning c.args.store.now) (g.S.RecordRead.meaning c.read_node.new.store) c.in-Some-read.child c.in_ok-read.read c.in-Some-read.is c.in_ok-read.ensures.read in
+    known-then-found (asks_at (content_at c.in-Some-read.child.words).entries) (g.S.RecordRead.meaning c.args.store.now) (g.S.RecordRead.meaning c.read_node.new.store) (g.S.RecordRead.meaning c.enter.new.store) (g.S.RecordRead.meaning c.put_entry.new.store) c.in-Some-read.child.at (known-behind (g.S.RecordRead.meaning c.args.store.now) (g.S.RecordRead.meaning c.read_node.new.store) (g.S.RecordRead.meaning c.enter.new.store) c.in_ok-read.ensures.walk.by.only c.enter.ensures.writes) c.enter.ensures.walk.walk.by.grow.reads c.put_entry.ensures.walk.by.grow.reads c.put_entry.ensures.walk.by.given c.put_entry.ensures.writes (λ state agrees. (let is = at state agrees in (is.words, is.here)))
 
 pub returns-in-There-clause-there : goal.returns-in-There-clause-there
-returns-in-There-clause-there g t c = OnlyReads-trans _ _ _ c.in_ok-child.ensures.walk.by.only (rw c.in-There.is at c.in_ok-enter.ensures.there)
+returns-in-There-clause-there g t c = OnlyReads-trans _ _ _ c.in_ok-read.ensures.walk.by.only (rw c.in-There.is at c.in_ok-enter.ensures.there)
 
 pub returns-in-Some-clause-there : goal.returns-in-Some-clause-there
 returns-in-Some-clause-there g t c = OnlyReads-refl (g.S.RecordRead.meaning c.args.store.now)
 
 -- no node is both a leaf and an inner one
 pub returns-in-Some-clause-inner : goal.returns-in-Some-clause-inner
-returns-in-Some-clause-inner g t c = λ inner. absurd (leaf_inner c.args.here.now.kind (c.is_inner.ensures.leaf c.if-not-is_inner.true) inner)
+returns-in-Some-clause-inner g t c = λ inner. absurd (leaf_inner (content_at c.args.here.now).kind (c.is_inner.ensures.leaf c.if-not-is_inner.true) inner)
 
 pub returns-in-None-clause-inner : goal.returns-in-None-clause-inner
-returns-in-None-clause-inner g t c = λ inner. absurd (leaf_inner c.args.here.now.kind (c.is_inner.ensures.leaf c.if-not-is_inner.true) inner)
+returns-in-None-clause-inner g t c = λ inner. absurd (leaf_inner (content_at c.args.here.now).kind (c.is_inner.ensures.leaf c.if-not-is_inner.true) inner)
 
 pub returns-in-Some-clause-walked : goal.returns-in-Some-clause-walked
-returns-in-Some-clause-walked g t c = λ inner. absurd (leaf_inner c.args.here.now.kind (c.is_inner.ensures.leaf c.if-not-is_inner.true) inner)
+returns-in-Some-clause-walked g t c = λ inner. absurd (leaf_inner (content_at c.args.here.now).kind (c.is_inner.ensures.leaf c.if-not-is_inner.true) inner)
 
 pub returns-in-None-clause-walked : goal.returns-in-None-clause-walked
-returns-in-None-clause-walked g t c = λ inner. absurd (leaf_inner c.args.here.now.kind (c.is_inner.ensures.leaf c.if-not-is_inner.true) inner)
+returns-in-None-clause-walked g t c = λ inner. absurd (leaf_inner (content_at c.args.here.now).kind (c.is_inner.ensures.leaf c.if-not-is_inner.true) inner)
 
 pub returns-in-There-clause-leaf : goal.returns-in-There-clause-leaf
-returns-in-There-clause-leaf g t c = λ leaf. absurd (leaf_inner c.args.here.now.kind leaf (c.is_inner.ensures.inner c.if-not-is_inner.false))
+returns-in-There-clause-leaf g t c = λ leaf. absurd (leaf_inner (content_at c.args.here.now).kind leaf (c.is_inner.ensures.inner c.if-not-is_inner.false))
 
 pub returns-in-Done-clause-leaf : goal.returns-in-Done-clause-leaf
-returns-in-Done-clause-leaf g t c = λ leaf. absurd (leaf_inner c.args.here.now.kind leaf (c.is_inner.ensures.inner c.if-not-is_inner.false))
+returns-in-Done-clause-leaf g t c = λ leaf. absurd (leaf_inner (content_at c.args.here.now).kind leaf (c.is_inner.ensures.inner c.if-not-is_inner.false))
 
-pub returns-in-Some-3-clause-leaf : goal.returns-in-Some-3-clause-leaf
-returns-in-Some-3-clause-leaf g t c = λ leaf. absurd (leaf_inner c.args.here.now.kind leaf (c.is_inner.ensures.inner c.if-not-is_inner.false))
+pub returns-in-Some-2-clause-leaf : goal.returns-in-Some-2-clause-leaf
+returns-in-Some-2-clause-leaf g t c = λ leaf. absurd (leaf_inner (content_at c.args.here.now).kind leaf (c.is_inner.ensures.inner c.if-not-is_inner.false))
 
 pub returns-in-None-2-clause-leaf : goal.returns-in-None-2-clause-leaf
-returns-in-None-2-clause-leaf g t c = λ leaf. absurd (leaf_inner c.args.here.now.kind leaf (c.is_inner.ensures.inner c.if-not-is_inner.false))
+returns-in-None-2-clause-leaf g t c = λ leaf. absurd (leaf_inner (content_at c.args.here.now).kind leaf (c.is_inner.ensures.inner c.if-not-is_inner.false))

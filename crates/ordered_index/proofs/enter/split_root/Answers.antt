@@ -68,15 +68,15 @@ returns-clause-walk g c =
 pub returns-clause-ok : goal.returns-clause-ok
 returns-clause-ok g c =
     let base : g.S.RecordRead.meaning c.fresh-2.new.self ≡ after_fresh (after_fresh (g.S.RecordRead.meaning c.args.store.now) c.in_ok-left.left) c.in_ok-right.right = c.in_ok-right.ensures.ok ∙ ap (λ m. after_fresh m c.in_ok-right.right) c.in_ok-left.ensures.ok in
-    let low : c.part-right_node.result.low ≡ key_at c.args.top.node.entries.items 5 = ap (λ (n : Content). n.low) c.part-right_node.ensures.right in
-    let over : content_of c.over-over.result ≡ over_of c.args.top.node.low c.in_ok-left.left (key_at c.args.top.node.entries.items 5) c.in_ok-right.right = c.over-over.ensures ∙ ap (λ k. over_of c.args.top.node.low c.in_ok-left.left k c.in_ok-right.right) low in
+    let low : c.part-right_node.result.low ≡ key_at c.args.top.entries.items 5 = ap (λ (n : Content). n.low) c.part-right_node.ensures.right in
+    let over : content_of c.over-over.result ≡ over_of c.args.top.low c.in_ok-left.left (key_at c.args.top.entries.items 5) c.in_ok-right.right = c.over-over.ensures ∙ ap (λ k. over_of c.args.top.low c.in_ok-left.left k c.in_ok-right.right) low in
     let first : Meaning = after_fresh (after_fresh (g.S.RecordRead.meaning c.args.store.now) c.in_ok-left.left) c.in_ok-right.right in
-    let left : Content = left_of (content_of c.args.top.node) c.args.top.node.entries.items c.in_ok-right.right in
-    let right : Content = right_of (content_of c.args.top.node) c.args.top.node.entries.items in
+    let left : Content = left_of (content_of c.args.top) c.args.top.entries.items c.in_ok-right.right in
+    let right : Content = right_of (content_of c.args.top) c.args.top.entries.items in
     let one : g.S.RecordRead.meaning c.write_node.new.store ≡ after_write first c.in_ok-left.left (Some (tree_node_words left)) = (written_as (g.S.RecordRead.meaning c.fresh-2.new.self) c.in_ok-left.left c.cells.ensures c.in_ok-write_node.ensures.ok) ∙ ap (λ n. after_write (g.S.RecordRead.meaning c.fresh-2.new.self) c.in_ok-left.left (Some (tree_node_words n))) c.part-right_node.ensures.left ∙ ap (λ m. after_write m c.in_ok-left.left (Some (tree_node_words left))) base in
     let two : g.S.RecordRead.meaning c.write_node-2.new.store ≡ after_write (after_write first c.in_ok-left.left (Some (tree_node_words left))) c.in_ok-right.right (Some (tree_node_words right)) = (written_as (g.S.RecordRead.meaning c.write_node.new.store) c.in_ok-right.right c.cells-2.ensures c.in_ok-write_node-2.ensures.ok) ∙ ap (λ n. after_write (g.S.RecordRead.meaning c.write_node.new.store) c.in_ok-right.right (Some (tree_node_words n))) c.part-right_node.ensures.right ∙ ap (λ m. after_write m c.in_ok-right.right (Some (tree_node_words right))) one in
     parted c.in_ok-left.left c.in_ok-right.right c.requires.ten c.in_ok-left.ensures.fresh (rw c.in_ok-left.ensures.ok at c.in_ok-right.ensures.fresh)
-    ((written_as (g.S.RecordRead.meaning c.write_node-2.new.store) c.args.top.at c.cells-3.ensures c.in_ok-write_node-3.ensures.ok) ∙ ap (λ n. after_write (g.S.RecordRead.meaning c.write_node-2.new.store) c.args.top.at (Some (tree_node_words n))) over ∙ ap (λ m. after_write m c.args.top.at (Some (tree_node_words (over_of c.args.top.node.low c.in_ok-left.left (key_at c.args.top.node.entries.items 5) c.in_ok-right.right)))) two)
+    ((written_as (g.S.RecordRead.meaning c.write_node-2.new.store) c.args.at c.cells-3.ensures c.in_ok-write_node-3.ensures.ok) ∙ ap (λ n. after_write (g.S.RecordRead.meaning c.write_node-2.new.store) c.args.at (Some (tree_node_words n))) over ∙ ap (λ m. after_write m c.args.at (Some (tree_node_words (over_of c.args.top.low c.in_ok-left.left (key_at c.args.top.entries.items 5) c.in_ok-right.right)))) two)
 
 pub returns-in_err-left-clause-few : goal.returns-in_err-left-clause-few
 returns-in_err-left-clause-few g c =
@@ -126,29 +126,29 @@ returns-clause-few g c =
     let m3 = g.S.RecordRead.meaning c.write_node.new.store in
     let m4 = g.S.RecordRead.meaning c.write_node-2.new.store in
     let m5 = g.S.RecordRead.meaning c.write_node-3.new.store in
-    wrote_one 2 m0 m4 m5 _ _ (wrote_one 1 m0 m3 m4 _ _ (wrote_one 0 m0 m2 m3 _ _ (nodes-trans 0 0 m0 m1 m2 (wrote_fresh m0 m1 _ c.in_ok-left.ensures.ok) (wrote_fresh m1 m2 _ c.in_ok-right.ensures.ok)) (written_as m2 c.in_ok-left.left c.cells.ensures c.in_ok-write_node.ensures.ok)) (written_as m3 c.in_ok-right.right c.cells-2.ensures c.in_ok-write_node-2.ensures.ok)) (written_as m4 c.args.top.at c.cells-3.ensures c.in_ok-write_node-3.ensures.ok)
+    wrote_one 2 m0 m4 m5 _ _ (wrote_one 1 m0 m3 m4 _ _ (wrote_one 0 m0 m2 m3 _ _ (nodes-trans 0 0 m0 m1 m2 (wrote_fresh m0 m1 _ c.in_ok-left.ensures.ok) (wrote_fresh m1 m2 _ c.in_ok-right.ensures.ok)) (written_as m2 c.in_ok-left.left c.cells.ensures c.in_ok-write_node.ensures.ok)) (written_as m3 c.in_ok-right.right c.cells-2.ensures c.in_ok-write_node-2.ensures.ok)) (written_as m4 c.args.at c.cells-3.ensures c.in_ok-write_node-3.ensures.ok)
 
 pub returns-in_err-left-clause-writes : goal.returns-in_err-left-clause-writes
-returns-in_err-left-clause-writes g c = (goes-same (λ rid. rid ≡ c.args.top.at) (g.S.RecordRead.meaning c.args.store.now) (g.S.RecordRead.meaning c.fresh.new.self) c.in_err-left.ensures.err).only
+returns-in_err-left-clause-writes g c = (goes-same (λ rid. rid ≡ c.args.at) (g.S.RecordRead.meaning c.args.store.now) (g.S.RecordRead.meaning c.fresh.new.self) c.in_err-left.ensures.err).only
 
 pub returns-in_err-right-clause-writes : goal.returns-in_err-right-clause-writes
-returns-in_err-right-clause-writes g c = (goes-trans 1 0 (λ rid. rid ≡ c.args.top.at) (g.S.RecordRead.meaning c.args.store.now) (g.S.RecordRead.meaning c.fresh.new.self) (g.S.RecordRead.meaning c.fresh-2.new.self) (goes-fresh (λ rid. rid ≡ c.args.top.at) (g.S.RecordRead.meaning c.args.store.now) (g.S.RecordRead.meaning c.fresh.new.self) c.in_ok-left.left c.in_ok-left.ensures.ok) (goes-same (λ rid. rid ≡ c.args.top.at) (g.S.RecordRead.meaning c.fresh.new.self) (g.S.RecordRead.meaning c.fresh-2.new.self) c.in_err-right.ensures.err)).only
+returns-in_err-right-clause-writes g c = (goes-trans 1 0 (λ rid. rid ≡ c.args.at) (g.S.RecordRead.meaning c.args.store.now) (g.S.RecordRead.meaning c.fresh.new.self) (g.S.RecordRead.meaning c.fresh-2.new.self) (goes-fresh (λ rid. rid ≡ c.args.at) (g.S.RecordRead.meaning c.args.store.now) (g.S.RecordRead.meaning c.fresh.new.self) c.in_ok-left.left c.in_ok-left.ensures.ok) (goes-same (λ rid. rid ≡ c.args.at) (g.S.RecordRead.meaning c.fresh.new.self) (g.S.RecordRead.meaning c.fresh-2.new.self) c.in_err-right.ensures.err)).only
 
 pub returns-in_err-write_node-clause-writes : goal.returns-in_err-write_node-clause-writes
-returns-in_err-write_node-clause-writes g c = (left_goes (λ rid. rid ≡ c.args.top.at) (g.S.RecordRead.meaning c.args.store.now) (g.S.RecordRead.meaning c.fresh.new.self) (g.S.RecordRead.meaning c.fresh-2.new.self) (g.S.RecordRead.meaning c.write_node.new.store) c.in_ok-left.left c.in_ok-right.right c.in_ok-left.ensures.ok c.in_ok-right.ensures.ok (tries c.write_node.result (g.S.RecordRead.meaning c.fresh-2.new.self) (g.S.RecordRead.meaning c.write_node.new.store) c.in_ok-left.left _ c.write_node.ensures.ok c.write_node.ensures.err)).only
+returns-in_err-write_node-clause-writes g c = (left_goes (λ rid. rid ≡ c.args.at) (g.S.RecordRead.meaning c.args.store.now) (g.S.RecordRead.meaning c.fresh.new.self) (g.S.RecordRead.meaning c.fresh-2.new.self) (g.S.RecordRead.meaning c.write_node.new.store) c.in_ok-left.left c.in_ok-right.right c.in_ok-left.ensures.ok c.in_ok-right.ensures.ok (tries c.write_node.result (g.S.RecordRead.meaning c.fresh-2.new.self) (g.S.RecordRead.meaning c.write_node.new.store) c.in_ok-left.left _ c.write_node.ensures.ok c.write_node.ensures.err)).only
 
 pub returns-in_err-write_node-2-clause-writes : goal.returns-in_err-write_node-2-clause-writes
-returns-in_err-write_node-2-clause-writes g c = (right_goes (λ rid. rid ≡ c.args.top.at) (g.S.RecordRead.meaning c.args.store.now) (g.S.RecordRead.meaning c.fresh.new.self) (g.S.RecordRead.meaning c.fresh-2.new.self) (g.S.RecordRead.meaning c.write_node.new.store) c.in_ok-left.left c.in_ok-right.right c.in_ok-left.ensures.ok c.in_ok-right.ensures.ok (tries c.write_node.result (g.S.RecordRead.meaning c.fresh-2.new.self) (g.S.RecordRead.meaning c.write_node.new.store) c.in_ok-left.left _ c.write_node.ensures.ok c.write_node.ensures.err) (g.S.RecordRead.meaning c.write_node-2.new.store) (tries c.write_node-2.result (g.S.RecordRead.meaning c.write_node.new.store) (g.S.RecordRead.meaning c.write_node-2.new.store) c.in_ok-right.right _ c.write_node-2.ensures.ok c.write_node-2.ensures.err)).only
+returns-in_err-write_node-2-clause-writes g c = (right_goes (λ rid. rid ≡ c.args.at) (g.S.RecordRead.meaning c.args.store.now) (g.S.RecordRead.meaning c.fresh.new.self) (g.S.RecordRead.meaning c.fresh-2.new.self) (g.S.RecordRead.meaning c.write_node.new.store) c.in_ok-left.left c.in_ok-right.right c.in_ok-left.ensures.ok c.in_ok-right.ensures.ok (tries c.write_node.result (g.S.RecordRead.meaning c.fresh-2.new.self) (g.S.RecordRead.meaning c.write_node.new.store) c.in_ok-left.left _ c.write_node.ensures.ok c.write_node.ensures.err) (g.S.RecordRead.meaning c.write_node-2.new.store) (tries c.write_node-2.result (g.S.RecordRead.meaning c.write_node.new.store) (g.S.RecordRead.meaning c.write_node-2.new.store) c.in_ok-right.right _ c.write_node-2.ensures.ok c.write_node-2.ensures.err)).only
 
 pub returns-in_err-write_node-3-clause-writes : goal.returns-in_err-write_node-3-clause-writes
-returns-in_err-write_node-3-clause-writes g c = (over_goes (λ rid. rid ≡ c.args.top.at) (g.S.RecordRead.meaning c.args.store.now) (g.S.RecordRead.meaning c.fresh.new.self) (g.S.RecordRead.meaning c.fresh-2.new.self) (g.S.RecordRead.meaning c.write_node.new.store) c.in_ok-left.left c.in_ok-right.right c.in_ok-left.ensures.ok c.in_ok-right.ensures.ok (tries c.write_node.result (g.S.RecordRead.meaning c.fresh-2.new.self) (g.S.RecordRead.meaning c.write_node.new.store) c.in_ok-left.left _ c.write_node.ensures.ok c.write_node.ensures.err) (g.S.RecordRead.meaning c.write_node-2.new.store) (tries c.write_node-2.result (g.S.RecordRead.meaning c.write_node.new.store) (g.S.RecordRead.meaning c.write_node-2.new.store) c.in_ok-right.right _ c.write_node-2.ensures.ok c.write_node-2.ensures.err) (g.S.RecordRead.meaning c.write_node-3.new.store) c.args.top.at refl (tries c.write_node-3.result (g.S.RecordRead.meaning c.write_node-2.new.store) (g.S.RecordRead.meaning c.write_node-3.new.store) c.args.top.at _ c.write_node-3.ensures.ok c.write_node-3.ensures.err)).only
+returns-in_err-write_node-3-clause-writes g c = (over_goes (λ rid. rid ≡ c.args.at) (g.S.RecordRead.meaning c.args.store.now) (g.S.RecordRead.meaning c.fresh.new.self) (g.S.RecordRead.meaning c.fresh-2.new.self) (g.S.RecordRead.meaning c.write_node.new.store) c.in_ok-left.left c.in_ok-right.right c.in_ok-left.ensures.ok c.in_ok-right.ensures.ok (tries c.write_node.result (g.S.RecordRead.meaning c.fresh-2.new.self) (g.S.RecordRead.meaning c.write_node.new.store) c.in_ok-left.left _ c.write_node.ensures.ok c.write_node.ensures.err) (g.S.RecordRead.meaning c.write_node-2.new.store) (tries c.write_node-2.result (g.S.RecordRead.meaning c.write_node.new.store) (g.S.RecordRead.meaning c.write_node-2.new.store) c.in_ok-right.right _ c.write_node-2.ensures.ok c.write_node-2.ensures.err) (g.S.RecordRead.meaning c.write_node-3.new.store) c.args.at refl (tries c.write_node-3.result (g.S.RecordRead.meaning c.write_node-2.new.store) (g.S.RecordRead.meaning c.write_node-3.new.store) c.args.at _ c.write_node-3.ensures.ok c.write_node-3.ensures.err)).only
 
 pub returns-clause-writes : goal.returns-clause-writes
-returns-clause-writes g c = (over_goes (λ rid. rid ≡ c.args.top.at) (g.S.RecordRead.meaning c.args.store.now) (g.S.RecordRead.meaning c.fresh.new.self) (g.S.RecordRead.meaning c.fresh-2.new.self) (g.S.RecordRead.meaning c.write_node.new.store) c.in_ok-left.left c.in_ok-right.right c.in_ok-left.ensures.ok c.in_ok-right.ensures.ok (tries c.write_node.result (g.S.RecordRead.meaning c.fresh-2.new.self) (g.S.RecordRead.meaning c.write_node.new.store) c.in_ok-left.left _ c.write_node.ensures.ok c.write_node.ensures.err) (g.S.RecordRead.meaning c.write_node-2.new.store) (tries c.write_node-2.result (g.S.RecordRead.meaning c.write_node.new.store) (g.S.RecordRead.meaning c.write_node-2.new.store) c.in_ok-right.right _ c.write_node-2.ensures.ok c.write_node-2.ensures.err) (g.S.RecordRead.meaning c.write_node-3.new.store) c.args.top.at refl (tries c.write_node-3.result (g.S.RecordRead.meaning c.write_node-2.new.store) (g.S.RecordRead.meaning c.write_node-3.new.store) c.args.top.at _ c.write_node-3.ensures.ok c.write_node-3.ensures.err)).only
+returns-clause-writes g c = (over_goes (λ rid. rid ≡ c.args.at) (g.S.RecordRead.meaning c.args.store.now) (g.S.RecordRead.meaning c.fresh.new.self) (g.S.RecordRead.meaning c.fresh-2.new.self) (g.S.RecordRead.meaning c.write_node.new.store) c.in_ok-left.left c.in_ok-right.right c.in_ok-left.ensures.ok c.in_ok-right.ensures.ok (tries c.write_node.result (g.S.RecordRead.meaning c.fresh-2.new.self) (g.S.RecordRead.meaning c.write_node.new.store) c.in_ok-left.left _ c.write_node.ensures.ok c.write_node.ensures.err) (g.S.RecordRead.meaning c.write_node-2.new.store) (tries c.write_node-2.result (g.S.RecordRead.meaning c.write_node.new.store) (g.S.RecordRead.meaning c.write_node-2.new.store) c.in_ok-right.right _ c.write_node-2.ensures.ok c.write_node-2.ensures.err) (g.S.RecordRead.meaning c.write_node-3.new.store) c.args.at refl (tries c.write_node-3.result (g.S.RecordRead.meaning c.write_node-2.new.store) (g.S.RecordRead.meaning c.write_node-3.new.store) c.args.at _ c.write_node-3.ensures.ok c.write_node-3.ensures.err)).only
 
 -- nine entries at most are written
 pub cells-requires : goal.cells-requires
-cells-requires g c = left_few (content_of c.args.top.node) (content_of c.part-right_node.new.self) c.args.top.node.entries.items c.in_ok-right.right c.part-right_node.ensures.left
+cells-requires g c = left_few (content_of c.args.top) (content_of c.part-right_node.new.self) c.args.top.entries.items c.in_ok-right.right c.part-right_node.ensures.left
 
 pub cells-requires-2 : goal.cells-requires-2
-cells-requires-2 g c = right_few (content_of c.args.top.node) (content_of c.part-right_node.result) c.args.top.node.entries.items (omega (arith, c.requires.ten)) c.part-right_node.ensures.right
+cells-requires-2 g c = right_few (content_of c.args.top) (content_of c.part-right_node.result) c.args.top.entries.items (omega (arith, c.requires.ten)) c.part-right_node.ensures.right

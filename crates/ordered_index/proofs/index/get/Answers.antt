@@ -1,9 +1,9 @@
-use Rattle.std.proofs.Common.{sym, ◌∙◌}
+use Rattle.std.proofs.Common.{Some, ap, sym, ◌∙◌}
 use Rattle.record_store.proofs.Refusals.{torn_moved, IfTorn-map}
+use Rattle.ordered_index.specs.Node.{content_at}
 use Rattle.plain_data.specs.State.{overlay}
-use Rattle.ordered_index.specs.Held.{content_of}
 use Rattle.ordered_index.proofs.Entries.{entry_at-place}
-use Rattle.ordered_index.proofs.Words.{key_of}
+use Rattle.ordered_index.specs.Keys.{first_key}
 use Rattle.ordered_index.proofs.Trees.{is_torn, found_in}
 use Rattle.record_store.proofs.Agreement.{extends-refl}
 use Rattle.ordered_index.proofs.Reaching.{leaf_ends}
@@ -20,13 +20,13 @@ returns-in-Some-place-clause-ok g c = λ state levels leaves agrees tree.
     let reaches = rw c.in-Some.is at (c.in_ok-leaf.ensures.leaf state agrees) in
     let within = rw c.in-Some.is at c.in_ok-leaf.ensures.within in
     let place = rw c.in-Some-place.is at c.place.ensures.place in
-    let found = found_in c.size-size.result c.args.root c.args.key (overlay (g.S.RecordRead.meaning c.args.store.now).writes state) levels leaves (c.in-Some.leaf.at, content_of c.in-Some.leaf.node) (rw c.size-size.ensures.size tree) reaches in
-    rw c.deref.ensures.0 (sym (found ∙ entry_at-place c.in-Some.leaf.node.entries.items c.in-Some-place.index (key_of 0 0, 0) c.args.key within.1.rising place.within (place.here (key_of 0 0, 0))))
+    let found = found_in c.size-size.result c.args.root c.args.key (overlay (g.S.RecordRead.meaning c.args.store.now).writes state) levels leaves (c.in-Some.leaf.at, content_at c.in-Some.leaf.words) (rw c.size-size.ensures.size tree) reaches in
+    ap (λ e. Some e.1) c.entry.ensures ∙ sym (found ∙ entry_at-place (content_at c.in-Some.leaf.words).entries c.in-Some-place.index (first_key, 0) c.args.key within.1.sound.rising place.within (place.here (first_key, 0)))
 
 pub returns-in-None-clause-ok : goal.returns-in-None-clause-ok
 returns-in-None-clause-ok g c = λ state levels leaves agrees tree.
     let reaches = rw c.in-Some.is at (c.in_ok-leaf.ensures.leaf state agrees) in
-    let found = found_in c.size-size.result c.args.root c.args.key (overlay (g.S.RecordRead.meaning c.args.store.now).writes state) levels leaves (c.in-Some.leaf.at, content_of c.in-Some.leaf.node) (rw c.size-size.ensures.size tree) reaches in
+    let found = found_in c.size-size.result c.args.root c.args.key (overlay (g.S.RecordRead.meaning c.args.store.now).writes state) levels leaves (c.in-Some.leaf.at, content_at c.in-Some.leaf.words) (rw c.size-size.ensures.size tree) reaches in
     sym (found ∙ rw c.in-None.is at c.place.ensures.absent)
 
 -- the walk ended well

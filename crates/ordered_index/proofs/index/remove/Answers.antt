@@ -1,12 +1,12 @@
-use Rattle.std.proofs.Common.{Some, ap, ◌∙◌}
+use Rattle.std.proofs.Common.{◌≡◌, Some, ap, ◌∙◌, subst}
 use Rattle.record_store.proofs.Refusals.{fault_moved, torn_moved, IfStore-map, IfTorn-map}
+use Rattle.std.specs.Prelude.{remove}
 use Rattle.record_store.specs.Meaning.{after_write}
 use Rattle.record_store.proofs.Paths.{Calls-reads, Calls-trans, CallFault-read, CallFault-never}
 use Rattle.record_store.proofs.Agreement.{writes_same, extends-refl, ReadsGrow-refl, ReadsGrow-write, ReadsGrow-only, written_after, written_as}
 use Rattle.record_store.proofs.Known.{tries, gives-reads, gives-tried, known-reads, known-found}
 use Rattle.ordered_index.proofs.Wrote.{nodes-none, read_few, wrote_none, wrote_one}
-use Rattle.ordered_index.specs.Node.{tree_node_words, Content}
-use Rattle.ordered_index.specs.Held.{content_of}
+use Rattle.ordered_index.specs.Node.{tree_node_words, Content, content_at}
 use Rattle.ordered_index.proofs.Trees.{is_torn}
 use Rattle.ordered_index.proofs.Removed.{removes_entry, removes_nothing, each_absent}
 use Rattle.ordered_index.proofs.Reaching.{leaf_ends}
@@ -21,15 +21,20 @@ returns-in_err-leaf-clause-torn g c =
 pub returns-in_default-place-clause-ok : goal.returns-in_default-place-clause-ok
 returns-in_default-place-clause-ok g c =
     removes_nothing c.args.root c.args.key _ _ c.in_ok-leaf.ensures.walk.by.only
-    (each_absent c.size-size.result c.args.root c.in-Some.leaf.at c.args.key (g.S.RecordRead.meaning c.args.store.now) (g.S.RecordRead.meaning c.leaf_for.new.store) (content_of c.in-Some.leaf.node) c.size-size.ensures.size (λ state agrees. rw c.in-Some.is at (c.in_ok-leaf.ensures.leaf state agrees)) (rw c.in_default-place.is at c.place.ensures.absent))
+    (each_absent c.size-size.result c.args.root c.in-Some.leaf.at c.args.key (g.S.RecordRead.meaning c.args.store.now) (g.S.RecordRead.meaning c.leaf_for.new.store) (content_at c.in-Some.leaf.words) c.size-size.ensures.size (λ state agrees. rw c.in-Some.is at (c.in_ok-leaf.ensures.leaf state agrees)) (rw c.in_default-place.is at c.place.ensures.absent))
 
 pub returns-clause-ok : goal.returns-clause-ok
 returns-clause-ok g c =
     let within = rw c.in-Some.is at c.in_ok-leaf.ensures.within in
     let place = rw c.in-Some-place.is at c.place.ensures.place in
-    removes_entry c.size-size.result c.args.root c.in-Some.leaf.at c.in-Some-place.index c.args.key (g.S.RecordRead.meaning c.args.store.now) (g.S.RecordRead.meaning c.leaf_for.new.store) (g.S.RecordRead.meaning c.write_node.new.store) (content_of c.in-Some.leaf.node)
-    c.size-size.ensures.size c.in_ok-leaf.ensures.walk.by.only (λ state agrees. rw c.in-Some.is at (c.in_ok-leaf.ensures.leaf state agrees)) within.1.rising place
-    ((written_as (g.S.RecordRead.meaning c.leaf_for.new.store) c.in-Some.leaf.at c.cells.ensures c.in_ok-write_node.ensures.ok) ∙ ap (λ es. after_write (g.S.RecordRead.meaning c.leaf_for.new.store) c.in-Some.leaf.at (Some (tree_node_words (let n : Content = record { kind = c.in-Some.leaf.node.kind; low = c.in-Some.leaf.node.low; entries = es; next = c.in-Some.leaf.node.next } in n)))) c.remove.ensures.items)
+    let m1 = g.S.RecordRead.meaning c.leaf_for.new.store in
+    let m2 = g.S.RecordRead.meaning c.write_node.new.store in
+    let node = c.node_of-node.result in
+    let W : Content → Type 0 = λ n. m2 ≡ after_write m1 c.in-Some.leaf.at (Some (tree_node_words (record n { entries = remove n.entries c.in-Some-place.index }))) in
+    removes_entry c.size-size.result c.args.root c.in-Some.leaf.at c.in-Some-place.index c.args.key (g.S.RecordRead.meaning c.args.store.now) m1 m2 (content_at c.in-Some.leaf.words)
+    c.size-size.ensures.size c.in_ok-leaf.ensures.walk.by.only (λ state agrees. rw c.in-Some.is at (c.in_ok-leaf.ensures.leaf state agrees)) within.1.sound.rising place
+    (subst W c.node_of-node.ensures
+    (written_as m1 c.in-Some.leaf.at c.cells.ensures c.in_ok-write_node.ensures.ok ∙ ap (λ es. after_write m1 c.in-Some.leaf.at (Some (tree_node_words (let n : Content = record { kind = node.kind; low = node.low; entries = es; next = node.next } in n)))) c.remove.ensures.items))
 
 pub returns-in_err-leaf-clause-few : goal.returns-in_err-leaf-clause-few
 returns-in_err-leaf-clause-few g c = read_few (g.S.RecordRead.meaning c.args.store.now) (g.S.RecordRead.meaning c.leaf_for.new.store) c.leaf_for.ensures.walk.by.only

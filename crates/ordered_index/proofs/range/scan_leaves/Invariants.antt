@@ -3,8 +3,7 @@ use Rattle.std.specs.Prelude.{vec_len}
 use Rattle.std.specs.Vec.{vec_capacity}
 use Rattle.record_store.specs.Goes.{WalksByReads}
 use Rattle.record_store.specs.States.{EachState}
-use Rattle.ordered_index.specs.Node.{IsSound}
-use Rattle.ordered_index.specs.Held.{content_of}
+use Rattle.ordered_index.specs.Node.{IsNode, content_at}
 use Rattle.ordered_index.specs.Walk.{node_of}
 use Rattle.ordered_index.specs.Scan.{Appends, keys_behind}
 use Rattle.ordered_index.proofs.Listing.{Listed}
@@ -14,7 +13,7 @@ use Rattle.ordered_index.proofs.range.scan_leaves.Given as goal
 abbrev pub invariant-loop-goes_on : goal.invariant-loop-goes_on
 invariant-loop-goes_on g l = record {
   walk : WalksByReads g.S.RecordRead.read_gives g.S.RecordRead.meaning g.S.RecordRead.rest l.fn.store l.store (Ok (tt {0}));
-  sound : IsSound l.size (content_of l.here.node);
+  node : IsNode l.size l.here.words;
   room : l.most ≤ vec_capacity l.out;
   some : l.goes_on ≡ true → vec_len l.out < l.most;
   appends : Appends l.size l.limit l.lo l.hi l.fn.out.items l.out.items;
@@ -23,4 +22,4 @@ invariant-loop-goes_on g l = record {
 
 -- the fences rise
 abbrev pub decreases-loop-goes_on : goal.decreases-loop-goes_on
-decreases-loop-goes_on g l = keys_behind l.here.node.low
+decreases-loop-goes_on g l = keys_behind (content_at l.here.words).low

@@ -1,10 +1,11 @@
 use Rattle.std.proofs.Common.{◌∙◌, Ok, arith}
 use Rattle.record_store.proofs.Agreement.{OnlyReads-trans}
+use Rattle.ordered_index.specs.Node.{content_at}
 use Rattle.record_store.proofs.Paths.{Reads-trans, ReadFault-behind}
 use Rattle.record_store.proofs.Refusals.{fault_moved, torn_moved, IfStore-map, IfTorn-map}
 use Rattle.plain_data.specs.State.{overlay}
 use Rattle.ordered_index.specs.Keys.{first_key}
-use Rattle.ordered_index.specs.Walk.{IsTreeLink}
+use Rattle.ordered_index.specs.Walk.{IsTreeNode}
 use Rattle.ordered_index.proofs.Entries.{last_at-low, last_at-in}
 use Rattle.ordered_index.proofs.Order.{first_not_after}
 use Rattle.ordered_index.proofs.Passed.{each_tears, each_absent, each_deep, each_steps, at_some}
@@ -21,11 +22,11 @@ returns-in_err-here-clause-torn g c =
 
 pub loop-key-init : goal.loop-key-init
 loop-key-init g c =
-    let link = at_some (IsTreeLink c.args.size c.args.root first_key) c.in-Some.here c.in-Some.is c.in_ok-here.ensures.link in
+    let link = at_some (IsTreeNode c.args.size c.args.root first_key) c.in-Some.here c.in-Some.is c.in_ok-here.ensures.node in
     record {
       walk = reads_quiet c.args.store.now c.read_node.new.store (Ok (tt {0})) c.read_node.result (tt, tt) c.read_node.ensures.walk;
       at = rw link.at c.requires.root;
-      sound = link.sound;
+      node = link.node;
       low = rw link.low (first_not_after c.args.key);
       deep = omega arith;
       walked = λ state agrees. walk_begins c.args.size c.args.root c.args.key _ c.in-Some.here link.at link.low (rw c.in-Some.is at (c.in_ok-here.ensures.read state agrees));
@@ -36,7 +37,7 @@ returns-then-depth-eq-MOST_DEPTH-clause-torn g c =
     each_deep (g.S.RecordRead.meaning c.args.store.now) (g.S.RecordRead.meaning c.loop-key.store) c.args.size c.args.root c.loop-key.depth c.args.key c.loop-key.here c.child-rid.result c.loop-key.invariant.walked (c.is_inner.ensures.inner c.loop-key-test.true) c.child-rid.ensures (omega arith)
 
 pub read_node-requires-in-loop-key-clause-rid : goal.read_node-requires-in-loop-key-clause-rid
-read_node-requires-in-loop-key-clause-rid g c = last_at-in c.args.size c.loop-key.here.node.entries.items c.args.key c.child-rid.result c.loop-key.invariant.sound.records c.child-rid.ensures
+read_node-requires-in-loop-key-clause-rid g c = last_at-in c.args.size (content_at c.loop-key.here.words).entries c.args.key c.child-rid.result c.loop-key.invariant.node.sound.records c.child-rid.ensures
 
 pub returns-in_err-link-clause-torn : goal.returns-in_err-link-clause-torn
 returns-in_err-link-clause-torn g c =
@@ -51,12 +52,12 @@ returns-in_default-2-clause-torn g c =
 
 pub loop-key-preserved : goal.loop-key-preserved
 loop-key-preserved g c =
-    let link = at_some (IsTreeLink c.args.size c.child-rid.result.1 c.child-rid.result.0) c.in-Some-2.link c.in-Some-2.is c.in_ok-link.ensures.link in
+    let link = at_some (IsTreeNode c.args.size c.child-rid.result.1 c.child-rid.result.0) c.in-Some-2.link c.in-Some-2.is c.in_ok-link.ensures.node in
     record {
       walk = reads_quiet c.args.store.now c.read_node-in-loop-key.new.store (Ok (tt {0})) c.read_node-in-loop-key.result (tt, tt) (reads_then c.args.store.now c.loop-key.store c.read_node-in-loop-key.new.store (Ok (tt {0})) c.read_node-in-loop-key.result c.loop-key.invariant.walk c.read_node-in-loop-key.ensures.walk);
-      at = rw link.at (last_at-in c.args.size c.loop-key.here.node.entries.items c.args.key c.child-rid.result c.loop-key.invariant.sound.records c.child-rid.ensures);
-      sound = link.sound;
-      low = rw link.low (last_at-low c.loop-key.here.node.entries.items c.args.key c.child-rid.result c.child-rid.ensures);
+      at = rw link.at (last_at-in c.args.size (content_at c.loop-key.here.words).entries c.args.key c.child-rid.result c.loop-key.invariant.node.sound.records c.child-rid.ensures);
+      node = link.node;
+      low = rw link.low (last_at-low (content_at c.loop-key.here.words).entries c.args.key c.child-rid.result c.child-rid.ensures);
       deep = omega (arith, c.loop-key.invariant.deep, c.if-depth-eq-MOST_DEPTH.false);
       walked = each_steps _ _ _ c.args.size c.args.root c.loop-key.depth c.args.key c.loop-key.here c.in-Some-2.link c.child-rid.result c.in_ok-link.field-0 c.loop-key.invariant.walk.by.only c.in_ok-link.ensures.walk.by.only c.loop-key.invariant.walked (c.is_inner.ensures.inner c.loop-key-test.true) c.child-rid.ensures link.at link.low c.in-Some-2.is c.in_ok-link.ensures.read;
     }

@@ -1,8 +1,7 @@
 use Rattle.std.proofs.Common.{◌-◌, ◌<◌, ◌≤◌, Ok}
 use Rattle.record_store.specs.Goes.{WalksByReads}
 use Rattle.ordered_index.specs.Keys.{NotAfter}
-use Rattle.ordered_index.specs.Node.{IsSound}
-use Rattle.ordered_index.specs.Held.{content_of}
+use Rattle.ordered_index.specs.Node.{IsNode, content_at}
 use Rattle.record_store.specs.States.{EachState}
 use Rattle.ordered_index.proofs.Paths.{Walked}
 use Rattle.ordered_index.proofs.walk.leaf_for.Given as goal
@@ -12,8 +11,8 @@ abbrev pub invariant-loop-key : goal.invariant-loop-key
 invariant-loop-key g l = record {
   walk : WalksByReads g.S.RecordRead.read_gives g.S.RecordRead.meaning g.S.RecordRead.rest l.fn.store l.store (Ok (tt {0}));
   at : l.here.at < l.size;
-  sound : IsSound l.size (content_of l.here.node);
-  low : NotAfter l.here.node.low l.key;
+  node : IsNode l.size l.here.words;
+  low : NotAfter (content_at l.here.words).low l.key;
   deep : l.depth ≤ 24;
   walked : EachState (g.S.RecordRead.meaning l.fn.store) (g.S.RecordRead.meaning l.store) (λ state. Walked l.size l.root l.depth l.key state l.here);
 }

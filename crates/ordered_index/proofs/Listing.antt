@@ -14,7 +14,8 @@ use Rattle.ordered_index.specs.declared.key.Key.{Key}
 use Rattle.ordered_index.specs.declared.node.Kind.TheVariants.{Leaf}
 use Rattle.ordered_index.specs.declared.walk.Stored.{Stored}
 use Rattle.ordered_index.specs.Keys.{is_before, Before, InStore}
-use Rattle.ordered_index.specs.Node.{Content, Holds, IsSound, content_at}
+use Rattle.ordered_index.specs.Node.{Content, Holds, IsSound}
+use Rattle.ordered_index.specs.Standing.{content_at}
 use Rattle.ordered_index.specs.Tree.{IsAt, row_entries}
 use Rattle.ordered_index.specs.Walk.{DescentReaches, node_of}
 use Rattle.ordered_index.specs.Scan.{is_between, between, ListsNothing, Appends, IsNext, Passes, HasBehind, NeedsNoMore, Scans, ScanTears, IsLeafBehind, IsNoLeaf, keys_behind}

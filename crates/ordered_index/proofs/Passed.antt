@@ -1,6 +1,6 @@
 -- A walk goes on from a node to its entry for the key, over each state that agrees.
 use Rattle.std.proofs.Common.{◌≡◌, ℕ, ◌+◌, ◌≤◌, Option, None, Some, inl, inr}
-use Rattle.ordered_index.specs.Node.{content_at}
+use Rattle.ordered_index.specs.Standing.{content_at}
 use Rattle.std.specs.Prelude.{IfSome}
 use Rattle.plain_data.specs.State.{overlay}
 use Rattle.record_store.specs.Meaning.{Meaning}

@@ -7,7 +7,8 @@ use Rattle.ordered_index.specs.declared.key.Key.{Key}
 use Rattle.ordered_index.specs.declared.node.Kind.TheVariants.{Leaf, Inner}
 use Rattle.ordered_index.specs.declared.walk.Stored.{Stored}
 use Rattle.ordered_index.specs.Keys.{last_at, first_key}
-use Rattle.ordered_index.specs.Node.{Content, Holds, content_at}
+use Rattle.ordered_index.specs.Node.{Content, Holds}
+use Rattle.ordered_index.specs.Standing.{content_at}
 use Rattle.ordered_index.specs.Tree.{IsAt, named}
 use Rattle.ordered_index.specs.Walk.{Path, DescentTears, DescentReaches, IsNoNode}
 

@@ -10,7 +10,8 @@ use Rattle.ordered_index.specs.declared.node.Kind.TheVariants.{Inner}
 use Rattle.ordered_index.specs.declared.walk.Stored.{Stored}
 use Rattle.ordered_index.specs.declared.enter.Entering.{Entering}
 use Rattle.ordered_index.specs.Keys.{NotAfter, Before, Above, first_key}
-use Rattle.ordered_index.specs.Node.{Content, IsSound, Begins, content_at}
+use Rattle.ordered_index.specs.Node.{Content, IsSound, Begins}
+use Rattle.ordered_index.specs.Standing.{content_at}
 use Rattle.ordered_index.specs.Tree.{IsAt}
 use Rattle.record_store.specs.States.{EachState}
 use Rattle.ordered_index.specs.Walk.{IsTreeNode, ReadsNode, IsNoNode, DescentTears}

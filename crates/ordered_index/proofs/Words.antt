@@ -10,7 +10,8 @@ use Rattle.ordered_index.specs.declared.node.Kind.TheVariants.{Leaf, Inner}
 use Rattle.record_store.specs.Links.{link_word}
 use Rattle.record_store.proofs.Links.{named_by-link_word}
 use Rattle.ordered_index.specs.Keys.{InStore, Rising, is_before}
-use Rattle.ordered_index.specs.Node.{Begins, Content, Holds, IsNode, content_at, entries_at, entry_words, in_threes, key_at, kind_at, kind_word, least, next_leaf, tree_node_words}
+use Rattle.ordered_index.specs.Node.{Begins, Content, Holds, entry_words, in_threes, kind_word, least, next_leaf, tree_node_words}
+use Rattle.ordered_index.specs.Standing.{IsNode, content_at, entries_at, key_at, kind_at}
 use Rattle.ordered_index.proofs.Entries.{rising_before, rising_next, rising_one}
 
 abbrev pub key_of : ℕ → ℕ → Key

@@ -1,5 +1,6 @@
 pub mod Keys
 pub mod Node
+pub mod Standing
 pub mod Held
 pub mod Tree
 pub mod Walk

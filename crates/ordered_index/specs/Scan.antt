@@ -6,7 +6,8 @@ use Rattle.ordered_index.specs.declared.key.Key.{Key}
 use Rattle.ordered_index.specs.declared.node.Kind.TheVariants.{Leaf}
 use Rattle.ordered_index.specs.declared.walk.Stored.{Stored}
 use Rattle.ordered_index.specs.Keys.{is_before, Before}
-use Rattle.ordered_index.specs.Node.{Content, IsNode, content_at}
+use Rattle.ordered_index.specs.Node.{Content}
+use Rattle.ordered_index.specs.Standing.{IsNode, content_at}
 use Rattle.ordered_index.specs.Tree.{IsAt, IsTreeBefore, row_entries}
 use Rattle.record_store.specs.States.{IsTorn}
 use Rattle.ordered_index.specs.Walk.{DescentReaches, DescentTears}

@@ -10,15 +10,15 @@ ghost use Rattle.ordered_index.specs.Asks.{MayAskUnder, MayAskAt, MayAskRoot, Ma
 ghost use Rattle.ordered_index.specs.declared.node.Kind.TheVariants.{Leaf, Inner};
 ghost use Rattle.ordered_index.specs.Held.{content_of};
 ghost use Rattle.ordered_index.specs.Keys.{NotAfter};
-ghost use Rattle.ordered_index.specs.Node.{IsNode, content_at};
+ghost use Rattle.ordered_index.specs.Standing.{IsNode, content_at};
 ghost use Rattle.ordered_index.specs.Written.{WritesNodes};
 ghost use Rattle.record_store.specs.States.{EachState};
 ghost use Rattle.ordered_index.specs.Enter.{EachEntered, IsLeafEntered, IfTakes, IfThere, IsRank, TearsBelow, ReachesBelow, PutsEntry, PutsRoot, with_entry};
 
 use crate::key::Key;
 use crate::node::Node;
-use crate::walk::{Stored, MOST_DEPTH, read_node};
 use crate::standing::{entry, is_inner, node_of, place, rank_of};
+use crate::walk::{MOST_DEPTH, Stored, read_node};
 use record_store::{RecordStore, Walk, write_node};
 
 /// What comes of an entry below a node.

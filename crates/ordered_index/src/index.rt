@@ -14,8 +14,8 @@ ghost use Rattle.ordered_index.specs.Written.{WritesNodes};
 use crate::enter::{Entering, enter, put_root};
 use crate::key::Key;
 use crate::node::Node;
-use crate::walk::{FIRST, leaf_for, read_node};
 use crate::standing::{entry, node_of, place, rank_of};
+use crate::walk::{FIRST, leaf_for, read_node};
 use record_store::{RecordRead, RecordStore, Walk, write_node};
 
 /// The record number beside a key in the tree of `root`.

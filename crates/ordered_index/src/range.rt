@@ -5,7 +5,7 @@ ghost use Rattle.record_store.specs.Limits.{record_limit};
 ghost use Rattle.std.specs.Vec.{vec_capacity};
 ghost use Rattle.record_store.specs.Goes.{GoesByReads, WalksByReads};
 ghost use Rattle.record_store.specs.Walks.{IfTorn, IfNoMemory};
-ghost use Rattle.ordered_index.specs.Node.{IsNode, content_at};
+ghost use Rattle.ordered_index.specs.Standing.{IsNode, content_at};
 ghost use Rattle.ordered_index.specs.Walk.{node_of};
 ghost use Rattle.ordered_index.specs.Keys.{is_before as is_before_of, Rising};
 ghost use Rattle.ordered_index.specs.Tree.{EachTree, IsAt, row_entries};
@@ -13,8 +13,8 @@ ghost use Rattle.record_store.specs.States.{EachState};
 ghost use Rattle.ordered_index.specs.Scan.{between, Appends, ListsNothing, Scans, ScanTears, IsTornScan, HasBehind, IsLeafBehind, IsNoLeaf, keys_behind};
 
 use crate::key::Key;
-use crate::walk::{Stored, leaf_for};
 use crate::standing::{entry, fence, is_inner, is_node, next};
+use crate::walk::{Stored, leaf_for};
 use record_store::{RecordRead, Walk};
 
 /// Appends to `out` the first `limit` pairs of the tree of `root` whose keys lie from `lo` to `hi`, both taken in, by rising key.

@@ -3,7 +3,8 @@
 ghost use Rattle.std.specs.Prelude.{◌≡◌, ℕ, ◌+◌, ◌*◌, ◌-◌, ◌<◌, ◌≤◌, ◌==◌, if◌then◌else◌, drop, length, slice_get, slice_index, slice_index_or, IfNone, IfSome, MatchBool, None, Some, true, false};
 ghost use Rattle.ordered_index.specs.Held.{content_of};
 ghost use Rattle.ordered_index.specs.Keys.{Above, InStore, NotAfter, Rising, entry_at, first_key, is_before, last_at};
-ghost use Rattle.ordered_index.specs.Node.{Begins, Content, Holds, IsNode, IsSound, content_at, entries_at, key_at, kind_word, least, next_leaf};
+ghost use Rattle.ordered_index.specs.Node.{Begins, Content, Holds, IsSound, kind_word, least, next_leaf};
+ghost use Rattle.ordered_index.specs.Standing.{IsNode, content_at, entries_at, key_at};
 ghost use Rattle.ordered_index.specs.Splits.{IsRank};
 ghost use Rattle.ordered_index.specs.Walk.{HasKeyAt};
 ghost use Rattle.ordered_index.specs.declared.node.Kind.{Kind};

@@ -4,7 +4,7 @@ ghost use Rattle.std.specs.Prelude.{◌≡◌, ℕ, ◌+◌, ◌<◌, ◌≤◌,
 ghost use Rattle.record_store.specs.Limits.{record_limit};
 ghost use Rattle.record_store.specs.Goes.{WalksByReads};
 ghost use Rattle.record_store.specs.Walks.{IfTorn};
-ghost use Rattle.ordered_index.specs.Node.{IsNode};
+ghost use Rattle.ordered_index.specs.Standing.{IsNode};
 ghost use Rattle.record_store.specs.States.{EachState};
 ghost use Rattle.ordered_index.specs.Walk.{IsTreeNode, ReadsNode, IsNoNode, DescentTears, LeafIs};
 

@@ -1,6 +1,6 @@
 use Rattle.std.proofs.Common.{Some, ap, sym, ◌∙◌}
 use Rattle.record_store.proofs.Refusals.{torn_moved, IfTorn-map}
-use Rattle.ordered_index.specs.Node.{content_at}
+use Rattle.ordered_index.specs.Standing.{content_at}
 use Rattle.plain_data.specs.State.{overlay}
 use Rattle.ordered_index.proofs.Entries.{entry_at-place}
 use Rattle.ordered_index.specs.Keys.{first_key}

@@ -10,7 +10,8 @@ use Rattle.std.proofs.Common.{[], ◌∷◌}
 use Rattle.record_store.specs.Meaning.{after_write}
 use Rattle.record_store.proofs.Agreement.{OnlyReads-trans, extends-refl, ReadsGrow-behind, ReadsGrow-trans, written_after, written_as}
 use Rattle.ordered_index.specs.Keys.{first_key}
-use Rattle.ordered_index.specs.Node.{IsSound, tree_node_words, content_at}
+use Rattle.ordered_index.specs.Node.{IsSound, tree_node_words}
+use Rattle.ordered_index.specs.Standing.{content_at}
 use Rattle.ordered_index.specs.Tree.{IsAt}
 use Rattle.record_store.specs.States.{EachState}
 use Rattle.ordered_index.specs.Walk.{IsTreeNode}

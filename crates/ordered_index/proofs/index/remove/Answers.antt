@@ -6,7 +6,8 @@ use Rattle.record_store.proofs.Paths.{Calls-reads, Calls-trans, CallFault-read, 
 use Rattle.record_store.proofs.Agreement.{writes_same, extends-refl, ReadsGrow-refl, ReadsGrow-write, ReadsGrow-only, written_after, written_as}
 use Rattle.record_store.proofs.Known.{tries, gives-reads, gives-tried, known-reads, known-found}
 use Rattle.ordered_index.proofs.Wrote.{nodes-none, read_few, wrote_none, wrote_one}
-use Rattle.ordered_index.specs.Node.{tree_node_words, Content, content_at}
+use Rattle.ordered_index.specs.Node.{tree_node_words, Content}
+use Rattle.ordered_index.specs.Standing.{content_at}
 use Rattle.ordered_index.proofs.Trees.{is_torn}
 use Rattle.ordered_index.proofs.Removed.{removes_entry, removes_nothing, each_absent}
 use Rattle.ordered_index.proofs.Reaching.{leaf_ends}

@@ -3,7 +3,7 @@ use Rattle.std.specs.Prelude.{vec_len}
 use Rattle.std.specs.Vec.{vec_capacity}
 use Rattle.record_store.specs.Goes.{WalksByReads}
 use Rattle.record_store.specs.States.{EachState}
-use Rattle.ordered_index.specs.Node.{IsNode, content_at}
+use Rattle.ordered_index.specs.Standing.{IsNode, content_at}
 use Rattle.ordered_index.specs.Walk.{node_of}
 use Rattle.ordered_index.specs.Scan.{Appends, keys_behind}
 use Rattle.ordered_index.proofs.Listing.{Listed}

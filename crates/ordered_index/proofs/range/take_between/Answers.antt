@@ -3,7 +3,7 @@ use Rattle.std.specs.Prelude.{not, is_ok}
 use Rattle.std.proofs.lemmas.List.{append_assoc, length-append}
 use Rattle.ordered_index.specs.declared.key.Key.{Key}
 use Rattle.ordered_index.specs.Keys.{first_key, is_before}
-use Rattle.ordered_index.specs.Node.{content_at}
+use Rattle.ordered_index.specs.Standing.{content_at}
 use Rattle.ordered_index.specs.Scan.{between}
 use Rattle.ordered_index.proofs.Between.{between_ends, between_fills, between_skips, between_takes, between_whole, has_behind}
 use Rattle.ordered_index.proofs.Words.{content_counted}

@@ -1,7 +1,7 @@
 use Rattle.std.proofs.Common.{◌≡◌, ◌<◌, ◌≤◌, ◌++◌, take}
 use Rattle.std.specs.Prelude.{vec_len}
 use Rattle.std.specs.Vec.{vec_capacity}
-use Rattle.ordered_index.specs.Node.{content_at}
+use Rattle.ordered_index.specs.Standing.{content_at}
 use Rattle.ordered_index.specs.Scan.{between}
 use Rattle.ordered_index.proofs.range.take_between.Given as goal
 

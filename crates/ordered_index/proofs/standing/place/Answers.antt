@@ -1,6 +1,6 @@
 use Rattle.std.proofs.Common.{◌≡◌, ◌-◌, ℕ, ap, arith, sym, ◌∙◌}
 use Rattle.ordered_index.specs.declared.key.Key.{Key}
-use Rattle.ordered_index.specs.Node.{content_at}
+use Rattle.ordered_index.specs.Standing.{content_at}
 use Rattle.ordered_index.proofs.Order.{ne_true, ne_false}
 use Rattle.ordered_index.proofs.Entries.{entry_at-last, entry_at-above}
 use Rattle.ordered_index.proofs.Words.{content_counted, content_entry, key_of}

@@ -1,7 +1,7 @@
 use Rattle.std.proofs.Common.{◌≤◌, drop}
 use Rattle.std.specs.Prelude.{slice_index}
 use Rattle.ordered_index.specs.Keys.{Above}
-use Rattle.ordered_index.specs.Node.{content_at}
+use Rattle.ordered_index.specs.Standing.{content_at}
 use Rattle.ordered_index.proofs.standing.rank_of.Given as goal
 
 -- the entries from here on have keys behind this one

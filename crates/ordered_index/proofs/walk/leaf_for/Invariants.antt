@@ -1,7 +1,7 @@
 use Rattle.std.proofs.Common.{◌-◌, ◌<◌, ◌≤◌, Ok}
 use Rattle.record_store.specs.Goes.{WalksByReads}
 use Rattle.ordered_index.specs.Keys.{NotAfter}
-use Rattle.ordered_index.specs.Node.{IsNode, content_at}
+use Rattle.ordered_index.specs.Standing.{IsNode, content_at}
 use Rattle.record_store.specs.States.{EachState}
 use Rattle.ordered_index.proofs.Paths.{Walked}
 use Rattle.ordered_index.proofs.walk.leaf_for.Given as goal

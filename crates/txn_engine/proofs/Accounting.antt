@@ -55,8 +55,7 @@ gives_told r e on =
     let w = any_found (λ (write : ℕ × Option (List ℕ)). eqb r write.0 && is_some write.1) e.writes h.1 in
     let at = both (eqb r w.0.0) _ w.2 in
     let some = some_of w.0.1 at.1 in
-    let number = eqb-true r w.0.0 at.0 in
-    (not-true e.snapshot h.0, (some.0, subst (λ (x : ℕ × Option (List ℕ)). Contains e.writes x) (λ i. (sym number i, some.1 i)) w.1))
+    (not-true e.snapshot h.0, (some.0, subst (λ (x : ℕ × Option (List ℕ)). Contains e.writes x) (λ i. (sym (eqb-true r w.0.0 at.0) i, some.1 i)) w.1))
 
 gives_shown : (r : ℕ) (e : Entry) (words : List ℕ) → e.snapshot ≡ false → Contains e.writes (r, Some words) → gives_at r e ≡ true
 gives_shown r e words commit there =

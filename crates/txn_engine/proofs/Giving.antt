@@ -105,8 +105,6 @@ pub refused_gives : (p q r : PassView) (i rid : ℕ) (f : TxnFault) → p.phase 
 refused_gives p q r i rid f opened alive h at unknown reads =
     let all = stays_asked i p q r h reads.stays in
     let living = alive_still i p q h alive in
-    let stamp = ap (λ (x : PassView). x.stamp) h.same in
-    let on = h.were_on rid (on_at q.spare i rid at) in
     record {
       fresh = tt;
       ok = tt;
@@ -118,9 +116,9 @@ refused_gives p q r i rid f opened alive h at unknown reads =
         noted = reads.refuses.noted ∙ notes_alike f p q (ap notes h.same);
         stopped = rw alive tt;
         records_out = λ out. absurd (reads.never out);
-        loaded = λ first. conflict_earlier p.stamp p.observed q.observed r.observed f h.grows (subst (λ n. IfConflict f (λ conflict. IsLoaded n conflict q.observed r.observed)) stamp (reads.refuses.loaded living));
+        loaded = λ first. conflict_earlier p.stamp p.observed q.observed r.observed f h.grows (subst (λ n. IfConflict f (λ conflict. IsLoaded n conflict q.observed r.observed)) (ap (λ (x : PassView). x.stamp) h.same) (reads.refuses.loaded living));
       };
-      meets = λ first. meets_among p.spare rid f on (reads.meets living);
+      meets = λ first. meets_among p.spare rid f (h.were_on rid (on_at q.spare i rid at)) (reads.meets living);
       first = tt;
       passed = some_passed p q r i h.passed reads.spare reads.stays.grows;
       all_passed = λ out. absurd (reads.never out);

@@ -34,8 +34,7 @@ others_over false o s t = refl
 pub made_more : (made : ℕ) (p : PassView) → 1 ≤ made → p.others.splitting ≡ single → record p { post = one_more (with_made made p).post } ≡ with_made (made + 1) p
 made_more made p some plain =
     let on : ltb 1 (made + 1) ≡ true = lt-ltb 1 (made + 1) (omega arith) in
-    let count = (may_make made p.others some plain).1 in
-    ap (λ (o : Others). record p { post = record p.post { others = o; bounds = no_bounds; placed = [] } }) (ap (λ (n : ℕ). record (others_made made p.others) { splitting = sharing (n + 1) }) count ∙ others_over (ltb 1 made) p.others made (made + 1))
+    ap (λ (o : Others). record p { post = record p.post { others = o; bounds = no_bounds; placed = [] } }) (ap (λ (n : ℕ). record (others_made made p.others) { splitting = sharing (n + 1) }) ((may_make made p.others some plain).1) ∙ others_over (ltb 1 made) p.others made (made + 1))
     ∙ ap (λ (b : Bool). record p { post = record p.post { others = cond b (record p.others { splitting = sharing (made + 1) }) p.others; bounds = cond b no_bounds p.bounds; placed = cond b [] p.placed } }) (sym on)
 
 -- one more pass is there

@@ -27,10 +27,9 @@ returns-clause-roomy g c =
 
 pub first-requires-2-clause-parts : goal.first-requires-2-clause-parts
 first-requires-2-clause-parts g c =
-    let engine = ap engine_of c.first-pass.ensures in
     let size = ap (λ (v : View). v.size) c.in_ok-core.ensures.first ∙ c.in-Ok.ensures.exact in
     let fixed = ap (λ (q : NumbersView). q.fixed) c.in_ok-part.ensures in
-    let same : engine_of c.first-pass.result ≡ record { table = c.in_ok-core.hand.table; size = size_of c.args.seats c.args.records c.args.spare; fixed = c.args.fixed } = engine ∙ (λ k. record { table = c.in_ok-core.hand.table; size = size k; fixed = fixed k }) in
+    let same : engine_of c.first-pass.result ≡ record { table = c.in_ok-core.hand.table; size = size_of c.args.seats c.args.records c.args.spare; fixed = c.args.fixed } = (ap engine_of c.first-pass.ensures) ∙ (λ k. record { table = c.in_ok-core.hand.table; size = size k; fixed = fixed k }) in
     subst (λ (e : EngineView). HasParts e.size.seats e.fixed e.size.records c.in_ok-parts.parts) (sym same) c.in_ok-parts.ensures
 
 pub returns-clause-alone : goal.returns-clause-alone

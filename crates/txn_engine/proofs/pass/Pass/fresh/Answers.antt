@@ -32,11 +32,10 @@ returns-in_err-stopped g c =
 pub returns-in_err-ask : goal.returns-in_err-ask
 returns-in_err-ask g c =
     let p = c.args.self.now in
-    let q = c.loop-rid.self in
     let r = c.ask.new.self in
     let f = c.in_err-ask.field-0.0 in
     let at = sym (ap (λ (x : PassView). slice_get x.spare c.loop-rid.i) c.self.view_is) ∙ sym c.in-Some.ensures.at in
-    let refused = refused_gives p q r c.loop-rid.i c.in-Some.rid f c.requires.open c.in_ok-stopped.ensures.ok.1 c.loop-rid.invariant at c.in_err-ask.ensures.unknown c.in_err-ask.ensures.err in
+    let refused = refused_gives p c.loop-rid.self r c.loop-rid.i c.in-Some.rid f c.requires.open c.in_ok-stopped.ensures.ok.1 c.loop-rid.invariant at c.in_err-ask.ensures.unknown c.in_err-ask.ensures.err in
     record { gives = handed_on c.from_residual-in_err-ask.result f (λ (x : Result ℕ TxnFault). Gives p r x) c.from_residual-in_err-ask.ensures.1 refused }
 
 pub returns-in-Given : goal.returns-in-Given

@@ -53,9 +53,8 @@ returns-in-Ok-clause-ok g c =
     let p = i.post in
     let q = c.read_absent.new.self in
     let b = pass_view p i.boost i.queue i.numbers i.refusals i.commits i.dead i.counted in
-    let unwritten = ap (λ (x : PassView). value_at x.writes c.args.rid) c.self.view_is ∙ c.requires.unwritten in
     let unread : value_at p.reads c.args.rid ≡ None = rw (none_found c.version_read.result c.in_default.not-Some) at c.version_read.ensures.none in
-    let unknown : known_at p c.args.rid ≡ None = known_unwritten p c.args.rid unwritten ∙ unread in
+    let unknown : known_at p c.args.rid ≡ None = known_unwritten p c.args.rid (ap (λ (x : PassView). value_at x.writes c.args.rid) c.self.view_is ∙ c.requires.unwritten) ∙ unread in
     subst (λ (x : PassView). TellsAbsent x (record b { post = q }) c.args.rid c.in-Ok.absent) c.self.view_is (record {
       after = asked_absent b q c.args.rid c.in-Ok.absent unknown c.in-Ok.ensures.absent c.in-Ok.ensures.passed;
       grows = c.read_absent.ensures.grows;
@@ -71,16 +70,14 @@ returns-in-Err-Pending-clause-err g c =
     let i = c.self.inside in
     let p = i.post in
     let a = c.args.self.now in
-    let wts = c.in-Err-Pending.wts in
     let b = pass_view p i.boost i.queue i.numbers i.refusals i.commits i.dead i.counted in
     let q = pass_view c.read_absent.new.self i.boost i.queue i.numbers i.refusals i.commits i.dead i.counted in
-    let unwritten = ap (λ (x : PassView). value_at x.writes c.args.rid) c.self.view_is ∙ c.requires.unwritten in
     let unread : value_at p.reads c.args.rid ≡ None = rw (none_found c.version_read.result c.in_default.not-Some) at c.version_read.ensures.none in
-    let unknown : known_at p c.args.rid ≡ None = known_unwritten p c.args.rid unwritten ∙ unread in
+    let unknown : known_at p c.args.rid ≡ None = known_unwritten p c.args.rid (ap (λ (x : PassView). value_at x.writes c.args.rid) c.self.view_is ∙ c.requires.unwritten) ∙ unread in
     let met = rw c.in-Err-Pending.field-0-is at c.in-Err-Pending.ensures.met in
     let rid : c.args.rid < p.shared.size.records = subst (λ (x : PassView). c.args.rid < x.shared.size.records) (sym c.self.view_is) c.requires.rid in
     subst (λ (x : PassView). Reads x c.doom.new.self c.args.rid (Err c.doom.result)) c.self.view_is
-    (met_pending b q c.doom.new.self c.args.rid wts c.doom.result (ap (λ (x : PassView). x.dead) c.self.view_is ∙ c.requires.alive) unknown
+    (met_pending b q c.doom.new.self c.args.rid c.in-Err-Pending.wts c.doom.result (ap (λ (x : PassView). x.dead) c.self.view_is ∙ c.requires.alive) unknown
     (ap (λ (x : PostView). record b { post = x }) c.in-Err-Pending.ensures.err) c.read_absent.ensures.grows (rw c.in-Err-Pending.field-0-is at c.in-Err-Pending.ensures.loaded) (rid, met.0, met.1) c.doom.ensures.after c.doom.ensures.fault)
 
 pub returns-in-Err-NoMemory-clause-err : goal.returns-in-Err-NoMemory-clause-err
@@ -89,8 +86,7 @@ returns-in-Err-NoMemory-clause-err g c =
     let p = i.post in
     let b = pass_view p i.boost i.queue i.numbers i.refusals i.commits i.dead i.counted in
     let q = pass_view c.read_absent.new.self i.boost i.queue i.numbers i.refusals i.commits i.dead i.counted in
-    let unwritten = ap (λ (x : PassView). value_at x.writes c.args.rid) c.self.view_is ∙ c.requires.unwritten in
     let unread : value_at p.reads c.args.rid ≡ None = rw (none_found c.version_read.result c.in_default.not-Some) at c.version_read.ensures.none in
-    let unknown : known_at p c.args.rid ≡ None = known_unwritten p c.args.rid unwritten ∙ unread in
+    let unknown : known_at p c.args.rid ≡ None = known_unwritten p c.args.rid (ap (λ (x : PassView). value_at x.writes c.args.rid) c.self.view_is ∙ c.requires.unwritten) ∙ unread in
     subst (λ (x : PassView). Reads x q c.args.rid (Err txn.NoMemory)) c.self.view_is
     (memory_reads b q c.args.rid (ap (λ (x : PassView). x.dead) c.self.view_is ∙ c.requires.alive) unknown (ap (λ (x : PostView). record b { post = x }) (c.in-Err-NoMemory.ensures.no_memory c.in-Err-NoMemory.field-0-is)))

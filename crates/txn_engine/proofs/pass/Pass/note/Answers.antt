@@ -21,12 +21,11 @@ returns-in-Err-Pending g c =
     let p = i.post in
     let b = pass_view p i.boost i.queue i.numbers i.refusals i.commits i.dead i.counted in
     let q = pass_view c.read.new.self i.boost i.queue i.numbers i.refusals i.commits i.dead i.counted in
-    let wts = c.in-Err-Pending.wts in
     let met = rw c.in-Err-Pending.field-0-is at c.in-Err-Pending.ensures.met in
     let rid : c.args.rid < p.shared.size.records = subst (λ (x : PassView). c.args.rid < x.shared.size.records) (sym c.self.view_is) c.requires.rid in
     let unknown : known_at p c.args.rid ≡ None = ap (λ (x : PassView). known_at x.post c.args.rid) c.self.view_is ∙ c.requires.first in
     let reads =
-    met_pending b q c.doom.new.self c.args.rid wts c.doom.result (ap (λ (x : PassView). x.dead) c.self.view_is ∙ c.requires.alive) unknown
+    met_pending b q c.doom.new.self c.args.rid c.in-Err-Pending.wts c.doom.result (ap (λ (x : PassView). x.dead) c.self.view_is ∙ c.requires.alive) unknown
     (ap (λ (x : PostView). record b { post = x }) c.in-Err-Pending.ensures.err) c.read.ensures.grows (rw c.in-Err-Pending.field-0-is at c.in-Err-Pending.ensures.loaded) (rid, met.0, met.1) c.doom.ensures.after c.doom.ensures.fault in
     record {
       notes = record {

@@ -170,12 +170,10 @@ returns-clause-done g c =
     let behind = grows_both f.new.hand.view.seen s.new.hand.view.seen w.seen s.ensures.settles.grows rest in
     let due = due_at rid f.result v f.new.hand.view s.new.hand.view w f.ensures.looked c.if-found.false (s.ensures.hidden c.if-is_visible.false) s.ensures.settles.grows rest in
     let before = grows_both v.seen f.new.hand.view.seen s.new.hand.view.seen (grows_loads v.seen f.new.hand.view.seen _ f.ensures.looked.loads f.ensures.lost) s.ensures.settles.grows in
-    let wants = c.in_ok-once.ensures.wants (not_off c.in_ok-once.once.reserved c.if-not-once.false) in
-    let kept = no_place_from c.args.core.now.size rid v s.new.hand.view once w before wants after in
-    let first = cuts_from rid 1 v once k.new.hand.view gone k.ensures.cut.once in
+    let kept = no_place_from c.args.core.now.size rid v s.new.hand.view once w before (c.in_ok-once.ensures.wants (not_off c.in_ok-once.once.reserved c.if-not-once.false)) after in
     let second = cuts_from rid 1 k.new.hand.view twice w c.renew-2.ensures.gone m.ensures.cut.once in
     settles_one c.args.core.now.size rid (record { rewritten = 2; cut = 2; places = c.saturating_add.result }) f.result v f.new.hand.view w f.ensures.looked f.ensures.lost behind (cut_some f.result.single 2 2 c.if-found.false refl)
-    (cuts_both rid 1 1 v.gone.cuts k.new.hand.view.gone.cuts w.gone.cuts first second) (returns-clause-freed g c) (λ some. due) (λ some. kept)
+    (cuts_both rid 1 1 v.gone.cuts k.new.hand.view.gone.cuts w.gone.cuts (cuts_from rid 1 v once k.new.hand.view gone k.ensures.cut.once) second) (returns-clause-freed g c) (λ some. due) (λ some. kept)
 
 pub returns-in_err-once-clause-done : goal.returns-in_err-once-clause-done
 returns-in_err-once-clause-done g c = not_ok c.from_residual.result _ _ c.from_residual.ensures.1

@@ -110,8 +110,7 @@ returns-clause-passes g c =
 
 pub split-requires-clause-makes : goal.split-requires-clause-makes
 split-requires-clause-makes g c =
-    let plain = ap (λ (o : Others). o.splitting) c.requires.only in
-    let may = may_make c.loop-seat._seat c.args.pass.others c.loop-seat.auto._seat plain in
+    let may = may_make c.loop-seat._seat c.args.pass.others c.loop-seat.auto._seat (ap (λ (o : Others). o.splitting) c.requires.only) in
     subst (λ (p : PassView). MayOffer p.others.splitting) (sym c.loop-seat.invariant.pass) may.0
 
 pub split-requires-clause-room : goal.split-requires-clause-room

@@ -25,8 +25,7 @@ invariant_of-self g c =
 pub returns-clause-value : goal.returns-clause-value
 returns-clause-value g c =
     let i = c.self.inside in
-    let phase = ap (λ (p : PostView). p.phase) c.self.view_is ∙ c.requires.idle in
-    let at = (at_phase _ Idle i.hand i.stamp i.sets c.self.invariant phase) in
+    let at = (at_phase _ Idle i.hand i.stamp i.sets c.self.invariant (ap (λ (p : PostView). p.phase) c.self.view_is ∙ c.requires.idle)) in
     let alone = subst (λ (p : PostView). IsAloneAt p.shared.size p.seat p.others) (sym c.self.view_is) c.requires.alone in
     let is = announces i.hand c.idle.new.hand c.raise_min_write.new.hand c.raise_min_write.result at.ends at.whole c.idle.ensures.rises c.idle.ensures.unchanged alone c.raise_min_write.ensures.raises c.raise_min_write.ensures.view in
     let table = c.raise_min_write.ensures.ready.seat.same_table ∙ c.idle.ensures.ready.seat.same_table in

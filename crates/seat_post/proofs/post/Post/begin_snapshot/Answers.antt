@@ -16,9 +16,8 @@ begin_snapshot-requires-clause-ends g c = (at_phase _ Idle _ _ _ c.self.invarian
 pub invariant_of-self : goal.invariant_of-self
 invariant_of-self g c =
     let phase = ap (λ (p : PostView). p.phase) c.self.view_is ∙ c.requires.idle in
-    let idle = at_phase _ Idle _ _ _ c.self.invariant phase in
     let e = c.begin_snapshot.ensures in
-    post_in_snapshot c.args.core.now _ _ _ _ _ c.self.invariant idle phase e.stays.ready (opened_size _ _ _ e.opens) (opened_held _ _ _ e.opens) (opened_kept _ _ _ e.opens) e.in_snapshot
+    post_in_snapshot c.args.core.now _ _ _ _ _ c.self.invariant (at_phase _ Idle _ _ _ c.self.invariant phase) phase e.stays.ready (opened_size _ _ _ e.opens) (opened_held _ _ _ e.opens) (opened_kept _ _ _ e.opens) e.in_snapshot
 
 pub returns-clause-snapshots : goal.returns-clause-snapshots
 returns-clause-snapshots g c = subst (λ (p : PostView). AreBelow p.log (c.begin_snapshot.result + 1)) c.self.view_is (below_logged c.self.inside.hand.view.log c.begin_snapshot.result c.begin_snapshot.ensures.snapshots)

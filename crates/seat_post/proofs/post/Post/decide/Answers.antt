@@ -39,9 +39,8 @@ pub returns-in-Ok-clause-ok : goal.returns-in-Ok-clause-ok
 returns-in-Ok-clause-ok g c =
     let i = c.self.inside in
     let is = at_known _ _ _ _ _ (ap (λ (p : PostView). p.phase) c.self.view_is ∙ c.requires.phase) c.self.invariant in
-    let same = c.requires.stamp ∙ sym (ap (λ (p : PostView). p.stamp) c.self.view_is) in
     let p = post_of i.hand i.phase i.stamp i.sets in
-    let entry = entry_same c.args.installed.stamp i.sets.reads i.sets.writes p same refl refl in
+    let entry = entry_same c.args.installed.stamp i.sets.reads i.sets.writes p (c.requires.stamp ∙ sym (ap (λ (p : PostView). p.stamp) c.self.view_is)) refl refl in
     decided_view g.J.Keeps.kept c.args.core.now.size.records i.hand c.decide.new.hand i.phase i.stamp c.args.installed.stamp i.stamp i.sets is.at.installed.in_flight is.at.installed.linked c.decide.ensures.stays.seat.same_table c.in-Ok.ensures.ok entry
     ∙ ap (λ (p : PostView). observing (entered p) (observed_in c.decide.new.hand)) c.self.view_is
 
@@ -49,9 +48,8 @@ pub returns-in-Ok-clause-stood : goal.returns-in-Ok-clause-stood
 returns-in-Ok-clause-stood g c =
     let i = c.self.inside in
     let is = at_known _ _ _ _ _ (ap (λ (p : PostView). p.phase) c.self.view_is ∙ c.requires.phase) c.self.invariant in
-    let same = c.requires.stamp ∙ sym (ap (λ (p : PostView). p.stamp) c.self.view_is) in
     let p = post_of i.hand i.phase i.stamp i.sets in
-    let entry = entry_same c.args.installed.stamp i.sets.reads i.sets.writes p same refl refl in
+    let entry = entry_same c.args.installed.stamp i.sets.reads i.sets.writes p (c.requires.stamp ∙ sym (ap (λ (p : PostView). p.stamp) c.self.view_is)) refl refl in
     let stood = stood_same g.J.Keeps.kept c.args.core.now.size.records i.hand.view.log (commit_of (writing c.args.installed.stamp) i.sets.reads i.sets.writes) (entry_at p) entry c.in-Ok.ensures.ok.stood in
     subst (λ (q : PostView). Stood g.J.Keeps.kept q.shared.size.records q.log (entry_at q)) c.self.view_is (subst (λ (x : Shared). Stood g.J.Keeps.kept x.size.records p.log (entry_at p)) (sym (ap (λ (q : PostView). q.shared) c.self.view_is ∙ c.requires.core)) stood)
 

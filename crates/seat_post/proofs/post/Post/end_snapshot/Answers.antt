@@ -20,19 +20,16 @@ end_snapshot-requires-clause-in_snapshot g c =
 pub invariant_of-self : goal.invariant_of-self
 invariant_of-self g c =
     let phase = ap (λ (p : PostView). p.phase) c.self.view_is ∙ c.requires.idle in
-    let idle = at_phase _ Idle _ _ _ c.self.invariant phase in
     let e = c.end_snapshot.ensures in
-    post_ended c.args.core.now _ _ _ _ _ c.self.invariant idle phase e.stays.ready e.view
+    post_ended c.args.core.now _ _ _ _ _ c.self.invariant (at_phase _ Idle _ _ _ c.self.invariant phase) phase e.stays.ready e.view
 
 pub returns-clause-stood : goal.returns-clause-stood
 returns-clause-stood g c =
     let v = c.self.inside.hand.view in
     let idle = at_phase _ Idle _ _ _ c.self.invariant (ap (λ (p : PostView). p.phase) c.self.view_is ∙ c.requires.idle) in
     let rests = (in_snapshot_of _ _ _ idle (subst (λ (p : PostView). IsSome p.snapshot) (sym c.self.view_is) c.requires.snapshot)).rests in
-    let core = ap (λ (p : PostView). p.shared) c.self.view_is ∙ c.requires.core in
-    let stood = subst (λ (x : Shared). StoodAt g.J.Keeps.kept x.size.records v.log (logged_snapshot v)) (sym core) c.end_snapshot.ensures.stood in
-    let told = stood_snapshot g.J.Keeps.kept v.size.records v rests stood in
-    subst (λ (p : PostView). IfSome p.snapshot (λ o. Stood g.J.Keeps.kept p.shared.size.records p.log (entry_of_snapshot o))) c.self.view_is told
+    let stood = subst (λ (x : Shared). StoodAt g.J.Keeps.kept x.size.records v.log (logged_snapshot v)) (sym (ap (λ (p : PostView). p.shared) c.self.view_is ∙ c.requires.core)) c.end_snapshot.ensures.stood in
+    subst (λ (p : PostView). IfSome p.snapshot (λ o. Stood g.J.Keeps.kept p.shared.size.records p.log (entry_of_snapshot o))) c.self.view_is (stood_snapshot g.J.Keeps.kept v.size.records v rests stood)
 
 pub returns-clause-grows : goal.returns-clause-grows
 returns-clause-grows g c = let i = c.self.inside in post_grows i.hand c.end_snapshot.new.hand i.phase i.stamp i.sets c.args.self.now c.self.view_is c.end_snapshot.ensures.grows

@@ -94,8 +94,7 @@ returns-in-Err-clause-wants g c =
     let few = take f.number p.writes in
     let once = same_once i.sets.writes us c.install.ensures.same.writes is.at.begun.inside.once in
     let values = same_values c.self.inside.sets.writes us c.install.ensures.same.writes ∙ ap (λ (q : PostView). q.writes) c.self.view_is in
-    let first = written_values-take f.number us ∙ ap (take f.number) values in
-    let have = have_places z (take f.number us) few (each_fits z i.hand.view.published.write (take f.number us) i.hand.view f.installed f.each) first in
+    let have = have_places z (take f.number us) few (each_fits z i.hand.view.published.write (take f.number us) i.hand.view f.installed f.each) (written_values-take f.number us ∙ ap (take f.number) values) in
     let no_place = meets_none z c.install.new.sets i.hand.view w f in
     record {
       count = f.number;

@@ -19,16 +19,14 @@ idle-requires-clause-ends g c = (at_phase _ Idle c.self.inside.hand c.self.insid
 pub publish_read-stamp-requires-clause-ends : goal.publish_read-stamp-requires-clause-ends
 publish_read-stamp-requires-clause-ends g c =
     let i = c.self.inside in
-    let phase = ap (λ (p : PostView). p.phase) c.self.view_is ∙ c.requires.idle in
-    let at = (at_phase _ Idle i.hand i.stamp i.sets c.self.invariant phase) in
+    let at = (at_phase _ Idle i.hand i.stamp i.sets c.self.invariant (ap (λ (p : PostView). p.phase) c.self.view_is ∙ c.requires.idle)) in
     let alone = subst (λ (p : PostView). IsAloneAt p.shared.size p.seat p.others) (sym c.self.view_is) c.requires.alone in
     (announces i.hand c.idle.new.hand c.raise_min_write.new.hand c.raise_min_write.result at.ends at.whole c.idle.ensures.rises c.idle.ensures.unchanged alone c.raise_min_write.ensures.raises c.raise_min_write.ensures.view).ends
 
 pub list_absent-requires-clause-alone : goal.list_absent-requires-clause-alone
 list_absent-requires-clause-alone g c =
     let i = c.self.inside in
-    let phase = ap (λ (p : PostView). p.phase) c.self.view_is ∙ c.requires.idle in
-    let at = (at_phase _ Idle i.hand i.stamp i.sets c.self.invariant phase) in
+    let at = (at_phase _ Idle i.hand i.stamp i.sets c.self.invariant (ap (λ (p : PostView). p.phase) c.self.view_is ∙ c.requires.idle)) in
     let alone = subst (λ (p : PostView). IsAloneAt p.shared.size p.seat p.others) (sym c.self.view_is) c.requires.alone in
     let is = announces i.hand c.idle.new.hand c.raise_min_write.new.hand c.raise_min_write.result at.ends at.whole c.idle.ensures.rises c.idle.ensures.unchanged alone c.raise_min_write.ensures.raises c.raise_min_write.ensures.view in
     bounded_alone i.hand.view c.raise_min_write.new.hand.view c.publish_read-stamp.new.hand.view c.publish_read-stamp.result is c.publish_read-stamp.ensures.view (alone_told i.hand.view alone)
@@ -50,8 +48,7 @@ invariant_of-self g c =
 pub returns-clause-value : goal.returns-clause-value
 returns-clause-value g c =
     let i = c.self.inside in
-    let phase = ap (λ (p : PostView). p.phase) c.self.view_is ∙ c.requires.idle in
-    let at = (at_phase _ Idle i.hand i.stamp i.sets c.self.invariant phase) in
+    let at = (at_phase _ Idle i.hand i.stamp i.sets c.self.invariant (ap (λ (p : PostView). p.phase) c.self.view_is ∙ c.requires.idle)) in
     let alone = subst (λ (p : PostView). IsAloneAt p.shared.size p.seat p.others) (sym c.self.view_is) c.requires.alone in
     let is = announces i.hand c.idle.new.hand c.raise_min_write.new.hand c.raise_min_write.result at.ends at.whole c.idle.ensures.rises c.idle.ensures.unchanged alone c.raise_min_write.ensures.raises c.raise_min_write.ensures.view in
     let r = c.publish_read-stamp.ensures in
@@ -64,8 +61,7 @@ returns-clause-value g c =
 pub returns-clause-absent : goal.returns-clause-absent
 returns-clause-absent g c =
     let i = c.self.inside in
-    let phase = ap (λ (p : PostView). p.phase) c.self.view_is ∙ c.requires.idle in
-    let at = (at_phase _ Idle i.hand i.stamp i.sets c.self.invariant phase) in
+    let at = (at_phase _ Idle i.hand i.stamp i.sets c.self.invariant (ap (λ (p : PostView). p.phase) c.self.view_is ∙ c.requires.idle)) in
     let alone = subst (λ (p : PostView). IsAloneAt p.shared.size p.seat p.others) (sym c.self.view_is) c.requires.alone in
     let is = announces i.hand c.idle.new.hand c.raise_min_write.new.hand c.raise_min_write.result at.ends at.whole c.idle.ensures.rises c.idle.ensures.unchanged alone c.raise_min_write.ensures.raises c.raise_min_write.ensures.view in
     let r = c.publish_read-stamp.ensures in

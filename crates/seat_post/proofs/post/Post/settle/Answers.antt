@@ -18,10 +18,9 @@ use Rattle.seat_post.proofs.post.Post.settle.Goals as goal
 pub settle_all-told-requires-clause-settling : goal.settle_all-told-requires-clause-settling
 settle_all-told-requires-clause-settling g c =
     let i = c.self.inside in
-    let phase = ap (λ (p : PostView). p.phase) c.self.view_is ∙ c.requires.idle in
     record {
       alone = alone_told i.hand.view (subst (λ (p : PostView). IsAloneAt p.shared.size p.seat p.others) (sym c.self.view_is) c.requires.alone);
-      ends = (at_phase i.phase Idle i.hand i.stamp i.sets c.self.invariant phase).ends;
+      ends = (at_phase i.phase Idle i.hand i.stamp i.sets c.self.invariant (ap (λ (p : PostView). p.phase) c.self.view_is ∙ c.requires.idle)).ends;
       holds_none = c.self.invariant.holds_none;
       above = subst (λ (p : PostView). IsAbove p.log (bound_of_clock p.clock)) (sym c.self.view_is) c.requires.above;
     }

@@ -7,5 +7,4 @@ use Rattle.txn_engine.proofs.at_pass.PassSeatCalls.end_snapshot.Goals as goal
 pub invariant_of-self : goal.invariant_of-self
 invariant_of-self g c =
     let i = c.self.inside in
-    let snapshot = subst (λ (p : PassView). HasSnapshot p) (sym c.self.view_is) c.requires.snapshot in
-    pass_ended i.post c.end_snapshot.new.self i.post.snapshot i.queue i.numbers _ _ c.self.invariant snapshot c.end_snapshot.ensures.after
+    pass_ended i.post c.end_snapshot.new.self i.post.snapshot i.queue i.numbers _ _ c.self.invariant (subst (λ (p : PassView). HasSnapshot p) (sym c.self.view_is) c.requires.snapshot) c.end_snapshot.ensures.after

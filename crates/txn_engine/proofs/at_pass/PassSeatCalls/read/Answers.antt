@@ -44,8 +44,7 @@ returns-in-Some-version_read-clause-reads g c =
     let some : known_at a.post c.args.rid ≡ Some value = sym (ap (λ (x : PassView). known_at x.post c.args.rid) same) ∙ known_unwritten p c.args.rid unwritten ∙ read in
     known_reads a c.stopped.new.self c.args.rid value c.in_ok-stopped.ensures.ok.1 some
     (λ alone still.
-    let flying = ap (λ (x : PassView). x.phase) same ∙ c.requires.open in
-    let left = c.in-Some-version_read.ensures.left flying (subst (λ (x : PassView). IsAlone x) (sym same) alone) in
+    let left = c.in-Some-version_read.ensures.left (ap (λ (x : PassView). x.phase) same ∙ c.requires.open) (subst (λ (x : PassView). IsAlone x) (sym same) alone) in
     subst (λ (x : PassView). LeavesValue x.log c.args.rid x.stamp value) same (subst (λ (v : Option (List ℕ)). LeavesValue p.log c.args.rid p.stamp v) (sym c.value.ensures.value) left))
     begun
 

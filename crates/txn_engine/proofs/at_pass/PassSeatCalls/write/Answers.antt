@@ -48,11 +48,10 @@ pub returns-in_err-write-clause-writes : goal.returns-in_err-write-clause-writes
 returns-in_err-write-clause-writes g c =
     let p = c.args.self.now in
     let i = c.self.inside in
-    let b = pass_view i.post i.boost i.queue i.numbers i.refusals i.commits i.dead i.counted in
     let q = pass_view c.write.new.self i.boost c.reserve.new.self i.numbers i.refusals i.commits i.dead i.counted in
     let same : q ≡ p =
     ap (λ (x : PostView). pass_view x i.boost c.reserve.new.self i.numbers i.refusals i.commits i.dead i.counted) c.in_err-write.ensures.err
-    ∙ ap (λ (items : List Queued). record b { queue = items }) c.reserve.ensures.items ∙ c.self.view_is ∙ c.in_ok-stopped.ensures.ok.0 in
+    ∙ ap (λ (items : List Queued). record (pass_view i.post i.boost i.queue i.numbers i.refusals i.commits i.dead i.counted) { queue = items }) c.reserve.ensures.items ∙ c.self.view_is ∙ c.in_ok-stopped.ensures.ok.0 in
     told_on c.from_residual-in_err-write.result txn.NoMemory (λ (r : Result (Unit {0}) TxnFault). Writes p q c.args.rid c.args.value.now r) c.from_residual-in_err-write.ensures.1
     (memory_writes p q c.args.rid c.args.value.now c.in_ok-stopped.ensures.ok.1 same)
 
@@ -60,10 +59,9 @@ pub returns-clause-writes : goal.returns-clause-writes
 returns-clause-writes g c =
     let p = c.args.self.now in
     let i = c.self.inside in
-    let b = pass_view i.post i.boost i.queue i.numbers i.refusals i.commits i.dead i.counted in
     let q = pass_view c.write.new.self i.boost c.reserve.new.self i.numbers i.refusals i.commits i.dead i.counted in
     let is : q ≡ record p { post = written p.post c.args.rid c.args.value.now } =
     ap (λ (x : PostView). pass_view x i.boost c.reserve.new.self i.numbers i.refusals i.commits i.dead i.counted) c.in_ok-write.ensures.ok
-    ∙ ap (λ (items : List Queued). record b { post = written i.post c.args.rid c.args.value.now; queue = items }) c.reserve.ensures.items
+    ∙ ap (λ (items : List Queued). record (pass_view i.post i.boost i.queue i.numbers i.refusals i.commits i.dead i.counted) { post = written i.post c.args.rid c.args.value.now; queue = items }) c.reserve.ensures.items
     ∙ ap (λ (x : PassView). record x { post = written x.post c.args.rid c.args.value.now }) (c.self.view_is ∙ c.in_ok-stopped.ensures.ok.0) in
     written_writes p q c.args.rid c.args.value.now c.in_ok-stopped.ensures.ok.1 is

@@ -27,14 +27,12 @@ returns-in_err-is_absent-clause-err g c =
 pub give-requires : goal.give-requires
 give-requires g c =
     let same = ap (λ (x : PassView). x.spare) c.self-2.view_is ∙ ap (λ (x : PassView). x.spare) (rw c.if-branch.true at c.in_ok-is_absent.ensures.ok.after) in
-    let within = slice_get_within c.args.self.now.spare c.args.i c.args.rid c.requires.at in
-    subst (λ xs. c.args.i < length xs) (sym same) within
+    subst (λ xs. c.args.i < length xs) (sym same) (slice_get_within c.args.self.now.spare c.args.i c.args.rid c.requires.at)
 
 pub strike-requires : goal.strike-requires
 strike-requires g c =
     let same = ap (λ (x : PassView). x.spare) c.self-2.view_is ∙ ap (λ (x : PassView). x.spare) (rw c.if-branch.false at c.in_ok-is_absent.ensures.ok.after) in
-    let within = slice_get_within c.args.self.now.spare c.args.i c.args.rid c.requires.at in
-    subst (λ xs. c.args.i < length xs) (sym same) within
+    subst (λ xs. c.args.i < length xs) (sym same) (slice_get_within c.args.self.now.spare c.args.i c.args.rid c.requires.at)
 
 pub returns-then-branch-clause-ok : goal.returns-then-branch-clause-ok
 returns-then-branch-clause-ok g c =

@@ -17,9 +17,8 @@ use Rattle.txn_engine.proofs.pass.Pass.is_absent.Goals as goal
 
 pub invariant_of-self : goal.invariant_of-self
 invariant_of-self g c =
-    let phase = ap (λ (x : PassView). x.phase) c.self.view_is ∙ c.requires.open in
     let i = c.self.inside in
-    pass_asked i.post c.read_absent.new.self c.args.rid c.in-Ok.absent i.queue i.numbers _ _ c.in-Ok.ensures.absent c.in-Ok.ensures.passed c.self.invariant phase
+    pass_asked i.post c.read_absent.new.self c.args.rid c.in-Ok.absent i.queue i.numbers _ _ c.in-Ok.ensures.absent c.in-Ok.ensures.passed c.self.invariant (ap (λ (x : PassView). x.phase) c.self.view_is ∙ c.requires.open)
 
 pub invariant_of-self-in-Err-Pending : goal.invariant_of-self-in-Err-Pending
 invariant_of-self-in-Err-Pending g c = rw c.in-Err-Pending.ensures.err c.self.invariant

@@ -141,10 +141,6 @@ words_more words kind count high low i entries d back within few before =
     ∙ ap (λ ws. kind ∷ count ∷ high ∷ low ∷ (ws ++ (replicate n 0 ++ back))) (sym (entry_words-more entries i d within))
 
 -- what words say where they stand
-pub content-entries : (words : List ℕ) → (content_at words).entries ≡ entries_at words
-unfolding content_at
-content-entries words = refl
-
 pub content-low : (words : List ℕ) → (content_at words).low ≡ key_of (slice_index words 2) (slice_index words 3)
 unfolding content_at
 content-low words = refl
@@ -165,10 +161,6 @@ content_inner words is = rw is refl
 pub content_leaf : (words : List ℕ) → (slice_index words 0 == 2) ≡ false → (content_at words).kind ≡ Leaf
 unfolding content_at
 content_leaf words is = rw is refl
-
-pub content-next : (words : List ℕ) → (content_at words).next ≡ next_leaf (content_at words).kind (slice_index words 31)
-unfolding content_at
-content-next words = refl
 
 pub rid_fits : (words : List ℕ) (i size : ℕ) → length words ≡ 32 → IsNode size words → i < length (content_at words).entries → slice_index words (6 + 3 * i) < size
 rid_fits words i size whole node within =

@@ -1,11 +1,9 @@
 use Rattle.std.proofs.Common.{◌+◌, ◌<◌, ℕ, Some, None, Ok, refl, sym, ◌∙◌, ap, arith, subst}
 use Rattle.std.specs.Prelude.{is_some}
 use Rattle.ordered_index.specs.Standing.{content_at}
-use Rattle.record_store.specs.Calls.Calls.{none}
-use Rattle.record_store.proofs.Refusals.{fault_moved, torn_moved, IfStore-map, IfTorn-map}
-use Rattle.record_store.proofs.Agreement.{OnlyReads-refl, extends-refl, size_same, OnlyReads-trans, ReadsGrow-only, ReadsGrow-behind, ReadsGrow-trans, ReadsGrow-refl}
-use Rattle.record_store.proofs.Known.{gives-reads, gives-behind, gives-trans, fewer-behind, known-reads, known-behind, known-then-found}
-use Rattle.record_store.proofs.Paths.{Calls-trans, Calls-reads, CallFault-read, CallFault-behind}
+use Rattle.record_store.proofs.Refusals.{torn_moved, IfTorn-map}
+use Rattle.record_store.proofs.Agreement.{OnlyReads-refl, extends-refl, size_same, OnlyReads-trans}
+use Rattle.record_store.proofs.Known.{known-reads, known-behind, known-then-found}
 use Rattle.ordered_index.specs.Keys.{first_key}
 use Rattle.record_store.specs.States.{EachState}
 use Rattle.ordered_index.specs.Walk.{IsTreeNode}

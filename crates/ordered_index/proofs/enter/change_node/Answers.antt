@@ -1,15 +1,11 @@
 use Rattle.std.proofs.Common.{◌≡◌, ◌+◌, ◌*◌, Ok, refl, sym, ap, arith}
-use Rattle.record_store.specs.Calls.Calls.{none, fresh}
-use Rattle.record_store.specs.Calls.CallFault.{by_fresh}
 use Rattle.record_store.specs.Meaning.{Meaning}
-use Rattle.record_store.proofs.Refusals.{store_fault, fault_moved, IfStore-map}
-use Rattle.record_store.proofs.Paths.{Calls-at, Calls-trans, CallFault-never}
-use Rattle.record_store.proofs.Known.{tries, gives-weaken, fewer-refused, goes-same, goes-added, goes-tried, goes-trans}
+use Rattle.record_store.proofs.Known.{tries, goes-same, goes-added, goes-tried, goes-trans}
 use Rattle.ordered_index.specs.Asks.{MayAskAt, asks_at}
 use Rattle.ordered_index.proofs.Counting.{asks_nine}
 use Rattle.ordered_index.proofs.Asking.{asks_few, had_nine}
 use Rattle.ordered_index.proofs.Wrote.{nodes-none, nodes-weaken, wrote_fresh, wrote_none, wrote_one}
-use Rattle.record_store.proofs.Agreement.{ReadsGrow-refl, ReadsGrow-same, ReadsGrow-fresh, ReadsGrow-write, written_as}
+use Rattle.record_store.proofs.Agreement.{written_as}
 use Rattle.ordered_index.proofs.Parting.{left_few, right_few}
 use Rattle.ordered_index.specs.Held.{content_of}
 use Rattle.record_store.proofs.Going.{fresh_refused, fresh_done, calls_at, calls_map, calls_moved, calls_never, calls_quiet}

@@ -1,10 +1,8 @@
-use Rattle.std.proofs.Common.{Some, length, refl, ap, ◌∙◌, arith}
-use Rattle.record_store.specs.Calls.Calls.{none}
+use Rattle.std.proofs.Common.{Some, length, ap, ◌∙◌, arith}
 use Rattle.record_store.specs.Meaning.{after_write}
 use Rattle.record_store.proofs.Agreement.{written_as}
-use Rattle.record_store.proofs.Refusals.{fault_moved, IfStore-map, OnOk-map}
-use Rattle.record_store.proofs.Paths.{CallFault-behind, CallFault-never}
-use Rattle.record_store.proofs.Known.{tries, gives-none, fewer-behind}
+use Rattle.record_store.proofs.Refusals.{OnOk-map}
+use Rattle.record_store.proofs.Known.{tries}
 use Rattle.ordered_index.specs.Node.{Content, tree_node_words}
 use Rattle.ordered_index.specs.Enter.PutsRoot.{whole}
 use Rattle.ordered_index.proofs.Parting.{not_full}

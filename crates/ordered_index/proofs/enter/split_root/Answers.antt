@@ -3,16 +3,12 @@ use Rattle.record_store.specs.Meaning.{Meaning, after_write, after_fresh}
 use Rattle.ordered_index.specs.Node.{Content, tree_node_words}
 use Rattle.ordered_index.specs.Held.{content_of}
 use Rattle.ordered_index.specs.Enter.{key_at, left_of, right_of, over_of}
-use Rattle.record_store.specs.Calls.Calls.{none, fresh}
-use Rattle.record_store.proofs.Refusals.{store_fault, fault_moved, IfStore-map}
-use Rattle.record_store.proofs.Paths.{Calls-trans, CallFault-never}
-use Rattle.record_store.specs.Calls.CallFault.{by_fresh}
 use Rattle.ordered_index.specs.Enter.PutsRoot.{parted}
-use Rattle.record_store.proofs.Known.{tries, gives-weaken, fewer-refused, goes-same, goes-fresh, goes-trans}
+use Rattle.record_store.proofs.Known.{tries, goes-same, goes-fresh, goes-trans}
 use Rattle.ordered_index.proofs.Going.{left_goes, right_goes, over_goes}
 use Rattle.ordered_index.proofs.Asking.{on_err}
 use Rattle.ordered_index.proofs.Wrote.{nodes-none, nodes-trans, nodes-weaken, wrote_fresh, wrote_none, wrote_one}
-use Rattle.record_store.proofs.Agreement.{ReadsGrow-refl, ReadsGrow-same, ReadsGrow-fresh, ReadsGrow-write, written_as}
+use Rattle.record_store.proofs.Agreement.{written_as}
 use Rattle.ordered_index.proofs.Parting.{left_few, right_few}
 use Rattle.record_store.proofs.Going.{fresh_refused, fresh_done, calls_moved, calls_quiet, calls_then, calls_never}
 use Rattle.ordered_index.proofs.enter.split_root.Goals as goal

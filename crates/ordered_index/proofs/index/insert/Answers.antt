@@ -1,14 +1,13 @@
 use Rattle.std.proofs.Common.{◌+◌, ◌<◌, ◌≤◌, ℕ, Some, Ok, Err, refl, ◌∙◌, ap, arith, subst}
-use Rattle.record_store.proofs.Refusals.{fault_moved, torn_moved, IfStore-map, IfTorn-map}
-use Rattle.record_store.proofs.Known.{tries, gives-reads, gives-tried, gives-behind, gives-trans, fewer-behind, known-reads, known-behind, known-fixed, known-then-fixed}
-use Rattle.record_store.proofs.Paths.{Calls-trans, Calls-reads, CallFault-read, CallFault-behind, CallFault-never}
+use Rattle.record_store.proofs.Refusals.{torn_moved, IfTorn-map}
+use Rattle.record_store.proofs.Known.{tries, known-reads, known-behind, known-fixed, known-then-fixed}
 use Rattle.ordered_index.proofs.Asks.{asks_first_err, asks_first, top_err, top_there, top_done, top_may, root_err, root_ok, top_behind, few_of}
 use Rattle.ordered_index.proofs.Reaching.{each_ends_well, empty_ends}
 use Rattle.plain_data.specs.State.{overlay}
 use Rattle.ordered_index.proofs.Trees.{is_torn}
 use Rattle.std.proofs.Common.{[], ◌∷◌}
 use Rattle.record_store.specs.Meaning.{after_write}
-use Rattle.record_store.proofs.Agreement.{OnlyReads-trans, extends-refl, ReadsGrow-behind, ReadsGrow-trans, written_after, written_as}
+use Rattle.record_store.proofs.Agreement.{OnlyReads-trans, extends-refl, written_as}
 use Rattle.ordered_index.specs.Keys.{first_key}
 use Rattle.ordered_index.specs.Node.{IsSound, tree_node_words}
 use Rattle.ordered_index.specs.Standing.{content_at}

@@ -1,10 +1,9 @@
 use Rattle.std.proofs.Common.{◌≡◌, Some, ap, ◌∙◌, subst}
-use Rattle.record_store.proofs.Refusals.{fault_moved, torn_moved, IfStore-map, IfTorn-map}
+use Rattle.record_store.proofs.Refusals.{torn_moved, IfTorn-map}
 use Rattle.std.specs.Prelude.{remove}
 use Rattle.record_store.specs.Meaning.{after_write}
-use Rattle.record_store.proofs.Paths.{Calls-reads, Calls-trans, CallFault-read, CallFault-never}
-use Rattle.record_store.proofs.Agreement.{writes_same, extends-refl, ReadsGrow-refl, ReadsGrow-write, ReadsGrow-only, written_after, written_as}
-use Rattle.record_store.proofs.Known.{tries, gives-reads, gives-tried, known-reads, known-found}
+use Rattle.record_store.proofs.Agreement.{writes_same, extends-refl, ReadsGrow-refl, ReadsGrow-write, written_as}
+use Rattle.record_store.proofs.Known.{tries, known-reads, known-found}
 use Rattle.ordered_index.proofs.Wrote.{nodes-none, read_few, wrote_none, wrote_one}
 use Rattle.ordered_index.specs.Node.{tree_node_words, Content}
 use Rattle.ordered_index.specs.Standing.{content_at}

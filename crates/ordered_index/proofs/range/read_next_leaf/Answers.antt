@@ -1,8 +1,6 @@
 use Rattle.std.proofs.Common.{◌≡◌, ◌<◌, Some, true, refl, sym, ap, ◌∙◌, subst}
-use Rattle.record_store.specs.Calls.Reads.{none, read}
 use Rattle.ordered_index.specs.Standing.{content_at}
-use Rattle.record_store.proofs.Agreement.{answered, OnlyReads-refl, OnlyReads-after_read}
-use Rattle.record_store.proofs.Refusals.{store_fault}
+use Rattle.record_store.proofs.Agreement.{answered}
 use Rattle.plain_data.specs.State.{overlay}
 use Rattle.ordered_index.specs.declared.key.Key.{Key}
 use Rattle.ordered_index.specs.Keys.{is_before}

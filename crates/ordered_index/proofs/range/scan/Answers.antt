@@ -1,5 +1,4 @@
 use Rattle.std.proofs.Common.{sym, ◌∙◌, inl, inr}
-use Rattle.record_store.specs.Calls.Reads.{none}
 use Rattle.record_store.proofs.Refusals.{OnOk-map, IfTorn-map}
 use Rattle.plain_data.specs.State.{overlay}
 use Rattle.ordered_index.specs.Tree.{row_entries}

@@ -1,8 +1,6 @@
 use Rattle.std.proofs.Common.{◌≡◌, ◌⊎◌, ◌+◌, ◌<◌, length, true, Ok, sym, ap, ◌∙◌, arith, subst, inl, inr}
-use Rattle.record_store.proofs.Agreement.{OnlyReads-trans}
 use Rattle.ordered_index.specs.Standing.{content_at}
-use Rattle.record_store.proofs.Paths.{Reads-trans, ReadFault-behind}
-use Rattle.record_store.proofs.Refusals.{fault_moved, torn_moved, IfStore-map, IfTorn-map}
+use Rattle.record_store.proofs.Refusals.{torn_moved, IfTorn-map}
 use Rattle.record_store.proofs.States.{each_grown}
 use Rattle.plain_data.specs.State.{overlay}
 use Rattle.ordered_index.specs.Walk.{node_of}

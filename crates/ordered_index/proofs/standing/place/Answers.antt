@@ -1,4 +1,4 @@
-use Rattle.std.proofs.Common.{◌≡◌, ◌-◌, ℕ, ap, arith, sym, ◌∙◌}
+use Rattle.std.proofs.Common.{◌-◌, ℕ, ap, arith, sym, ◌∙◌}
 use Rattle.ordered_index.specs.declared.key.Key.{Key}
 use Rattle.ordered_index.specs.Standing.{content_at}
 use Rattle.ordered_index.proofs.Order.{ne_true, ne_false}

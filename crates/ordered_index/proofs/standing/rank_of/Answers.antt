@@ -1,6 +1,6 @@
-use Rattle.std.proofs.Common.{◌≡◌, ◌<◌, ◌-◌, length, true, false, arith, sym, ap, ◌∙◌}
+use Rattle.std.proofs.Common.{◌-◌, true, false, arith, sym, ap, ◌∙◌}
 use Rattle.std.specs.Prelude.{slice_index}
-use Rattle.ordered_index.specs.Standing.{content_at, key_at}
+use Rattle.ordered_index.specs.Standing.{content_at}
 use Rattle.ordered_index.specs.Keys.{is_before}
 use Rattle.ordered_index.proofs.Entries.{above_end, rank_down, rank_none, rank_some, rank_at}
 use Rattle.ordered_index.proofs.Words.{content_counted, key_before, key_of}

@@ -17,7 +17,6 @@ use Rattle.txn_engine.specs.Leaves.{ReadsLeft}
 use Rattle.txn_engine.specs.Pass.{PassView, store_at, counted, doomed, observing}
 use Rattle.txn_engine.specs.Txn.{AnswersConflict, Refuses, Reads, Writes, Gives}
 use Rattle.txn_engine.proofs.Growing.{grows_none}
-use Rattle.txn_engine.proofs.Passing.{none_struck}
 
 -- ---- what a pass answers
 
@@ -45,6 +44,7 @@ refuses_again p conflict answer is met shown = subst (λ r. Refuses p (counted p
   versions = refl;
   noted = ap (λ (d : Option Conflict). (d, true)) met;
   stopped = rw met refl;
+  still = rw met refl;
   records_out = λ out. (cc);
   loaded = λ alive. let none : None ≡ Some conflict = sym alive ∙ met in cc;
 })
@@ -72,6 +72,7 @@ conflict_writes p rid value conflict met shown = record {
   spare = refl;
   versions = refl;
   stays = stays_counted p;
+  looks = refl;
   refuses = refuses_again p conflict (Err (txn.Conflict conflict)) refl met shown;
   alive = λ alive. let none : None ≡ Some conflict = sym alive ∙ met in cc;
   never = λ out. (cc);
@@ -93,10 +94,10 @@ conflict_gives p conflict met shown = record {
   refuses = refuses_again p conflict (Err (txn.Conflict conflict)) refl met shown;
   meets = λ alive. let none : None ≡ Some conflict = sym alive ∙ met in cc;
   first = tt;
-  passed = none_struck p (counted p) refl (grows_none p.observed);
   all_passed = λ out. (cc);
   none_remains = λ out. (cc);
   no_memory = λ flying want. (cc);
+  closed = λ off want. (cc);
 }
 
 pub stopped_reads : (p q : PassView) (rid : ℕ) (f : TxnFault) → AnswersConflict p q f → Reads p q rid (Err f)
@@ -125,6 +126,7 @@ pending_reads p o rid wts alive unknown grows loaded shown = record {
     versions = refl;
     noted = refl;
     stopped = rw alive tt;
+    still = rw alive tt;
     records_out = λ out. (cc);
     loaded = λ first. loaded;
   };
@@ -148,6 +150,7 @@ refuses_memory p answer is alive = subst (λ r. Refuses p p r) (sym is) (record 
   versions = refl;
   noted = refl;
   stopped = rw alive tt;
+  still = rw alive tt;
   records_out = λ out. (cc);
   loaded = λ first. tt;
 })
@@ -178,6 +181,7 @@ memory_writes p q rid value alive same = subst (λ (x : PassView). Writes p x ri
   spare = refl;
   versions = refl;
   stays = stays_so p;
+  looks = refl;
   refuses = refuses_memory p (Err txn.NoMemory) refl alive;
   alive = λ first. refl;
   never = λ out. (cc);
@@ -194,10 +198,10 @@ closed_gives p q alive closed same = subst (λ (x : PassView). Gives p x (Err tx
   refuses = refuses_memory p (Err txn.NoMemory) refl alive;
   meets = λ first. tt;
   first = tt;
-  passed = none_struck p p refl (grows_none p.observed);
   all_passed = λ out. (cc);
   none_remains = λ out. (cc);
   no_memory = λ flying. absurd (closed flying);
+  closed = λ off want. refl;
 })
 
 -- ---- a record that is known
@@ -209,7 +213,7 @@ known_reads p q rid value alive some left same = subst (λ (x : PassView). Reads
   err = tt;
   spare = refl;
   stays = stays_so p;
-  refuses = record { fails = tt; versions = tt; noted = refl; stopped = rw alive tt; records_out = tt; loaded = λ first. tt };
+  refuses = record { fails = tt; versions = tt; noted = refl; stopped = rw alive tt; still = rw alive tt; records_out = tt; loaded = λ first. tt };
   meets = λ first. tt;
   never = tt;
   left = left;
@@ -227,7 +231,8 @@ written_writes p q rid value alive is = subst (λ (x : PassView). Writes p x rid
   spare = refl;
   versions = refl;
   stays = record { same_frame = refl; same_accounts = refl; grows = grows_none p.observed };
-  refuses = record { fails = tt; versions = tt; noted = refl; stopped = rw alive tt; records_out = tt; loaded = λ first. tt };
+  looks = refl;
+  refuses = record { fails = tt; versions = tt; noted = refl; stopped = rw alive tt; still = rw alive tt; records_out = tt; loaded = λ first. tt };
   alive = λ first. tt;
   never = tt;
   no_memory = tt;

@@ -19,7 +19,6 @@ use Rattle.seat_post.specs.Reading.{ReadsAs}
 use Rattle.spare_numbers.specs.Spare.{NumbersView, is_on}
 use Rattle.txn_engine.specs.declared.faults.TxnFault.{TxnFault}
 use Rattle.txn_engine.specs.declared.faults.TxnFault.TheVariants as txn
-use Rattle.txn_engine.specs.Faults.{IfConflict, MeetsAt, MeetsAmong}
 use Rattle.txn_engine.specs.Fresh.{AreWritten, read_absent, IsMetAbsent, TellsAbsent, Asks}
 use Rattle.txn_engine.specs.declared.fresh.Asked.{Asked}
 use Rattle.txn_engine.specs.declared.fresh.Asked.TheVariants.{Given, Next}
@@ -82,26 +81,18 @@ kept_below (x ∷ xs) (suc i) zero r below at = at
 kept_below (x ∷ xs) (suc i) (suc k) r below at = kept_below xs i k r (omega arith) at
 
 -- what is on the list without one number was on the list, and so was that number
-kept_on : (xs : List ℕ) (i rid r : ℕ) → slice_get xs i ≡ Some rid → is_on (remove xs i) r ≡ true → is_on xs r ≡ true
-kept_on xs i rid r at on = on_removed xs i rid r at ∙ or_of (eqb r rid) (is_on (remove xs i) r) (inr on)
-
-pub on_at : (xs : List ℕ) (i rid : ℕ) → slice_get xs i ≡ Some rid → is_on xs rid ≡ true
-on_at xs i rid at = on_removed xs i rid rid at ∙ ap (λ (b : Bool). b || is_on (remove xs i) rid) (eq-eqb rid rid refl)
-
 -- What is left to ask where the number at a place was not given out: a shorter rest of the list, behind numbers that are written;
--- all of the pass but its list and what its steps came upon is the same, and each number of the list was on it.
+-- all of the pass but its list and what its steps came upon is the same.
 pub record LeftToAsk (before after' : PassView) (i next : ℕ) : Type 0 where
   pub only : after' ≡ observing (record before { spare = after'.spare }) after'.observed
   pub shorter : length after'.spare - next < length before.spare - i
   pub written : AreWritten before i → AreWritten after' next
-  pub were_on : (r : ℕ) → is_on after'.spare r ≡ true → is_on before.spare r ≡ true
 
 left_passed : (p : PassView) (i rid : ℕ) → slice_get p.spare i ≡ Some rid → IsSome (value_at p.writes rid) → LeftToAsk p p i (i + 1)
 left_passed p i rid at some = record {
   only = refl;
   shorter = let within = slice_get_within p.spare i rid at in omega arith;
   written = written_behind p i rid at some;
-  were_on = λ r on. on;
 }
 
 left_struck : (p : PassView) (i rid : ℕ) (o : Observed) → slice_get p.spare i ≡ Some rid → LeftToAsk p (observing (record p { spare = remove p.spare i }) o) i i
@@ -112,7 +103,6 @@ left_struck p i rid o at = record {
       let less = length-remove p.spare i within in
       omega arith;
   written = λ before k r below here. before k r below (kept_below p.spare i k r below here);
-  were_on = λ r on. kept_on p.spare i rid r at on;
 }
 
 pub asks_left : (before after' : PassView) (i rid next : ℕ) (told : Asked) → slice_get before.spare i ≡ Some rid → told ≡ Next next → Asks i rid before after' told → LeftToAsk before after' i next
@@ -130,14 +120,6 @@ past (x ∷ xs) (suc i) none = let h = past xs i none in omega arith
 -- the end of the list was reached
 pub all_written : (p : PassView) (i : ℕ) → AreWritten p i → slice_get p.spare i ≡ None → AreWritten p (length p.spare)
 all_written p i before none k rid below here = before k rid (let end = past p.spare i none in omega arith) here
-
--- a conflict at a number of the list
-pub meets_among : (rids : List ℕ) (rid : ℕ) (fault : TxnFault) → is_on rids rid ≡ true → IfConflict fault (MeetsAt rid) → IfConflict fault (MeetsAmong rids)
-meets_among rids rid (txn.Conflict (Pending at wts)) on meets = subst (λ (r : ℕ). is_on rids r ≡ true) (sym meets) on
-meets_among rids rid (txn.Conflict (ReadLater at wts rts)) on meets = meets
-meets_among rids rid (txn.Conflict (Overtaken at seen now)) on meets = meets
-meets_among rids rid txn.RecordsOut on meets = tt
-meets_among rids rid txn.NoMemory on meets = tt
 
 -- ---- what became of one number
 

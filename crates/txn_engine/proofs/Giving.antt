@@ -8,7 +8,6 @@ use Rattle.seat_post.specs.declared.phase.Phase.TheVariants.{Open}
 use Rattle.seat_post.specs.Conflicts.{IsLoaded}
 use Rattle.seat_post.specs.Observing.{Grows}
 use Rattle.seat_post.specs.Post.{known_at}
-use Rattle.spare_numbers.specs.Spare.{is_on}
 use Rattle.txn_engine.specs.declared.faults.TxnFault.{TxnFault}
 use Rattle.txn_engine.specs.declared.faults.TxnFault.TheVariants as txn
 use Rattle.txn_engine.specs.declared.fresh.Asked.{Asked}
@@ -19,9 +18,9 @@ use Rattle.txn_engine.specs.Fresh.{AreWritten, Asks}
 use Rattle.txn_engine.specs.Pass.{PassView, store_of, meaning_of_pass, frame, counted, observing}
 use Rattle.txn_engine.specs.Txn.{notes, notes_after_fault, Reads, Gives}
 use Rattle.txn_engine.proofs.Accounting.{none_remains}
-use Rattle.txn_engine.proofs.Asking.{asks_left, on_at, meets_among, all_written}
+use Rattle.txn_engine.proofs.Asking.{asks_left, all_written}
 use Rattle.txn_engine.proofs.Growing.{grows_none, grows_both, conflict_earlier}
-use Rattle.txn_engine.proofs.Passing.{HasPassed, none_passed, asks_passed, asks_given, some_passed, all_passed, wants_memory}
+use Rattle.txn_engine.proofs.Passing.{HasPassed, none_passed, asks_passed, asks_given, all_passed, wants_memory, meets_next}
 
 -- The numbers before place i of the list that is left were asked for: they are written, and those that were not have left it. All else
 -- is as it was but what was loaded.
@@ -31,7 +30,6 @@ pub record HasAsked (i : ℕ) (p q : PassView) : Type 0 where
   pub written : AreWritten q i
   pub accounts : accounted q ≡ accounted p
   pub passed : HasPassed i p q
-  pub were_on : (r : ℕ) → is_on q.spare r ≡ true → is_on p.spare r ≡ true
 
 pub none_asked : (p q : PassView) → q ≡ p → HasAsked 0 p q
 none_asked p q same = subst (λ (x : PassView). HasAsked 0 p x) (sym same) (record {
@@ -40,7 +38,6 @@ none_asked p q same = subst (λ (x : PassView). HasAsked 0 p x) (sym same) (reco
   written = λ k rid below at. absurd (omega arith);
   accounts = refl;
   passed = none_passed p;
-  were_on = λ r on. on;
 })
 
 pub one_asked : (p q r : PassView) (i rid next : ℕ) (told : Asked) → HasAsked i p q → slice_get q.spare i ≡ Some rid → told ≡ Next next → Asks i rid q r told → Stays q r → HasAsked next p r
@@ -52,7 +49,6 @@ one_asked p q r i rid next told h at is asks stays =
       written = left.written h.written;
       accounts = stays.same_accounts ∙ h.accounts;
       passed = asks_passed p q r i rid next told h.same h.passed at is stays.grows asks;
-      were_on = λ n on. h.were_on n (left.were_on n on);
     }
 
 -- ---- from what holds since the last number was asked for to what holds since the call began
@@ -91,13 +87,13 @@ given_gives p q r i rid told opened alive h at is asks stays =
       ok = open_meaning r (still_open p r all.same_frame opened) ∙ ap store_of a.1 ∙ ap (λ (m : Meaning). after_fresh m rid) (here ∙ sym meaning);
       err = tt;
       stays = all;
-      refuses = record { fails = tt; versions = tt; noted = ap notes a.1 ∙ ap notes h.same; stopped = rw alive tt; records_out = tt; loaded = λ first. tt };
+      refuses = record { fails = tt; versions = tt; noted = ap notes a.1 ∙ ap notes h.same; stopped = rw alive tt; still = rw alive tt; records_out = tt; loaded = λ first. tt };
       meets = λ first. tt;
       first = asks_given p q r i rid told h.same h.passed at is stays.grows asks;
-      passed = tt;
       all_passed = tt;
       none_remains = tt;
       no_memory = λ flying. tt;
+      closed = λ off. tt;
     }
 
 -- asking for a number is refused as a read of it
@@ -115,15 +111,16 @@ refused_gives p q r i rid f opened alive h at unknown reads =
         versions = reads.refuses.versions ∙ ap (λ (x : PassView). x.versions) h.same;
         noted = reads.refuses.noted ∙ notes_alike f p q (ap notes h.same);
         stopped = rw alive tt;
+        still = rw alive tt;
         records_out = λ out. absurd (reads.never out);
         loaded = λ first. conflict_earlier p.stamp p.observed q.observed r.observed f h.grows (subst (λ n. IfConflict f (λ conflict. IsLoaded n conflict q.observed r.observed)) (ap (λ (x : PassView). x.stamp) h.same) (reads.refuses.loaded living));
       };
-      meets = λ first. meets_among p.spare rid f (h.were_on rid (on_at q.spare i rid at)) (reads.meets living);
       first = tt;
-      passed = some_passed p q r i h.passed reads.spare reads.stays.grows;
+      meets = λ first. meets_next p q r i rid f h.same h.passed at unknown reads.spare (reads.meets living) (reads.refuses.loaded living);
       all_passed = λ out. absurd (reads.never out);
       none_remains = λ out. absurd (reads.never out);
       no_memory = λ flying want. wants_memory p q r i rid h.same h.passed at unknown (reads.no_memory want);
+      closed = λ off. absurd (off opened);
     }
 
 -- the end of the list was reached
@@ -140,13 +137,14 @@ ended_gives p q r i opened alive h none is =
         versions = ap (λ (x : PassView). x.versions) h.same;
         noted = ap (λ (x : PassView). (x.dead, true)) h.same;
         stopped = rw alive tt;
+        still = rw alive tt;
         records_out = λ out. all;
         loaded = λ first. tt;
       };
       meets = λ first. tt;
       first = tt;
-      passed = some_passed p q (counted q) i h.passed refl (grows_none q.observed);
       all_passed = λ out. all_passed p q i h.passed none;
       none_remains = λ out absent. none_remains (counted q) absent all;
       no_memory = λ flying want. (cc);
+      closed = λ off want. (cc);
     })

@@ -5,10 +5,14 @@ use Rattle.std.proofs.lemmas.List.{take_all, drop_all, take-append-drop}
 use Rattle.record_store.specs.Meaning.{value_at}
 use Rattle.seat_post.specs.Observing.{Grows}
 use Rattle.seat_post.specs.Post.{known_at}
+use Rattle.seat_post.specs.Conflicts.{IsLoaded}
 use Rattle.txn_engine.specs.Pass.{PassView, observing}
-use Rattle.txn_engine.specs.Fresh.{IsMetAbsent, IsMetPresent, PassesOver, none_yet, one_stays, one_leaves, GivesFirst, PassesSome, PassesAll, WantsMemory, Asks}
+use Rattle.txn_engine.specs.Fresh.{IsMetAbsent, IsMetPresent, PassesOver, none_yet, one_stays, one_leaves, GivesFirst, PassesAll, WantsMemory, MeetsNext, Asks}
 use Rattle.txn_engine.specs.declared.fresh.Asked.{Asked}
 use Rattle.txn_engine.specs.declared.fresh.Asked.TheVariants.{Given, Next}
+use Rattle.txn_engine.specs.declared.faults.TxnFault.{TxnFault}
+use Rattle.txn_engine.specs.declared.faults.TxnFault.TheVariants as txn
+use Rattle.txn_engine.specs.Faults.{IfConflict, MeetsAt, WasLoaded}
 use Rattle.txn_engine.proofs.Asking.{past}
 
 -- ---- lists
@@ -82,22 +86,6 @@ all_passed p q i h none =
     let whole : h.numbers ≡ p.spare = sym (append-nil h.numbers) ∙ ap (λ (ys : List ℕ). h.numbers ++ ys) (sym (drop_all i q.spare (past q.spare i none))) ∙ sym h.list in
     subst (λ (xs : List ℕ). PassesOver p xs q.spare p.observed q.observed) whole (subst (λ (ys : List ℕ). PassesOver p h.numbers ys p.observed q.observed) (take_all i q.spare (past q.spare i none)) h.over)
 
-pub some_passed : (p q r : PassView) (i : ℕ) → HasPassed i p q → r.spare ≡ q.spare → Grows q.observed r.observed → PassesSome p r
-some_passed p q r i h same later = record {
-  numbers = h.numbers;
-  stayed = take i q.spare;
-  behind = drop i q.spare;
-  list = h.list;
-  between = q.observed;
-  over = h.over;
-  later = later;
-  spare = same ∙ sym (take-append-drop i q.spare);
-}
-
--- a call that changes no list
-pub none_struck : (p r : PassView) → r.spare ≡ p.spare → Grows p.observed r.observed → PassesSome p r
-none_struck p r same later = some_passed p p r 0 (none_passed p) same later
-
 -- ---- asking
 
 pub asks_passed : (p q r : PassView) (i rid next : ℕ) (told : Asked) → q ≡ observing (record p { spare = q.spare }) q.observed → HasPassed i p q → slice_get q.spare i ≡ Some rid → told ≡ Next next → Grows q.observed r.observed → Asks i rid q r told → HasPassed next p r
@@ -123,3 +111,21 @@ wants_memory p q r i rid same h at unknown is = subst (λ (x : PassView). WantsM
   unknown = subst (λ (x : PassView). known_at x.post rid ≡ None) same unknown;
   after = same ∙ ap (λ (xs : List ℕ). observing (record p { spare = xs }) q.observed) (sym (take-append-drop i q.spare) ∙ ap (λ (ys : List ℕ). take i q.spare ++ ys) (drop_at q.spare i rid at));
 })
+
+-- a conflict at the number at this place, of which nothing is known
+pub meets_next : (p q r : PassView) (i rid : ℕ) (f : TxnFault) → q ≡ observing (record p { spare = q.spare }) q.observed → HasPassed i p q → slice_get q.spare i ≡ Some rid → known_at q.post rid ≡ None → r.spare ≡ q.spare → IfConflict f (MeetsAt rid) → IfConflict f (WasLoaded q r) → IfConflict f (MeetsNext p r)
+meets_next p q r i rid (txn.Conflict conflict) same h at unknown less meets loaded = record {
+  numbers = h.numbers;
+  stayed = take i q.spare;
+  rid = rid;
+  behind = drop (suc i) q.spare;
+  list = h.list ∙ ap (λ (ys : List ℕ). h.numbers ++ ys) (drop_at q.spare i rid at);
+  between = q.observed;
+  over = h.over;
+  unknown = subst (λ (x : PassView). known_at x.post rid ≡ None) same unknown;
+  at = meets;
+  loaded = subst (λ (x : PassView). IsLoaded x.stamp conflict q.observed r.observed) same loaded;
+  spare = less ∙ sym (take-append-drop i q.spare) ∙ ap (λ (ys : List ℕ). take i q.spare ++ ys) (drop_at q.spare i rid at);
+}
+meets_next p q r i rid txn.RecordsOut same h at unknown less meets loaded = tt
+meets_next p q r i rid txn.NoMemory same h at unknown less meets loaded = tt

@@ -9,7 +9,6 @@ use Rattle.txn_engine.specs.declared.faults.CommitFault.TheVariants as commit
 use Rattle.seat_post.specs.Conflicts.{ShowsPending, Touches, IsLoaded}
 use Rattle.seat_post.specs.Placing.{WantsPlaceAt}
 use Rattle.seat_post.specs.Post.{IsShownAt}
-use Rattle.spare_numbers.specs.Spare.{is_on}
 use Rattle.txn_engine.specs.Pass.{PassView}
 
 -- want of memory is no refusal
@@ -57,9 +56,3 @@ abbrev pub MeetsAt : ℕ → Conflict → Type 0
 MeetsAt rid (Pending at wts) = at ≡ rid
 MeetsAt rid (ReadLater at wts rts) = ⊥
 MeetsAt rid (Overtaken at seen now) = ⊥
-
--- the conflict that a read of one of these records meets
-abbrev pub MeetsAmong : List ℕ → Conflict → Type 0
-MeetsAmong rids (Pending at wts) = is_on rids at ≡ true
-MeetsAmong rids (ReadLater at wts rts) = ⊥
-MeetsAmong rids (Overtaken at seen now) = ⊥

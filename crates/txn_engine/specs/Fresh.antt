@@ -4,11 +4,14 @@ use Rattle.record_store.specs.Meaning.{value_at, after_read}
 use Rattle.record_store.specs.Store.{IsFresh}
 use Rattle.txn_engine.specs.declared.fresh.Asked.{Asked}
 use Rattle.txn_engine.specs.declared.fresh.Asked.TheVariants.{Given, Next}
+use Rattle.validate_core.specs.declared.conflict.Conflict.{Conflict}
+use Rattle.seat_post.specs.Conflicts.{IsLoaded}
 use Rattle.seat_post.specs.Observing.{Grows}
 use Rattle.seat_post.specs.Post.{known_at}
 use Rattle.seat_post.specs.Reading.{FindsValue}
 use Rattle.seat_post.specs.Seats.{Observed}
 use Rattle.seat_post.specs.Leaves.{IsPresent}
+use Rattle.txn_engine.specs.Faults.{MeetsAt}
 use Rattle.txn_engine.specs.Pass.{PassView, IsAlone, store_of, observing}
 
 -- the record was read as absent, if it was not read before, and these are the versions read
@@ -67,17 +70,6 @@ pub record GivesFirst (before after' : PassView) (rid : ℕ) : Type 0 where
   pub spare : after'.spare ≡ stayed ++ behind
   pub given : after'.given ≡ before.given ++ rid ∷ []
 
--- some of them were passed, from the first one on: the others stand behind those that stayed
-pub record PassesSome (before after' : PassView) : Type 0 where
-  pub numbers : List ℕ
-  pub stayed : List ℕ
-  pub behind : List ℕ
-  pub list : before.spare ≡ numbers ++ behind
-  pub between : Observed
-  pub over : PassesOver before numbers stayed before.observed between
-  pub later : Grows between after'.observed
-  pub spare : after'.spare ≡ stayed ++ behind
-
 -- memory is wanted for a number of the list of which nothing is known: those before it were passed, and nothing else has changed
 pub record WantsMemory (before after' : PassView) : Type 0 where
   pub numbers : List ℕ
@@ -88,6 +80,20 @@ pub record WantsMemory (before after' : PassView) : Type 0 where
   pub over : PassesOver before numbers stayed before.observed after'.observed
   pub unknown : known_at before.post rid ≡ None
   pub after : after' ≡ observing (record before { spare = stayed ++ rid ∷ behind }) after'.observed
+
+-- A conflict was met at a number of the list of which nothing was known, as loads of its search show: those before it were passed.
+pub record MeetsNext (before after' : PassView) (conflict : Conflict) : Type 0 where
+  pub numbers : List ℕ
+  pub stayed : List ℕ
+  pub rid : ℕ
+  pub behind : List ℕ
+  pub list : before.spare ≡ numbers ++ rid ∷ behind
+  pub between : Observed
+  pub over : PassesOver before numbers stayed before.observed between
+  pub unknown : known_at before.post rid ≡ None
+  pub at : MeetsAt rid conflict
+  pub loaded : IsLoaded before.stamp conflict between after'.observed
+  pub spare : after'.spare ≡ stayed ++ rid ∷ behind
 
 -- all of them were passed
 abbrev pub PassesAll : (before after' : PassView) → Type 0

@@ -44,7 +44,7 @@ pub record RefusesInstall (before after' : PassView) (why : CommitFault) : Type 
   pub open may use *
   pub after : after' ≡ observing (placing (refused (with_bounds before after'.bounds)) after'.placed) after'.observed
   pub grows : Grows before.observed after'.observed
-  pub none_placed : IfSome before.dead (λ conflict. after'.placed ≡ before.placed)
+  pub still : IfSome before.dead (λ conflict. after' ≡ refused before)
   pub inline_first : before.dead ≡ None → AreInlineFirst before.observed after'.observed after'.placed
   pub some_linked : AreSomeLinked before.writes before.stamp before.bounds after'.bounds
   pub places : why ≡ fault.PlacesOut → WantsPlace before after'

@@ -54,7 +54,7 @@ returns-in_err-entered-clause-commits g c =
       loaded = λ alive. err_told _ (fault.Conflict conflict) (λ f. MatchStopped f (WasLoaded p c.check.new.self) ⊤) told
           (loaded_earlier p.stamp p.observed c.install.new.self.observed c.check.new.self.observed conflict linked.grows (subst (λ n. IsLoaded n conflict c.install.new.self.observed c.check.new.self.observed) (ap (λ (q : PassView). q.stamp) linked.after) refused.loaded));
       places = search rules;
-      none_placed = search rules;
+      still = search rules;
       inline_first = λ alive. subst (λ (x : List Placed). AreInlineFirst p.observed c.check.new.self.observed x) (sym placed) (inline_first_later p.observed c.install.new.self.observed c.check.new.self.observed c.install.new.self.placed refused.grows linked.inline_first);
       placed = λ alive. err_told _ (fault.Conflict conflict) (λ f. MatchStopped f (λ x. HavePlaces p.shared.size p.writes c.check.new.self.placed) ⊤) told
           (subst (λ (x : List Placed). HavePlaces p.shared.size p.writes x) (sym placed) linked.have);
@@ -93,7 +93,7 @@ returns-clause-commits g c =
       touched = search rules;
       loaded = search rules;
       places = search rules;
-      none_placed = search rules;
+      still = search rules;
       inline_first = λ alive. subst (λ (q : PassView). AreInlineFirst p.observed q.observed q.placed) (sym after) (inline_first_later p.observed c.install.new.self.observed o c.install.new.self.placed entered.grows linked.inline_first);
       placed = search rules;
       read_left = search rules;

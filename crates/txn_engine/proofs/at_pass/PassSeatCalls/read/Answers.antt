@@ -89,6 +89,7 @@ returns-clause-reads g c =
         versions = tt;
         noted = ap notes is ∙ ap notes begun;
         stopped = rw c.in_ok-stopped.ensures.ok.1 tt;
+        still = rw c.in_ok-stopped.ensures.ok.1 tt;
         records_out = tt;
         loaded = λ first. tt;
       };

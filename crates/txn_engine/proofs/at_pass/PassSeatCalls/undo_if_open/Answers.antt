@@ -21,13 +21,15 @@ returns-in-Open-clause-undoes g c =
     let accounts : accounted (pass_view c.drop_writes.new.self i.boost i.queue c.take_back.new.self i.refusals i.commits i.dead i.counted) ≡ accounted c.args.self.now =
     ap (λ (n : NumbersView). accounted (pass_view c.drop_writes.new.self i.boost i.queue n i.refusals i.commits i.dead i.counted)) c.take_back.ensures.after
     ∙ ap (λ (q : PostView). accounted (pass_view q i.boost i.queue back i.refusals i.commits i.dead i.counted)) c.drop_writes.ensures ∙ ap accounted c.self.view_is in
+    let looks = ap (λ (x : PostView). x.observed) c.drop_writes.ensures ∙ ap (λ (x : PassView). x.observed) c.self.view_is in
     record {
       meaning = search rules;
       spare = search rules;
       versions = search rules;
       noted = search rules;
-      stays = record { same_frame = search rules; same_accounts = accounts; grows = grows_same c.args.self.now.observed c.drop_writes.new.self.observed (ap (λ (x : PostView). x.observed) c.drop_writes.ensures ∙ ap (λ (x : PassView). x.observed) c.self.view_is) };
+      stays = record { same_frame = search rules; same_accounts = accounts; grows = grows_same c.args.self.now.observed c.drop_writes.new.self.observed looks };
+      looks = looks;
     }
 
 pub returns-in_default-clause-undoes : goal.returns-in_default-clause-undoes
-returns-in_default-clause-undoes g c = record { meaning = search rules; spare = search rules; versions = refl; noted = refl; stays = record { same_frame = refl; same_accounts = refl; grows = grows_none c.args.self.now.observed } }
+returns-in_default-clause-undoes g c = record { meaning = search rules; spare = search rules; versions = refl; noted = refl; stays = record { same_frame = refl; same_accounts = refl; grows = grows_none c.args.self.now.observed }; looks = refl }

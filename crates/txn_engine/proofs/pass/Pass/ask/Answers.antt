@@ -1,4 +1,4 @@
-use Rattle.std.proofs.Common.{◌≡◌, ◌<◌, ◌++◌, ◌∷◌, [], false, ℕ, Bool, List, Some, Err, ap, ◌∙◌, sym, subst, refl, length, remove, inl}
+use Rattle.std.proofs.Common.{◌≡◌, ◌<◌, ◌++◌, ◌∷◌, [], ℕ, Bool, List, Some, Err, ap, ◌∙◌, sym, subst, refl, length, remove, inl}
 use Rattle.std.specs.Prelude.{IsSome, is_some, slice_get}
 use Rattle.std.proofs.lemmas.Option.{slice_get_within}
 use Rattle.record_store.specs.Meaning.{value_at}

@@ -158,7 +158,7 @@ impl<J: Keeps> Post<J> {
     /// Adopts the clock of a stamp where that is greater.
     pub fn hear(&mut self, core: &Core<J>, stamp: Stamp)
         requires core { self.old.shared ≡ core.now }
-        ensures value { self.new ≡ observing (with_clock self.old (max self.old.clock (clock_of stamp))) self.new.observed }
+        ensures value { self.new ≡ observing (with_clock self.old (max self.old.clock (clock_of stamp))) (with_load self.old.observed (load (published_write self.old.seat) self.old.published)) }
         ensures grows { Grows self.old.observed self.new.observed }
     {
         hear(core, &mut self.hand, stamp);

@@ -40,7 +40,7 @@ stays_counted p = record { same_frame = refl; same_accounts = refl; grows = grow
 
 refuses_again : {A : Type 0} (p : PassView) (conflict : Conflict) (answer : Result A TxnFault) → answer ≡ Err (txn.Conflict conflict) → p.dead ≡ Some conflict → IsPending p conflict → Refuses p (counted p) answer
 refuses_again p conflict answer is met shown = subst (λ r. Refuses p (counted p) r) (sym is) (record {
-  fails = record { counts = λ refusal. refl; shown = shown; stays = met };
+  shown = shown;
   versions = refl;
   noted = ap (λ (d : Option Conflict). (d, true)) met;
   stopped = rw met refl;
@@ -122,7 +122,7 @@ pending_reads p o rid wts alive unknown grows loaded shown = record {
   spare = refl;
   stays = record { same_frame = refl; same_accounts = refl; grows = grows };
   refuses = record {
-    fails = record { counts = λ refusal. refl; shown = shown; stays = refl };
+    shown = shown;
     versions = refl;
     noted = refl;
     stopped = rw alive tt;
@@ -146,7 +146,7 @@ met_pending p q r rid wts f alive unknown only grows loaded shown after is =
 
 refuses_memory : {A : Type 0} (p : PassView) (answer : Result A TxnFault) → answer ≡ Err txn.NoMemory → p.dead ≡ None → Refuses p p answer
 refuses_memory p answer is alive = subst (λ r. Refuses p p r) (sym is) (record {
-  fails = record { counts = λ none. absurd none; shown = tt; stays = tt };
+  shown = tt;
   versions = refl;
   noted = refl;
   stopped = rw alive tt;
@@ -213,7 +213,7 @@ known_reads p q rid value alive some left same = subst (λ (x : PassView). Reads
   err = tt;
   spare = refl;
   stays = stays_so p;
-  refuses = record { fails = tt; versions = tt; noted = refl; stopped = rw alive tt; still = rw alive tt; records_out = tt; loaded = λ first. tt };
+  refuses = record { shown = tt; versions = tt; noted = refl; stopped = rw alive tt; still = rw alive tt; records_out = tt; loaded = λ first. tt };
   meets = λ first. tt;
   never = tt;
   left = left;
@@ -232,7 +232,7 @@ written_writes p q rid value alive is = subst (λ (x : PassView). Writes p x rid
   versions = refl;
   stays = record { same_frame = refl; same_accounts = refl; grows = grows_none p.observed };
   looks = refl;
-  refuses = record { fails = tt; versions = tt; noted = refl; stopped = rw alive tt; still = rw alive tt; records_out = tt; loaded = λ first. tt };
+  refuses = record { shown = tt; versions = tt; noted = refl; stopped = rw alive tt; still = rw alive tt; records_out = tt; loaded = λ first. tt };
   alive = λ first. tt;
   never = tt;
   no_memory = tt;

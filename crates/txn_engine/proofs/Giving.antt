@@ -87,7 +87,7 @@ given_gives p q r i rid told opened alive h at is asks stays =
       ok = open_meaning r (still_open p r all.same_frame opened) ∙ ap store_of a.1 ∙ ap (λ (m : Meaning). after_fresh m rid) (here ∙ sym meaning);
       err = tt;
       stays = all;
-      refuses = record { fails = tt; versions = tt; noted = ap notes a.1 ∙ ap notes h.same; stopped = rw alive tt; still = rw alive tt; records_out = tt; loaded = λ first. tt };
+      refuses = record { shown = tt; versions = tt; noted = ap notes a.1 ∙ ap notes h.same; stopped = rw alive tt; still = rw alive tt; records_out = tt; loaded = λ first. tt };
       meets = λ first. tt;
       first = asks_given p q r i rid told h.same h.passed at is stays.grows asks;
       all_passed = tt;
@@ -107,7 +107,7 @@ refused_gives p q r i rid f opened alive h at unknown reads =
       err = open_meaning r (still_open p r all.same_frame opened) ∙ reads.err ∙ ap store_of h.same ∙ sym (open_meaning p opened);
       stays = all;
       refuses = record {
-        fails = reads.refuses.fails;
+        shown = reads.refuses.shown;
         versions = reads.refuses.versions ∙ ap (λ (x : PassView). x.versions) h.same;
         noted = reads.refuses.noted ∙ notes_alike f p q (ap notes h.same);
         stopped = rw alive tt;
@@ -133,7 +133,7 @@ ended_gives p q r i opened alive h none is =
       err = open_meaning (counted q) (ap (λ (x : PassView). x.phase) h.same ∙ opened) ∙ ap store_of h.same ∙ sym (open_meaning p opened);
       stays = record { same_frame = ap frame h.same; same_accounts = h.accounts; grows = h.grows };
       refuses = record {
-        fails = record { counts = λ refusal. refl; shown = tt; stays = tt };
+        shown = tt;
         versions = ap (λ (x : PassView). x.versions) h.same;
         noted = ap (λ (x : PassView). (x.dead, true)) h.same;
         stopped = rw alive tt;

@@ -11,12 +11,6 @@ use Rattle.seat_post.specs.Placing.{WantsPlaceAt}
 use Rattle.seat_post.specs.Post.{IsShownAt}
 use Rattle.txn_engine.specs.Pass.{PassView}
 
--- want of memory is no refusal
-abbrev pub IsRefusal : TxnFault → Type 0
-IsRefusal (txn.Conflict conflict) = ⊤
-IsRefusal txn.RecordsOut = ⊤
-IsRefusal txn.NoMemory = ⊥
-
 abbrev pub IfConflict : TxnFault → (Conflict → Type 0) → Type 0
 IfConflict (txn.Conflict conflict) P = P conflict
 IfConflict txn.RecordsOut P = ⊤

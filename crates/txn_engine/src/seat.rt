@@ -5,7 +5,7 @@ ghost use Rattle.std.specs.Borrow.{sem, RestsIfErr};
 ghost use Rattle.stamp_base.specs.Limits.{greatest_clock};
 ghost use Rattle.stamp_base.specs.Stamp.{stamp_of};
 ghost use Rattle.histories.specs.History.{Lawful};
-ghost use Rattle.word_layout.specs.Name.{min_write};
+ghost use Rattle.word_layout.specs.Name.{min_write, published_write};
 ghost use Rattle.core_rule.specs.Paths.{load};
 ghost use Rattle.seat_post.specs.Logs.{IsAbove};
 ghost use Rattle.seat_post.specs.Observing.{Grows, with_load};
@@ -43,7 +43,7 @@ pub trait Seat: SeatCalls {
     /// Hears a stamp: each later stamp of this seat is above it.
     fn hear(&mut self, engine: &Engine<Self::Kept>, stamp: Stamp)
         requires { engine_of (Self.pass self.old) ≡ engine.now }
-        ensures value { Self.pass self.new ≡ observing (heard (Self.pass self.old) stamp) (Self.pass self.new).observed }
+        ensures value { Self.pass self.new ≡ observing (heard (Self.pass self.old) stamp) (with_load (Self.pass self.old).observed (load (published_write (Self.pass self.old).seat) (Self.pass self.old).published)) }
         ensures beside { Self.beside self.new ≡ Self.beside self.old }
         ensures grows { Grows (Self.pass self.old).observed (Self.pass self.new).observed };
 

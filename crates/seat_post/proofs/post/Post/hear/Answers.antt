@@ -1,11 +1,14 @@
 use Rattle.std.proofs.Common.{refl, ap, ◌∙◌}
 use Rattle.std.specs.Prelude.{max}
 use Rattle.stamp_base.specs.Stamp.{clock_of}
+use Rattle.word_layout.specs.Name.{published_write}
+use Rattle.core_rule.specs.Paths.{load}
 use Rattle.core_rule.specs.View.{View}
-use Rattle.seat_post.specs.Post.{PostView, with_clock, observing, observed_in}
+use Rattle.seat_post.specs.Observing.{with_load}
+use Rattle.seat_post.specs.Post.{PostView, with_clock, observing}
 use Rattle.version_search.proofs.Grown.{grows_loads}
 use Rattle.seat_post.proofs.Observed.{post_grows}
-use Rattle.seat_post.proofs.Posts.{post_turned, view_turned}
+use Rattle.seat_post.proofs.Posts.{post_turned, seen_turned}
 use Rattle.seat_post.proofs.post.Post.hear.Goals as goal
 
 pub invariant_of-self : goal.invariant_of-self
@@ -15,8 +18,8 @@ invariant_of-self g c =
 pub returns-clause-value : goal.returns-clause-value
 returns-clause-value g c =
     let i = c.self.inside in
-    view_turned i.hand c.hear.new.hand i.phase i.stamp i.sets _ _ c.hear.ensures.ready.seat.same_table c.hear.ensures.view refl refl
-    ∙ ap (λ (p : PostView). observing (with_clock p (max p.clock (clock_of c.args.stamp))) (observed_in c.hear.new.hand)) c.self.view_is
+    seen_turned i.hand c.hear.new.hand i.phase i.stamp i.sets _ _ c.hear.ensures.ready.seat.same_table c.hear.ensures.view refl refl
+    ∙ ap (λ (p : PostView). observing (with_clock p (max p.clock (clock_of c.args.stamp))) (with_load p.observed (load (published_write p.seat) p.published))) c.self.view_is
 
 pub returns-clause-grows : goal.returns-clause-grows
 returns-clause-grows g c =

@@ -85,7 +85,7 @@ returns-clause-reads g c =
         grows = subst (λ (x : PassView). Grows x.observed c.note.new.self.observed) begun n.grows;
       };
       refuses = record {
-        fails = tt;
+        shown = tt;
         versions = tt;
         noted = ap notes is ∙ ap notes begun;
         stopped = rw c.in_ok-stopped.ensures.ok.1 tt;

@@ -138,10 +138,9 @@ accounted_given p i rid at = each_same _ _ (λ r.
 pub accounted_struck : (p : PassView) (i rid : ℕ) → slice_get p.spare i ≡ Some rid → (IsAlone p → IsPresent p.log rid) → accounted (record p { spare = remove p.spare i }) ≡ accounted p
 accounted_struck p i rid at present = each_same _ _ (λ r.
     let a = is_alone_at p.shared.size p.seat p.others in
-    let here = list_any-append (eqb r) p.given (remove p.spare i) in
     let there = list_any-append (eqb r) p.given p.spare ∙ ap (λ b. is_on p.given r || b) (on_removed p.spare i rid r at) in
     let on : a ≡ true → eqb r rid ≡ true → is_present p.log r ≡ true = λ alone same. present_shown p.log r (subst (λ n. IsPresent p.log n) (sym (eqb-true r rid same)) (present alone)) in
-    ap (λ b. not a || (b || is_present p.log r)) here ∙ struck_bools a (is_on p.given r) (eqb r rid) (is_on (remove p.spare i) r) (is_present p.log r) on ∙ sym (ap (λ b. not a || (b || is_present p.log r)) there))
+    ap (λ b. not a || (b || is_present p.log r)) (list_any-append (eqb r) p.given (remove p.spare i)) ∙ struck_bools a (is_on p.given r) (eqb r rid) (is_on (remove p.spare i) r) (is_present p.log r) on ∙ sym (ap (λ b. not a || (b || is_present p.log r)) there))
 
 -- ---- absent records
 

@@ -1,5 +1,5 @@
 -- Asking for new record numbers.
-use Rattle.std.proofs.Common.{◌≡◌, ◌⊎◌, Contains, ℕ, ◌<◌, ◌≤◌, ◌+◌, ◌-◌, zero, suc, true, false, Bool, ◌||◌, cond, List, [], ◌∷◌, ◌++◌, Option, None, Some, refl, sym, ap, subst, ◌∙◌, arith, length, remove, eqb, eq-eqb, inl, inr}
+use Rattle.std.proofs.Common.{◌≡◌, ◌⊎◌, Contains, ℕ, ◌<◌, ◌≤◌, ◌+◌, ◌-◌, zero, suc, true, false, Bool, cond, List, [], ◌∷◌, ◌++◌, Option, None, Some, refl, sym, ap, subst, ◌∙◌, arith, length, remove, eqb, eq-eqb, inl, inr}
 use Rattle.std.proofs.lemmas.Bool.Decides.{eqb_tells}
 use Rattle.std.specs.Prelude.{IsSome, IfSome, is_some, slice_get}
 use Rattle.std.proofs.lemmas.Option.{slice_get_within}
@@ -7,7 +7,6 @@ use Rattle.std.proofs.lemmas.List.Edits.{length-remove}
 use Rattle.rapid_gc.specs.Queues.{Waiting}
 use Rattle.record_store.specs.Meaning.{value_at}
 use Rattle.validate_core.specs.declared.conflict.Conflict.{Conflict}
-use Rattle.validate_core.specs.declared.conflict.Conflict.TheVariants.{Pending, ReadLater, Overtaken}
 use Rattle.seat_post.specs.declared.phase.Phase.TheVariants.{Open}
 use Rattle.seat_post.specs.Seats.{Observed}
 use Rattle.txn_engine.specs.Pass.{PassView, store_of, frame, observing}
@@ -17,15 +16,12 @@ use Rattle.seat_post.specs.Post as posts
 use Rattle.seat_post.specs.Post.{PostView, known_at}
 use Rattle.seat_post.specs.Reading.{ReadsAs}
 use Rattle.spare_numbers.specs.Spare.{NumbersView, is_on}
-use Rattle.txn_engine.specs.declared.faults.TxnFault.{TxnFault}
-use Rattle.txn_engine.specs.declared.faults.TxnFault.TheVariants as txn
 use Rattle.txn_engine.specs.Fresh.{AreWritten, read_absent, IsMetAbsent, TellsAbsent, Asks}
 use Rattle.txn_engine.specs.declared.fresh.Asked.{Asked}
 use Rattle.txn_engine.specs.declared.fresh.Asked.TheVariants.{Given, Next}
 use Rattle.txn_engine.specs.Inside.{IsPass}
-use Rattle.seat_post.proofs.AloneSeats.{or_of}
 use Rattle.txn_engine.proofs.Passes.{pass_noted}
-use Rattle.txn_engine.proofs.Accounting.{any_shown, on_removed, accounted_given, accounted_struck}
+use Rattle.txn_engine.proofs.Accounting.{any_shown, accounted_given, accounted_struck}
 
 -- a record was read, and noted where it is absent
 pub pass_asked : (p p' : PostView) (rid : ℕ) (absent : Bool) (q : Waiting) (n : NumbersView) (most : ℕ) (dead : Option Conflict) → (absent ≡ true → ReadsAs rid None p p') → (absent ≡ false → p' ≡ posts.observing p p'.observed) → IsPass p q n most dead → p.phase ≡ Open → IsPass p' q n most dead

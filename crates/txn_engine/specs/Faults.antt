@@ -1,5 +1,5 @@
 -- Which answers refuse a transaction, and what a conflict says.
-use Rattle.std.specs.Prelude.{◌≡◌, ℕ, List, true, Result, Ok, Err, ⊤}
+use Rattle.std.specs.Prelude.{◌≡◌, ℕ, Result, Ok, Err, ⊤}
 use Rattle.validate_core.specs.declared.conflict.Conflict.{Conflict}
 use Rattle.validate_core.specs.declared.conflict.Conflict.TheVariants.{Pending, ReadLater, Overtaken}
 use Rattle.txn_engine.specs.declared.faults.TxnFault.{TxnFault}

@@ -19,6 +19,5 @@ returns-clause-commits g c =
           let ok = rw w.in-Ok.is at told in
           subst (λ (answer : Result Committed PlacesOut). Commits g.J.Keeps.kept p q (told_by (λ (full : PlacesOut). commit_fault.PlacesOut) answer)) (sym w.result-is) (search rules)
       | in-Err-PlacesOut w ↦
-          let full = rw (w.in-Err-PlacesOut.is, w.in-Err-PlacesOut.field-0-is) at told in
-          subst (λ (answer : Result Committed PlacesOut). Commits g.J.Keeps.kept p q (told_by (λ (full : PlacesOut). commit_fault.PlacesOut) answer)) (sym w.result-is) full
+          subst (λ (answer : Result Committed PlacesOut). Commits g.J.Keeps.kept p q (told_by (λ (full : PlacesOut). commit_fault.PlacesOut) answer)) (sym w.result-is) (rw (w.in-Err-PlacesOut.is, w.in-Err-PlacesOut.field-0-is) at told)
     ]

@@ -10,6 +10,7 @@ ghost use Rattle.hash_index.specs.Node.{IsNode};
 
 use crate::node::next_record;
 use crate::search::BUCKETS;
+use plain_data::Cells;
 use record_store::{RecordRead, Walk};
 
 /// What a node says of a key.
@@ -39,14 +40,15 @@ pub fn look<S: RecordRead>(
 {
     let mut at = base + (key % BUCKETS) as u32;
     let mut position = 0;
+    let mut cells = Cells::new([0; 32]);
     loop {
-        let Some(cells) = store.read(at)? else {
+        if !store.read_into(at, &mut cells)? {
             return if position == 0 {
                 Ok(None)
             } else {
                 Err(Walk::Torn(at))
             };
-        };
+        }
         match seen_in(&cells.words(), size, position, key) {
             Some(Seen::Found(rid)) => return Ok(Some(rid)),
             Some(Seen::End) => return Ok(None),

@@ -90,9 +90,10 @@ fn read_link<S: RecordRead>(
     ensures torn { IfTorn result (λ torn. (torn ≡ rid) × EachState (S.meaning store.old) (S.meaning store.new) (λ state. IsNoLink size position state rid)) }
     ensures walk { WalksByReads S.read_gives S.meaning S.rest store.old store.new result }
 {
-    let Some(cells) = store.read(rid)? else {
+    let mut cells = Cells::new([0; 32]);
+    if !store.read_into(rid, &mut cells)? {
         return Ok(None);
-    };
+    }
     match node_at(rid, &cells, position, size) {
         Some(link) => Ok(Some(link)),
         None => Err(Walk::Torn(rid)),

@@ -18,7 +18,6 @@ use Rattle.replay_model.specs.TableMap.{TableMap}
 use Rattle.seat_post.specs.Ends.{Stood}
 use Rattle.seat_post.specs.Snapshot.{SnapshotView, first_snapshot, entry_of_snapshot}
 use Rattle.seat_post.specs.Logs.{IsAbove}
-use Rattle.seat_post.specs.Observing.{Grows}
 use Rattle.stored_tables.specs.Kept.{KeepsTables}
 use Rattle.stored_tables.specs.Places.{Places}
 use Rattle.stored_tables.specs.Tables.{StandsFor, EachTables}
@@ -40,15 +39,7 @@ still_there (Some g) stamp is = (g, refl, ap stamp_in is)
 -- so of what was told of it, which is what the snapshot left
 pub record IsTold (f r : PassView) : Type 0 where
   pub after : r ≡ observing (with_met f r.met) r.observed
-  pub grows : Grows f.observed r.observed
   pub not_back : f.met ≤ r.met
-
-pub told_of : (f b r : PassView) → r ≡ observing (with_met b r.met) r.observed → Grows b.observed r.observed → b.met ≤ r.met → b ≡ f → IsTold f r
-told_of f b r value grows not_back same = record {
-  after = value ∙ ap (λ (x : PassView). observing (with_met x r.met) r.observed) same;
-  grows = subst (λ (x : PassView). Grows x.observed r.observed) same grows;
-  not_back = subst (λ (x : PassView). x.met ≤ r.met) same not_back;
-}
 
 pub clock_later : (p : PassView) (reading : ℕ) → p.clock < next_clock p reading
 clock_later p reading = omega arith

@@ -17,7 +17,7 @@ ghost use Rattle.ordered_index.specs.Enter.{EachEntered, IsLeafEntered, IfTakes,
 
 use crate::key::Key;
 use crate::node::Node;
-use crate::standing::{entry, is_inner, node_of, place, rank_of};
+use crate::standing::{entry, is_inner, place, rank_of, to_node};
 use crate::walk::{MOST_DEPTH, Stored, read_node};
 use record_store::{RecordStore, Walk, write_node};
 
@@ -72,15 +72,15 @@ pub fn enter<S: RecordStore>(
     if depth == MOST_DEPTH {
         return Err(Walk::Torn(at));
     }
-    let read = read_node(store, size, at, low)?;
-    let Some(child) = &read else {
+    let mut child = Stored::blank();
+    if !read_node(store, size, at, low, &mut child)? {
         return Err(Walk::Torn(at));
-    };
+    }
     let child_rank = rank_of(&child.words, key);
     match enter(store, size, &child.words, child_rank, depth + 1, key, rid)? {
         Entering::There => Ok(Entering::There),
         Entering::Done => Ok(Entering::Done),
-        Entering::Takes(entry) => match put_entry(store, child, size, child_rank, entry)? {
+        Entering::Takes(entry) => match put_entry(store, &child, size, child_rank, entry)? {
             Some(new) => Ok(Entering::Takes(new)),
             None => Ok(Entering::Done),
         },
@@ -105,7 +105,7 @@ fn put_entry<S: RecordStore>(
     ensures few { WritesNodes (2 * asks_at (content_at here.now.words).entries + 1) (S.meaning store.old) (S.meaning store.new) }
     ensures parted { IfOk result (λ new. IfSome new (λ _. WritesNodes (2 * asks_at (content_at here.now.words).entries) (S.meaning store.old) (S.meaning store.new))) }
 {
-    change_node(store, here.at, node_of(&here.words, size), rank, entry)
+    change_node(store, here.at, to_node(&here.words, size), rank, entry)
 }
 
 /// Writes a node that is not the root with an entry more, and answers the entry of a new node where it was parted in two.
@@ -155,7 +155,7 @@ pub fn put_root<S: RecordStore>(
     ensures walk { WalksCounting S.read_gives S.write_gives S.fresh_gives S.meaning S.rest (MayAskRoot (content_at here.now.words).entries) (AsksRoot (content_at here.now.words).entries) store.old store.new result }
     ensures writes { WritesOnly (λ rid. rid ≡ here.now.at) (S.meaning store.old) (S.meaning store.new) }
 {
-    change_root(store, here.at, node_of(&here.words, size), rank, entry)
+    change_root(store, here.at, to_node(&here.words, size), rank, entry)
 }
 
 /// Writes the root with an entry more.

@@ -14,8 +14,8 @@ ghost use Rattle.ordered_index.specs.Written.{WritesNodes};
 use crate::enter::{Entering, enter, put_root};
 use crate::key::Key;
 use crate::node::Node;
-use crate::standing::{entry, node_of, place, rank_of};
-use crate::walk::{FIRST, leaf_for, read_node};
+use crate::standing::{entry, place, rank_of, to_node};
+use crate::walk::{FIRST, Stored, leaf_for, read_node};
 use record_store::{RecordRead, RecordStore, Walk, write_node};
 
 /// The record number beside a key in the tree of `root`.
@@ -62,7 +62,7 @@ pub fn remove<S: RecordStore>(store: &mut S, root: u32, key: Key) -> Result<bool
     let Some(index) = place(&leaf.words, key) else {
         return Ok(false);
     };
-    let mut node = node_of(&leaf.words, size);
+    let mut node = to_node(&leaf.words, size);
     node.entries.remove(index);
     write_node(store, leaf.at, node.cells())?;
     Ok(true)
@@ -92,10 +92,11 @@ pub fn insert<S: RecordStore>(
     ensures few { WritesNodes 51 (S.meaning store.old) (S.meaning store.new) }
 {
     let size = store.size();
-    let Some(top) = read_node(store, size, root, FIRST)? else {
+    let mut top = Stored::blank();
+    if !read_node(store, size, root, FIRST, &mut top)? {
         write_node(store, root, Node::leaf(key, rid).cells())?;
         return Ok(true);
-    };
+    }
     let rank = rank_of(&top.words, key);
     match enter(store, size, &top.words, rank, 1, key, rid)? {
         Entering::There => Ok(false),

@@ -15,6 +15,7 @@ ghost use Rattle.ordered_index.specs.Scan.{between, Appends, ListsNothing, Scans
 use crate::key::Key;
 use crate::standing::{entry, fence, is_inner, is_node, next};
 use crate::walk::{Stored, leaf_for};
+use plain_data::Cells;
 use record_store::{RecordRead, Walk};
 
 /// Appends to `out` the first `limit` pairs of the tree of `root` whose keys lie from `lo` to `hi`, both taken in, by rising key.
@@ -84,11 +85,11 @@ fn scan_leaves<S: RecordRead>(
         let Some(next) = next(&here.words, size) else {
             return Ok(());
         };
-        let link = read_next_leaf(store, size, next, fence(&here.words))?;
-        if hi.is_before(fence(&link.words)) {
+        let before = fence(&here.words);
+        read_next_leaf(store, size, next, before, &mut here)?;
+        if hi.is_before(fence(&here.words)) {
             return Ok(());
         }
-        here = link;
         goes_on = take_between(&here.words, size, lo, hi, most, out);
     }
     Ok(())
@@ -130,36 +131,35 @@ fn take_between(
     true
 }
 
-/// The leaf of a record, with a fence behind that of the leaf before.
+/// Reads the leaf of a record, with a fence behind that of the leaf before.
 fn read_next_leaf<S: RecordRead>(
     store: &mut S,
     size: u32,
     rid: u32,
     before: Key,
-) -> Result<Stored, Walk<S::Fault>>
+    here: &mut Stored,
+) -> Result<(), Walk<S::Fault>>
     requires size { size ≡ (S.meaning store.old).size }
     requires at_most { size ≤ record_limit }
     requires rid { rid < size }
-    ensures leaf { IfOk result (IsLeafBehind size rid before) }
-    ensures read { IfOk result (λ link. EachState (S.meaning store.old) (S.meaning store.new) (λ state. IsAt size state (node_of link))) }
+    ensures leaf { OnOk result (IsLeafBehind size rid before here.new) }
+    ensures read { OnOk result (EachState (S.meaning store.old) (S.meaning store.new) (λ state. IsAt size state (node_of here.new))) }
     ensures torn { IfTorn result (λ torn. (torn ≡ rid) × EachState (S.meaning store.old) (S.meaning store.new) (λ state. IsNoLeaf size before state rid)) }
     ensures walk { WalksByReads S.read_gives S.meaning S.rest store.old store.new result }
 {
-    let read = store.read(rid)?;
-    let Some(cells) = &read else {
+    let mut cells = Cells::new([0; 32]);
+    if !store.read_into(rid, &mut cells)? {
         return Err(Walk::Torn(rid));
-    };
-    let here = Stored {
-        at: rid,
-        words: cells.words(),
-    };
+    }
+    here.at = rid;
+    here.words = cells.words();
     if !is_node(&here.words, size) {
         return Err(Walk::Torn(rid));
     }
     if is_inner(&here.words) || !rises(before, fence(&here.words)) {
         return Err(Walk::Torn(rid));
     }
-    Ok(here)
+    Ok(())
 }
 
 /// Whether a fence rises to the next one.

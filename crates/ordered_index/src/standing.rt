@@ -118,7 +118,7 @@ pub fn place(words: &[u64; 32], key: Key) -> Option<usize>
 }
 
 /// The node in memory, to be changed.
-pub fn node_of(words: &[u64; 32], size: u32) -> Node
+pub fn to_node(words: &[u64; 32], size: u32) -> Node
     requires { IsNode size words.now }
     ensures { content_of result ≡ content_at words.now }
 {

@@ -1,19 +1,18 @@
 -- Walks behind each other, and what one call of a store makes of a walk.
-use Rattle.std.proofs.Common.{◌≡◌, ℕ, ◌+◌, List, Option, Result, Ok, Err, ◌∙◌, refl, subst, arith}
+use Rattle.std.proofs.Common.{◌≡◌, ℕ, ◌+◌, Bool, List, Option, Result, Ok, Err, ◌∙◌, refl, subst, arith}
 use Rattle.std.specs.Prelude.{IsErrAnd, IfOk, OnErr}
-use Rattle.record_store.specs.Calls.{Reads, Calls, CallFault}
 use Rattle.record_store.specs.Calls.Reads.{none as no_reads, read as then_read}
 use Rattle.record_store.specs.Calls.Calls.{none as no_calls, write as then_write, fresh as then_fresh}
 use Rattle.record_store.specs.Calls.CallFault.{by_write, by_fresh}
 use Rattle.record_store.specs.Goes.{GoesByReads, GoesByCalls, WalksByReads, WalksByCalls}
+use Rattle.record_store.specs.Into.{value_if, told_into}
 use Rattle.record_store.specs.Meaning.{Meaning, after_read, after_write, after_fresh}
 use Rattle.record_store.specs.Walks.{IfStore, IfNoMemory}
-use Rattle.record_store.specs.Writes.{GivesFewer}
 use Rattle.record_store.specs.declared.walk.Walk.{Walk}
-use Rattle.record_store.specs.declared.walk.Walk.TheVariants.{Store, Torn, NoMemory}
+use Rattle.record_store.specs.declared.walk.Walk.TheVariants.{Store}
 use Rattle.record_store.proofs.Agreement.{OnlyReads-refl, OnlyReads-trans, OnlyReads-after_read, ReadsGrow-only, ReadsGrow-refl, ReadsGrow-same, ReadsGrow-fresh, ReadsGrow-write, ReadsGrow-trans}
-use Rattle.record_store.proofs.Known.{gives-none, gives-one, gives-weaken, gives-reads, gives-trans, gives-behind, fewer-behind, fewer-refused, goes-same, goes-fresh}
-use Rattle.record_store.proofs.Paths.{Reads-trans, ReadFault-behind, Calls-at, Calls-reads, Calls-trans, CallFault-read, CallFault-behind}
+use Rattle.record_store.proofs.Known.{gives-none, gives-weaken, gives-reads, gives-trans, fewer-behind, fewer-refused, goes-same, goes-fresh}
+use Rattle.record_store.proofs.Paths.{Reads-trans, ReadFault-behind, Calls-reads, Calls-trans, CallFault-read, CallFault-behind}
 use Rattle.record_store.proofs.Refusals.{store_fault, fault_moved, memory_moved, IfStore-map}
 
 -- an answer that hands no fault on and does not want memory
@@ -45,24 +44,25 @@ module _ {S F : Type 0} {read_gives : S → ℕ → Result (Option (List ℕ)) F
   }
 
   -- one read, refused or answered
-  pub by_read_refused : {T : Type 0} (first last : S) (rid : ℕ) (fault : F) (answer : Result (Option (List ℕ)) F) (result : Result T (Walk F))
-      → answer ≡ Err fault → read_gives first rid answer last → OnErr answer (meaning last ≡ meaning first)
+  pub by_read_refused : {T : Type 0} (first last : S) (rid : ℕ) (fault : F) (answer : Result Bool F) (cells : List ℕ) (result : Result T (Walk F))
+      → answer ≡ Err fault → read_gives first rid (told_into answer cells) last → OnErr answer (meaning last ≡ meaning first)
       → IsErrAnd result (λ walk. walk ≡ Store fault) → GoesByReads read_gives meaning first last result
-  by_read_refused first last rid fault answer result was gives same is =
-      let A : Result (Option (List ℕ)) F → Type 0 = λ a. read_gives first rid a last in
+  by_read_refused first last rid fault answer cells result was gives same is =
+      let A : Result Bool F → Type 0 = λ a. read_gives first rid (told_into a cells) last in
       record {
-        calls = then_read first first last rid answer (no_reads first) gives;
+        calls = then_read first first last rid (told_into answer cells) (no_reads first) gives;
         fault = store_fault result fault _ is (record { before = first; rid = rid; calls = no_reads first; answer = subst A was gives });
         only = rw (error_of answer _ fault was same) (OnlyReads-refl (meaning first));
       }
 
-  pub by_read_done : {T : Type 0} (first last : S) (rid : ℕ) (value : Option (List ℕ)) (answer : Result (Option (List ℕ)) F) (result : Result T (Walk F))
-      → answer ≡ Ok value → read_gives first rid answer last → IfOk answer (λ v. meaning last ≡ after_read (meaning first) rid v)
+  pub by_read_done : {T : Type 0} (first last : S) (rid : ℕ) (present : Bool) (answer : Result Bool F) (cells : List ℕ) (result : Result T (Walk F))
+      → answer ≡ Ok present → read_gives first rid (told_into answer cells) last
+      → IfOk answer (λ p. meaning last ≡ after_read (meaning first) rid (value_if p cells))
       → IfStore result (λ _. ⊥) → GoesByReads read_gives meaning first last result
-  by_read_done first last rid value answer result was gives after quiet = record {
-    calls = then_read first first last rid answer (no_reads first) gives;
+  by_read_done first last rid present answer cells result was gives after quiet = record {
+    calls = then_read first first last rid (told_into answer cells) (no_reads first) gives;
     fault = quiet_fault result _ quiet;
-    only = OnlyReads-after_read (meaning first) (meaning last) rid value (value_of answer _ value was after);
+    only = OnlyReads-after_read (meaning first) (meaning last) rid (value_if present cells) (value_of answer _ present was after);
   }
 
   pub by_reads_moved : {T V : Type 0} (first last : S) (result : Result T (Walk F)) (other : Result V (Walk F)) (walk : Walk F) → other ≡ Err walk
@@ -92,21 +92,22 @@ module _ {S F R : Type 0} {read_gives : S → ℕ → Result (Option (List ℕ))
   reads_none first result quiet = record { by = by_reads_none first result quiet.0; memory = quiet.1; kept = refl }
 
   -- a read that was refused
-  pub reads_refused : {T : Type 0} (first last : S) (rid : ℕ) (fault : F) (answer : Result (Option (List ℕ)) F) (result : Result T (Walk F))
-      → answer ≡ Err fault → read_gives first rid answer last → OnErr answer (meaning last ≡ meaning first) → rest last ≡ rest first
-      → IsErrAnd result (λ walk. walk ≡ Store fault) → WalksByReads read_gives meaning rest first last result
-  reads_refused first last rid fault answer result was gives same kept is = record {
-    by = by_read_refused first last rid fault answer result was gives same is;
+  pub reads_refused : {T : Type 0} (first last : S) (rid : ℕ) (fault : F) (answer : Result Bool F) (cells : List ℕ) (result : Result T (Walk F))
+      → answer ≡ Err fault → read_gives first rid (told_into answer cells) last → OnErr answer (meaning last ≡ meaning first)
+      → rest last ≡ rest first → IsErrAnd result (λ walk. walk ≡ Store fault) → WalksByReads read_gives meaning rest first last result
+  reads_refused first last rid fault answer cells result was gives same kept is = record {
+    by = by_read_refused first last rid fault answer cells result was gives same is;
     memory = store_memory result fault is;
     kept = kept;
   }
 
   -- a read that was answered
-  pub reads_done : {T : Type 0} (first last : S) (rid : ℕ) (value : Option (List ℕ)) (answer : Result (Option (List ℕ)) F) (result : Result T (Walk F))
-      → answer ≡ Ok value → read_gives first rid answer last → IfOk answer (λ v. meaning last ≡ after_read (meaning first) rid v)
+  pub reads_done : {T : Type 0} (first last : S) (rid : ℕ) (present : Bool) (answer : Result Bool F) (cells : List ℕ) (result : Result T (Walk F))
+      → answer ≡ Ok present → read_gives first rid (told_into answer cells) last
+      → IfOk answer (λ p. meaning last ≡ after_read (meaning first) rid (value_if p cells))
       → rest last ≡ rest first → Quiet result → WalksByReads read_gives meaning rest first last result
-  reads_done first last rid value answer result was gives after kept quiet = record {
-    by = by_read_done first last rid value answer result was gives after quiet.0;
+  reads_done first last rid present answer cells result was gives after kept quiet = record {
+    by = by_read_done first last rid present answer cells result was gives after quiet.0;
     memory = quiet.1;
     kept = kept;
   }

@@ -15,11 +15,13 @@ use Rattle.clock_stamps.specs.Minima.{Raises, raised_write}
 use Rattle.validate_core.specs.Sets.{SetsView}
 use Rattle.seat_post.specs.declared.phase.Phase.{Phase}
 use Rattle.seat_post.specs.declared.phase.Phase.TheVariants.{Idle}
-use Rattle.seat_post.specs.Post.{IsAt, IsPost, post_of, observed_in}
+use Rattle.seat_post.specs.Post.{PostView, IsAlonePost, IsAt, IsPost, post_of, observed_in}
 use Rattle.seat_post.specs.Sharing.{announced_at}
-use Rattle.seat_post.specs.Seats.{IsAloneAt}
-use Rattle.seat_post.proofs.AloneSeats.{others_of, alone_told}
-use Rattle.seat_post.proofs.Posts.{post_idle}
+use Rattle.seat_post.specs.Seats.{observed_of}
+use Rattle.seat_post.specs.Observing.{RaisesTo}
+use Rattle.seat_post.proofs.AloneSeats.{alone_told}
+use Rattle.seat_post.proofs.Posts.{at_phase, post_idle}
+use Rattle.seat_post.proofs.Queued.{raises_to}
 
 -- two seats that have nothing in the reserved place have nothing there together
 pub nothing_joined : (a b : Reserved) → a ≡ nothing_reserved → b ≡ nothing_reserved → reserved_by_both a b ≡ a
@@ -68,6 +70,7 @@ told v flight work raises seen = record (idled v flight work) { clock = record v
 
 pub record Announces (v x : View) : Type 0 where
   pub only : x ≡ told v x.flight x.work x.raises x.seen
+  pub raised : RaisesTo published_write min_write v.size.seats (word v) (observed_of v) (observed_of x)
   pub ends : Ends x.work
   pub whole : x.flight ≡ resting → AreAllWhole x.work.reads
 
@@ -82,8 +85,8 @@ reached v w x result only alone raises =
     let within = raises.within in
     omega arith
 
-announces_of : (v w x : View) (result : ℕ) → Idles v w → result ≡ word v → x ≡ raised_write w result x.seen → Announces v x
-announces_of v w x result is met raised =
+announces_of : (v w x : View) (result : ℕ) → Idles v w → result ≡ word v → Raises published_write min_write w.published.write w result x → x ≡ raised_write w result x.seen → Announces v x
+announces_of v w x result is met raises raised =
     let flight : x.flight ≡ w.flight = ap (λ (y : View). y.flight) raised in
     let work : x.work ≡ w.work = ap (λ (y : View). y.work) raised in
     record {
@@ -91,14 +94,18 @@ announces_of v w x result is met raised =
           ∙ ap (λ (f : Flight). told v f w.work (record v.raises { writes = no_scan }) x.seen) (sym flight)
           ∙ ap (λ (y : Work). told v x.flight y (record v.raises { writes = no_scan }) x.seen) (sym work)
           ∙ ap (λ (r : Raised). told v x.flight x.work r x.seen) (sym ((ap (λ (y : View). y.raises) raised) ∙ ap (λ (y : View). record y.raises { writes = no_scan }) is.only));
+      raised = subst (λ (y : View). RaisesTo published_write min_write y.size.seats (word v) (observed_of y) (observed_of x)) is.only
+          (subst (λ (n : ℕ). RaisesTo published_write min_write w.size.seats n (observed_of w) (observed_of x)) met (raises_to published_write min_write w.published.write w result x raises));
       ends = subst Ends (sym work) is.ends;
       whole = λ at. subst (λ (y : Work). AreAllWhole y.reads) (sym work) (is.whole (sym flight ∙ at));
     }
 
-pub announces : (hand idle raised : Seated) (result : ℕ) → Ends hand.view.work → (hand.view.flight ≡ resting → AreAllWhole hand.view.work.reads) → (hand.view.published.write < bound_of_clock hand.view.clock.clock → idle.view ≡ rests hand.view) → (bound_of_clock hand.view.clock.clock ≤ hand.view.published.write → idle ≡ hand) → IsAloneAt hand.view.size hand.view.number (others_of hand.view) → Raises published_write min_write idle.view.published.write idle.view result raised.view → raised.view ≡ raised_write idle.view result raised.view.seen → Announces hand.view raised.view
-announces hand idle raised result ends whole rises unchanged alone raises view =
-    let is = idles hand.view idle.view ends whole rises (λ high. ap (λ (h : Seated). h.view) (unchanged high)) in
-    announces_of hand.view idle.view raised.view result is (reached hand.view idle.view raised.view result is.only (alone_told hand.view alone) raises) view
+pub announces : (hand idle raised : Seated) (phase : Phase) (stamp result : ℕ) (sets : SetsView) (p : PostView) → IsPost hand phase stamp sets → post_of hand phase stamp sets ≡ p → p.phase ≡ Idle → IsAlonePost p
+    → (hand.view.published.write < bound_of_clock hand.view.clock.clock → idle.view ≡ rests hand.view) → (bound_of_clock hand.view.clock.clock ≤ hand.view.published.write → idle ≡ hand) → Raises published_write min_write idle.view.published.write idle.view result raised.view → raised.view ≡ raised_write idle.view result raised.view.seen → Announces hand.view raised.view
+announces hand idle raised phase stamp result sets p inv same at alone rises unchanged raises view =
+    let post = at_phase phase Idle hand stamp sets inv (ap (λ (q : PostView). q.phase) same ∙ at) in
+    let is = idles hand.view idle.view post.ends post.whole rises (λ high. ap (λ (h : Seated). h.view) (unchanged high)) in
+    announces_of hand.view idle.view raised.view result is (reached hand.view idle.view raised.view result is.only (alone_told hand.view (subst IsAlonePost (sym same) alone)) raises) raises view
 
 pub announced_view : (hand hand' : Seated) (phase : Phase) (stamp : ℕ) (sets : SetsView) → hand'.table ≡ hand.table → Announces hand.view hand'.view → post_of hand' phase stamp sets ≡ record (announced_at (post_of hand phase stamp sets)) { placed = (post_of hand' phase stamp sets).placed; snapshot = (post_of hand' phase stamp sets).snapshot; observed = observed_in hand' }
 announced_view hand hand' phase stamp sets table is = rw (table, is.only) refl

@@ -1,13 +1,15 @@
 -- What settling does for a record, and what shows it.
-use Rattle.std.proofs.Common.{◌≡◌, ◌≢◌, ℕ, ◌+◌, ◌<◌, ◌⊎◌, ◌&&◌, Bool, true, false, cond, eqb, eqb-true, eq-eqb, rules, List, [], ◌∷◌, ◌++◌, append_assoc, append-nil, length-append, max, refl, sym, ap, ◌∙◌, subst, inl, inr, arith}
+use Rattle.std.proofs.Common.{◌≡◌, ◌≢◌, ℕ, ◌+◌, ◌<◌, ◌⊎◌, ◌&&◌, Bool, true, false, cond, eqb, eqb-true, eq-eqb, rules, List, [], ◌∷◌, ◌++◌, append_assoc, append-nil, length-append, max, refl, sym, ap, ◌∙◌, subst, inl, inr, ⊎_elim, arith}
 use Rattle.std.specs.Prelude.{nat_lt, sum_by}
 use Rattle.std.proofs.lemmas.List.Sums.{sum_by-append, sum_by-cons}
 use Rattle.word_layout.specs.Name.{min_write}
 use Rattle.word_layout.specs.Size.{Size}
 use Rattle.core_rule.specs.View.{View, Cut, Gone, Load, Seen}
-use Rattle.core_rule.specs.Views.{Among, IsAlone}
+use Rattle.core_rule.specs.Views.{IsAlone}
 use Rattle.core_rule.specs.Paths.{EndsAt, load}
+use Rattle.core_rule.proofs.Among.{Among-split}
 use Rattle.clock_stamps.specs.Minima.{bounded}
+use Rattle.version_pool.specs.Takes.{WasMet}
 use Rattle.version_search.specs.declared.fronts.First.{First}
 use Rattle.version_search.specs.Growing as growing
 use Rattle.version_search.specs.Finding.{Reads}
@@ -22,8 +24,8 @@ use Rattle.seat_post.specs.declared.settled.Settled.{Settled}
 use Rattle.seat_post.specs.Seats.{observed_of}
 use Rattle.seat_post.specs.Observing.{WasLost, MeetsNoPlace}
 use Rattle.seat_post.specs.Collecting.{trail_in}
-use Rattle.seat_post.specs.Settling.{FindsOther, IsHidden, LooksFirst, IsDue, CutsOf, SettlesOne, none_yet, one_more, SettlesFirst, RunsOut, WantsReserved}
-use Rattle.seat_post.proofs.Observed.{lost_before}
+use Rattle.seat_post.specs.Settling.{entries_of, FindsOther, IsHidden, LooksFirst, IsDue, Appends, CutsOf, EntersOf, SettlesOne, none_yet, one_more, SettlesFirst, RunsOut, WantsReserved}
+use Rattle.seat_post.proofs.Observed.{lost_before, lost_earlier, lost_later}
 
 -- ---- whether a writing again is due
 
@@ -68,25 +70,23 @@ due_at rid first v f s w look more hidden g h = record {
   loads = h.loads;
 }
 
--- ---- the cuts
+-- ---- what was added
 
-pub cuts_none : (rid : ℕ) (v w : View) → w.gone ≡ v.gone → CutsOf rid 0 v.gone.cuts w.gone.cuts
-cuts_none rid v w same = record { cuts = []; made = ap (λ (g : Gone). g.cuts) same ∙ sym (append-nil v.gone.cuts); many = refl; of_record = λ c among. absurd among }
+pub appends_none : {A : Type 0} {such : A → Type 0} {n : ℕ} {s t : List A} → n ≡ 0 → t ≡ s → Appends A such n s t
+appends_none {s = s} none same = record { added = []; behind = same ∙ sym (append-nil s); many = sym none; each = λ x among. absurd among }
 
-pub cuts_from : (rid n : ℕ) (u v w : View) → v.gone ≡ u.gone → CutsOf rid n v.gone.cuts w.gone.cuts → CutsOf rid n u.gone.cuts w.gone.cuts
-cuts_from rid n u v w same is = subst (λ (g : Gone). CutsOf rid n g.cuts w.gone.cuts) same is
+pub appends_one : {A : Type 0} {such : A → Type 0} {s t : List A} (x : A) → t ≡ s ++ x ∷ [] → such x → Appends A such 1 s t
+appends_one {such = such} x behind is = record { added = x ∷ []; behind = behind; many = refl; each = λ y among. ⊎_elim (λ same. subst such same is) (λ none. absurd none) among }
 
-among_either : (c : Cut) (xs ys : List Cut) → Among c (xs ++ ys) → Among c xs ⊎ Among c ys
-among_either c [] ys among = inr among
-among_either c (x ∷ xs) ys (inl same) = inl (inl same)
-among_either c (x ∷ xs) ys (inr more) = elim (among_either c xs ys more) as (λ _. Among c (x ∷ xs) ⊎ Among c ys) [ inl a ↦ inl (inr a) | inr b ↦ inr b ]
+pub appends_same : {A : Type 0} {such : A → Type 0} {n : ℕ} {s t u w : List A} → t ≡ s → w ≡ u → Appends A such n t u → Appends A such n s w
+appends_same {A} same same' is = record { added = is.added; behind = same' ∙ is.behind ∙ ap (λ (xs : List A). xs ++ is.added) same; many = is.many; each = is.each }
 
-pub cuts_both : (rid m n : ℕ) (s t u : List Cut) → CutsOf rid m s t → CutsOf rid n t u → CutsOf rid (m + n) s u
-cuts_both rid m n s t u a b = record {
-  cuts = a.cuts ++ b.cuts;
-  made = b.made ∙ ap (λ (xs : List Cut). xs ++ b.cuts) a.made ∙ append_assoc s a.cuts b.cuts;
-  many = let e = length-append a.cuts b.cuts in let f = a.many in let h = b.many in omega arith;
-  of_record = λ c among. elim (among_either c a.cuts b.cuts among) as (λ _. c.record_number ≡ rid) [ inl x ↦ a.of_record c x | inr y ↦ b.of_record c y ];
+pub appends_both : {A : Type 0} {such : A → Type 0} {m n : ℕ} {s t u : List A} → Appends A such m s t → Appends A such n t u → Appends A such (m + n) s u
+appends_both {A} {s = s} a b = record {
+  added = a.added ++ b.added;
+  behind = b.behind ∙ ap (λ (xs : List A). xs ++ b.added) a.behind ∙ append_assoc s a.added b.added;
+  many = let e = length-append a.added b.added in let f = a.many in let h = b.many in omega arith;
+  each = λ x among. ⊎_elim (a.each x) (b.each x) (Among-split x a.added b.added among);
 }
 
 -- an item of a seat that is alone, and the newest of its record, is cut below
@@ -99,12 +99,9 @@ cut_became reached i Dropped v w alone newest off h =
     let at = newest.low in
     absurd (omega arith)
 cut_became reached i CutBelow v w alone newest off h =
-    let c = h.1.cuts in record {
-      cuts = record { record_number = i.rid; stamp = i.stamp; place = c.place; to = c.to } ∷ [];
-      made = c.cuts ∙ ap (λ (g : Gone). g.cuts ++ record { record_number = i.rid; stamp = i.stamp; place = c.place; to = c.to } ∷ []) h.1.gone;
-      many = refl;
-      of_record = λ (d : Cut) among. elim among as (λ _. d.record_number ≡ i.rid) [ inl same ↦ ap (λ (x : Cut). x.record_number) (sym same) | inr none ↦ absurd none ];
-    }
+    let c = h.1.cuts in
+    let d : Cut = record { record_number = i.rid; stamp = i.stamp; place = c.place; to = c.to } in
+    appends_one d (c.cuts ∙ ap (λ (g : Gone). g.cuts ++ d ∷ []) h.1.gone) refl
 
 none_went : (reached : ℕ) (es : List Ended) (v w : View) → Goes reached es v w → items_of es ≡ [] → w ≡ v
 none_went reached _ _ _ (not_begun v) none = refl
@@ -126,37 +123,15 @@ one_cut reached i _ _ _ (goes_on es e v w x goes became) alone newest one none =
 
 -- ---- the reserved place
 
-pub no_place : (z : Size) (rid : ℕ) (u v w x : View) → growing.Grows u.seen v.seen → WantsReserved z rid v w → growing.Grows w.seen x.seen → MeetsNoPlace z rid (observed_of u) (observed_of x)
-no_place z rid u v w x before wants behind = record {
-  inline_met = lost_behind rid (lost_before rid u v w w before wants.inline_met refl);
-  usable_met = λ p usable. lost_behind p (lost_before p u v w w before (wants.usable_met p usable) refl);
-} where
-  lost_behind : (p : ℕ) → WasLost p u.seen.lost w.seen.lost → WasLost p u.seen.lost x.seen.lost
-  lost_behind p l = record {
-    earlier = l.earlier;
-    exchange = l.exchange;
-    later = l.later ++ behind.missed;
-    not_free = l.not_free;
-    lost = behind.lost ∙ ap (λ (xs : List Load). xs ++ behind.missed) l.lost
-        ∙ append_assoc u.seen.lost (l.earlier ++ l.exchange ∷ l.later) behind.missed
-        ∙ ap (λ (xs : List Load). u.seen.lost ++ xs) (append_assoc l.earlier (l.exchange ∷ l.later) behind.missed);
-  }
-
 pub no_place_from : (z : Size) (rid : ℕ) (u v w x : View) → growing.Grows u.seen v.seen → MeetsNoPlace z rid (observed_of v) (observed_of w) → growing.Grows w.seen x.seen → MeetsNoPlace z rid (observed_of u) (observed_of x)
 no_place_from z rid u v w x before met behind = record { inline_met = lost_within rid met.inline_met; usable_met = λ p usable. lost_within p (met.usable_met p usable) } where
   lost_within : (p : ℕ) → WasLost p v.seen.lost w.seen.lost → WasLost p u.seen.lost x.seen.lost
-  lost_within p l = record {
-    earlier = before.missed ++ l.earlier;
-    exchange = l.exchange;
-    later = l.later ++ behind.missed;
-    not_free = l.not_free;
-    lost = behind.lost ∙ ap (λ (xs : List Load). xs ++ behind.missed) l.lost
-        ∙ append_assoc v.seen.lost (l.earlier ++ l.exchange ∷ l.later) behind.missed
-        ∙ ap (λ (xs : List Load). v.seen.lost ++ xs) (append_assoc l.earlier (l.exchange ∷ l.later) behind.missed)
-        ∙ ap (λ (xs : List Load). xs ++ (l.earlier ++ (l.exchange ∷ (l.later ++ behind.missed)))) before.lost
-        ∙ append_assoc u.seen.lost before.missed (l.earlier ++ (l.exchange ∷ (l.later ++ behind.missed)))
-        ∙ ap (λ (xs : List Load). u.seen.lost ++ xs) (sym (append_assoc before.missed l.earlier (l.exchange ∷ (l.later ++ behind.missed))));
-  }
+  lost_within p l = lost_later p u.seen.lost w.seen.lost x.seen.lost behind.missed behind.lost (lost_earlier p u.seen.lost v.seen.lost w.seen.lost before.missed before.lost l)
+
+pub no_place : (z : Size) (rid : ℕ) (u v w x : View) → growing.Grows u.seen v.seen → WantsReserved z rid v w → growing.Grows w.seen x.seen → MeetsNoPlace z rid (observed_of u) (observed_of x)
+no_place z rid u v w x before wants behind = no_place_from z rid u v w x before (record { inline_met = was_lost rid wants.inline_met; usable_met = λ p usable. was_lost p (wants.usable_met p usable) }) behind where
+  was_lost : (p : ℕ) → WasMet p v w → WasLost p v.seen.lost w.seen.lost
+  was_lost p met = lost_before p v v w w (grows_none v.seen) met refl
 
 -- where the clock came to its end
 pub out_from : (z : Size) (rid : ℕ) (u v w : View) → v.clock.clock ≡ u.clock.clock → growing.Grows u.seen v.seen → RunsOut z rid v.clock.clock w.clock.clock (observed_of v) (observed_of w) → RunsOut z rid u.clock.clock w.clock.clock (observed_of u) (observed_of w)
@@ -173,10 +148,11 @@ pub cut_some : (single : Bool) (n cut : ℕ) → single ≡ false → cut ≡ ma
 cut_some true n cut off is = cc
 cut_some false n cut off is = is
 
-pub settles_one : (z : Size) (rid : ℕ) (done : Settled) (first : First) (v f w : View) → Looked rid first.place first.wts first.decided first.single v.seen.loads f.seen.loads → f.seen.lost ≡ v.seen.lost → growing.Grows f.seen w.seen → done.cut ≡ cond first.single 0 (max done.rewritten 1) → CutsOf rid done.cut v.gone.cuts w.gone.cuts → FreesCounted done.places v w → (0 < done.rewritten → IsDue rid v.seen.loads w.seen.loads) → (1 < done.rewritten → MeetsNoPlace z rid (observed_of v) (observed_of w)) → SettlesOne z rid done (trail_in v) (trail_in w)
-settles_one z rid done first v f w look same g cut cuts freed due twice = record {
+pub settles_one : (z : Size) (rid : ℕ) (done : Settled) (first : First) (v f w : View) → Looked rid first.place first.wts first.decided first.single v.seen.loads f.seen.loads → f.seen.lost ≡ v.seen.lost → growing.Grows f.seen w.seen → done.cut ≡ cond first.single 0 (max done.rewritten 1) → EntersOf rid done.rewritten (entries_of v) (entries_of w) → CutsOf rid done.cut v.gone.cuts w.gone.cuts → FreesCounted done.places v w → (0 < done.rewritten → IsDue rid v.seen.loads w.seen.loads) → (1 < done.rewritten → MeetsNoPlace z rid (observed_of v) (observed_of w)) → SettlesOne z rid done (trail_in v) (trail_in w)
+settles_one z rid done first v f w look same g cut entries cuts freed due twice = record {
   grows = let all = grows_both v.seen f.seen w.seen (grows_loads v.seen f.seen _ look.loads same) g in record { loaded = all.loaded; missed = all.missed; loads = all.loads; lost = all.lost };
   as_due = record { first = first; looked = f.seen.loads; looks = looks_first rid first v.seen.loads f.seen.loads f.seen w.seen look refl g; cut = cut };
+  entries = entries;
   cuts = cuts;
   places = record { freed = freed.freed; gone = freed.gone; count = freed.count };
   due = due;

@@ -17,20 +17,15 @@ freed_none n v w none same = record { freed = []; gone = ap (λ (g : Gone). g.fr
 pub freed_from : (n : ℕ) (u v w : View) → v.gone ≡ u.gone → FreesCounted n v w → FreesCounted n u w
 freed_from n u v w same freed = record { freed = freed.freed; gone = freed.gone ∙ ap (λ (g : Gone). g.freed ++ freed.freed) same; count = freed.count }
 
-pub idled_tops : (v : View) → (idled v).tops ≡ v.tops
-idled_tops v = by_bool (nat_lt v.published.write (bound_of_clock v.clock.clock)) where
-  by_bool : (b : Bool) → (if b then rests v else v).tops ≡ v.tops
-  by_bool true = refl
-  by_bool false = refl
-
-pub idled_gone : (v : View) → (idled v).gone ≡ v.gone
-idled_gone v = by_bool (nat_lt v.published.write (bound_of_clock v.clock.clock)) where
-  by_bool : (b : Bool) → (if b then rests v else v).gone ≡ v.gone
-  by_bool true = refl
+-- what the bound of the clock, published, does not change
+pub idled_keeps : {A : Type 0} (f : View → A) (v : View) → f (rests v) ≡ f v → f (idled v) ≡ f v
+idled_keeps f v same = by_bool (nat_lt v.published.write (bound_of_clock v.clock.clock)) where
+  by_bool : (b : Bool) → f (if b then rests v else v) ≡ f v
+  by_bool true = same
   by_bool false = refl
 
 -- a collection frees as many as it counts
 pub freed_collecting : (v w : View) (items items' : List Queued) (tally : Collected) → Collects v items items' w tally → FreesCounted tally.places v w
 freed_collecting v w items items' tally is =
     let p = is.prepares in
-    freed_from tally.places v is.prepared w (ap (λ (x : View). x.gone) p.after_is ∙ ap (λ (x : View). x.gone) p.raised_is ∙ idled_gone v) is.goes_through.places
+    freed_from tally.places v is.prepared w (ap (λ (x : View). x.gone) p.after_is ∙ ap (λ (x : View). x.gone) p.raised_is ∙ idled_keeps (λ (x : View). x.gone) v refl) is.goes_through.places

@@ -12,17 +12,16 @@ use Rattle.clock_stamps.specs.Clocks.{drawn}
 use Rattle.validate_core.specs.Sets.{SetsView}
 use Rattle.plain_data.specs.State.{State}
 use Rattle.version_pool.specs.Takes.{TakesFree, FindsNone, AreLostOn, after_taking, after_losing}
-use Rattle.version_search.specs.Growing.{Grows}
+use Rattle.version_search.specs.Growing.{Grows, LosesNoPlace}
 use Rattle.version_search.specs.Finding.{Reads}
-use Rattle.version_search.proofs.Grown.{grows_none, grows_both, grows_lost}
+use Rattle.version_search.proofs.Grown.{grows_none, grows_both, grows_lost, no_place_none}
 use Rattle.version_search.specs.Loading.{with_value}
 use Rattle.validate_core.specs.Validating.{worked, no_more}
 use Rattle.validate_core.specs.declared.conflict.Conflict.{Conflict}
 use Rattle.validate_core.specs.declared.conflict.Conflict.TheVariants.{Pending}
 use Rattle.seat_post.specs.Searched.{Stops}
-use Rattle.seat_post.specs.Promoting.{IsDrawn, MeetsPending, IsStoppedWriting, FindsElsewhere, LoadsElsewhere, FindsOccupied, WritesInline, PromotesAt, FailsAt, MeetsElsewhere, CameUpon, IsStoppedPost}
+use Rattle.seat_post.specs.Promoting.{IsDrawn, MeetsPending, IsStoppedWriting, FindsElsewhere, LoadsElsewhere, FindsOccupied, WritesInline, PromotesAt, FailsAt, MeetsElsewhere, LosesOnly, CameUpon, IsStoppedPost}
 use Rattle.seat_post.specs.Rewriting.{HasFound, Rewrites, IsStopped, LinksOne, IsLoadedIn, others_in}
-use Rattle.seat_post.specs.Observing.{WasLost}
 use Rattle.seat_post.specs.Seats.{placed_of}
 use Rattle.seat_post.specs.declared.promoting.Promotion.{Promotion}
 use Rattle.seat_post.specs.declared.promoting.Promotion.TheVariants.{Promoted, Inline, Absent, Occupied}
@@ -32,6 +31,7 @@ use Rattle.stamp_base.specs.Stamp.{stamp_of, IsStamp}
 use Rattle.seat_post.specs.declared.phase.Phase.{Phase}
 use Rattle.seat_post.specs.declared.phase.Phase.TheVariants.{Idle}
 use Rattle.seat_post.proofs.Posts.{at_phase, post_idle}
+use Rattle.validate_core.proofs.Staging.{met_now}
 use Rattle.seat_post.proofs.ReadMore.{met_at}
 use Rattle.seat_post.proofs.Over.{none_resting}
 use Rattle.seat_post.proofs.Observed.{seen_grows, reads_grow, met_found, met_then, found_met, found_after, loaded_before, drawn_grows}
@@ -44,8 +44,8 @@ ends_none work rests linked item = record {
   collected = item;
 }
 
-pub pending_at : (hand hand' : Seated) (stamp rid wts : ℕ) → Stops stamp rid wts hand.view hand'.view → hand.view.number < hand.view.size.seats → IsDrawn stamp hand.view → MeetsPending stamp rid hand.view hand'.view (Pending rid wts)
-pending_at hand hand' stamp rid wts stops inside drawn =
+pub pending_at : (hand hand' : Seated) (stamp rid wts : ℕ) → Stops stamp rid wts hand.view hand'.view → hand'.view.seen.lost ≡ hand.view.seen.lost → hand.view.number < hand.view.size.seats → IsDrawn stamp hand.view → MeetsPending stamp rid hand.view hand'.view (Pending rid wts)
+pending_at hand hand' stamp rid wts stops lost inside drawn =
     let met = met_at hand hand' stamp rid wts stops inside in
     let none : hand'.view.work.linked ≡ [] = ap (λ (y : View). y.work.linked) stops.view ∙ ap (λ (w : Work). w.linked) drawn.work in
     record {
@@ -53,8 +53,9 @@ pending_at hand hand' stamp rid wts stops inside drawn =
       none_linked = none;
       ends = ends_none hand'.view.work (rw stops.view stops.rests) none (ap (λ (y : View). y.work.item) stops.view ∙ ap (λ (w : Work). w.item) drawn.work);
       grows = stops.grows;
+      lost = lost;
       shown = (refl, met.0, met.1);
-      loaded = stops.met;
+      loaded = met_now stamp rid stops.at.place wts 2 hand.view hand'.view stops.at.path;
     }
 
 -- the stamp is published still
@@ -63,8 +64,8 @@ still_published stamp rid place wts words v b t l drawn found takes loads =
     ap (λ (y : View). y.published.write) loads ∙ ap (λ (y : View). y.published.write) takes.view ∙ ap (λ (y : View). y.published.write) found.view ∙ drawn.published
 
 -- it was taken, and the value was loaded
-elsewhere_loaded : (words : List ℕ) (stamp rid place wts : ℕ) (v b t l : View) → l ≡ with_value t words l.seen → Grows t.seen l.seen → place ≢ rid → Reads stamp rid place wts 3 v b → TakesFree rid b t → LoadsElsewhere stamp rid words v l
-elsewhere_loaded words stamp rid place wts v b t l loads grows elsewhere found takes = record { between = b; finds = record { place = place; elsewhere = elsewhere; wts = wts; found = found }; taken = t; takes = takes; loads = loads; grows = grows }
+elsewhere_loaded : (words : List ℕ) (stamp rid place wts : ℕ) (v b t l : View) → l ≡ with_value t words l.seen → Grows t.seen l.seen → l.seen.lost ≡ t.seen.lost → place ≢ rid → Reads stamp rid place wts 3 v b → TakesFree rid b t → LoadsElsewhere stamp rid words v l
+elsewhere_loaded words stamp rid place wts v b t l loads grows lost elsewhere found takes = record { between = b; finds = record { place = place; elsewhere = elsewhere; wts = wts; found = found }; taken = t; takes = takes; loads = loads; grows = grows; lost = lost }
 
 -- what was found and loaded then
 pub has_found : (value : Option (List ℕ)) (stamp rid place wts : ℕ) (v b t l : View) → IsStamp stamp → IsDrawn stamp v → value ≢ None → IfSome value (λ words. (length words ≡ 32) × (l ≡ with_value t words l.seen)) → Grows t.seen l.seen → Reads stamp rid place wts 3 v b → TakesFree rid b t → HasFound l.published.write (read_version rid place wts value) l
@@ -82,21 +83,21 @@ has_found (Some words) stamp rid place wts v b t l is drawn present loads grows 
           (found_met stamp rid wts 3 no_more v.seen.loads b.seen.loads (omega arith, omega arith) (met_found stamp rid place wts 3 v b found)));
     }
 
-pub writes_inline : (kept : State → Type 0) (records : ℕ) (value : Option (List ℕ)) (stamp rid place wts : ℕ) (v b t l w : View) → IsDrawn stamp v → value ≢ None → IfSome value (λ words. (length words ≡ 32) × (l ≡ with_value t words l.seen)) → Grows t.seen l.seen → place ≢ rid → Reads stamp rid place wts 3 v b → TakesFree rid b t → Rewrites kept records rid rid l.published.write value l w → WritesInline kept records stamp rid v w
-writes_inline kept records None stamp rid place wts v b t l w drawn present loads grows elsewhere found takes rewrites = absurd (present refl)
-writes_inline kept records (Some words) stamp rid place wts v b t l w drawn present loads grows elsewhere found takes rewrites = record {
+pub writes_inline : (kept : State → Type 0) (records : ℕ) (value : Option (List ℕ)) (stamp rid place wts : ℕ) (v b t l w : View) → IsDrawn stamp v → value ≢ None → IfSome value (λ words. (length words ≡ 32) × (l ≡ with_value t words l.seen)) → Grows t.seen l.seen → l.seen.lost ≡ t.seen.lost → place ≢ rid → Reads stamp rid place wts 3 v b → TakesFree rid b t → Rewrites kept records rid rid l.published.write value l w → WritesInline kept records stamp rid v w
+writes_inline kept records None stamp rid place wts v b t l w drawn present loads grows lost elsewhere found takes rewrites = absurd (present refl)
+writes_inline kept records (Some words) stamp rid place wts v b t l w drawn present loads grows lost elsewhere found takes rewrites = record {
   words = words;
   loaded = l;
-  loads = elsewhere_loaded words stamp rid place wts v b t l loads.1 grows elsewhere found takes;
+  loads = elsewhere_loaded words stamp rid place wts v b t l loads.1 grows lost elsewhere found takes;
   rewrites = subst (λ (n : ℕ). Rewrites kept records rid rid n (Some words) l w) (still_published stamp rid place wts words v b t l drawn found takes loads.1) rewrites;
 }
 
-pub stopped_writing : (value : Option (List ℕ)) (stamp rid place wts : ℕ) (v b t l w : View) (conflict : Conflict) → IsDrawn stamp v → value ≢ None → IfSome value (λ words. (length words ≡ 32) × (l ≡ with_value t words l.seen)) → Grows t.seen l.seen → place ≢ rid → Reads stamp rid place wts 3 v b → TakesFree rid b t → IsStopped rid rid l.published.write l w conflict → IsStoppedWriting stamp rid v w conflict
-stopped_writing None stamp rid place wts v b t l w conflict drawn present loads grows elsewhere found takes stops = absurd (present refl)
-stopped_writing (Some words) stamp rid place wts v b t l w conflict drawn present loads grows elsewhere found takes stops = record {
+pub stopped_writing : (value : Option (List ℕ)) (stamp rid place wts : ℕ) (v b t l w : View) (conflict : Conflict) → IsDrawn stamp v → value ≢ None → IfSome value (λ words. (length words ≡ 32) × (l ≡ with_value t words l.seen)) → Grows t.seen l.seen → l.seen.lost ≡ t.seen.lost → place ≢ rid → Reads stamp rid place wts 3 v b → TakesFree rid b t → IsStopped rid rid l.published.write l w conflict → IsStoppedWriting stamp rid v w conflict
+stopped_writing None stamp rid place wts v b t l w conflict drawn present loads grows lost elsewhere found takes stops = absurd (present refl)
+stopped_writing (Some words) stamp rid place wts v b t l w conflict drawn present loads grows lost elsewhere found takes stops = record {
   words = words;
   loaded = l;
-  loads = elsewhere_loaded words stamp rid place wts v b t l loads.1 grows elsewhere found takes;
+  loads = elsewhere_loaded words stamp rid place wts v b t l loads.1 grows lost elsewhere found takes;
   stops = subst (λ (n : ℕ). IsStopped rid rid n l w conflict) (still_published stamp rid place wts words v b t l drawn found takes loads.1) stops;
 }
 
@@ -118,7 +119,7 @@ pub without_only : (place : ℕ) → without place (place ∷ []) ≡ []
 without_only place = rw (eq-eqb place place refl) refl
 
 -- an inline place is not the reserved one
-pub inline_apart : (z : Size) (rid : ℕ) → IsSize z → rid < z.records → rid ≢ reserved_place z
+inline_apart : (z : Size) (rid : ℕ) → IsSize z → rid < z.records → rid ≢ reserved_place z
 inline_apart z rid size lt same = let spare = size.has_spare in omega arith
 
 -- the one place that was held was linked
@@ -161,30 +162,21 @@ works_rested v w none only ends = record {
   ends = ends;
 }
 
-lost_works : (stamp rid : ℕ) (v w : View) → FindsOccupied stamp rid v w → w ≡ worked v w.work w.seen
-lost_works stamp rid v w f =
-    subst (λ (y : View). y ≡ worked v y.work y.seen) (sym (f.lost.view ∙ ap (λ (y : View). after_losing y f.lost.lost) (worked_since stamp rid f.finds.place f.finds.wts 3 v f.between f.finds.found))) refl
-
-lost_ends : (stamp rid : ℕ) (v w : View) → IsDrawn stamp v → FindsOccupied stamp rid v w → Ends w.work
-lost_ends stamp rid v w drawn f = subst (λ (x : Work). Ends x) (sym (ap (λ (y : View). y.work) f.lost.view)) (searched_since stamp rid f.finds.place f.finds.wts 3 v f.between drawn f.finds.found)
-
 -- ---- each answer
 
-written_inline : (kept : State → Type 0) (records stamp rid : ℕ) (v w : View) → rid ≢ reserved_place v.size → IsDrawn stamp v → WritesInline kept records stamp rid v w → Rested v w
-written_inline kept records stamp rid v w apart drawn wrote = linked_since rid rid stamp v wrote.loaded w apart drawn.holds_none (loaded_since stamp rid wrote.words v wrote.loaded wrote.loads) wrote.rewrites.links
-
 pub promotes_rested : (kept : State → Type 0) (records stamp rid : ℕ) (v w : View) (told : Promotion) → rid ≢ reserved_place v.size → IsDrawn stamp v → PromotesAt kept records stamp rid v w told → Rested v w
-promotes_rested kept records stamp rid v w (Promoted at) apart drawn told = written_inline kept records stamp rid v w apart drawn told.1
+promotes_rested kept records stamp rid v w (Promoted at) apart drawn told = linked_since rid rid stamp v told.1.loaded w apart drawn.holds_none (loaded_since stamp rid told.1.words v told.1.loaded told.1.loads) told.1.rewrites.links
 promotes_rested kept records stamp rid v w Inline apart drawn found = works_rested v w drawn.holds_none (worked_since stamp rid rid found.wts 3 v w found.found) (searched_since stamp rid rid found.wts 3 v w drawn found.found)
 promotes_rested kept records stamp rid v w Absent apart drawn found = works_rested v w drawn.holds_none (worked_since stamp rid found.place found.wts 4 v w found.found) (searched_since stamp rid found.place found.wts 4 v w drawn found.found)
-promotes_rested kept records stamp rid v w Occupied apart drawn found = works_rested v w drawn.holds_none (lost_works stamp rid v w found) (lost_ends stamp rid v w drawn found)
-
-stopped_linked : (stamp rid : ℕ) (v w : View) (conflict : Conflict) → rid ≢ reserved_place v.size → IsDrawn stamp v → IsStoppedWriting stamp rid v w conflict → Rested v w
-stopped_linked stamp rid v w conflict apart drawn stops = linked_since rid rid stamp v stops.loaded w apart drawn.holds_none (loaded_since stamp rid stops.words v stops.loaded stops.loads) stops.stops.links
+promotes_rested kept records stamp rid v w Occupied apart drawn found =
+    let f = found.finds in let b = found.between in let none = found.lost in
+    works_rested v w drawn.holds_none
+    (subst (λ (y : View). y ≡ worked v y.work y.seen) (sym (none.view ∙ ap (λ (y : View). after_losing y none.lost) (worked_since stamp rid f.place f.wts 3 v b f.found))) refl)
+    (subst (λ (x : Work). Ends x) (sym (ap (λ (y : View). y.work) none.view)) (searched_since stamp rid f.place f.wts 3 v b drawn f.found))
 
 pub fails_rested : (stamp rid : ℕ) (v w : View) (conflict : Conflict) → rid ≢ reserved_place v.size → IsDrawn stamp v → FailsAt stamp rid v w conflict → Rested v w
 fails_rested stamp rid v w conflict apart drawn (inl met) = works_rested v w drawn.holds_none met.only met.ends
-fails_rested stamp rid v w conflict apart drawn (inr stops) = stopped_linked stamp rid v w conflict apart drawn stops
+fails_rested stamp rid v w conflict apart drawn (inr stops) = linked_since rid rid stamp v stops.loaded w apart drawn.holds_none (loaded_since stamp rid stops.words v stops.loaded stops.loads) stops.stops.links
 
 -- ---- what was come upon
 
@@ -206,9 +198,9 @@ pub fails_grow : (stamp rid : ℕ) (v w : View) (conflict : Conflict) → FailsA
 fails_grow stamp rid v w conflict (inl met) = met.grows
 fails_grow stamp rid v w conflict (inr stops) = grows_both v.seen stops.loaded.seen w.seen (elsewhere_grows stamp rid stops.words v stops.loaded stops.loads) stops.stops.links.grows
 
-pub fails_loaded : (stamp rid : ℕ) (v w : View) (conflict : Conflict) → FailsAt stamp rid v w conflict → IsLoadedIn stamp conflict v w
-fails_loaded stamp rid v w conflict (inl met) = met.loaded
-fails_loaded stamp rid v w conflict (inr stops) = loaded_before stamp v stops.loaded w conflict (elsewhere_grows stamp rid stops.words v stops.loaded stops.loads) stops.stops.loaded
+-- what was lost was on no place, where that holds of what was lost behind the loads
+elsewhere_no_place : (stamp rid : ℕ) (words : List ℕ) (v l w : View) → LoadsElsewhere stamp rid words v l → LosesNoPlace l.seen.lost w.seen.lost → LosesNoPlace v.seen.lost w.seen.lost
+elsewhere_no_place stamp rid words v l w e = subst (λ (ls : List Load). LosesNoPlace ls w.seen.lost) (e.lost ∙ ap (λ (y : View). y.seen.lost) e.takes.view ∙ e.finds.found.lost)
 
 -- the version was met elsewhere, and other loads followed
 met_elsewhere : (stamp rid : ℕ) (v b w : View) → FindsElsewhere stamp rid v b → Grows b.seen w.seen → MeetsElsewhere stamp rid (record { loads = v.seen.loads; lost = v.seen.lost }) (record { loads = w.seen.loads; lost = w.seen.lost })
@@ -216,51 +208,51 @@ met_elsewhere stamp rid v b w f g =
     let m = met_then stamp rid f.place f.wts 3 v b w f.found g in
     record { visible = record { wts = f.wts; met = m.0 }; elsewhere = λ e. f.elsewhere (sym m.1 ∙ e) }
 
--- the exchange on the inline place was lost
-lost_inline : (rid : ℕ) (v b w : View) → v.seen.lost ≡ b.seen.lost → FindsNone (rid ∷ []) b w → WasLost rid v.seen.lost w.seen.lost
+-- the exchange on the inline place alone was lost
+lost_inline : (rid : ℕ) (v b w : View) → v.seen.lost ≡ b.seen.lost → FindsNone (rid ∷ []) b w → LosesOnly rid v.seen.lost w.seen.lost
 lost_inline rid v b w same f = lost_first f.lost f.not_free (ap (λ (y : View). y.seen.lost) f.view ∙ ap (λ (xs : List Load). xs ++ f.lost) (sym same)) where
-  lost_first : (lost : List Load) → AreLostOn (rid ∷ []) lost → w.seen.lost ≡ v.seen.lost ++ lost → WasLost rid v.seen.lost w.seen.lost
+  lost_first : (lost : List Load) → AreLostOn (rid ∷ []) lost → w.seen.lost ≡ v.seen.lost ++ lost → LosesOnly rid v.seen.lost w.seen.lost
   lost_first [] not is = absurd not
-  lost_first (l ∷ []) not is = record { earlier = []; exchange = l; later = []; not_free = not.0; lost = is }
+  lost_first (l ∷ []) not is = record { exchange = l; not_free = not.0; lost = is }
   lost_first (l ∷ k ∷ ls) not is = absurd not.1
 
 pub came_upon : (kept : State → Type 0) (records stamp rid : ℕ) (v w : View) (told : Promotion) → PromotesAt kept records stamp rid v w told → CameUpon stamp rid (record { loads = v.seen.loads; lost = v.seen.lost }) (record { loads = w.seen.loads; lost = w.seen.lost }) told
 came_upon kept records stamp rid v w (Promoted at) told =
-    let e = told.1.loads in let b = e.between in let t = e.taken in let l = told.1.loaded in
-    met_elsewhere stamp rid v b w e.finds (grows_both b.seen l.seen w.seen (grows_both b.seen t.seen l.seen (seen_grows b.seen t.seen (ap (λ (y : View). y.seen) e.takes.view)) e.grows) told.1.rewrites.links.grows)
+    let e = told.1.loads in let b = e.between in let t = e.taken in let l = told.1.loaded in (
+      met_elsewhere stamp rid v b w e.finds (grows_both b.seen l.seen w.seen (grows_both b.seen t.seen l.seen (seen_grows b.seen t.seen (ap (λ (y : View). y.seen) e.takes.view)) e.grows) told.1.rewrites.links.grows),
+      elsewhere_no_place stamp rid told.1.words v l w e told.1.rewrites.links.no_place,
+    )
 came_upon kept records stamp rid v w Inline found =
     let m = met_then stamp rid rid found.wts 3 v w w found.found (grows_none w.seen) in
-    record { visible = record { wts = found.wts; met = m.0 }; inline = m.1 }
-came_upon kept records stamp rid v w Absent found = record { wts = found.wts; met = met_found stamp rid found.place found.wts 4 v w found.found }
+    (record { visible = record { wts = found.wts; met = m.0 }; inline = m.1 }, found.found.lost)
+came_upon kept records stamp rid v w Absent found = (record { wts = found.wts; met = met_found stamp rid found.place found.wts 4 v w found.found }, found.found.lost)
 came_upon kept records stamp rid v w Occupied found =
     (met_elsewhere stamp rid v found.between w found.finds (occupied_grows stamp rid v w found), lost_inline rid v found.between w (sym found.finds.found.lost) found.lost)
 
 -- ---- the post
 
--- the stamp that was drawn is in flight still
-still_drawn : (hand hand' : Seated) (v : View) (clock : ℕ) → v ≡ drawn hand.view clock → Rested v hand'.view → hand'.view.flight ≡ writing (stamp_of clock hand.view.number)
-still_drawn hand hand' v clock view rested = ap (λ (y : View). y.flight) rested.only ∙ ap (λ (y : View). y.flight) view
-
--- a post whose hand has rested again is idle
-pub post_rested : (core : Shared) (phase : Phase) (hand hand' : Seated) (v : View) (clock stamp : ℕ) (sets : SetsView) → phase ≡ Idle → IsPost hand phase stamp sets → v ≡ drawn hand.view clock → Rested v hand'.view → IsReady core hand' → IsPost hand' phase stamp sets
-post_rested core phase hand hand' v clock stamp sets same is view rested ready =
-    let idle = at_phase phase Idle hand stamp sets is same in
-    let size : hand'.view.size ≡ hand.view.size = ap (λ (y : View). y.size) rested.only ∙ ap (λ (y : View). y.size) view in
-    post_idle core phase hand' stamp sets same ready (rw size is.size) rested.held (rested.in_reserved ∙ ap (λ (y : View). y.counts.in_reserved) view ∙ is.keeps_none) (record {
-      ends = rested.ends;
-      whole = none_resting hand'.view.flight (stamp_of clock hand.view.number) hand'.view.work.reads (still_drawn hand hand' v clock view rested);
-      no_stamp = idle.no_stamp;
-      none_read = idle.none_read;
-      none_written = idle.none_written;
-    })
-
-pub is_drawn : (stamp clock : ℕ) (v w : View) → v.places.held ≡ [] → w ≡ drawn v clock → w.published.write ≡ stamp → IsDrawn stamp w
+is_drawn : (stamp clock : ℕ) (v w : View) → v.places.held ≡ [] → w ≡ drawn v clock → w.published.write ≡ stamp → IsDrawn stamp w
 is_drawn stamp clock v w none view published = record {
   in_flight = ap (λ (y : View). y.flight) view ∙ ap writing (sym (ap (λ (y : View). y.published.write) view) ∙ published);
   published = published;
   work = ap (λ (y : View). y.work) view;
   holds_none = ap (λ (y : View). y.places.held) view ∙ none;
 }
+
+-- a post whose hand has rested again since a stamp was drawn, by what was done to this record, is idle
+pub post_rested : (core : Shared) (phase : Phase) (hand hand' : Seated) (v : View) (clock drew rid stamp : ℕ) (sets : SetsView) → phase ≡ Idle → IsPost hand phase stamp sets → rid < hand.view.size.records → v ≡ drawn hand.view clock → v.published.write ≡ drew → (rid ≢ reserved_place v.size → IsDrawn drew v → Rested v hand'.view) → IsReady core hand' → IsPost hand' phase stamp sets
+post_rested core phase hand hand' v clock drew rid stamp sets same is within view published rests ready =
+    let apart = subst (λ (z : Size). rid ≢ reserved_place z) (sym (ap (λ (v : View). v.size) view)) (inline_apart hand.view.size rid is.size within) in
+    let rested = rests apart (is_drawn drew clock hand.view v is.holds_none view published) in
+    let idle = at_phase phase Idle hand stamp sets is same in
+    let size : hand'.view.size ≡ hand.view.size = ap (λ (y : View). y.size) rested.only ∙ ap (λ (y : View). y.size) view in
+    post_idle core phase hand' stamp sets same ready (rw size is.size) rested.held (rested.in_reserved ∙ ap (λ (y : View). y.counts.in_reserved) view ∙ is.keeps_none) (record {
+      ends = rested.ends;
+      whole = none_resting hand'.view.flight (stamp_of clock hand.view.number) hand'.view.work.reads (ap (λ (y : View). y.flight) rested.only ∙ ap (λ (y : View). y.flight) view);
+      no_stamp = idle.no_stamp;
+      none_read = idle.none_read;
+      none_written = idle.none_written;
+    })
 
 -- ---- what a conflict leaves of a post
 
@@ -280,10 +272,10 @@ module _ (hand hand' : Seated) (phase : Phase) (ps : ℕ) (sets : SetsView) (v :
       subst (λ (n : ℕ). ShowsOf rid hand.view.size hand.view.number (others_in hand.view) n conflict) at
       (subst (λ (y : View). ShowsOf rid y.size y.number (others_in y) stamp conflict) drew shown)
 
-  loaded_drawn : FailsAt stamp rid v hand'.view conflict → IsLoadedIn (stamp_of clock hand.view.number) conflict hand.view hand'.view
-  loaded_drawn fails =
+  loaded_drawn : IsLoadedIn stamp conflict v hand'.view → IsLoadedIn (stamp_of clock hand.view.number) conflict hand.view hand'.view
+  loaded_drawn loaded =
       subst (λ (n : ℕ). IsLoadedIn n conflict hand.view hand'.view) at
-      (loaded_before stamp hand.view v hand'.view conflict (drawn_grows hand.view v clock drew) (fails_loaded stamp rid v hand'.view conflict fails))
+      (loaded_before stamp hand.view v hand'.view conflict (drawn_grows hand.view v clock drew) loaded)
 
   met_post : MeetsPending stamp rid v hand'.view conflict → IsStoppedPost rid clock (post_of hand phase ps sets) (post_of hand' phase ps sets) conflict
   met_post met =
@@ -291,7 +283,8 @@ module _ (hand hand' : Seated) (phase : Phase) (ps : ℕ) (sets : SetsView) (v :
         after = rw (table, is) refl;
         linked = inl (record { bounds = rw is refl; placed = ap placed_of met.none_linked });
         shown = shown_drawn met.shown;
-        loaded = loaded_drawn (inl met);
+        loaded = loaded_drawn met.loaded;
+        no_place = no_place_none hand.view.seen.lost hand'.view.seen.lost (met.lost ∙ ap (λ (y : View). y.seen.lost) drew);
       }
 
   stopped_post : IsStoppedWriting stamp rid v hand'.view conflict → IsStoppedPost rid clock (post_of hand phase ps sets) (post_of hand' phase ps sets) conflict
@@ -305,7 +298,8 @@ module _ (hand hand' : Seated) (phase : Phase) (ps : ℕ) (sets : SetsView) (v :
         after = rw (table, is) refl;
         linked = inr (record { bounds = rw (is, at) refl; placed = stops.stops.links.placed });
         shown = shown_drawn (subst (λ (y : View). ShowsOf rid y.size y.number (others_in y) stamp conflict) holds.only stops.stops.shown);
-        loaded = loaded_drawn (inr stops);
+        loaded = loaded_drawn (loaded_before stamp v stops.loaded w conflict (elsewhere_grows stamp rid stops.words v stops.loaded stops.loads) stops.stops.loaded);
+        no_place = subst (λ (ls : List Load). LosesNoPlace ls w.seen.lost) (ap (λ (y : View). y.seen.lost) drew) (elsewhere_no_place stamp rid stops.words v stops.loaded w stops.loads stops.stops.links.no_place);
       }
 
   pub fails_post : FailsAt stamp rid v hand'.view conflict → IsStoppedPost rid clock (post_of hand phase ps sets) (post_of hand' phase ps sets) conflict

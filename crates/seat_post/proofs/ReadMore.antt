@@ -13,7 +13,6 @@ use Rattle.validate_core.specs.Sets.{SetsView, MayInstall, Once}
 use Rattle.validate_core.specs.Installing.{IsBegun}
 use Rattle.version_search.specs.Finding as finding
 use Rattle.version_search.proofs.Grown.{grows_loads}
-use Rattle.validate_core.proofs.Staging.{met_now}
 use Rattle.seat_post.specs.Searched.{Finds, Stops}
 use Rattle.seat_post.specs.Conflicts.{IsOfAnother}
 use Rattle.seat_post.specs.Reading.{FindsValue, LeadsTo, value_loaded}
@@ -155,7 +154,7 @@ stops_at stamp rid place wts v w found =
       search = stands (finding.stand_for for_reads rid place r.under) (shown wts 2);
       view = view;
       rests = tt;
-      met = met_now stamp rid place wts 2 v w found.path;
+      at = record { place = place; path = found.path; lost = r.lost };
       grows = grows_loads v.seen w.seen _ found.path.loads r.lost;
       before = r.early;
       another = λ e. met.another (rw view e);

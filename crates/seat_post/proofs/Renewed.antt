@@ -1,6 +1,5 @@
 -- A record whose visible value is written again by a seat that is alone.
-use Rattle.std.proofs.Common.{◌≡◌, ℕ, ◌+◌, ◌<◌, ◌≤◌, ◌⊎◌, Bool, cond, List, [], ◌∷◌, ◌++◌, Option, Some, refl, sym, ap, ◌∙◌, subst, inl, inr, ⊎_elim, map, arith, eq-eqb, length, length-append}
-use Rattle.std.proofs.lemmas.List.{length-map}
+use Rattle.std.proofs.Common.{◌≡◌, ℕ, ◌+◌, ◌<◌, ◌≤◌, ◌⊎◌, Bool, cond, List, [], ◌∷◌, ◌++◌, Option, Some, refl, sym, ap, ◌∙◌, subst, inl, inr, ⊎_elim, map, arith, eq-eqb}
 use Rattle.plain_data.specs.declared.entry.Entry.{Entry}
 use Rattle.plain_data.specs.State.{State}
 use Rattle.stamp_base.specs.Stamp.{stamp_of, bound_of_clock}
@@ -29,6 +28,7 @@ use Rattle.seat_post.specs.Searched.{Finds}
 use Rattle.seat_post.specs.Settling.{entries_of, IsSettling, Settles, IsRewrittenAt, HasSpare, TakesAfter, LosesAll}
 use Rattle.seat_post.proofs.AloneSeats.{alone_shown}
 use Rattle.seat_post.proofs.Bounds.{above_later, above_more}
+use Rattle.seat_post.proofs.Dues.{appends_one}
 use Rattle.seat_post.proofs.Promotions.{without_only}
 use Rattle.seat_post.proofs.ReadMore.{found_at}
 use Rattle.seat_post.proofs.Steady.{alone_same}
@@ -70,8 +70,8 @@ found_ends rid place wts value v w clock u drew found = record {
 }
 
 -- no place was taken
-pub none_taken : (kept : State → Type 0) (u v w x : View) (clock rid place wts : ℕ) (value : Option (List ℕ)) → IsSettling u → u.clock.clock ≤ clock → v ≡ drawn u clock → Finds rid place wts value v w → LosesAll w x → IsSettling x × Settles kept u x
-none_taken kept u v w x clock rid place wts value is later drew found none =
+pub none_taken : (kept : State → Type 0) (u v w x : View) (clock rid place wts : ℕ) (value : Option (List ℕ)) → IsSettling u → u.number < 64 → u.published.write < stamp_of clock u.number → u.clock.clock ≤ clock → v ≡ drawn u clock → Finds rid place wts value v w → LosesAll w x → IsSettling x × Settles kept u x
+none_taken kept u v w x clock rid place wts value is seat above later drew found none =
     let d = drew_losing u w x clock u.places.held none.lost (drew_found u v w clock rid place wts value drew found) none.view in (
       record {
         alone = alone_same u x d.number d.size d.splitting d.taken_in is.alone;
@@ -85,6 +85,8 @@ none_taken kept u v w x clock rid place wts value is later drew found none =
         splitting = d.splitting;
         taken_in = d.taken_in;
         later = let h = d.clock_is in omega arith;
+        published = let h = d.published in omega arith;
+        bounded = let h = d.published in let k = d.clock_is in omega arith;
         met = let h = d.met in omega arith;
         grows = d.grows;
         log = rw d.log none_yet;
@@ -114,7 +116,7 @@ module _ (u v w t : View) (clock rid from wts place : ℕ) (value : Option (List
   pub taken_alone : IsAlone u → IsAlone t
   taken_alone alone = let d = at_taken in alone_same u t d.number d.size d.splitting d.taken_in alone
 
-  module _ (kept : State → Type 0) (x : View) (is : IsSettling u) (seat : u.number < 64) (later : u.clock.clock < clock) (rewrites : Rewrites kept u.size.records rid place t.published.write value t x) where
+  module _ (kept : State → Type 0) (x : View) (is : IsSettling u) (seat : u.number < 64) (above : u.published.write < stamp_of clock u.number) (later : u.clock.clock < clock) (rewrites : Rewrites kept u.size.records rid place t.published.write value t x) where
     abbrev entry : Entry
     entry = rewriting (stamp_of clock u.number) rid value
 
@@ -139,10 +141,13 @@ module _ (u v w t : View) (clock rid from wts place : ℕ) (value : Option (List
     taken_in_is : x.clock.taken_in ≡ u.clock.taken_in
     taken_in_is = ap (λ (y : View). y.clock.taken_in) links.only ∙ at_taken.taken_in
 
+    published_is : x.published.write ≡ stamp_of clock u.number
+    published_is = ap (λ (y : View). y.published.write) links.only ∙ at_taken.published
+
     clock_is : x.clock.clock ≡ clock
     clock_is = ap (λ (y : View). y.clock.clock) links.only ∙ at_taken.clock_is
 
-    pub rewritten_settling : IsSettling x
+    rewritten_settling : IsSettling x
     rewritten_settling = record {
       alone = alone_same u x number_is size_is splitting_is taken_in_is is.alone;
       ends = links.ends;
@@ -159,13 +164,15 @@ module _ (u v w t : View) (clock rid from wts place : ℕ) (value : Option (List
     stamp_later : bound_of_clock u.clock.clock ≤ stamp_of clock u.number
     stamp_later = omega arith
 
-    pub rewritten_settles : Settles kept u x
+    rewritten_settles : Settles kept u x
     rewritten_settles = record {
       number = number_is;
       size = size_is;
       splitting = splitting_is;
       taken_in = taken_in_is;
       later = let h = clock_is in omega arith;
+      published = let h = published_is in omega arith;
+      bounded = let h = published_is in let k = clock_is in omega arith;
       met = let h = ap (λ (y : View). y.clock.met) links.only ∙ at_taken.met in omega arith;
       grows = grows_both u.seen t.seen x.seen at_taken.grows links.grows;
       log = subst (λ es. Rewritings kept u.size.records (entries_of u) es) (sym log_is) (one_more (entries_of u) (stamp_of clock u.number) rid value none_yet stood_there above_there (left_drawn u v w clock rid from wts value drew found is.alone));
@@ -179,16 +186,17 @@ module _ (u v w t : View) (clock rid from wts place : ℕ) (value : Option (List
         ∙ ap (λ (b : Bool). cond b (Some t.published.write) (newest_stamp t.tops rid)) (eq-eqb rid rid refl)
         ∙ ap (λ (n : ℕ). Some n) at_taken.published
 
-    pub rewritten_at : clock ≡ u.clock.clock + 1 → IsRewrittenAt rid (stamp_of clock u.number) u x
+    rewritten_at : clock ≡ u.clock.clock + 1 → IsRewrittenAt rid (stamp_of clock u.number) u x
     rewritten_at next = record {
       at = ap (λ (n : ℕ). stamp_of n u.number) next;
+      drawn = clock_is ∙ next;
+      entry = appends_one entry log_is (value, refl);
       entered = subst (λ (n : ℕ). HasEntry rid n x.log) at_taken.published rewrites.entered;
       newest = newest_is;
-      draws = record {
-        entries = let a = ap length log_is in let b = length-map x.log deciding.entry_of in let c = length-map u.log deciding.entry_of in let d = length-append (entries_of u) (entry ∷ []) in omega arith;
-        clock = clock_is ∙ next;
-      };
     }
+
+    pub written_again : clock ≡ u.clock.clock + 1 → IsSettling x × Settles kept u x × IsRewrittenAt rid (stamp_of clock u.number) u x
+    written_again next = (rewritten_settling, rewritten_settles, rewritten_at next)
 
 -- no conflict comes where no other seat is open
 pub none_stops : (rid place stamp : ℕ) (v w : View) (conflict : Conflict) → IsAlone v → IsStopped rid place stamp v w conflict → ⊥

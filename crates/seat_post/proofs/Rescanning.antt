@@ -1,25 +1,30 @@
 -- What a post keeps where it looks for the absent records, and that they are those that the log leaves.
-use Rattle.std.proofs.Common.{◌≡◌, ℕ, zero, suc, ◌<◌, ◌≤◌, ◌+◌, ◌-◌, Bool, true, false, ◌||◌, List, [], ◌∷◌, ◌++◌, None, map, refl, sym, ap, subst, ◌∙◌, arith, inl, inr, ◌⊎◌, eqb, eq-eqb}
+use Rattle.std.proofs.Common.{◌≡◌, ℕ, zero, suc, ◌<◌, ◌≤◌, ◌+◌, ◌-◌, Bool, true, false, ◌||◌, List, [], ◌∷◌, ◌++◌, None, map, refl, sym, ap, subst, ◌∙◌, arith, inl, inr, eqb, eq-eqb, eqb-true}
 use Rattle.std.specs.Prelude.{slice_index}
 use Rattle.std.specs.List.Sorted.{IsStrictlyIncreasing}
+use Rattle.std.proofs.lemmas.Bool.{or_cases, or_right}
 use Rattle.std.proofs.lemmas.Bool.Decides.{eqb_tells}
 use Rattle.plain_data.specs.declared.entry.Entry.{Entry}
+use Rattle.word_layout.specs.Name.{min_write}
 use Rattle.clock_stamps.specs.Minima.{bounded}
 use Rattle.core_rule.specs.View.{View, Work, Read, Logged, Seen, still, resting, no_work, Raises as Raised}
 use Rattle.core_rule.specs.Deciding.{entry_of}
+use Rattle.core_rule.specs.Paths.{load}
 use Rattle.core_rule.specs.Hands.{Seated}
 use Rattle.core_rule.specs.Views.{IsAlone}
 use Rattle.core_rule.specs.Searching.{Rests, Ends}
 use Rattle.version_search.specs.Finding.{Reads, new_read}
 use Rattle.validate_core.specs.Sets.{SetsView}
 use Rattle.seat_post.specs.Leaves.{LeavesAs, AreAbsent}
-use Rattle.seat_post.specs.Rescan.{Looks, looked_over}
+use Rattle.seat_post.specs.Observing.{with_load}
+use Rattle.seat_post.specs.Rescan.{Looks, LooksOver, looked_over}
+use Rattle.seat_post.specs.Seats.{observed_of}
 use Rattle.seat_post.specs.declared.phase.Phase.{Phase}
 use Rattle.seat_post.specs.Post.{post_of, observing, observed_in}
 use Rattle.spare_numbers.specs.Spare.{NumbersView, is_on, added}
 use Rattle.seat_post.proofs.Announcing.{word, Announces}
 use Rattle.version_search.proofs.Grown.{grows_none, grows_both}
-use Rattle.spare_numbers.proofs.NumberLists.{or_off, or_true, on_either}
+use Rattle.spare_numbers.proofs.NumberLists.{or_off, on_either}
 use Rattle.seat_post.proofs.Observed.{reads_grow}
 
 -- ---- searches
@@ -52,16 +57,6 @@ looks_read limit rid place w s v x is =
 pub looks_alone : (v w : View) → Looks v w → IsAlone v → IsAlone w
 looks_alone v w is alone = subst IsAlone (sym is.view) alone
 
--- ---- tests
-
-or_on : (b any : Bool) → any ≡ true → (b || any) ≡ true
-or_on true any on = refl
-or_on false any on = on
-
-either_on : (a b : Bool) → (a || b) ≡ true → (a ≡ true) ⊎ (b ≡ true)
-either_on true b on = inl refl
-either_on false b on = inr on
-
 -- ---- rising lists
 
 one_later : (k : ℕ) → suc (k + 1) ≡ suc k + 1
@@ -78,7 +73,7 @@ rising_more [] y rising below k within = absurd (omega arith)
 rising_more (x ∷ []) y rising below zero within = below x (rw (eq-eqb x x refl) refl)
 rising_more (x ∷ []) y rising below (suc k) within = absurd (omega arith)
 rising_more (x ∷ z ∷ xs) y rising below zero within = rising zero (omega arith)
-rising_more (x ∷ z ∷ xs) y rising below (suc k) within = rise x (z ∷ xs ++ y ∷ []) k (rising_more (z ∷ xs) y (λ j h. fall x (z ∷ xs) j (rising (suc j) (omega arith))) (λ r on. below r (or_on (eqb r x) _ on)) k (omega arith))
+rising_more (x ∷ z ∷ xs) y rising below (suc k) within = rise x (z ∷ xs ++ y ∷ []) k (rising_more (z ∷ xs) y (λ j h. fall x (z ∷ xs) j (rising (suc j) (omega arith))) (λ r on. below r (or_right (eqb r x) _ on)) k (omega arith))
 
 -- none but those below are on the list
 off_above : (log : List Entry) (limit from to : ℕ) (rids : List ℕ) → AreAbsent log limit from to rids → is_on rids to ≡ false
@@ -89,22 +84,19 @@ off_above log limit from to rids are = by_test (is_on rids to) refl
     by_test true is = absurd (let h = (are.in_range to is).1 in omega arith)
 
 -- one more record was looked at
-is_number : (a b : ℕ) → eqb a b ≡ true → a ≡ b
-is_number a b on = elim (eqb_tells a b) as (λ _. a ≡ b) [ inl t ↦ t.1 | inr t ↦ (let h : true ≡ false = sym on ∙ t.0 in cc) ]
-
 with_absent : (log : List Entry) (limit from to : ℕ) (rids : List ℕ) → from ≤ to → AreAbsent log limit from to rids → LeavesAs log to limit true → AreAbsent log limit from (to + 1) (rids ++ to ∷ [])
 with_absent log limit from to rids some are left = record {
   rising = rising_more rids to are.rising (λ r on. (are.in_range r on).1);
-  in_range = λ r on. elim (either_on (is_on rids r) (eqb r to) (sym (on_either rids to r) ∙ on)) as (λ _. (from ≤ r) × (r < to + 1)) [
+  in_range = λ r on. elim (or_cases (is_on rids r) (eqb r to) (sym (on_either rids to r) ∙ on)) as (λ _. (from ≤ r) × (r < to + 1)) [
     | inl a ↦ (let h = are.in_range r a in let i = h.0 in let j = h.1 in (omega arith, omega arith))
-    | inr b ↦ (let e = is_number r to b in (omega arith, omega arith))
+    | inr b ↦ (let e = eqb-true r to b in (omega arith, omega arith))
   ];
   each = λ r from_is below. subst (λ (b : Bool). LeavesAs log r limit b) (sym (on_either rids to r)) (by_number r from_is below);
 }
   where
     by_number : (r : ℕ) → from ≤ r → r < to + 1 → LeavesAs log r limit (is_on rids r || eqb r to)
     by_number r from_is below = elim (eqb_tells r to) as (λ _. LeavesAs log r limit (is_on rids r || eqb r to)) [
-      | inl t ↦ rw (t.0, or_true (is_on rids r)) (subst (λ n. LeavesAs log n limit true) (sym t.1) left)
+      | inl t ↦ rw (t.0, or_right (is_on rids r) true refl) (subst (λ n. LeavesAs log n limit true) (sym t.1) left)
       | inr t ↦ (let apart = t.1 in rw (t.0, or_off (is_on rids r)) (are.each r from_is (omega arith)))
     ]
 
@@ -191,3 +183,14 @@ overlooked_view hand hand' phase stamp sets table is = rw (table, is.only) refl
 pub absent_below : (v y z w : View) (stamp fixed records : ℕ) (rids : List ℕ) → Overlooks v z stamp → Overlooked v w → y.log ≡ v.log → AreAbsent (map entry_of y.log) (stamp + 1) fixed records rids → AreAbsent (map entry_of v.log) w.published.write fixed records rids
 absent_below v y z w stamp fixed records rids is over log absent =
     subst (λ (n : ℕ). AreAbsent (map entry_of v.log) n fixed records rids) (is.reached ∙ sym (ap (λ (x : View). x.published.write) over.only)) (subst (λ (es : List Logged). AreAbsent (map entry_of es) (stamp + 1) fixed records rids) log absent)
+
+pub looks_over : (v x y z w : View) (stamp last : ℕ) → Announces v x → y ≡ bounded x stamp → Overlooks v z stamp → Looks y z → w ≡ bounded z last → Overlooked v w → LooksOver v.size.seats w.clock.met (observed_of v) (observed_of w)
+looks_over v x y z w stamp last is told over looks ended end =
+    let met = ap (λ (u : View). u.clock.met) end.only in
+    record {
+      raised = observed_of y;
+      minimum = record { raised = word v; between = observed_of x; raises = is.raised; not_less = omega arith; loads = ap observed_of told ∙ ap (λ (n : ℕ). with_load (observed_of x) (load min_write n)) (over.reached ∙ sym met) };
+      searched = observed_of z;
+      grows = record { loaded = looks.grows.loaded; missed = looks.grows.missed; loads = looks.grows.loads; lost = looks.grows.lost };
+      last = ap observed_of ended ∙ ap (λ (n : ℕ). with_load (observed_of z) (load min_write n)) (sym (ap (λ (u : View). u.clock.met) ended));
+    }

@@ -1,8 +1,7 @@
 -- What settling comes to: of a record, of all of them, and of a post.
-use Rattle.std.proofs.Common.{◌≡◌, ℕ, true, false, ◌+◌, ◌-◌, ◌<◌, ◌≤◌, ◌⊎◌, List, [], ◌∷◌, Option, refl, sym, ap, ◌∙◌, subst, inl, inr, map, length, arith}
+use Rattle.std.proofs.Common.{◌≡◌, ℕ, true, false, ◌+◌, ◌-◌, ◌<◌, ◌≤◌, ◌⊎◌, List, [], ◌∷◌, Option, refl, sym, ap, ◌∙◌, subst, inl, inr, map, arith}
 use Rattle.std.specs.Prelude.{nat_lt}
 use Rattle.std.proofs.lemmas.Bool.{cases_lt}
-use Rattle.std.proofs.lemmas.List.{length-map}
 use Rattle.plain_data.specs.State.{State}
 use Rattle.stamp_base.specs.Stamp.{bound_of_clock}
 use Rattle.core_rule.specs.View.{View, Logged, Bound, Counted, Gone}
@@ -24,7 +23,7 @@ use Rattle.seat_post.specs.Rewriting.{Rewritings}
 use Rattle.seat_post.specs.declared.settled.Settled.{Settled}
 use Rattle.seat_post.specs.Seats.{Removed, observed_of}
 use Rattle.seat_post.specs.Collecting.{trail_in}
-use Rattle.seat_post.specs.Settling.{entries_of, IsSettling, Settles, AreSettled, AreLater, KeepsOthers, Draws, RunsOut, SettlesPost, SettlesFirst, SettlesAll, StopsSome, StopsPost, with_met}
+use Rattle.seat_post.specs.Settling.{entries_of, IsSettling, Settles, AreSettled, AreLater, KeepsOthers, RunsOut, SettlesPost, SettlesFirst, SettlesAll, StopsSome, StopsPost, with_met}
 use Rattle.seat_post.proofs.Observed.{observed_grows, bounded_grows}
 
 -- ---- a record
@@ -58,12 +57,6 @@ settled_last rid r w (inr most) below before last = let same : rid ≡ r = omega
 pub settled_more : (rid : ℕ) (v w : View) → AreSettled rid v.counts → KeepsOthers rid v w → IsSingle (known_of w.counts rid) → AreSettled (rid + 1) w.counts
 settled_more rid v w before others last r below = settled_last rid r w (cases_lt r rid) below (λ less. settled_still rid rid v w (omega arith) before others r less) last
 
-pub draws_both : (a b : ℕ) (u v w : View) → Draws a u v → Draws b v w → Draws (a + b) u w
-draws_both a b u v w first second = record {
-  entries = let h = first.entries in let k = second.entries in omega arith;
-  clock = let h = first.clock in let k = second.clock in omega arith;
-}
-
 pub stays_both : (core : Shared) (a b c : Seated) → StaysReady core a b → StaysReady core b c → StaysReady core a c
 stays_both core a b c first second = record {
   seat = record { same_table = second.seat.same_table ∙ first.seat.same_table; same_id = second.seat.same_id ∙ first.seat.same_id };
@@ -82,6 +75,7 @@ settles_post kept hand hand' last phase stamp bound sets table table' settles se
     let clock : last.view.clock.clock ≡ hand'.view.clock.clock = ap (λ (v : View). v.clock.clock) view in
     let met : last.view.clock.met ≡ bound + 1 = ap (λ (v : View). v.clock.met) view in
     let log : last.view.log ≡ hand'.view.log = ap (λ (v : View). v.log) view in
+    let published : last.view.published.write ≡ hand'.view.published.write = ap (λ (v : View). v.published.write) view in
     let later = settles.later in
     let reached = settles.met in
     let before = post_of hand phase stamp sets in
@@ -93,6 +87,8 @@ settles_post kept hand hand' last phase stamp bound sets table table' settles se
     record {
       only = ap (λ g. record after' { snapshot = g }) snapshot ∙ rest;
       later = omega arith;
+      published = let h = settles.published in omega arith;
+      bounded = let h = settles.bounded in omega arith;
       met = omega arith;
       grows = observed_grows hand last (grows_both hand.view.seen hand'.view.seen last.view.seen settles.grows (bounded_grows hand'.view last.view bound view));
       log = subst (λ (es : List Logged). Rewritings kept hand.view.size.records (entries_of hand.view) (map deciding.entry_of es)) (sym log) settles.log;
@@ -127,14 +123,9 @@ module _ (hand hand' last : Seated) (phase : Phase) (stamp bound : ℕ) (sets : 
         reached = trail_in w;
         due = s.due;
         runs_out = subst (λ (n : ℕ). RunsOut z s.rid (hand.view.clock.clock + s.all.rewritten) n (observed_of b) (observed_of w)) (sym clock)
-            (subst (λ (n : ℕ). RunsOut z s.rid n w.clock.clock (observed_of b) (observed_of w)) s.drawn.clock s.runs_out);
-        entries =
-            let same = ap (λ (es : List Logged). length (map deciding.entry_of es)) (ap (λ (v : View). v.log) view ∙ s.log) in
-            let before = length-map hand.view.log deciding.entry_of in
-            let behind = length-map b.log deciding.entry_of in
-            let drawn = s.drawn.entries in
-            omega arith;
+            (subst (λ (n : ℕ). RunsOut z s.rid n w.clock.clock (observed_of b) (observed_of w)) s.drawn s.runs_out);
         gone = ap (λ (g : Gone). removed_in g) s.gone;
+        log = ap (λ (es : List Logged). map deciding.entry_of es) s.log;
         last = last_trail;
       } where
         removed_in : Gone → Removed

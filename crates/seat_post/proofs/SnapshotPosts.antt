@@ -49,8 +49,8 @@ post_in_snapshot core phase hand hand' stamp sets is idle same ready size held k
     })
 
 -- a snapshot has ended there
-pub post_ended : (core : Shared) (phase : Phase) (hand hand' : Seated) (stamp : ℕ) (sets : SetsView) → IsPost hand phase stamp sets → IsIdleAt hand stamp sets → phase ≡ Idle → IsReady core hand' → hand'.view ≡ snapshot_ended hand.view hand'.view.seen → IsPost hand' phase stamp sets
-post_ended core phase hand hand' stamp sets is idle same ready view =
+pub post_ended : (core : Shared) (phase : Phase) (hand hand' : Seated) (stamp word : ℕ) (sets : SetsView) → IsPost hand phase stamp sets → IsIdleAt hand stamp sets → phase ≡ Idle → IsReady core hand' → hand'.view ≡ snapshot_ended hand.view word → IsPost hand' phase stamp sets
+post_ended core phase hand hand' stamp word sets is idle same ready view =
     let work : hand'.view.work ≡ no_work = ap (λ (v : View). v.work) view in
     post_idle core phase hand' stamp sets same ready (rw view is.size) (ap (λ (v : View). v.places.held) view ∙ is.holds_none) (ap (λ (v : View). v.counts.in_reserved) view ∙ is.keeps_none) (record {
       ends = rw work (record { rests = tt; settled = λ u among. absurd among; collected = refl });

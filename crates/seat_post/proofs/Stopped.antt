@@ -2,8 +2,8 @@
 use Rattle.std.proofs.Common.{◌≡◌, ℕ, subst, ap, ◌∙◌}
 use Rattle.core_rule.specs.View.{writing}
 use Rattle.core_rule.specs.Hands.{Seated}
-use Rattle.validate_core.specs.Validating.{Met, no_more}
 use Rattle.validate_core.specs.Sets.{SetsView}
+use Rattle.seat_post.specs.Reading.{StopsAt}
 use Rattle.seat_post.specs.Searched.{Stops}
 use Rattle.seat_post.specs.Post.{PostView, post_of, observing, observed_in}
 use Rattle.seat_post.specs.declared.phase.Phase.{Phase}
@@ -17,9 +17,8 @@ module _ (hand hand' : Seated) (phase : Phase) (stamp bound rid wts : ℕ) (sets
       view_stopped hand hand' phase stamp t bound rid wts sets' table stops flight
       ∙ ap (λ (q : PostView). observing q (observed_in hand')) (view_room hand phase stamp sets sets' reads writes ∙ is)
 
-  -- the status of that version was loaded
-  pub loaded_post : bound ≡ stamp → Met p.stamp rid wts 2 no_more p.observed.loads hand'.view.seen.loads
-  loaded_post at =
-      let loads = hand'.view.seen.loads in
-      subst (λ (q : PostView). Met q.stamp rid wts 2 no_more q.observed.loads loads) is
-      (subst (λ (n : ℕ). Met n rid wts 2 no_more hand.view.seen.loads loads) at stops.met)
+  -- its search stopped there
+  pub stops_post : bound ≡ stamp → StopsAt p.stamp rid wts p.observed (observed_in hand')
+  stops_post at =
+      subst (λ (q : PostView). StopsAt q.stamp rid wts q.observed (observed_in hand')) is
+      (subst (λ (n : ℕ). StopsAt n rid wts (observed_in hand) (observed_in hand')) at stops.at)

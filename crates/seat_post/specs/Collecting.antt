@@ -1,9 +1,10 @@
 -- A queue of versions to be collected below: what it has, what becomes of its items, and what shows it.
-use Rattle.std.specs.Prelude.{◌≡◌, ◌≢◌, ◌↔◌, ℕ, suc, ◌<◌, ◌≤◌, List, [], ◌∷◌, ◌++◌, length, false, IsSome}
+use Rattle.std.specs.Prelude.{◌≡◌, ◌≢◌, ◌↔◌, ℕ, suc, ◌<◌, ◌≤◌, List, [], ◌∷◌, ◌++◌, length, map, false, IsSome}
 use Rattle.word_layout.specs.Name.{published_read, min_read, lock, floor}
 use Rattle.core_rule.specs.View.{View, Load}
 use Rattle.core_rule.specs.Paths.{load}
 use Rattle.core_rule.specs.Views.{Among}
+use Rattle.core_rule.specs.Deciding.{entry_of}
 use Rattle.rapid_gc.specs.declared.queue.Queued.{Queued}
 use Rattle.rapid_gc.specs.declared.fate.Fate.{Fate}
 use Rattle.rapid_gc.specs.declared.fate.Fate.TheVariants.{Late, Locked, Dropped, Cut as CutBelow}
@@ -43,16 +44,17 @@ pub record Collects (before after' : List Queued) (tally : Collected) : Type 0 w
 
 -- ---- what shows it
 
--- what a seat's steps have come upon, and what they have cut off and freed
+-- what a seat's steps have come upon, what they have cut off and freed, and the seat's log
 pub record Trail : Type 0 where
   pub observed : Observed
   pub gone : Removed
+  pub log : List Entry
 
 abbrev pub trail_of : PostView → Trail
-trail_of p = record { observed = p.observed; gone = p.gone }
+trail_of p = record { observed = p.observed; gone = p.gone; log = p.log }
 
 abbrev pub trail_in : View → Trail
-trail_in v = record { observed = observed_of v; gone = removed_of v }
+trail_in v = record { observed = observed_of v; gone = removed_of v; log = map entry_of v.log }
 
 -- the lock of its record was met held by another seat
 pub record MeetsHeld (seat : ℕ) (i : Queued) (before after' : Trail) : Type 0 where
@@ -82,6 +84,7 @@ pub record IsLastNow (i : Queued) (before after' : Trail) : Type 0 where
   pub lost : after'.observed.lost ≡ before.observed.lost
   pub cuts : after'.gone.cuts ≡ before.gone.cuts ++ record { record_number = i.rid; stamp = i.stamp; place = place; to = to } ∷ []
   pub gone : after'.gone.freed ≡ before.gone.freed ++ freed
+  pub log : after'.log ≡ before.log
 
 -- what shows what became of an item
 abbrev pub IsShown : (seat reached : ℕ) → Queued → Fate → (before after' : Trail) → Type 0
@@ -109,5 +112,5 @@ pub record CollectsPost (before after' : PostView) (items items' : List Queued) 
   pub minimum : MeetsMinimum before.shared.size.seats after'.met before.observed bounded
   pub prepared : Observed
   pub raises : RaisesTo published_read min_read before.shared.size.seats queue.reached bounded prepared
-  pub goes : AreShown before.seat queue.reached queue.ended (record { observed = prepared; gone = before.gone }) (trail_of after')
+  pub goes : AreShown before.seat queue.reached queue.ended (record { observed = prepared; gone = before.gone; log = before.log }) (trail_of after')
   pub places : Frees tally.places before.gone after'.gone

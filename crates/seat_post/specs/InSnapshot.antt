@@ -1,9 +1,9 @@
 -- A snapshot at the hand of a seat: how it begins, what it has read, what one more read comes to, and how it ends.
 use Rattle.std.specs.Prelude.{◌≡◌, ℕ, ◌+◌, ◌≤◌, List, [], ◌∷◌, ◌++◌, map, Option}
 use Rattle.histories.specs.History.{IsValue, UpTo}
-use Rattle.word_layout.specs.Name.{published_write, min_write, min_read}
+use Rattle.word_layout.specs.Name.{published_write, published_read, min_write, min_read}
 use Rattle.clock_stamps.specs.Minima.{Raises, raised_write, bounded}
-use Rattle.core_rule.specs.View.{View, resting, Read, Load, Logged, Seen, no_work}
+use Rattle.core_rule.specs.View.{View, resting, Read, Load, Logged, no_work}
 use Rattle.core_rule.specs.Paths.{load}
 use Rattle.core_rule.specs.Views.{Among}
 use Rattle.core_rule.specs.Searching.{Ends}
@@ -49,9 +49,9 @@ pub record FindsAlike (rid : ℕ) (value : Option (List ℕ)) (v w : View) : Typ
 abbrev pub IsLeftAt : View → ℕ → Option (List ℕ) → Type 0
 IsLeftAt v rid value = IsValue (UpTo (map entry_of v.log) v.published.read) rid value
 
--- the entry of a snapshot that ends here, and the view after it has ended
+-- the entry of a snapshot that ends here, and the view after it has ended, at a load of the own published read word
 abbrev pub logged_snapshot : View → Logged
 logged_snapshot v = snapshot_of v.published.read (firsts v.work.reads)
 
-abbrev pub snapshot_ended : View → Seen → View
-snapshot_ended v seen = record v { work = no_work; log = v.log ++ logged_snapshot v ∷ []; seen = seen }
+abbrev pub snapshot_ended : View → (word : ℕ) → View
+snapshot_ended v word = record (after_loading v (load (published_read v.number) word)) { work = no_work; log = v.log ++ logged_snapshot v ∷ [] }

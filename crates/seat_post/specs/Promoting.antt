@@ -2,9 +2,9 @@
 use Rattle.std.specs.Prelude.{◌≡◌, ◌≢◌, ◌⊎◌, ℕ, List, [], ◌∷◌, ◌++◌, Option, Some}
 use Rattle.plain_data.specs.State.{State}
 use Rattle.stamp_base.specs.Stamp.{stamp_of}
-use Rattle.core_rule.specs.View.{View, writing, no_work}
+use Rattle.core_rule.specs.View.{View, writing, no_work, Load}
 use Rattle.core_rule.specs.Searching.{Ends}
-use Rattle.version_pool.specs.Takes.{TakesFree, FindsNone}
+use Rattle.version_pool.specs.Takes.{TakesFree, FindsNone, IsLostOn}
 use Rattle.version_search.specs.Growing as growing
 use Rattle.version_search.specs.Finding.{Reads}
 use Rattle.version_search.specs.Loading.{with_value}
@@ -15,7 +15,6 @@ use Rattle.seat_post.specs.declared.promoting.Promotion.TheVariants.{Promoted, I
 use Rattle.seat_post.specs.declared.promoting.PromoteFault.{PromoteFault}
 use Rattle.seat_post.specs.declared.promoting.PromoteFault.TheVariants as fault
 use Rattle.seat_post.specs.Seats.{Bounds, Observed}
-use Rattle.seat_post.specs.Observing.{WasLost}
 use Rattle.seat_post.specs.Conflicts.{ShowsOf, IsLoaded}
 use Rattle.seat_post.specs.Ends.{Stood}
 use Rattle.seat_post.specs.Post.{PostView, drawn_at, observing, placing}
@@ -37,13 +36,19 @@ pub record MeetsElsewhere (stamp rid : ℕ) (before after' : Observed) : Type 0 
   pub visible : MeetsAt stamp rid 3 before after'
   pub elsewhere : visible.met.place ≢ rid
 
--- what each answer of a promotion was come upon by: the version was met elsewhere; in the inline place; deleted; elsewhere, and then
--- the exchange on the inline place was lost
+-- one exchange alone was lost, on this place: it was met not free
+pub record LosesOnly (place : ℕ) (before after' : List Load) : Type 0 where
+  pub exchange : Load
+  pub not_free : IsLostOn place exchange
+  pub lost : after' ≡ before ++ exchange ∷ []
+
+-- what each answer of a promotion was come upon by: the version was met elsewhere, and no exchange on a place was lost; in the inline
+-- place, or deleted, and none was lost at all; elsewhere, and one exchange alone was lost, on the inline place
 abbrev pub CameUpon : (stamp rid : ℕ) (before after' : Observed) → Promotion → Type 0
-CameUpon stamp rid before after' (Promoted at) = MeetsElsewhere stamp rid before after'
-CameUpon stamp rid before after' Inline = MeetsInline stamp rid before after'
-CameUpon stamp rid before after' Absent = MeetsAt stamp rid 4 before after'
-CameUpon stamp rid before after' Occupied = MeetsElsewhere stamp rid before after' × WasLost rid before.lost after'.lost
+CameUpon stamp rid before after' (Promoted at) = MeetsElsewhere stamp rid before after' × growing.LosesNoPlace before.lost after'.lost
+CameUpon stamp rid before after' Inline = MeetsInline stamp rid before after' × (after'.lost ≡ before.lost)
+CameUpon stamp rid before after' Absent = MeetsAt stamp rid 4 before after' × (after'.lost ≡ before.lost)
+CameUpon stamp rid before after' Occupied = MeetsElsewhere stamp rid before after' × LosesOnly rid before.lost after'.lost
 
 -- ---- the same of a post
 
@@ -77,6 +82,8 @@ pub record IsStoppedPost (rid clock : ℕ) (before after' : PostView) (conflict 
   pub linked : LinksNone before after' ⊎ LinksInline rid (stamp_of clock before.seat) before after'
   pub shown : ShowsOf rid before.shared.size before.seat before.others (stamp_of clock before.seat) conflict
   pub loaded : IsLoaded (stamp_of clock before.seat) conflict before.observed after'.observed
+  -- no exchange on a place was lost
+  pub no_place : growing.LosesNoPlace before.observed.lost after'.observed.lost
 
 abbrev pub PromotesPost : (kept : State → Type 0) (rid clock : ℕ) (before after' : PostView) → Promotion → Type 0
 PromotesPost kept rid clock before after' (Promoted stamp) = IsRewritten kept rid rid clock before after' stamp
@@ -128,6 +135,7 @@ pub record LoadsElsewhere (stamp rid : ℕ) (words : List ℕ) (v w : View) : Ty
   pub takes : TakesFree rid between taken
   pub loads : w ≡ with_value taken words w.seen
   pub grows : growing.Grows taken.seen w.seen
+  pub lost : w.seen.lost ≡ taken.seen.lost
 
 -- and was written there again
 pub record WritesInline (kept : State → Type 0) (records stamp rid : ℕ) (v w : View) : Type 0 where
@@ -149,6 +157,7 @@ pub record MeetsPending (stamp rid : ℕ) (v w : View) (conflict : Conflict) : T
   pub none_linked : w.work.linked ≡ []
   pub ends : Ends w.work
   pub grows : growing.Grows v.seen w.seen
+  pub lost : w.seen.lost ≡ v.seen.lost
   pub shown : ShowsOf rid v.size v.number (others_in v) stamp conflict
   pub loaded : IsLoadedIn stamp conflict v w
 

@@ -33,6 +33,12 @@ pub record FindsValue (stamp rid : ℕ) (before after' : Observed) (value : Opti
   pub wts : ℕ
   pub leads : LeadsTo stamp rid place wts value before.loads after'.loads
 
+-- A search of the record stopped at a pending version. It loaded nothing else, and lost no exchange.
+pub record StopsAt (stamp rid wts : ℕ) (before after' : Observed) : Type 0 where
+  pub place : ℕ
+  pub path : EndsAt stamp rid place wts 2 before.loads after'.loads
+  pub lost : after'.lost ≡ before.lost
+
 -- that of a snapshot did, and then the minimum of the read stamps was loaded
 pub record FindsInSnapshot (stamp rid : ℕ) (before after' : Observed) (value : Option (List ℕ)) : Type 0 where
   pub between : Observed

@@ -11,7 +11,7 @@ use Rattle.core_rule.specs.Collecting.{HasEntry}
 use Rattle.core_rule.specs.Deciding as deciding
 use Rattle.validate_core.specs.Sets.{SetsView}
 use Rattle.validate_core.specs.declared.conflict.Conflict.{Conflict}
-use Rattle.version_search.specs.Growing.{Grows}
+use Rattle.version_search.specs.Growing.{Grows, LosesNoPlace}
 use Rattle.rapid_gc.specs.Queues.{Waiting}
 use Rattle.seat_post.specs.Leaves.{LeavesValue}
 use Rattle.seat_post.specs.Logs.{IsAbove}
@@ -72,6 +72,7 @@ pub record LinksOne (rid place stamp : ℕ) (v w : View) : Type 0 where
   pub held : w.places.held ≡ without place v.places.held
   pub placed : placed_of w.work.linked ≡ record { rid = rid; place = place } ∷ []
   pub grows : Grows v.seen w.seen
+  pub no_place : LosesNoPlace v.seen.lost w.seen.lost
   pub ends : Ends w.work
 
 -- the record's value was written again: the log has one more entry

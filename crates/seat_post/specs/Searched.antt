@@ -8,9 +8,9 @@ use Rattle.core_rule.specs.Deciding.{entry_of}
 use Rattle.core_rule.specs.Versions.{read_version}
 use Rattle.stamp_base.specs.Stamp.{seat_of}
 use Rattle.version_search.specs.Growing.{Grows}
-use Rattle.validate_core.specs.Validating.{Met, no_more}
-use Rattle.seat_post.specs.Reading.{LeadsTo}
+use Rattle.seat_post.specs.Reading.{LeadsTo, StopsAt}
 use Rattle.seat_post.specs.Leaves.{LeavesValue}
+use Rattle.seat_post.specs.Seats.{observed_of}
 
 -- the version of record rid in a place was found, with this value
 pub record Finds (rid place wts : ℕ) (value : Option (List ℕ)) (v w : View) : Type 0 where
@@ -36,7 +36,7 @@ pub record Stops (stamp rid wts : ℕ) (v w : View) : Type 0 where
   pub search : Search
   pub view : w ≡ record v { work = record v.work { search = search }; seen = w.seen }
   pub rests : Rests search
-  pub met : Met stamp rid wts 2 no_more v.seen.loads w.seen.loads
+  pub at : StopsAt stamp rid wts (observed_of v) (observed_of w)
   pub grows : Grows v.seen w.seen
   pub before : wts < stamp
   pub another : seat_of wts ≡ v.number → ⊥

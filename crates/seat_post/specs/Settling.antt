@@ -1,5 +1,5 @@
 -- What settling makes of a seat that is alone: the visible values of records are written again, and what is older is cut off.
-use Rattle.std.specs.Prelude.{◌≡◌, ◌≢◌, ◌⊎◌, ℕ, false, ◌+◌, ◌-◌, ◌<◌, ◌≤◌, max, if◌then◌else◌, List, [], ◌∷◌, ◌++◌, Some, map, length, sum_by}
+use Rattle.std.specs.Prelude.{◌≡◌, ◌≢◌, ◌⊎◌, ℕ, false, ◌+◌, ◌-◌, ◌<◌, ◌≤◌, max, if◌then◌else◌, List, [], ◌∷◌, ◌++◌, Option, Some, map, length, sum_by}
 use Rattle.plain_data.specs.declared.entry.Entry.{Entry}
 use Rattle.plain_data.specs.State.{State}
 use Rattle.stamp_base.specs.Stamp.{stamp_of, bound_of_clock}
@@ -25,7 +25,7 @@ use Rattle.seat_post.specs.Observing.{with_load, MeetsNoPlace}
 use Rattle.seat_post.specs.Seats.{Observed, observed_of}
 use Rattle.seat_post.specs.Collecting.{Trail, trail_of, trail_in, Frees}
 use Rattle.seat_post.specs.Post.{PostView}
-use Rattle.seat_post.specs.Rewriting.{Rewritings}
+use Rattle.seat_post.specs.Rewriting.{Rewritings, rewriting}
 
 -- of each record below this number one version is left, which may lie outside its inline place
 abbrev pub AreSettled : (count : ℕ) → Counted → Type 0
@@ -37,8 +37,8 @@ AreLater before log t = (e : Entry) → Among e log → Among e before ⊎ (t �
 
 -- ---- a post
 
--- Its clock is no lower, and its log has grown by rewritings alone, at stamps of later clocks. Its published word and what it knows of
--- lists are others, and one less than what it met of `min_wts` is its read stamp, at which nothing was read yet.
+-- Its clock and its published word are no lower, and its log has grown by rewritings alone, at stamps of later clocks. What it knows of
+-- lists is other, and one less than what it met of `min_wts` is its read stamp, at which nothing was read yet.
 pub record SettlesPost (kept : State → Type 0) (before after' : PostView) : Type 0 where
   pub only : after' ≡ record before {
     clock = after'.clock;
@@ -53,15 +53,12 @@ pub record SettlesPost (kept : State → Type 0) (before after' : PostView) : Ty
   }
   pub grows : observing.Grows before.observed after'.observed
   pub later : before.clock ≤ after'.clock
+  pub published : before.published ≤ after'.published
+  pub bounded : after'.published ≤ max before.published (bound_of_clock after'.clock)
   pub met : before.met ≤ after'.met
   pub log : Rewritings kept before.shared.size.records before.log after'.log
   pub added : AreLater before.log after'.log (bound_of_clock before.clock)
   pub above : IsAbove after'.log (bound_of_clock after'.clock)
-
--- the log has so many entries more, one for each clock that was drawn
-pub record IsDrawnFor (count clock clock' : ℕ) (log log' : List Entry) : Type 0 where
-  pub entries : length log' ≡ length log + count
-  pub drawn : clock' ≡ clock + count
 
 -- ---- the steps at the hand
 
@@ -75,13 +72,16 @@ pub record IsSettling (v : View) : Type 0 where
   pub holds_none : v.places.held ≡ []
   pub above : IsAbove (entries_of v) (bound_of_clock v.clock.clock)
 
--- the same seat, with a clock that is no lower, and a log that has grown by rewritings alone, at stamps of later clocks
+-- the same seat, with a clock and a published word that are no lower, and a log that has grown by rewritings alone, at stamps of later
+-- clocks
 pub record Settles (kept : State → Type 0) (v w : View) : Type 0 where
   pub number : w.number ≡ v.number
   pub size : w.size ≡ v.size
   pub splitting : w.splitting ≡ v.splitting
   pub taken_in : w.clock.taken_in ≡ v.clock.taken_in
   pub later : v.clock.clock ≤ w.clock.clock
+  pub published : v.published.write ≤ w.published.write
+  pub bounded : w.published.write ≤ max v.published.write (bound_of_clock w.clock.clock)
   pub met : v.clock.met ≤ w.clock.met
   pub grows : Grows v.seen w.seen
   pub log : Rewritings kept v.size.records (entries_of v) (entries_of w)
@@ -90,11 +90,6 @@ pub record Settles (kept : State → Type 0) (v w : View) : Type 0 where
 -- what is known of the lists of the other records is as before
 abbrev pub KeepsOthers : (rid : ℕ) → View → View → Type 0
 KeepsOthers rid v w = (r : ℕ) → r ≢ rid → known_of w.counts r ≡ known_of v.counts r
-
--- it has so many entries more, one for each clock that was drawn
-pub record Draws (count : ℕ) (v w : View) : Type 0 where
-  pub entries : length w.log ≡ length v.log + count
-  pub clock : w.clock.clock ≡ v.clock.clock + count
 
 -- ---- whether the first version of a list is the visible one
 
@@ -147,18 +142,27 @@ pub record CutsAsDue (rid : ℕ) (done : Settled) (before after' : List Load) : 
   pub looks : LooksFirst rid first before looked after'
   pub cut : done.cut ≡ (if first.single then 0 else max done.rewritten 1)
 
--- so many cuts were made, each of this record's list
-pub record CutsOf (rid count : ℕ) (before after' : List Cut) : Type 0 where
-  pub cuts : List Cut
-  pub made : after' ≡ before ++ cuts
-  pub many : length cuts ≡ count
-  pub of_record : (c : Cut) → Among c cuts → c.record_number ≡ rid
+-- so many were added behind a list, each of them such a one
+pub record Appends (A : Type 0) (such : A → Type 0) (count : ℕ) (before after' : List A) : Type 0 where
+  pub added : List A
+  pub behind : after' ≡ before ++ added
+  pub many : length added ≡ count
+  pub each : (x : A) → Among x added → such x
 
--- What was done for a record: it was cut as often as is told, and so many places were freed. It was written again only where that was due,
--- and twice only where the reserved place had to serve, since its inline place and each usable one were met not free.
+-- so many cuts were made, each of this record's list
+abbrev pub CutsOf : (rid count : ℕ) → (before after' : List Cut) → Type 0
+CutsOf rid = Appends Cut (λ c. c.record_number ≡ rid)
+
+-- so many entries were added, each of which writes a value of this record again
+abbrev pub EntersOf : (rid count : ℕ) → (before after' : List Entry) → Type 0
+EntersOf rid = Appends Entry (λ e. (value : Option (List ℕ)) × (e ≡ rewriting e.stamp rid value))
+
+-- What was done for a record: it was written again and cut as often as is told, and so many places were freed. It was written again only
+-- where that was due, and twice only where the reserved place had to serve, since its inline place and each usable one were met not free.
 pub record SettlesOne (size : Size) (rid : ℕ) (done : Settled) (before after' : Trail) : Type 0 where
   pub grows : observing.Grows before.observed after'.observed
   pub as_due : CutsAsDue rid done before.observed.loads after'.observed.loads
+  pub entries : EntersOf rid done.rewritten before.log after'.log
   pub cuts : CutsOf rid done.cut before.gone.cuts after'.gone.cuts
   pub places : Frees done.places before.gone after'.gone
   pub due : 0 < done.rewritten → IsDue rid before.observed.loads after'.observed.loads
@@ -178,12 +182,13 @@ pub record SettlesFirst (size : Size) (count : ℕ) (all : Settled) (before afte
   pub cut : all.cut ≡ sum_by (λ (d : Settled). d.cut) done
   pub places : Frees all.places before.gone after'.gone
 
--- the record's visible value was written again at this stamp
+-- the record's visible value was written again at this stamp, which was drawn
 pub record IsRewrittenAt (rid stamp : ℕ) (v w : View) : Type 0 where
   pub at : stamp ≡ stamp_of (v.clock.clock + 1) v.number
+  pub drawn : w.clock.clock ≡ v.clock.clock + 1
+  pub entry : EntersOf rid 1 (entries_of v) (entries_of w)
   pub entered : HasEntry rid stamp w.log
   pub newest : newest_stamp w.tops rid ≡ Some stamp
-  pub draws : Draws 1 v w
 
 -- the record has one version left, after one cut
 pub record IsCut (rid : ℕ) (v w : View) : Type 0 where
@@ -227,7 +232,7 @@ pub record StopsSome (size : Size) (v w : View) : Type 0 where
   pub between : View
   pub first : SettlesFirst size rid all (trail_in v) (trail_in between)
   pub due : IsDue rid between.seen.loads w.seen.loads
-  pub drawn : Draws all.rewritten v between
+  pub drawn : between.clock.clock ≡ v.clock.clock + all.rewritten
   pub runs_out : RunsOut size rid between.clock.clock w.clock.clock (observed_of between) (observed_of w)
   pub gone : w.gone ≡ between.gone
   pub log : w.log ≡ between.log
@@ -244,8 +249,8 @@ pub record SettlesAll (before after' : PostView) (all : Settled) : Type 0 where
   pub first : SettlesFirst before.shared.size before.shared.size.records all (trail_of before) reached
   pub last : trail_of after' ≡ with_met reached after'.met
 
--- The clock came to its end. The records below one were settled, and in all this was done for them, with an entry for each writing again;
--- of that record a writing again was due, for which there was no clock.
+-- The clock came to its end. The records below one were settled, and in all this was done for them; of that record a writing again was
+-- due, for which there was no clock.
 pub record StopsPost (before after' : PostView) : Type 0 where
   pub rid : ℕ
   pub within : rid < before.shared.size.records
@@ -257,5 +262,5 @@ pub record StopsPost (before after' : PostView) : Type 0 where
   pub due : IsDue rid between.observed.loads reached.observed.loads
   pub runs_out : RunsOut before.shared.size rid (before.clock + all.rewritten) after'.clock between.observed reached.observed
   pub gone : reached.gone ≡ between.gone
-  pub entries : length after'.log ≡ length before.log + all.rewritten
+  pub log : reached.log ≡ between.log
   pub last : trail_of after' ≡ with_met reached after'.met

@@ -140,6 +140,7 @@ fn load<J: Keeps>(core: &Core<J>, hand: &mut Hand<J>, place: u32, wts: u64) -> R
     ensures value { IfSome result.value (λ words. (length words ≡ 32) × (hand.new.view ≡ with_value hand.old.view words hand.new.view.seen)) }
     ensures present { result.value ≢ None }
     ensures grows { growing.Grows hand.old.view.seen hand.new.view.seen }
+    ensures lost { hand.new.view.seen.lost ≡ hand.old.view.seen.lost }
     ensures stays { StaysReady core.now hand.old hand.new }
 {
     let cells = load_value(core, hand, place);

@@ -7,14 +7,13 @@ ghost use Rattle.core_rule.specs.Versions.{read_version};
 ghost use Rattle.core_rule.specs.Hands.{IsReady, StaysReady};
 ghost use Rattle.core_rule.specs.Searching.{Rests};
 ghost use Rattle.record_store.specs.Meaning.{value_at};
-ghost use Rattle.validate_core.specs.declared.conflict.Conflict.TheVariants as conflict;
 ghost use Rattle.seat_post.specs.Observing.{Grows};
 ghost use Rattle.seat_post.specs.Post.{known_at, observing};
 ghost use Rattle.seat_post.specs.Seats.{IsAloneAt};
 ghost use Rattle.seat_post.specs.Logs.{IsAbove};
 ghost use Rattle.seat_post.specs.Leaves.{LeavesValue, LeavesSome};
-ghost use Rattle.seat_post.specs.Conflicts.{IsOfAnother, IsLoaded};
-ghost use Rattle.seat_post.specs.Reading.{IfPending, FindsValue, ReadsAs, ReadsOne};
+ghost use Rattle.seat_post.specs.Conflicts.{IsOfAnother};
+ghost use Rattle.seat_post.specs.Reading.{IfPending, FindsValue, StopsAt, ReadsAs, ReadsOne};
 ghost use Rattle.seat_post.specs.Searched.{FindsOne, Stops};
 
 use crate::phase::Phase;
@@ -116,10 +115,10 @@ impl<J: Keeps> Post<J> {
         self.sets.read_of(rid)
     }
 
-    /// The value that was read last.
-    pub fn last_read(&self) -> Option<Cells>
+    /// The version that was read last.
+    pub fn last_read(&self) -> &ReadVersion
         requires { self.now.reads ≢ [] }
-        ensures { (before : List (ℕ × Option (List ℕ))) → (rid : ℕ) → (value : Option (List ℕ)) → self.now.reads ≡ before ++ (rid, value) ∷ [] → result ≡ value }
+        ensures { (before : List (ℕ × Option (List ℕ))) → (rid : ℕ) → (value : Option (List ℕ)) → self.now.reads ≡ before ++ (rid, value) ∷ [] → read_value result.now ≡ value }
     {
         self.sets.last_read()
     }
@@ -140,7 +139,7 @@ impl<J: Keeps> Post<J> {
         ensures ok { OnOk result (ReadsOne rid self.old self.new) }
         ensures grows { Grows self.old.observed self.new.observed }
         ensures err { OnErr result (self.new ≡ observing self.old self.new.observed) }
-        ensures loaded { IfErr result (λ fault. IfPending fault (λ wts. IsLoaded self.old.stamp (conflict.Pending rid wts) self.old.observed self.new.observed)) }
+        ensures stops { IfErr result (λ fault. IfPending fault (λ wts. StopsAt self.old.stamp rid wts self.old.observed self.new.observed)) }
         ensures met { IfErr result (λ fault. IfPending fault (λ wts. (wts < self.old.stamp) × IsOfAnother self.old.shared.size self.old.seat self.old.others wts)) }
         ensures no_memory { IfErr result (λ fault. fault ≡ ReadFault.NoMemory → self.new ≡ self.old) }
     {
@@ -171,7 +170,7 @@ impl<J: Keeps> Post<J> {
         ensures present { IfOk result (λ absent. absent ≡ false → (words : List ℕ) × FindsValue self.old.stamp rid self.old.observed self.new.observed (Some words)) }
         ensures left { IsAloneAt self.old.shared.size self.old.seat self.old.others → IfOk result (λ absent. absent ≡ false → LeavesSome self.old.log rid self.old.stamp) }
         ensures err { OnErr result (self.new ≡ observing self.old self.new.observed) }
-        ensures loaded { IfErr result (λ fault. IfPending fault (λ wts. IsLoaded self.old.stamp (conflict.Pending rid wts) self.old.observed self.new.observed)) }
+        ensures stops { IfErr result (λ fault. IfPending fault (λ wts. StopsAt self.old.stamp rid wts self.old.observed self.new.observed)) }
         ensures met { IfErr result (λ fault. IfPending fault (λ wts. (wts < self.old.stamp) × IsOfAnother self.old.shared.size self.old.seat self.old.others wts)) }
         ensures no_memory { IfErr result (λ fault. fault ≡ ReadFault.NoMemory → self.new ≡ self.old) }
     {

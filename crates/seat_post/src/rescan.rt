@@ -6,9 +6,8 @@ ghost use Rattle.core_rule.specs.Searching.{Rests};
 ghost use Rattle.core_rule.specs.View.{resting};
 ghost use Rattle.core_rule.specs.Views as views;
 ghost use Rattle.seat_post.specs.Leaves.{LeavesAs, AreAbsent};
-ghost use Rattle.seat_post.specs.Observing.{Grows};
 ghost use Rattle.seat_post.specs.Post.{observing};
-ghost use Rattle.seat_post.specs.Rescan.{Looks, looked_over};
+ghost use Rattle.seat_post.specs.Rescan.{Looks, LooksOver, looked_over};
 ghost use Rattle.seat_post.specs.Seats.{IsAloneAt};
 
 use crate::phase::Phase;
@@ -74,7 +73,7 @@ impl<J: Keeps> Post<J> {
         requires none { numbers.old.spare ≡ [] }
         requires none_given { numbers.old.given ≡ [] }
         ensures value { self.new ≡ observing (looked_over self.old) self.new.observed }
-        ensures grows { Grows self.old.observed self.new.observed }
+        ensures loads { LooksOver self.old.shared.size.seats self.new.met self.old.observed self.new.observed }
         ensures not_back { self.old.met ≤ self.new.met }
         ensures numbers { numbers.new ≡ record numbers.old { spare = numbers.new.spare } }
         ensures absent { AreAbsent self.old.log self.new.published numbers.old.fixed numbers.old.records numbers.new.spare }

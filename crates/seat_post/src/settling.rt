@@ -11,7 +11,7 @@ ghost use Rattle.rapid_gc.specs.Ends.{FreesCounted};
 ghost use Rattle.rapid_gc.specs.InReserved.{IsBelow, Remains};
 ghost use Rattle.seat_post.specs.Logs.{IsAbove};
 ghost use Rattle.seat_post.specs.Seats.{IsAloneAt, observed_of};
-ghost use Rattle.seat_post.specs.Settling.{AreSettled, SettlesPost, IsDrawnFor, IsSettling, Settles, KeepsOthers, Draws, OnlySearches, IsHidden, IsDue, IsCut, RunsOut, SettlesOne, SettlesFirst, SettlesAll, StopsSome, StopsPost};
+ghost use Rattle.seat_post.specs.Settling.{AreSettled, SettlesPost, IsSettling, Settles, KeepsOthers, OnlySearches, IsHidden, IsDue, IsCut, RunsOut, SettlesOne, SettlesFirst, SettlesAll, StopsSome, StopsPost};
 ghost use Rattle.seat_post.specs.Collecting.{trail_in};
 
 use crate::phase::Phase;
@@ -37,7 +37,7 @@ impl<J: Keeps> Post<J> {
         requires above { IsAbove self.old.log (bound_of_clock self.old.clock) }
         ensures settles { SettlesPost J.kept self.old self.new }
         ensures settled { OnOk result (AreSettled self.old.shared.size.records self.new.bounds.counts) }
-        ensures draws { IfOk result (λ all. IsDrawnFor all.rewritten self.old.clock self.new.clock self.old.log self.new.log) }
+        ensures draws { IfOk result (λ all. self.new.clock ≡ self.old.clock + all.rewritten) }
         ensures counts { IfOk result (λ all. (all.rewritten ≤ all.cut) × (all.cut ≤ 2 * self.old.shared.size.records)) }
         ensures done { IfOk result (SettlesAll self.old self.new) }
         ensures clock_out { OnErr result (self.new.clock ≡ greatest_clock) }
@@ -64,7 +64,7 @@ fn settle_all<J: Keeps>(
     ensures keeps_none { hand.new.view.counts.in_reserved ≡ nothing_reserved }
     ensures settles { Settles J.kept hand.old.view hand.new.view }
     ensures settled { OnOk result (AreSettled core.now.size.records hand.new.view.counts) }
-    ensures draws { IfOk result (λ all. Draws all.rewritten hand.old.view hand.new.view) }
+    ensures draws { IfOk result (λ all. hand.new.view.clock.clock ≡ hand.old.view.clock.clock + all.rewritten) }
     ensures counts { IfOk result (λ all. (all.rewritten ≤ all.cut) × (all.cut ≤ 2 * core.now.size.records)) }
     ensures done { IfOk result (λ all. SettlesFirst core.now.size core.now.size.records all (trail_in hand.old.view) (trail_in hand.new.view)) }
     ensures clock_out { OnErr result (hand.new.view.clock.clock ≡ greatest_clock) }
@@ -96,7 +96,7 @@ fn settle_record<J: Keeps>(
     ensures settles { Settles J.kept hand.old.view hand.new.view }
     ensures others { KeepsOthers rid hand.old.view hand.new.view }
     ensures one { OnOk result (IsSingle (known_of hand.new.view.counts rid)) }
-    ensures draws { IfOk result (λ done. Draws done.rewritten hand.old.view hand.new.view) }
+    ensures draws { IfOk result (λ done. hand.new.view.clock.clock ≡ hand.old.view.clock.clock + done.rewritten) }
     ensures counts { IfOk result (λ done. (done.rewritten ≤ done.cut) × (done.cut ≤ 2)) }
     ensures freed { IfOk result (λ done. FreesCounted done.places hand.old.view hand.new.view) }
     ensures done { IfOk result (λ done. SettlesOne core.now.size rid done (trail_in hand.old.view) (trail_in hand.new.view)) }

@@ -1,7 +1,8 @@
 //! Sharing a seat at its post: it is announced, and makes the posts of the other seats.
 ghost use Rattle.std.specs.Prelude.{◌≡◌, ◌<◌, ◌≤◌};
 ghost use Rattle.core_rule.specs.Offers.{MayOffer, made_of};
-ghost use Rattle.seat_post.specs.Observing.{Grows};
+ghost use Rattle.word_layout.specs.Name.{published_write, min_write};
+ghost use Rattle.seat_post.specs.Observing.{RaisesTo};
 ghost use Rattle.seat_post.specs.Seats.{IsAloneAt};
 ghost use Rattle.seat_post.specs.Sharing.{announced_at, one_more, made_next};
 
@@ -19,7 +20,7 @@ impl<J: Keeps> Post<J> {
         requires idle { self.old.phase ≡ Phase.Idle }
         requires alone { IsAloneAt self.old.shared.size self.old.seat self.old.others }
         ensures value { self.new ≡ record (announced_at self.old) { placed = self.new.placed; snapshot = self.new.snapshot; observed = self.new.observed } }
-        ensures grows { Grows self.old.observed self.new.observed }
+        ensures raised { RaisesTo published_write min_write self.old.shared.size.seats self.new.met self.old.observed self.new.observed }
         ensures not_back { self.old.met ≤ self.new.met }
     {
         idle(core, &mut self.hand);

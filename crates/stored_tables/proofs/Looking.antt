@@ -1,10 +1,11 @@
 -- One read of a record, and what is torn by it.
-use Rattle.std.proofs.Common.{◌≡◌, ℕ, List, Option, Some, Result, Ok, Err, refl, sym, subst}
+use Rattle.std.proofs.Common.{◌≡◌, ℕ, Bool, List, [], Option, Some, Result, Ok, Err, refl, sym, subst}
 use Rattle.std.specs.Prelude.{IsErrAnd}
 use Rattle.std.proofs.lemmas.List.{append_cancel_right}
 use lib.ListN.{replicate}
 use Rattle.plain_data.specs.State.{State, Agrees, overlay}
 use Rattle.record_store.specs.Calls.Reads.{none, read}
+use Rattle.record_store.specs.Into.{value_if}
 use Rattle.record_store.specs.Meaning.{Meaning, known, after_read}
 use Rattle.record_store.specs.Walks.{OnlyReads, IfTorn}
 use Rattle.record_store.specs.declared.walk.Walk.{Walk}
@@ -31,18 +32,18 @@ module _ {S F : Type 0} {read_gives : S → ℕ → Result (Option (List ℕ)) F
       (result : Result T (Walk F)) → read_gives first rid (Err fault) last → meaning last ≡ meaning first
       → IsErrAnd result (λ w. w ≡ Store fault) → Looks read_gives meaning Stands Other first last result
   read_refused Stands Other first last rid fault result gives same is = record {
-    by = by_read_refused first last rid fault (Err fault) result refl gives same is;
+    by = by_read_refused first last rid fault (Err fault) [] result refl gives same is;
     found = no_ok result (Store fault) _ is;
     torn = no_torn result fault _ is;
   }
 
-  pub read_answered : {X : Type 0} (Stands : State → X → Type 0) (first last : S) (rid : ℕ) (value : Option (List ℕ))
-      → read_gives first rid (Ok value) last → meaning last ≡ after_read (meaning first) rid value
-      → known (meaning last) rid ≡ Some value → Looks {F = F} read_gives meaning Stands
-      (λ found state x. overlay (meaning first).writes state rid ≡ found) first last (Ok value)
-  read_answered Stands first last rid value gives is answer = record {
-    by = by_read_done first last rid value (Ok value) (Ok value) refl gives is tt;
-    found = λ state x agrees stands. answered (meaning first) (meaning last) rid value is answer state agrees;
+  pub read_answered : {X : Type 0} (Stands : State → X → Type 0) (first last : S) (rid : ℕ) (present : Bool) (cells : List ℕ)
+      → read_gives first rid (Ok (value_if present cells)) last → meaning last ≡ after_read (meaning first) rid (value_if present cells)
+      → known (meaning last) rid ≡ Some (value_if present cells) → Looks {F = F} read_gives meaning Stands
+      (λ found state x. overlay (meaning first).writes state rid ≡ found) first last (Ok (value_if present cells))
+  read_answered Stands first last rid present cells gives is answer = record {
+    by = by_read_done first last rid present (Ok present) cells (Ok (value_if present cells)) refl gives is tt;
+    found = λ state x agrees stands. answered (meaning first) (meaning last) rid (value_if present cells) is answer state agrees;
     torn = tt;
   }
 

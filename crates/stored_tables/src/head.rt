@@ -19,9 +19,10 @@ pub fn index_of<S: RecordRead>(store: &mut S, table: u32) -> Result<Option<u32>,
     ensures rest { S.rest store.new ≡ S.rest store.old }
 {
     let head = head_of(table);
-    let Some(cells) = store.read(head)? else {
+    let mut cells = Cells::new([0; 32]);
+    if !store.read_into(head, &mut cells)? {
         return Ok(None);
-    };
+    }
     match read_head(&cells) {
         Some(column) => Ok(Some(column)),
         None => Err(Walk::Torn(head)),

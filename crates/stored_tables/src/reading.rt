@@ -14,6 +14,7 @@ ghost use Rattle.stored_tables.specs.Runs.{Looks};
 use crate::places::{base_of, root_of};
 use crate::row::read_row;
 use ordered_index::Key;
+use plain_data::Cells;
 use record_store::{RecordRead, Walk};
 use replay_model::{Columns, Pairs, Sequence};
 use std::alloc::Global;
@@ -52,9 +53,10 @@ fn row_at<S: RecordRead>(store: &mut S, rid: u32) -> Result<Columns, Walk<S::Fau
     ensures memory { IfNoMemory result ⊥ }
     ensures rest { S.rest store.new ≡ S.rest store.old }
 {
-    let Some(cells) = store.read(rid)? else {
+    let mut cells = Cells::new([0; 32]);
+    if !store.read_into(rid, &mut cells)? {
         return Err(Walk::Torn(rid));
-    };
+    }
     match read_row(&cells) {
         Some(row) => Ok(row),
         None => Err(Walk::Torn(rid)),

@@ -3,7 +3,7 @@ use Rattle.std.proofs.Common.{◌≡◌, ℕ, ◌+◌, ◌-◌, ⊎_elim, zero, 
 use Rattle.std.specs.Prelude.{IsSome, is_some, nat_lt, nat_le, ◌&&◌, ◌||◌, slice_get}
 use Rattle.std.specs.List.{list_any, range_with_len}
 use Rattle.std.proofs.lemmas.List.Elements.{Contains-push, Contains-append_left, Contains-push_cases}
-use Rattle.std.proofs.lemmas.Bool.{le-leb, le-ltb, ltb-false, not-true, not_from_false, cases_Bool}
+use Rattle.std.proofs.lemmas.Bool.{le-leb, le-ltb, ltb-false, not-true, not_from_false, cases_Bool, and_parts, and_from, or_cases, or_left, or_right}
 use Rattle.std.proofs.lemmas.Bool.Decides.{eqb_tells}
 use Rattle.std.proofs.lemmas.List.Folds.{list_any-append, Any-from_list_any, list_any-from_Any}
 use Rattle.std.proofs.lemmas.Map.Views.{any-filter_same}
@@ -21,7 +21,6 @@ use Rattle.seat_post.specs.Logs.{IsAbove}
 use Rattle.seat_post.specs.Leaves.{IsPresent}
 use Rattle.txn_engine.specs.Leaves.{HoldsAbsent, NoneRemains}
 use Rattle.txn_engine.specs.Accounts.{writes_at, gives_at, is_present, accounted}
-use Rattle.seat_post.proofs.AloneSeats.{both, either, and_of, or_of}
 use Rattle.seat_post.proofs.Listed.{known_head, known_tail}
 use Rattle.seat_post.proofs.Leaving.{among_of, leaves_one}
 
@@ -36,14 +35,14 @@ any_shown test xs x there on = list_any-from_Any test xs (there.0, x, there.1, t
 
 writes_told : (r : ℕ) (e : Entry) → writes_at r e ≡ true → Writes r e
 writes_told r e on =
-    let h = both (not e.snapshot) _ on in
+    let h = and_parts (not e.snapshot) _ on in
     let w = any_found (λ (write : ℕ × Option (List ℕ)). eqb r write.0) e.writes h.1 in
     record { commit = not-true e.snapshot h.0; at = (w.1.0, w.0, w.1.1, w.1.2, sym (eqb-true r w.0.0 w.2)) }
 
 writes_shown : (r : ℕ) (e : Entry) → Writes r e → writes_at r e ≡ true
 writes_shown r e w =
     let at = w.at in
-    and_of (not e.snapshot) _ (not_from_false e.snapshot w.commit) (any_shown (λ (write : ℕ × Option (List ℕ)). eqb r write.0) e.writes at.1 (at.0, at.2, at.3) (eq-eqb r at.1.0 (sym at.4)))
+    and_from (not e.snapshot) _ (not_from_false e.snapshot w.commit) (any_shown (λ (write : ℕ × Option (List ℕ)). eqb r write.0) e.writes at.1 (at.0, at.2, at.3) (eq-eqb r at.1.0 (sym at.4)))
 
 some_of : (value : Option (List ℕ)) → is_some value ≡ true → (words : List ℕ) × (value ≡ Some words)
 some_of None on = cc
@@ -51,20 +50,20 @@ some_of (Some words) on = (words, refl)
 
 gives_told : (r : ℕ) (e : Entry) → gives_at r e ≡ true → (e.snapshot ≡ false) × ((words : List ℕ) × Contains e.writes (r, Some words))
 gives_told r e on =
-    let h = both (not e.snapshot) _ on in
+    let h = and_parts (not e.snapshot) _ on in
     let w = any_found (λ (write : ℕ × Option (List ℕ)). eqb r write.0 && is_some write.1) e.writes h.1 in
-    let at = both (eqb r w.0.0) _ w.2 in
+    let at = and_parts (eqb r w.0.0) _ w.2 in
     let some = some_of w.0.1 at.1 in
     (not-true e.snapshot h.0, (some.0, subst (λ (x : ℕ × Option (List ℕ)). Contains e.writes x) (λ i. (sym (eqb-true r w.0.0 at.0) i, some.1 i)) w.1))
 
 gives_shown : (r : ℕ) (e : Entry) (words : List ℕ) → e.snapshot ≡ false → Contains e.writes (r, Some words) → gives_at r e ≡ true
 gives_shown r e words commit there =
-    and_of (not e.snapshot) _ (not_from_false e.snapshot commit) (any_shown (λ (write : ℕ × Option (List ℕ)). eqb r write.0 && is_some write.1) e.writes (r, Some words) there (and_of (eqb r r) true (eq-eqb r r refl) refl))
+    and_from (not e.snapshot) _ (not_from_false e.snapshot commit) (any_shown (λ (write : ℕ × Option (List ℕ)). eqb r write.0 && is_some write.1) e.writes (r, Some words) there (and_from (eqb r r) true (eq-eqb r r refl) refl))
 
 pub present_told : (log : List Entry) (r : ℕ) → is_present log r ≡ true → IsPresent log r
 present_told log r on =
     let e = any_found (λ (e : Entry). gives_at r e && not (list_any (λ (later : Entry). writes_at r later && nat_lt e.stamp later.stamp) log)) log on in
-    let h = both (gives_at r e.0) _ e.2 in
+    let h = and_parts (gives_at r e.0) _ e.2 in
     let gives = gives_told r e.0 h.0 in
     let none = not-true _ h.1 in (
       gives.1.0,
@@ -75,7 +74,7 @@ present_told log r on =
           commit = gives.0;
           value = gives.1.1;
           last = λ other there writes. elim (cases_Bool (nat_lt e.0.stamp other.stamp)) as (λ _. other.stamp ≤ e.0.stamp) [
-            | inl later ↦ (let found = any_shown (λ (x : Entry). writes_at r x && nat_lt e.0.stamp x.stamp) log other there (and_of (writes_at r other) _ (writes_shown r other writes) later) in let bad : true ≡ false = sym found ∙ none in cc)
+            | inl later ↦ (let found = any_shown (λ (x : Entry). writes_at r x && nat_lt e.0.stamp x.stamp) log other there (and_from (writes_at r other) _ (writes_shown r other writes) later) in let bad : true ≡ false = sym found ∙ none in cc)
             | inr off ↦ ltb-false e.0.stamp other.stamp off
           ];
         },
@@ -87,13 +86,13 @@ present_shown log r present = by_value present.1 where
   by_value : IsValue (Contains log) r (Some present.0) → is_present log r ≡ true
   by_value (inr none) = absurd (let e : Some present.0 ≡ None = none.0 in cc)
   by_value (inl found) = any_shown (λ (e : Entry). gives_at r e && not (list_any (λ (later : Entry). writes_at r later && nat_lt e.stamp later.stamp) log)) log found.0 found.1.there
-      (and_of (gives_at r found.0) _ (gives_shown r found.0 present.0 found.1.commit found.1.value) (not_from_false _ (none_later found.0 found.1))) where
+      (and_from (gives_at r found.0) _ (gives_shown r found.0 present.0 found.1.commit found.1.value) (not_from_false _ (none_later found.0 found.1))) where
         none_later : (e : Entry) → IsLastWrite (Contains log) r (Some present.0) e → list_any (λ (later : Entry). writes_at r later && nat_lt e.stamp later.stamp) log ≡ false
         none_later e last = elim (cases_Bool (list_any (λ (later : Entry). writes_at r later && nat_lt e.stamp later.stamp) log)) as (λ _. list_any (λ (later : Entry). writes_at r later && nat_lt e.stamp later.stamp) log ≡ false) [
           | inr off ↦ off
           | inl on ↦ (
               let x = any_found (λ (later : Entry). writes_at r later && nat_lt e.stamp later.stamp) log on in
-              let h = both (writes_at r x.0) _ x.2 in
+              let h = and_parts (writes_at r x.0) _ x.2 in
               let le = last.last x.0 x.1 (writes_told r x.0 h.0) in
               let bad : true ≡ false = sym h.1 ∙ le-ltb e.stamp x.0.stamp le in
               cc)
@@ -123,7 +122,7 @@ struck_bools : (a x e y p : Bool) → (a ≡ true → e ≡ true → p ≡ true)
 struck_bools false x e y p here = refl
 struck_bools true x false y p here = refl
 struck_bools true true true y p here = refl
-struck_bools true false true y p here = let on : p ≡ true = here refl refl in or_of y p (inr on)
+struck_bools true false true y p here = let on : p ≡ true = here refl refl in or_right y p on
 
 each_same : (f g : ℕ → Bool) → ((r : ℕ) → f r ≡ g r) → f ≡ g
 each_same f g same = λ j. λ r. same r j
@@ -145,11 +144,11 @@ accounted_struck p i rid at present = each_same _ _ (λ r.
 -- ---- absent records
 
 told_bools : (a b p : Bool) → a ≡ true → (not a || (b || p)) ≡ true → (b ≡ true) ⊎ (p ≡ true)
-told_bools true b p alone on = either b p on
+told_bools true b p alone on = or_cases b p on
 told_bools false b p alone on = cc
 
 shown_bools : (a b p : Bool) → (b ≡ true) ⊎ (p ≡ true) → (not a || (b || p)) ≡ true
-shown_bools a b p on = or_of (not a) _ (inr (or_of b p on))
+shown_bools a b p on = or_right (not a) _ (⊎_elim (or_left b p) (or_right b p) on)
 
 -- a pass that is alone holds the absent records after each call of a transaction
 pub absent_stays : (p q : PassView) → frame q ≡ frame p → accounted q ≡ accounted p → IsAlone p → HoldsAbsent p → HoldsAbsent q
@@ -168,7 +167,7 @@ absent_stays p q same_frame same_accounts alone absent r from within =
 -- a number of the list has its place there
 on_at : (xs : List ℕ) (r : ℕ) → is_on xs r ≡ true → (k : ℕ) × (k < length xs) × (slice_get xs k ≡ Some r)
 on_at [] r on = cc
-on_at (x ∷ xs) r on = elim (either (eqb r x) (is_on xs r) on) as (λ _. (k : ℕ) × (k < length (x ∷ xs)) × (slice_get (x ∷ xs) k ≡ Some r)) [
+on_at (x ∷ xs) r on = elim (or_cases (eqb r x) (is_on xs r) on) as (λ _. (k : ℕ) × (k < length (x ∷ xs)) × (slice_get (x ∷ xs) k ≡ Some r)) [
   | inl same ↦ (0, omega arith, ap (λ n. Some n) (sym (eqb-true r x same)))
   | inr more ↦ (let h = on_at xs r more in (suc h.0, omega arith, h.2))
 ]
@@ -177,7 +176,7 @@ on_at (x ∷ xs) r on = elim (either (eqb r x) (is_on xs r) on) as (λ _. (k : �
 pub none_remains : (p : PassView) → HoldsAbsent p → AreWritten p (length p.spare) → NoneRemains p
 none_remains p absent written r from within = elim (absent r from within) as (λ _. (is_on p.given r ≡ true) ⊎ (IsSome (value_at p.writes r) ⊎ IsPresent p.log r)) [
   | inr present ↦ inr (inr present)
-  | inl on ↦ elim (either (is_on p.given r) (is_on p.spare r) (sym (list_any-append (eqb r) p.given p.spare) ∙ on)) as (λ _. (is_on p.given r ≡ true) ⊎ (IsSome (value_at p.writes r) ⊎ IsPresent p.log r)) [
+  | inl on ↦ elim (or_cases (is_on p.given r) (is_on p.spare r) (sym (list_any-append (eqb r) p.given p.spare) ∙ on)) as (λ _. (is_on p.given r ≡ true) ⊎ (IsSome (value_at p.writes r) ⊎ IsPresent p.log r)) [
     | inl given ↦ inl given
     | inr spare ↦ (let h = on_at p.spare r spare in inr (inl (written h.0 r h.1 h.2)))
   ]
@@ -188,8 +187,8 @@ none_remains p absent written r from within = elim (absent r from within) as (λ
 pub range_on : (a n r : ℕ) → a ≤ r → r < a + n → is_on (range_with_len a n) r ≡ true
 range_on a zero r from below = absurd (omega arith)
 range_on a (suc n) r from below = elim (eqb_tells r a) as (λ _. is_on (range_with_len a (suc n)) r ≡ true) [
-  | inl t ↦ or_of (eqb r a) (is_on (range_with_len (a + 1) n) r) (inl t.0)
-  | inr t ↦ or_of (eqb r a) (is_on (range_with_len (a + 1) n) r) (inr (let apart = t.1 in range_on (a + 1) n r (omega arith) (omega arith)))
+  | inl t ↦ or_left (eqb r a) (is_on (range_with_len (a + 1) n) r) t.0
+  | inr t ↦ or_right (eqb r a) (is_on (range_with_len (a + 1) n) r) (let apart = t.1 in range_on (a + 1) n r (omega arith) (omega arith))
 ]
 
 -- the first pass holds all records from `fixed` on
@@ -200,13 +199,13 @@ kept_added : (xs : List ℕ) (y r : ℕ) → is_on xs r ≡ true → is_on (adde
 kept_added xs y r on = by_bool (is_on xs y) where
   by_bool : (b : Bool) → is_on (cond b xs (xs ++ y ∷ [])) r ≡ true
   by_bool true = on
-  by_bool false = list_any-append (eqb r) xs (y ∷ []) ∙ or_of (is_on xs r) (is_on (y ∷ []) r) (inl on)
+  by_bool false = list_any-append (eqb r) xs (y ∷ []) ∙ or_left (is_on xs r) (is_on (y ∷ []) r) on
 
 on_added : (xs : List ℕ) (r : ℕ) → is_on (added xs r) r ≡ true
 on_added xs r = by_bool (is_on xs r) refl where
   by_bool : (b : Bool) → is_on xs r ≡ b → is_on (cond b xs (xs ++ r ∷ [])) r ≡ true
   by_bool true on = on
-  by_bool false off = list_any-append (eqb r) xs (r ∷ []) ∙ or_of (is_on xs r) (is_on (r ∷ []) r) (inr (or_of (eqb r r) false (inl (eq-eqb r r refl))))
+  by_bool false off = list_any-append (eqb r) xs (r ∷ []) ∙ or_right (is_on xs r) (is_on (r ∷ []) r) (or_left (eqb r r) false (eq-eqb r r refl))
 
 kept_step : (b : Bool) (xs : List ℕ) (y r : ℕ) → is_on xs r ≡ true → is_on (cond b (added xs y) xs) r ≡ true
 kept_step true xs y r on = kept_added xs y r on
@@ -227,7 +226,7 @@ on_deleted fixed xs [] r from at = cc
 on_deleted fixed xs (w ∷ ws) r from at = elim (eqb_tells r w.0) as (λ _. is_on (with_deleted fixed xs (w ∷ ws)) r ≡ true) [
   | inl t ↦ (
       let none : w.1 ≡ None = let e : cond true (Some w.1) (value_at ws r) ≡ Some None = subst (λ (b : Bool). cond b (Some w.1) (value_at ws r) ≡ Some None) t.0 at in cc in
-      let on : (is_deletion w.1 && nat_le fixed w.0) ≡ true = and_of (is_deletion w.1) (nat_le fixed w.0) (ap is_deletion none) (le-leb fixed w.0 (let e = t.1 in omega arith)) in
+      let on : (is_deletion w.1 && nat_le fixed w.0) ≡ true = and_from (is_deletion w.1) (nat_le fixed w.0) (ap is_deletion none) (le-leb fixed w.0 (let e = t.1 in omega arith)) in
       kept_deleted fixed (cond (is_deletion w.1 && nat_le fixed w.0) (added xs w.0) xs) ws r
       (subst (λ n. is_on (cond (is_deletion w.1 && nat_le fixed w.0) (added xs w.0) xs) n ≡ true) (sym t.1) (on_step (is_deletion w.1 && nat_le fixed w.0) xs w.0 on)))
   | inr t ↦ on_deleted fixed (cond (is_deletion w.1 && nat_le fixed w.0) (added xs w.0) xs) ws r from (subst (λ (b : Bool). cond b (Some w.1) (value_at ws r) ≡ Some None) t.0 at)

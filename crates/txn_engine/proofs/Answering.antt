@@ -5,9 +5,9 @@ use Rattle.validate_core.specs.declared.conflict.Conflict.{Conflict}
 use Rattle.validate_core.specs.declared.conflict.Conflict.TheVariants.{Pending}
 use Rattle.seat_post.specs.declared.phase.Phase.{Phase}
 use Rattle.seat_post.specs.declared.phase.Phase.TheVariants.{Idle, Open, Installed, Decided}
-use Rattle.seat_post.specs.Conflicts.{IsLoaded}
 use Rattle.seat_post.specs.Observing.{Grows}
 use Rattle.seat_post.specs.Post.{known_at, written}
+use Rattle.seat_post.specs.Reading.{StopsAt}
 use Rattle.seat_post.specs.Seats.{Observed}
 use Rattle.txn_engine.specs.declared.faults.TxnFault.{TxnFault}
 use Rattle.txn_engine.specs.declared.faults.TxnFault.TheVariants as txn
@@ -46,7 +46,6 @@ refuses_again p conflict answer is met shown = subst (λ r. Refuses p (counted p
   stopped = rw met refl;
   still = rw met refl;
   records_out = λ out. (cc);
-  loaded = λ alive. let none : None ≡ Some conflict = sym alive ∙ met in cc;
 })
 
 conflict_reads : (p : PassView) (rid : ℕ) (conflict : Conflict) → p.dead ≡ Some conflict → IsPending p conflict → Reads p (counted p) rid (Err (txn.Conflict conflict))
@@ -114,8 +113,8 @@ stopped_gives p q f a =
 
 -- ---- a search that met a pending version, and want of memory
 
-pending_reads : (p : PassView) (o : Observed) (rid wts : ℕ) → p.dead ≡ None → known_at p.post rid ≡ None → Grows p.observed o → IsLoaded p.stamp (Pending rid wts) p.observed o → IsPending p (Pending rid wts) → Reads p (doomed (observing p o) (Pending rid wts)) rid (Err (txn.Conflict (Pending rid wts)))
-pending_reads p o rid wts alive unknown grows loaded shown = record {
+pending_reads : (p : PassView) (o : Observed) (rid wts : ℕ) → p.dead ≡ None → known_at p.post rid ≡ None → Grows p.observed o → StopsAt p.stamp rid wts p.observed o → IsPending p (Pending rid wts) → Reads p (doomed (observing p o) (Pending rid wts)) rid (Err (txn.Conflict (Pending rid wts)))
+pending_reads p o rid wts alive unknown grows stops shown = record {
   ok = tt;
   answered = tt;
   err = refl;
@@ -128,9 +127,8 @@ pending_reads p o rid wts alive unknown grows loaded shown = record {
     stopped = rw alive tt;
     still = rw alive tt;
     records_out = λ out. (cc);
-    loaded = λ first. loaded;
   };
-  meets = λ first. refl;
+  meets = λ first. (refl, stops);
   never = λ out. (cc);
   left = tt;
   found = tt;
@@ -139,10 +137,10 @@ pending_reads p o rid wts alive unknown grows loaded shown = record {
 }
 
 -- at a pass where the search has ended, before it is noted
-pub met_pending : (p q r : PassView) (rid wts : ℕ) (f : TxnFault) → p.dead ≡ None → known_at p.post rid ≡ None → q ≡ observing p q.observed → Grows p.observed q.observed → IsLoaded p.stamp (Pending rid wts) p.observed q.observed → IsPending p (Pending rid wts) → r ≡ doomed q (Pending rid wts) → f ≡ txn.Conflict (Pending rid wts) → Reads p r rid (Err f)
-met_pending p q r rid wts f alive unknown only grows loaded shown after is =
+pub met_pending : (p q r : PassView) (rid wts : ℕ) (f : TxnFault) → p.dead ≡ None → known_at p.post rid ≡ None → q ≡ observing p q.observed → Grows p.observed q.observed → StopsAt p.stamp rid wts p.observed q.observed → IsPending p (Pending rid wts) → r ≡ doomed q (Pending rid wts) → f ≡ txn.Conflict (Pending rid wts) → Reads p r rid (Err f)
+met_pending p q r rid wts f alive unknown only grows stops shown after is =
     subst (λ (x : TxnFault). Reads p r rid (Err x)) (sym is)
-    (subst (λ (x : PassView). Reads p x rid (Err (txn.Conflict (Pending rid wts)))) (sym (after ∙ ap (λ (x : PassView). doomed x (Pending rid wts)) only)) (pending_reads p q.observed rid wts alive unknown grows loaded shown))
+    (subst (λ (x : PassView). Reads p x rid (Err (txn.Conflict (Pending rid wts)))) (sym (after ∙ ap (λ (x : PassView). doomed x (Pending rid wts)) only)) (pending_reads p q.observed rid wts alive unknown grows stops shown))
 
 refuses_memory : {A : Type 0} (p : PassView) (answer : Result A TxnFault) → answer ≡ Err txn.NoMemory → p.dead ≡ None → Refuses p p answer
 refuses_memory p answer is alive = subst (λ r. Refuses p p r) (sym is) (record {
@@ -152,7 +150,6 @@ refuses_memory p answer is alive = subst (λ r. Refuses p p r) (sym is) (record 
   stopped = rw alive tt;
   still = rw alive tt;
   records_out = λ out. (cc);
-  loaded = λ first. tt;
 })
 
 pub stays_so : (p : PassView) → Stays p p
@@ -213,7 +210,7 @@ known_reads p q rid value alive some left same = subst (λ (x : PassView). Reads
   err = tt;
   spare = refl;
   stays = stays_so p;
-  refuses = record { shown = tt; versions = tt; noted = refl; stopped = rw alive tt; still = rw alive tt; records_out = tt; loaded = λ first. tt };
+  refuses = record { shown = tt; versions = tt; noted = refl; stopped = rw alive tt; still = rw alive tt; records_out = tt };
   meets = λ first. tt;
   never = tt;
   left = left;
@@ -232,7 +229,7 @@ written_writes p q rid value alive is = subst (λ (x : PassView). Writes p x rid
   versions = refl;
   stays = record { same_frame = refl; same_accounts = refl; grows = grows_none p.observed };
   looks = refl;
-  refuses = record { shown = tt; versions = tt; noted = refl; stopped = rw alive tt; still = rw alive tt; records_out = tt; loaded = λ first. tt };
+  refuses = record { shown = tt; versions = tt; noted = refl; stopped = rw alive tt; still = rw alive tt; records_out = tt };
   alive = λ first. tt;
   never = tt;
   no_memory = tt;

@@ -5,7 +5,6 @@ use Rattle.record_store.specs.Meaning.{Meaning, after_fresh}
 use Rattle.record_store.specs.Store.{IsFresh}
 use Rattle.validate_core.specs.declared.conflict.Conflict.{Conflict}
 use Rattle.seat_post.specs.declared.phase.Phase.TheVariants.{Open}
-use Rattle.seat_post.specs.Conflicts.{IsLoaded}
 use Rattle.seat_post.specs.Observing.{Grows}
 use Rattle.seat_post.specs.Post.{known_at}
 use Rattle.txn_engine.specs.declared.faults.TxnFault.{TxnFault}
@@ -13,13 +12,12 @@ use Rattle.txn_engine.specs.declared.faults.TxnFault.TheVariants as txn
 use Rattle.txn_engine.specs.declared.fresh.Asked.{Asked}
 use Rattle.txn_engine.specs.declared.fresh.Asked.TheVariants.{Given, Next}
 use Rattle.txn_engine.specs.Accounts.{accounted, Stays}
-use Rattle.txn_engine.specs.Faults.{IfConflict}
 use Rattle.txn_engine.specs.Fresh.{AreWritten, Asks}
 use Rattle.txn_engine.specs.Pass.{PassView, store_of, meaning_of_pass, frame, counted, observing}
 use Rattle.txn_engine.specs.Txn.{notes, notes_after_fault, Reads, Gives}
 use Rattle.txn_engine.proofs.Accounting.{none_remains}
 use Rattle.txn_engine.proofs.Asking.{asks_left, all_written}
-use Rattle.txn_engine.proofs.Growing.{grows_none, grows_both, conflict_earlier}
+use Rattle.txn_engine.proofs.Growing.{grows_none, grows_both}
 use Rattle.txn_engine.proofs.Passing.{HasPassed, none_passed, asks_passed, asks_given, all_passed, wants_memory, meets_next}
 
 -- The numbers before place i of the list that is left were asked for: they are written, and those that were not have left it. All else
@@ -87,7 +85,7 @@ given_gives p q r i rid told opened alive h at is asks stays =
       ok = open_meaning r (still_open p r all.same_frame opened) ∙ ap store_of a.1 ∙ ap (λ (m : Meaning). after_fresh m rid) (here ∙ sym meaning);
       err = tt;
       stays = all;
-      refuses = record { shown = tt; versions = tt; noted = ap notes a.1 ∙ ap notes h.same; stopped = rw alive tt; still = rw alive tt; records_out = tt; loaded = λ first. tt };
+      refuses = record { shown = tt; versions = tt; noted = ap notes a.1 ∙ ap notes h.same; stopped = rw alive tt; still = rw alive tt; records_out = tt };
       meets = λ first. tt;
       first = asks_given p q r i rid told h.same h.passed at is stays.grows asks;
       all_passed = tt;
@@ -113,10 +111,9 @@ refused_gives p q r i rid f opened alive h at unknown reads =
         stopped = rw alive tt;
         still = rw alive tt;
         records_out = λ out. absurd (reads.never out);
-        loaded = λ first. conflict_earlier p.stamp p.observed q.observed r.observed f h.grows (subst (λ n. IfConflict f (λ conflict. IsLoaded n conflict q.observed r.observed)) (ap (λ (x : PassView). x.stamp) h.same) (reads.refuses.loaded living));
       };
       first = tt;
-      meets = λ first. meets_next p q r i rid f h.same h.passed at unknown reads.spare (reads.meets living) (reads.refuses.loaded living);
+      meets = λ first. meets_next p q r i rid f h.same h.passed at unknown reads.spare (reads.meets living);
       all_passed = λ out. absurd (reads.never out);
       none_remains = λ out. absurd (reads.never out);
       no_memory = λ flying want. wants_memory p q r i rid h.same h.passed at unknown (reads.no_memory want);
@@ -139,7 +136,6 @@ ended_gives p q r i opened alive h none is =
         stopped = rw alive tt;
         still = rw alive tt;
         records_out = λ out. all;
-        loaded = λ first. tt;
       };
       meets = λ first. tt;
       first = tt;

@@ -7,9 +7,6 @@ use Rattle.validate_core.specs.declared.conflict.Conflict.TheVariants.{Pending, 
 use Rattle.seat_post.specs.Conflicts.{IsLoaded}
 use Rattle.seat_post.specs.Observing.{Grows}
 use Rattle.seat_post.proofs.Observed.{met_before}
-use Rattle.txn_engine.specs.declared.faults.TxnFault.{TxnFault}
-use Rattle.txn_engine.specs.declared.faults.TxnFault.TheVariants as txn
-use Rattle.txn_engine.specs.Faults.{IfConflict}
 use Rattle.seat_post.specs.Seats.{Observed}
 
 pub grows_none : (o : Observed) → Grows o o
@@ -31,8 +28,3 @@ pub loaded_earlier : (stamp : ℕ) (o p q : Observed) (conflict : Conflict) → 
 loaded_earlier stamp o p q (Pending rid wts) g m = met_before stamp rid wts 2 no_more o.loads p.loads q.loads g.loaded g.loads m
 loaded_earlier stamp o p q (ReadLater rid wts rts) g m = record { status = m.status; final = m.final; met = met_before stamp rid wts m.status (its_read_stamp rts) o.loads p.loads q.loads g.loaded g.loads m.met }
 loaded_earlier stamp o p q (Overtaken rid seen now) g m = (record { status = m.0.status; final = m.0.final; met = met_before stamp rid now m.0.status no_more o.loads p.loads q.loads g.loaded g.loads m.0.met }, m.1)
-
-pub conflict_earlier : (stamp : ℕ) (o p q : Observed) (fault : TxnFault) → Grows o p → IfConflict fault (λ conflict. IsLoaded stamp conflict p q) → IfConflict fault (λ conflict. IsLoaded stamp conflict o q)
-conflict_earlier stamp o p q (txn.Conflict conflict) g loaded = loaded_earlier stamp o p q conflict g loaded
-conflict_earlier stamp o p q txn.RecordsOut g loaded = tt
-conflict_earlier stamp o p q txn.NoMemory g loaded = tt

@@ -5,14 +5,13 @@ use Rattle.std.proofs.lemmas.List.{take_all, drop_all, take-append-drop}
 use Rattle.record_store.specs.Meaning.{value_at}
 use Rattle.seat_post.specs.Observing.{Grows}
 use Rattle.seat_post.specs.Post.{known_at}
-use Rattle.seat_post.specs.Conflicts.{IsLoaded}
 use Rattle.txn_engine.specs.Pass.{PassView, observing}
 use Rattle.txn_engine.specs.Fresh.{IsMetAbsent, IsMetPresent, PassesOver, none_yet, one_stays, one_leaves, GivesFirst, PassesAll, WantsMemory, MeetsNext, Asks}
 use Rattle.txn_engine.specs.declared.fresh.Asked.{Asked}
 use Rattle.txn_engine.specs.declared.fresh.Asked.TheVariants.{Given, Next}
 use Rattle.txn_engine.specs.declared.faults.TxnFault.{TxnFault}
 use Rattle.txn_engine.specs.declared.faults.TxnFault.TheVariants as txn
-use Rattle.txn_engine.specs.Faults.{IfConflict, MeetsAt, WasLoaded}
+use Rattle.txn_engine.specs.Faults.{IfConflict, StopsRead}
 use Rattle.txn_engine.proofs.Asking.{past}
 
 -- ---- lists
@@ -113,8 +112,8 @@ wants_memory p q r i rid same h at unknown is = subst (λ (x : PassView). WantsM
 })
 
 -- a conflict at the number at this place, of which nothing is known
-pub meets_next : (p q r : PassView) (i rid : ℕ) (f : TxnFault) → q ≡ observing (record p { spare = q.spare }) q.observed → HasPassed i p q → slice_get q.spare i ≡ Some rid → known_at q.post rid ≡ None → r.spare ≡ q.spare → IfConflict f (MeetsAt rid) → IfConflict f (WasLoaded q r) → IfConflict f (MeetsNext p r)
-meets_next p q r i rid (txn.Conflict conflict) same h at unknown less meets loaded = record {
+pub meets_next : (p q r : PassView) (i rid : ℕ) (f : TxnFault) → q ≡ observing (record p { spare = q.spare }) q.observed → HasPassed i p q → slice_get q.spare i ≡ Some rid → known_at q.post rid ≡ None → r.spare ≡ q.spare → IfConflict f (StopsRead q.stamp rid q.observed r.observed) → IfConflict f (MeetsNext p r)
+meets_next p q r i rid (txn.Conflict conflict) same h at unknown less stops = record {
   numbers = h.numbers;
   stayed = take i q.spare;
   rid = rid;
@@ -123,9 +122,8 @@ meets_next p q r i rid (txn.Conflict conflict) same h at unknown less meets load
   between = q.observed;
   over = h.over;
   unknown = subst (λ (x : PassView). known_at x.post rid ≡ None) same unknown;
-  at = meets;
-  loaded = subst (λ (x : PassView). IsLoaded x.stamp conflict q.observed r.observed) same loaded;
+  stops = subst (λ (x : PassView). StopsRead x.stamp rid q.observed r.observed conflict) same stops;
   spare = less ∙ sym (take-append-drop i q.spare) ∙ ap (λ (ys : List ℕ). take i q.spare ++ ys) (drop_at q.spare i rid at);
 }
-meets_next p q r i rid txn.RecordsOut same h at unknown less meets loaded = tt
-meets_next p q r i rid txn.NoMemory same h at unknown less meets loaded = tt
+meets_next p q r i rid txn.RecordsOut same h at unknown less stops = tt
+meets_next p q r i rid txn.NoMemory same h at unknown less stops = tt

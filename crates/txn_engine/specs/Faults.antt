@@ -9,8 +9,11 @@ use Rattle.txn_engine.specs.declared.faults.CommitFault.TheVariants as commit
 use Rattle.seat_post.specs.Conflicts.{ShowsPending, Touches, IsLoaded}
 use Rattle.seat_post.specs.Placing.{WantsPlaceAt}
 use Rattle.seat_post.specs.Post.{IsShownAt}
+use Rattle.seat_post.specs.Reading.{StopsAt}
+use Rattle.seat_post.specs.Seats.{Observed}
 use Rattle.txn_engine.specs.Pass.{PassView}
 
+-- where a call of a transaction answers a conflict, this holds of it
 abbrev pub IfConflict : TxnFault → (Conflict → Type 0) → Type 0
 IfConflict (txn.Conflict conflict) P = P conflict
 IfConflict txn.RecordsOut P = ⊤
@@ -45,8 +48,8 @@ WantsPlace before after' = WantsPlaceAt before.post after'.post
 abbrev pub IsTouched : PassView → Conflict → Type 0
 IsTouched p conflict = Touches p.reads p.writes conflict
 
--- the conflict that a read of this record meets
-abbrev pub MeetsAt : ℕ → Conflict → Type 0
-MeetsAt rid (Pending at wts) = at ≡ rid
-MeetsAt rid (ReadLater at wts rts) = ⊥
-MeetsAt rid (Overtaken at seen now) = ⊥
+-- the conflict that a read of this record meets: its search stopped at a pending version
+abbrev pub StopsRead : (stamp rid : ℕ) (before after' : Observed) → Conflict → Type 0
+StopsRead stamp rid before after' (Pending at wts) = (at ≡ rid) × StopsAt stamp rid wts before after'
+StopsRead stamp rid before after' (ReadLater at wts rts) = ⊥
+StopsRead stamp rid before after' (Overtaken at seen now) = ⊥

@@ -5,13 +5,12 @@ use Rattle.record_store.specs.Store.{IsFresh}
 use Rattle.txn_engine.specs.declared.fresh.Asked.{Asked}
 use Rattle.txn_engine.specs.declared.fresh.Asked.TheVariants.{Given, Next}
 use Rattle.validate_core.specs.declared.conflict.Conflict.{Conflict}
-use Rattle.seat_post.specs.Conflicts.{IsLoaded}
 use Rattle.seat_post.specs.Observing.{Grows}
 use Rattle.seat_post.specs.Post.{known_at}
 use Rattle.seat_post.specs.Reading.{FindsValue}
 use Rattle.seat_post.specs.Seats.{Observed}
 use Rattle.seat_post.specs.Leaves.{IsPresent}
-use Rattle.txn_engine.specs.Faults.{MeetsAt}
+use Rattle.txn_engine.specs.Faults.{StopsRead}
 use Rattle.txn_engine.specs.Pass.{PassView, IsAlone, store_of, observing}
 
 -- the record was read as absent, if it was not read before, and these are the versions read
@@ -81,7 +80,7 @@ pub record WantsMemory (before after' : PassView) : Type 0 where
   pub unknown : known_at before.post rid ≡ None
   pub after : after' ≡ observing (record before { spare = stayed ++ rid ∷ behind }) after'.observed
 
--- A conflict was met at a number of the list of which nothing was known, as loads of its search show: those before it were passed.
+-- A conflict was met at a number of the list of which nothing was known, at which its search stopped: those before it were passed.
 pub record MeetsNext (before after' : PassView) (conflict : Conflict) : Type 0 where
   pub numbers : List ℕ
   pub stayed : List ℕ
@@ -91,8 +90,7 @@ pub record MeetsNext (before after' : PassView) (conflict : Conflict) : Type 0 w
   pub between : Observed
   pub over : PassesOver before numbers stayed before.observed between
   pub unknown : known_at before.post rid ≡ None
-  pub at : MeetsAt rid conflict
-  pub loaded : IsLoaded before.stamp conflict between after'.observed
+  pub stops : StopsRead before.stamp rid between after'.observed conflict
   pub spare : after'.spare ≡ stayed ++ rid ∷ behind
 
 -- all of them were passed

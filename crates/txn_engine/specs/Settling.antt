@@ -4,7 +4,7 @@ use Rattle.plain_data.specs.State.{State}
 use Rattle.stamp_base.specs.Limits.{greatest_clock}
 use Rattle.clock_stamps.specs.declared.clocks.ClockOut.{ClockOut}
 use Rattle.seat_post.specs.declared.settled.Settled.{Settled}
-use Rattle.seat_post.specs.Settling.{SettlesPost, SettlesAll, StopsPost, IsDrawnFor}
+use Rattle.seat_post.specs.Settling.{SettlesPost, SettlesAll, StopsPost}
 use Rattle.txn_engine.specs.Leaves.{HoldsAbsent}
 use Rattle.txn_engine.specs.Lists.{IsTidy, IsRoomy}
 use Rattle.txn_engine.specs.Pass.{PassView}
@@ -19,7 +19,7 @@ pub record SettlesPass (kept : State → Type 0) (before after' : PassView) (ans
   pub roomy : OnOk answer (IsRoomy after')
   pub absent : HoldsAbsent before → HoldsAbsent after'
   pub done : IfOk answer (SettlesAll before.post after'.post)
-  pub draws : IfOk answer (λ all. IsDrawnFor all.rewritten before.clock after'.clock before.log after'.log)
+  pub draws : IfOk answer (λ all. after'.clock ≡ before.clock + all.rewritten)
   pub counts : IfOk answer (λ all. (all.rewritten ≤ all.cut) × (all.cut ≤ 2 * before.shared.size.records))
   pub clock_out : OnErr answer (after'.clock ≡ greatest_clock)
   pub within : OnErr answer (after'.clock < before.clock + 2 * before.shared.size.records)

@@ -1,9 +1,11 @@
 -- What becomes of the seat that is alone where it is shared: one pass for each seat.
-use Rattle.std.specs.Prelude.{ℕ, None, ◌-◌, nat_lt, false, List, [], ◌∷◌, ◌++◌, map, if◌then◌else◌}
+use Rattle.std.specs.Prelude.{◌≡◌, ℕ, None, ◌-◌, nat_lt, false, List, [], ◌∷◌, ◌++◌, map, if◌then◌else◌, All}
 use Rattle.std.specs.List.{range_with_len}
+use Rattle.word_layout.specs.Name.{published_write, min_write}
 use Rattle.core_rule.specs.View.{sharing}
 use Rattle.txn_engine.specs.Pass.{PassView, bare}
-use Rattle.seat_post.specs.Seats.{Others, Bounds, Placed}
+use Rattle.seat_post.specs.Observing.{RaisesTo}
+use Rattle.seat_post.specs.Seats.{Others, Bounds, Placed, nothing_observed}
 use Rattle.seat_post.specs.Sharing.{no_bounds, announced_at, made_next}
 use Rattle.spare_numbers.specs.Spare.{every}
 
@@ -54,3 +56,12 @@ shares_of p = first_share p ∷ map (share_at p) (range_with_len 1 (p.shared.siz
 
 abbrev pub shares : PassView → List PassView
 shares p = shares_of (announced p)
+
+-- its steps came upon nothing
+abbrev pub SawNothing : PassView → Type 0
+SawNothing p = p.observed ≡ nothing_observed
+
+-- the steps of seat 0 have raised `min_wts` by the published write words, and those of the others came upon nothing
+pub record HaveSeen (p first : PassView) (rest : List PassView) : Type 0 where
+  pub raised : RaisesTo published_write min_write p.shared.size.seats first.met p.observed first.observed
+  pub others : All SawNothing rest

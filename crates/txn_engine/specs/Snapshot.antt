@@ -2,6 +2,8 @@
 use Rattle.std.specs.Prelude.{◌≡◌, ℕ, ◌+◌, ◌<◌, ◌≤◌, Bool, true, false, nat_lt, List, [], Option, None, Some, option_map, IfSome}
 use Rattle.std.specs.Borrow.{GName}
 use Rattle.stamp_base.specs.Stamp.{stamp_of}
+use Rattle.word_layout.specs.Name.{published_read}
+use Rattle.core_rule.specs.Paths.{load}
 use Rattle.histories.specs.History.{IsValue, UpTo}
 use Rattle.record_store.specs.Meaning.{Meaning}
 use Rattle.seat_post.specs.declared.phase.Phase.{Phase}
@@ -9,7 +11,7 @@ use Rattle.seat_post.specs.declared.phase.Phase.TheVariants.{Idle, Open, Install
 use Rattle.plain_data.specs.State.{State}
 use Rattle.seat_post.specs.Ends.{Stood}
 use Rattle.seat_post.specs.Snapshot.{SnapshotView, entry_of_snapshot}
-use Rattle.seat_post.specs.Observing.{Grows, MeetsMinimum}
+use Rattle.seat_post.specs.Observing.{with_load, MeetsMinimum}
 use Rattle.seat_post.specs.Post.{snapshot_begun_at, snapshot_read_at, finished_at}
 use Rattle.seat_post.specs.Reading.{FindsInSnapshot}
 use Rattle.seat_post.specs.Seats.{nothing_observed}
@@ -29,7 +31,6 @@ finished p g = record p { post = finished_at p.post g }
 pub record Begins (before after' : PassView) : Type 0 where
   pub stamp : ℕ
   pub pass : after' ≡ observing (snapshot_begun before stamp) after'.observed
-  pub grows : Grows before.observed after'.observed
   pub minimum : MeetsMinimum before.shared.size.seats (stamp + 1) before.observed after'.observed
   pub met : before.met ≤ stamp + 1
   pub snapshots : AreBelow before.log (stamp + 1)
@@ -37,11 +38,11 @@ pub record Begins (before after' : PassView) : Type 0 where
   pub below_next : stamp < stamp_of (before.clock + 1) before.seat
   pub alone : IsAlone before → before.published ≤ stamp + 1
 
--- It ends, and gives its stamp: one entry with all that was read stands at the end of the log, and a kept state of the history at that
--- stamp agrees with it.
+-- It ends, at a load of the own published read word, and gives its stamp: one entry with all that was read stands at the end of the log,
+-- and a kept state of the history at that stamp agrees with it.
 pub record Finishes (kept : State → Type 0) (before after' : PassView) (told : ℕ) : Type 0 where
   pub after : IfSome before.snapshot (λ g. after' ≡ observing (finished before g) after'.observed)
-  pub grows : Grows before.observed after'.observed
+  pub loads : (word : ℕ) × (after'.observed ≡ with_load before.observed (load (published_read before.seat) word))
   pub stamp : IfSome before.snapshot (λ g. told ≡ g.stamp)
   pub stood : IfSome before.snapshot (λ g. Stood kept before.shared.size.records before.log (entry_of_snapshot g))
 

@@ -42,9 +42,14 @@ impl<J: Keeps> SeatCalls for Alone<J> {
         Ok(())
     }
 
-    fn read(&mut self, engine: &Engine<J>, rid: u32) -> Result<Option<Cells>, AloneFault> {
-        match self.pass.read(engine, rid) {
-            Ok(value) => Ok(value),
+    fn read_into(
+        &mut self,
+        engine: &Engine<J>,
+        rid: u32,
+        into: &mut Cells,
+    ) -> Result<bool, AloneFault> {
+        match self.pass.read_into(engine, rid, into) {
+            Ok(present) => Ok(present),
             Err(TxnFault::NoMemory) => Err(AloneFault::NoMemory),
             Err(_) => unreachable!(),
         }
@@ -87,8 +92,8 @@ impl<J: Keeps> SeatCalls for Alone<J> {
         self.pass.begin_snapshot(engine);
     }
 
-    fn read_snapshot(&mut self, engine: &Engine<J>, rid: u32) -> Option<Cells> {
-        self.pass.read_snapshot(engine, rid)
+    fn read_snapshot(&mut self, engine: &Engine<J>, rid: u32, into: &mut Cells) -> bool {
+        self.pass.read_snapshot(engine, rid, into)
     }
 
     fn end_snapshot(&mut self, engine: &Engine<J>) -> u64 {

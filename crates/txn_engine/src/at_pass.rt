@@ -7,6 +7,7 @@ use crate::seat_calls::SeatCalls;
 use crate::transacting::{Committed, boost_after_end, one_if};
 use core_rule::Keeps;
 use plain_data::Cells;
+use record_store::put_value;
 use seat_post::Phase;
 
 impl<J: Keeps> SeatCalls for Pass<J> {
@@ -42,16 +43,21 @@ impl<J: Keeps> SeatCalls for Pass<J> {
         Ok(())
     }
 
-    fn read(&mut self, engine: &Engine<J>, rid: u32) -> Result<Option<Cells>, TxnFault> {
+    fn read_into(
+        &mut self,
+        engine: &Engine<J>,
+        rid: u32,
+        into: &mut Cells,
+    ) -> Result<bool, TxnFault> {
         self.stopped()?;
         if let Some(value) = self.post.written(rid) {
-            return Ok(*value);
+            return Ok(put_value(value, into));
         }
         if let Some(version) = self.post.version_read(rid) {
-            return Ok(version.value());
+            return Ok(put_value(&version.value(), into));
         }
         self.note(engine, rid)?;
-        Ok(self.post.last_read())
+        Ok(put_value(&self.post.last_read().value(), into))
     }
 
     fn write(&mut self, rid: u32, value: &Option<Cells>) -> Result<(), TxnFault> {
@@ -103,8 +109,8 @@ impl<J: Keeps> SeatCalls for Pass<J> {
         self.post.begin_snapshot(&engine.core);
     }
 
-    fn read_snapshot(&mut self, engine: &Engine<J>, rid: u32) -> Option<Cells> {
-        self.post.read_snapshot(&engine.core, rid)
+    fn read_snapshot(&mut self, engine: &Engine<J>, rid: u32, into: &mut Cells) -> bool {
+        self.post.read_snapshot(&engine.core, rid, into)
     }
 
     fn end_snapshot(&mut self, engine: &Engine<J>) -> u64 {

@@ -8,7 +8,7 @@ ghost use Rattle.histories.specs.History.{Lawful};
 ghost use Rattle.word_layout.specs.Name.{min_write, published_write};
 ghost use Rattle.core_rule.specs.Paths.{load};
 ghost use Rattle.seat_post.specs.Logs.{IsAbove};
-ghost use Rattle.seat_post.specs.Observing.{Grows, with_load};
+ghost use Rattle.seat_post.specs.Observing.{with_load};
 ghost use Rattle.txn_engine.specs.Collecting.{CollectsPass};
 ghost use Rattle.txn_engine.specs.Leaves.{HoldsAbsent};
 ghost use Rattle.txn_engine.specs.Pass.{IsIdle, IsAlone, next_clock, begun, ticked, heard, observing, with_met, engine_of};
@@ -44,8 +44,7 @@ pub trait Seat: SeatCalls {
     fn hear(&mut self, engine: &Engine<Self::Kept>, stamp: Stamp)
         requires { engine_of (Self.pass self.old) ≡ engine.now }
         ensures value { Self.pass self.new ≡ observing (heard (Self.pass self.old) stamp) (with_load (Self.pass self.old).observed (load (published_write (Self.pass self.old).seat) (Self.pass self.old).published)) }
-        ensures beside { Self.beside self.new ≡ Self.beside self.old }
-        ensures grows { Grows (Self.pass self.old).observed (Self.pass self.new).observed };
+        ensures beside { Self.beside self.new ≡ Self.beside self.old };
 
     /// Begins a transaction, with the next clock at this reading, in any unit; a boosted clock reads 1,024 more. `ClockOut` comes
     /// where no clock is left. After a refusal all is as before.
@@ -90,7 +89,6 @@ pub trait Seat: SeatCalls {
         ensures value { Self.pass self.new ≡ observing (with_met (Self.pass self.old) (Self.pass self.new).met) (Self.pass self.new).observed }
         ensures beside { Self.beside self.new ≡ Self.beside self.old }
         ensures load { (Self.pass self.new).observed ≡ with_load (Self.pass self.old).observed (load min_write (Self.pass self.new).met) }
-        ensures grows { Grows (Self.pass self.old).observed (Self.pass self.new).observed }
         ensures not_back { (Self.pass self.old).met ≤ (Self.pass self.new).met }
         ensures holds { Self.holds self.old }
         ensures lawful { IsAlone (Self.pass self.old) → Lawful Self.Kept.kept (Self.pass self.old).shared.size.records (Self.pass self.old).log };

@@ -1,7 +1,8 @@
 //! What transactions and snapshots do at a seat.
-ghost use Rattle.std.specs.Prelude.{◌≡◌, ◌+◌, ◌<◌, ◌≤◌, Some, IfErr, OnOk, OnErr, nat_eq};
+ghost use Rattle.std.specs.Prelude.{◌≡◌, ◌+◌, ◌<◌, ◌≤◌, Some, false, IfOk, IfErr, OnOk, OnErr, nat_eq};
 ghost use Rattle.std.specs.List.{IsDistinct};
 ghost use Rattle.plain_data.specs.State.{Fits};
+ghost use Rattle.record_store.specs.Into.{value_if, told_into};
 ghost use Rattle.record_store.specs.Meaning.{known, after_read};
 ghost use Rattle.stamp_base.specs.Limits.{greatest_clock};
 
@@ -66,12 +67,19 @@ pub trait SeatCalls {
         ensures clock_out { IfErr result (λ fault. fault ≡ BeginFault.ClockOut → next_clock (pass self.old) reading ≡ greatest_clock + 1) }
         ensures err { OnErr result (self.new ≡ self.old) };
 
-    /// Reads a record, once.
-    fn read(&mut self, engine: &Engine<Self::Kept>, rid: u32) -> Result<Option<Cells>, Self::Fault>
+    /// Reads a record, once, into these cells, and answers whether it is present; where it is not, and after a fault, they are as before.
+    fn read_into(
+        &mut self,
+        engine: &Engine<Self::Kept>,
+        rid: u32,
+        into: &mut Cells,
+    ) -> Result<bool, Self::Fault>
         requires engine { engine_of (pass self.old) ≡ engine.now }
         requires open { (pass self.old).phase ≡ Phase.Open }
         requires rid { rid < (pass self.old).shared.size.records }
-        ensures reads { Reads (pass self.old) (pass self.new) rid (told_by fault result) }
+        ensures reads { Reads (pass self.old) (pass self.new) rid (told_by fault (told_into result into.new)) }
+        ensures absent { IfOk result (λ present. present ≡ false → into.new ≡ into.old) }
+        ensures untouched { OnErr result (into.new ≡ into.old) }
         ensures beside { beside self.new ≡ beside self.old };
 
     /// Writes a record, or deletes it. Room is taken first.
@@ -117,20 +125,21 @@ pub trait SeatCalls {
         ensures snapshot { HasSnapshot (pass self.new) }
         ensures beside { beside self.new ≡ beside self.old };
 
-    /// Reads a record for it.
-    fn read_snapshot(&mut self, engine: &Engine<Self::Kept>, rid: u32) -> Option<Cells>
+    /// Reads a record for it, likewise.
+    fn read_snapshot(&mut self, engine: &Engine<Self::Kept>, rid: u32, into: &mut Cells) -> bool
         requires engine { engine_of (pass self.old) ≡ engine.now }
         requires snapshot { HasSnapshot (pass self.old) }
         requires rid { rid < (pass self.old).shared.size.records }
         ensures still { HasSnapshot (pass self.new) }
-        ensures meaning { meaning_of_snapshot (pass self.new) ≡ after_read (meaning_of_snapshot (pass self.old)) rid result }
+        ensures meaning { meaning_of_snapshot (pass self.new) ≡ after_read (meaning_of_snapshot (pass self.old)) rid (value_if result into.new) }
         ensures frame { unread (pass self.new) ≡ unread (pass self.old) }
-        ensures after { pass self.new ≡ observing (snapshot_read (pass self.old) rid result) (pass self.new).observed }
+        ensures after { pass self.new ≡ observing (snapshot_read (pass self.old) rid (value_if result into.new)) (pass self.new).observed }
         ensures beside { beside self.new ≡ beside self.old }
         ensures grows { Grows (pass self.old).observed (pass self.new).observed }
-        ensures answer { known (meaning_of_snapshot (pass self.new)) rid ≡ Some result }
-        ensures found { FindsSeen (pass self.old) (pass self.new) rid result }
-        ensures left { ReadsLeft (pass self.old) rid result };
+        ensures answer { known (meaning_of_snapshot (pass self.new)) rid ≡ Some (value_if result into.new) }
+        ensures absent { result ≡ false → into.new ≡ into.old }
+        ensures found { FindsSeen (pass self.old) (pass self.new) rid (value_if result into.new) }
+        ensures left { ReadsLeft (pass self.old) rid (value_if result into.new) };
 
     /// Ends it.
     fn end_snapshot(&mut self, engine: &Engine<Self::Kept>) -> u64

@@ -64,8 +64,8 @@ impl<S: SeatCalls> RecordRead for SnapshotOver<'_, S> {
 
     ghost read_gives = { λ s rid answer s'. IfOk answer (ReadsLeft (S.pass s.seat.now) rid) × Grows (S.pass s.seat.now).observed (S.pass s'.seat.now).observed × IfOk answer (FindsSeen (S.pass s.seat.now) (S.pass s'.seat.now) rid) };
 
-    fn read(&mut self, rid: u32) -> Result<Option<Cells>, NoFault> {
-        Ok(self.seat.read_snapshot(self.engine, rid))
+    fn read_into(&mut self, rid: u32, into: &mut Cells) -> Result<bool, NoFault> {
+        Ok(self.seat.read_snapshot(self.engine, rid, into))
     }
 
     fn size(&self) -> u32 {

@@ -44,6 +44,7 @@ decides_step kept records stamp s checked x y w t ls e more same st closes stood
       log = log ∙ ap (λ (l : Logged). x.log ++ l ∷ []) entry;
       only = e ∙ (λ i. record (worked x (sym work i) (sym seen i)) { log = sym log i });
       grows = grows_loads x.seen y.seen ls (ap (λ (z : Seen). z.loads) seen ∙ more) (ap (λ (z : Seen). z.lost) seen ∙ same);
+      lost = ap (λ (z : Seen). z.lost) seen ∙ same;
       stood = subst (StoodAt kept records x.log) entry stood;
       decided = record {
         in_flight = ap (λ (v : View). v.flight) e ∙ st.in_flight;

@@ -16,7 +16,7 @@ use Rattle.version_search.proofs.Grown.{grows_none, grows_both, grows_lost}
 use Rattle.validate_core.specs.Sets.{SetsView, Turn, Once, IsInside, SameWrites}
 use Rattle.validate_core.specs.Validating.{Stands, worked, Works, IsInstalled}
 use Rattle.validate_core.specs.Installing.{IsBegun, SameSets, installed_in, Puts, InstallsOne, FindsNoneFor, LinksOne, LinksEach, none_yet, one_more, Installs, InstallsHeld, FindsNoPlace}
-use Rattle.validate_core.proofs.Works.{works_stands, stands_both, ready_none, ready_both, among_turn, among_last, once_turn}
+use Rattle.validate_core.proofs.Works.{works_stands, logs_stand, stands_both, ready_none, ready_both, among_turn, among_last, once_turn}
 use Rattle.validate_core.proofs.Writes.{same_none, same_both, same_set, same_among, same_once, same_length}
 
 without_fresh : (place : ℕ) (ps : List ℕ) → AllOf (λ p. p ≢ place) ps → without place ps ≡ ps
@@ -206,7 +206,7 @@ module _ (core : Shared) (before : Seated) (s0 : SetsView) (i : ℕ) (s : SetsVi
     pub none_stands : (w : View) → Works x.view w → Stands before.view w
     none_stands w a =
         stands_both before.view now.view w placing_stands (stands_both now.view x.view w
-        (works_stands now.view x.view record { only = subst (λ (y : View). y ≡ worked now.view y.work y.seen) (sym f.none.view) refl; grows = grows_lost now.view.seen x.view.seen f.none.lost (ap (λ (y : View). y.seen.loads) f.none.view) (ap (λ (y : View). y.seen.lost) f.none.view) })
+        (logs_stand now.view x.view (subst (λ (y : View). y ≡ record (worked now.view y.work y.seen) { log = y.log }) (sym f.none.view) refl) (grows_lost now.view.seen x.view.seen f.none.lost (ap (λ (y : View). y.seen.loads) f.none.view) (ap (λ (y : View). y.seen.lost) f.none.view)))
         (works_stands x.view w a))
 
     pub none_in_reserved : (w : View) → Works x.view w → w.counts.in_reserved ≡ before.view.counts.in_reserved

@@ -233,6 +233,7 @@ decides_earlier kept records stamp s u v x a d =
       log = d.log ∙ ap (λ (l : List Logged). l ++ commit_of (writing stamp) s.reads s.writes ∷ []) same;
       only = d.only ∙ ap (λ (y : View). record y { work = x.work; log = x.log; seen = x.seen }) a.only;
       grows = grows_both u.seen v.seen x.seen a.grows d.grows;
+      lost = d.lost ∙ a.lost;
       stood = subst (λ (l : List Logged). StoodAt kept records l (commit_of (writing stamp) s.reads s.writes)) same d.stood;
       decided = d.decided;
     }

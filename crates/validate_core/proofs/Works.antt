@@ -10,12 +10,13 @@ use Rattle.validate_core.specs.Validating.{worked, Works, Stands}
 use Rattle.validate_core.specs.Sets.{Once, Turn}
 
 pub works_none : (v : View) → Works v v
-works_none v = record { only = refl; grows = grows_none v.seen }
+works_none v = record { only = refl; grows = grows_none v.seen; lost = refl }
 
 pub works_both : (u v w : View) → Works u v → Works v w → Works u w
 works_both u v w a b = record {
   only = b.only ∙ ap (λ (x : View). record x { work = w.work; seen = w.seen }) a.only;
   grows = grows_both u.seen v.seen w.seen a.grows b.grows;
+  lost = b.lost ∙ a.lost;
 }
 
 -- after loads alone
@@ -23,6 +24,7 @@ pub works_step : (v x : View) (w : Work) (t : Seen) (ls : List Load) → x ≡ w
 works_step v x w t ls e h k = record {
   only = e ∙ (λ i. record v { work = sym (ap (λ (y : View). y.work) e) i; seen = sym (ap (λ (y : View). y.seen) e) i });
   grows = grows_loads v.seen x.seen ls (ap (λ (y : View). y.seen.loads) e ∙ h) (ap (λ (y : View). y.seen.lost) e ∙ k);
+  lost = ap (λ (y : View). y.seen.lost) e ∙ k;
 }
 
 pub works_stands : (v w : View) → Works v w → Stands v w

@@ -28,10 +28,11 @@ pub record Stands (v w : View) : Type 0 where
 abbrev pub worked : View → Work → Seen → View
 worked v w seen = record v { work = w; seen = seen }
 
--- what is in flight and what was seen alone have changed, which has grown
+-- what is in flight and what was seen alone have changed, and loads alone were added to what was seen
 pub record Works (v w : View) : Type 0 where
   pub only : w ≡ worked v w.work w.seen
   pub grows : Grows v.seen w.seen
+  pub lost : w.seen.lost ≡ v.seen.lost
 
 -- the transaction at this stamp has these reads and writes, which are linked; of the reads so many are raised, and finished; and
 -- these writes have passed the check
@@ -68,11 +69,12 @@ pub record IsDecidedAt (stamp : ℕ) (s : SetsView) (v : View) : Type 0 where
   pub collected : v.work.item ≡ no_item
 
 -- the log has one more entry, the commit entry of the sets, at the end of a lawful history in which a kept state agrees with its
--- reads. All else but what is in flight and what was seen is as before
+-- reads. No exchange was lost, and all else but what is in flight and what was seen is as before
 pub record Decides (kept : State → Type 0) (records stamp : ℕ) (s : SetsView) (v w : View) : Type 0 where
   pub log : w.log ≡ v.log ++ commit_of (writing stamp) s.reads s.writes ∷ []
   pub only : w ≡ record (worked v w.work w.seen) { log = w.log }
   pub grows : Grows v.seen w.seen
+  pub lost : w.seen.lost ≡ v.seen.lost
   pub stood : StoodAt kept records v.log (commit_of (writing stamp) s.reads s.writes)
   pub decided : IsDecidedAt stamp s w
 

@@ -203,12 +203,12 @@ impl Sets {
         self.writes.clear();
     }
 
-    /// The value that was read last.
-    pub fn last_read(&self) -> Option<Cells>
+    /// The version that was read last.
+    pub fn last_read(&self) -> &ReadVersion
         requires { self.now.reads ≢ [] }
-        ensures { (ds : List Read) → (d : Read) → self.now.reads ≡ ds ++ d ∷ [] → result ≡ read_value d }
+        ensures { (ds : List Read) → (d : Read) → self.now.reads ≡ ds ++ d ∷ [] → result.now ≡ d }
     {
-        self.reads.items[self.reads.count - 1].value()
+        &self.reads.items[self.reads.count - 1]
     }
 
     /// How many writes stand in places below this one.

@@ -1,20 +1,20 @@
 -- The place of a version that is linked, from step to step.
-use Rattle.std.proofs.Common.{◌≡◌, ◌≢◌, ℕ, ◌-◌, ◌<◌, ◌≤◌, suc, true, false, Bool, cond, eqb, [], ◌∷◌, ◌++◌, sym, ap, ◌∙◌, subst, arith, eq-eqb, ne_eqb, Option, Some, None}
+use Rattle.std.proofs.Common.{◌≡◌, ◌≢◌, ℕ, ◌-◌, ◌<◌, ◌≤◌, suc, true, false, Bool, cond, eqb, List, [], ◌∷◌, ◌++◌, sym, ap, ◌∙◌, subst, arith, eq-eqb, ne_eqb, Option, Some, None}
 use Rattle.std.specs.Option.{ForSome}
 use Rattle.stamp_base.specs.Limits.{end_of_stamps}
 use Rattle.plain_data.specs.State.{State}
 use Rattle.word_layout.specs.Size.{Size, places}
-use Rattle.core_rule.specs.View.{View, writing, Seen, Fill, Write, Joint, links, Stand, Look, blank, stamped, Search, still, marks, stands, Work, no_front}
+use Rattle.core_rule.specs.View.{View, writing, Load, Seen, Fill, Write, Joint, links, Stand, Look, blank, stamped, Search, still, marks, stands, Work, no_front}
 use Rattle.core_rule.specs.Holding.{without, without_fill}
 use Rattle.core_rule.specs.Searching.{stand_in, look_in, joint_in, write_in, first_joint, moved, stamp_seen, write_of, counted_more}
 use Rattle.core_rule.specs.Hands.{Shared, Seated, IsReady, IsSameSeat, StaysReady, Steps}
 use Rattle.core_rule.specs.Kinds.{mark, load_head, load_next, load_stamp, point, linked_after}
 use Rattle.core_rule.specs.Learnt.{IsLink}
 use Rattle.version_search.specs.Finding.{with_work}
-use Rattle.version_search.specs.Growing.{Grows}
+use Rattle.version_search.specs.Growing.{Grows, LosesNoPlace}
 use Rattle.version_search.specs.Links.{joined_at, IsLinked}
 use Rattle.version_search.proofs.Calls.{stays-ready, starts-ready, both-ready, only_of}
-use Rattle.version_search.proofs.Grown.{grows_both, grows_loads, grows_same}
+use Rattle.version_search.proofs.Grown.{grows_both, grows_loads, grows_lost, grows_same, no_place_none, no_place_both}
 
 abbrev pub between : Write → Option ℕ → (below under least : ℕ) → Bool → Stand
 between u above below under least done =
@@ -39,6 +39,7 @@ pub record Between (core : Shared) (layout : Size) (before now : Seated) (u : Wr
   pub flight : now.view.flight ≡ writing u.stamp
   pub view : now.view ≡ marked_with before.view u.place now.view.work.search now.view.seen
   pub grows : Grows before.view.seen now.view.seen
+  pub no_place : LosesNoPlace before.view.seen.lost now.view.seen.lost
 
 marked_then : (v w x : View) (p : ℕ) → w ≡ marked_with v p w.work.search w.seen → x ≡ with_work w x.work.search x.seen → x ≡ marked_with v p x.work.search x.seen
 marked_then v w x p e f =
@@ -77,6 +78,7 @@ module _ (core : Shared) (layout : Size) (layout_is : layout ≡ core.size) (bef
             (e ∙ same_marked before.view f.place _ _ _ _ (sym (ap (λ (v : View). v.work.search) e)) (sym (ap (λ (v : View). v.seen) e))) (only_of a.view now.view _ _ g);
         grows = grows_both before.view.seen a.view.seen now.view.seen (grows_same before.view.seen a.view.seen (ap (λ (v : View). v.seen.loads) e) (ap (λ (v : View). v.seen.lost) e))
             (grows_loads a.view.seen now.view.seen _ (ap (λ (v : View). v.seen.loads) g) (ap (λ (v : View). v.seen.lost) g));
+        no_place = no_place_none before.view.seen.lost now.view.seen.lost (ap (λ (v : View). v.seen.lost) g ∙ ap (λ (v : View). v.seen.lost) e);
       }
 
   module _ {kept : State → Type 0} (u : Write) (above : Option ℕ) (below wts : ℕ) (now at : Seated) (b : Between core layout before now u above below) (looked : Steps kept (load_stamp (stand_in now.view.work.search)) now wts at) where
@@ -93,6 +95,10 @@ module _ (core : Shared) (layout : Size) (layout_is : layout ≡ core.size) (bef
 
     at_grows : Grows before.view.seen at.view.seen
     at_grows = grows_both before.view.seen now.view.seen at.view.seen b.grows (grows_loads now.view.seen at.view.seen _ (ap (λ (v : View). v.seen.loads) looked.view) (ap (λ (v : View). v.seen.lost) looked.view))
+
+    -- it has lost none on a place by then, and neither has one that ends where this one ends
+    at_no_place : (x : List Load) → x ≡ at.view.seen.lost → LosesNoPlace before.view.seen.lost x
+    at_no_place x e = no_place_both before.view.seen.lost now.view.seen.lost x b.no_place (no_place_none now.view.seen.lost x (e ∙ ap (λ (v : View). v.seen.lost) looked.view))
 
     at_flight : at.view.flight ≡ writing u.stamp
     at_flight = ap (λ (v : View). v.flight) looked.view ∙ b.flight
@@ -117,17 +123,21 @@ module _ (core : Shared) (layout : Size) (layout_is : layout ≡ core.size) (bef
           flight = ap (λ (v : View). v.flight) e ∙ at_flight;
           view = marked_then before.view at.view next'.view u.place at_view (only_of at.view next'.view _ _ e);
           grows = grows_both before.view.seen at.view.seen next'.view.seen at_grows (grows_loads at.view.seen next'.view.seen _ (ap (λ (v : View). v.seen.loads) e) (ap (λ (v : View). v.seen.lost) e));
+          no_place = at_no_place next'.view.seen.lost (ap (λ (v : View). v.seen.lost) e);
         }
 
-    joined_grows : (po jo : Seated) → Steps kept (point (stand_in at.view.work.search) (joint_in at.view.work.search) (stamp_seen (look_in at.view.work.search))) at (suc below) po → Grows po.view.seen jo.view.seen → Grows before.view.seen jo.view.seen
-    joined_grows po jo pointed grows =
+    joined_grows : (po jo : Seated) → Steps kept (point (stand_in at.view.work.search) (joint_in at.view.work.search) (stamp_seen (look_in at.view.work.search))) at (suc below) po → jo.view.seen.loads ≡ po.view.seen.loads → LosesNoPlace po.view.seen.lost jo.view.seen.lost → Grows before.view.seen jo.view.seen
+    joined_grows po jo pointed loads no_place =
         grows_both before.view.seen at.view.seen jo.view.seen at_grows (grows_both at.view.seen po.view.seen jo.view.seen
-        (grows_same at.view.seen po.view.seen (ap (λ (v : View). v.seen.loads) pointed.view) (ap (λ (v : View). v.seen.lost) pointed.view)) grows)
+        (grows_same at.view.seen po.view.seen (ap (λ (v : View). v.seen.loads) pointed.view) (ap (λ (v : View). v.seen.lost) pointed.view)) (grows_lost po.view.seen jo.view.seen no_place.missed loads no_place.lost))
+
+    joined_no_place : (po jo : Seated) → Steps kept (point (stand_in at.view.work.search) (joint_in at.view.work.search) (stamp_seen (look_in at.view.work.search))) at (suc below) po → LosesNoPlace po.view.seen.lost jo.view.seen.lost → LosesNoPlace before.view.seen.lost jo.view.seen.lost
+    joined_no_place po jo pointed no_place = no_place_both before.view.seen.lost po.view.seen.lost jo.view.seen.lost (at_no_place po.view.seen.lost (ap (λ (v : View). v.seen.lost) pointed.view)) no_place
 
     -- the exchange is lost
     pub loses : (n : ℕ) (po jo : Seated) → Steps kept (point (stand_in at.view.work.search) (joint_in at.view.work.search) (stamp_seen (look_in at.view.work.search))) at (suc below) po → StaysReady core po jo
-        → jo.view ≡ joined_at po.view n jo.view.seen → Grows po.view.seen jo.view.seen → IsLink (places core.size) n → n ≢ suc below → Between core layout before jo u above (n - 1)
-    loses n po jo pointed stays joined grows link ne =
+        → jo.view ≡ joined_at po.view n jo.view.seen → jo.view.seen.loads ≡ po.view.seen.loads → LosesNoPlace po.view.seen.lost jo.view.seen.lost → IsLink (places core.size) n → n ≢ suc below → Between core layout before jo u above (n - 1)
+    loses n po jo pointed stays joined loads no_place link ne =
         let e = pointed.view in
         let s : stand_in at.view.work.search ≡ between u above below b.under b.least false = ap stand_in at_search in
         let j : joint_in at.view.work.search ≡ record { write = u; above = above; least = b.least; stored = false } = ap joint_in at_search in
@@ -174,13 +184,14 @@ module _ (core : Shared) (layout : Size) (layout_is : layout ≡ core.size) (bef
           above_inside = b.above_inside;
           flight = ap (λ (v : View). v.flight) jo_view ∙ ap (λ (v : View). v.flight) e ∙ at_flight;
           view = marked_then before.view po.view jo.view u.place (marked_then before.view at.view po.view u.place at_view (only_of at.view po.view _ _ e)) (only_of po.view jo.view _ _ jo_view);
-          grows = joined_grows po jo pointed grows;
+          grows = joined_grows po jo pointed loads no_place;
+          no_place = joined_no_place po jo pointed no_place;
         }
 
     -- the exchange is won
     pub wins : (n : ℕ) (po jo : Seated) → Steps kept (point (stand_in at.view.work.search) (joint_in at.view.work.search) (stamp_seen (look_in at.view.work.search))) at (suc below) po
-        → jo.view ≡ joined_at po.view n jo.view.seen → Grows po.view.seen jo.view.seen → n ≡ suc below → IsLinked u before.view jo.view
-    wins n po jo pointed joined grows is =
+        → jo.view ≡ joined_at po.view n jo.view.seen → jo.view.seen.loads ≡ po.view.seen.loads → LosesNoPlace po.view.seen.lost jo.view.seen.lost → n ≡ suc below → IsLinked u before.view jo.view
+    wins n po jo pointed joined loads no_place is =
         let e = pointed.view in
         let s : stand_in at.view.work.search ≡ between u above below b.under b.least false = ap stand_in at_search in
         let j : joint_in at.view.work.search ≡ record { write = u; above = above; least = b.least; stored = false } = ap joint_in at_search in
@@ -217,5 +228,6 @@ module _ (core : Shared) (layout : Size) (layout_is : layout ≡ core.size) (bef
                 front = no_front;
                 seen = jo.view.seen;
               }) po_view;
-          grows = joined_grows po jo pointed grows;
+          grows = joined_grows po jo pointed loads no_place;
+          no_place = joined_no_place po jo pointed no_place;
         }

@@ -10,9 +10,7 @@ use Rattle.core_rule.specs.Hands.{Shared, Seated, IsReady, StaysReady, Steps}
 use Rattle.core_rule.specs.Kinds.{load_cell}
 use Rattle.core_rule.specs.Left.{LeavesCells}
 use Rattle.version_search.specs.Loading.{with_cells, with_value, IsLeftIn, cells_loaded}
-use Rattle.version_search.specs.Growing.{Grows}
 use Rattle.version_search.proofs.Calls.{stays-ready, starts-ready}
-use Rattle.version_search.proofs.Grown.{grows_none, grows_both, grows_loads}
 
 pub loading_still : (cells : List ℕ) (ds : List Read) → IsLoading ds → IsLoading (with_cells cells ds)
 loading_still cells [] h = absurd h
@@ -49,7 +47,7 @@ pub record Loaded (core : Shared) (before : Seated) (words : List ℕ) (n : ℕ)
   pub count : length words ≡ 32
   pub view : now.view ≡ with_value before.view (take n words) now.view.seen
   pub left : n ≡ 32 → IsLeftIn now.view (newest now.view.work.reads).cells
-  pub grows : Grows before.view.seen now.view.seen
+  pub lost : now.view.seen.lost ≡ before.view.seen.lost
   pub loads : now.view.seen.loads ≡ before.view.seen.loads ++ cells_loaded (read_place before.view.work.reads) 0 (take n words)
 
 -- the same into a version, of which all but the cells stays
@@ -66,7 +64,7 @@ begins core before words ready count = record {
   count = count;
   view = λ i. record before.view { work = record before.view.work { reads = with_none before.view.work.reads i } };
   left = λ all. absurd (omega arith);
-  grows = grows_none before.view.seen;
+  lost = refl;
   loads = sym (append-nil before.view.seen.loads);
 }
 
@@ -105,7 +103,7 @@ module _ (core : Shared) (before : Seated) (words : List ℕ) (loading : IsLoadi
             subst (λ (v : View). IsLeftIn v (newest v.work.reads).cells) (sym view) (λ alone.
             subst (λ (d : Read). LeavesCells now.view.log d.record_number (limit_of now.view.flight now.view.published.read) d.version d.cells) (sym (newest_more n now.view.work.reads (still_loading i now l)))
             (step.learnt alone (omega arith)));
-        grows = grows_both before.view.seen now.view.seen next'.view.seen l.grows (grows_loads now.view.seen next'.view.seen _ (ap (λ (v : View). v.seen.loads) view) (ap (λ (v : View). v.seen.lost) view));
+        lost = ap (λ (v : View). v.seen.lost) view ∙ l.lost;
         loads = ap (λ (v : View). v.seen.loads) view
             ∙ ap (λ (q : ℕ). now.view.seen.loads ++ load (cell q (read_cells now.view.work.reads)) n ∷ []) same_place
             ∙ ap (λ (k : ℕ). now.view.seen.loads ++ load (cell p k) n ∷ []) so_far

@@ -1,7 +1,9 @@
 -- The lists of what was seen, from call to call.
-use Rattle.std.proofs.Common.{◌≡◌, List, [], ◌++◌, append_assoc, append-nil, sym, ap, ◌∙◌}
+use Rattle.std.proofs.Common.{◌≡◌, ◌≢◌, ℕ, Bool, true, false, cond, List, [], ◌∷◌, ◌++◌, append_assoc, append-nil, sym, ap, ◌∙◌, inl, inr, ⊎_elim}
+use Rattle.word_layout.specs.Name.{Name, status}
 use Rattle.core_rule.specs.View.{Load, Seen}
-use Rattle.version_search.specs.Growing.{Grows}
+use Rattle.core_rule.proofs.Among.{Among-split}
+use Rattle.version_search.specs.Growing.{Grows, LosesNoPlace}
 
 pub grows_none : (s : Seen) → Grows s s
 grows_none s = record { loaded = []; missed = []; loads = sym (append-nil s.loads); lost = sym (append-nil s.lost) }
@@ -23,3 +25,25 @@ grows_lost s t ls e f = record { loaded = []; missed = ls; loads = e ∙ sym (ap
 
 pub grows_same : (s t : Seen) → t.loads ≡ s.loads → t.lost ≡ s.lost → Grows s t
 grows_same s t e f = grows_lost s t [] e (f ∙ sym (append-nil s.lost))
+
+-- no exchange on a place was lost, where none was lost at all; from call to call; and where one on another word was
+pub no_place_none : (a b : List Load) → b ≡ a → LosesNoPlace a b
+no_place_none a b e = record { missed = []; lost = e ∙ sym (append-nil a); none = λ exchange among. absurd among }
+
+pub no_place_both : (a b c : List Load) → LosesNoPlace a b → LosesNoPlace b c → LosesNoPlace a c
+no_place_both a b c first second = record {
+  missed = first.missed ++ second.missed;
+  lost = second.lost ∙ ap (λ (x : List Load). x ++ second.missed) first.lost ∙ append_assoc a first.missed second.missed;
+  none = λ exchange among. ⊎_elim (first.none exchange) (second.none exchange) (Among-split exchange first.missed second.missed among);
+}
+
+pub no_place_other : (a b : List Load) (word : Name) (n : ℕ) (won : Bool) → ((p : ℕ) → word ≢ status p) → b ≡ a ++ cond won [] (record { word = word; number = n } ∷ []) → LosesNoPlace a b
+no_place_other a b word n true other e = no_place_none a b (e ∙ append-nil a)
+no_place_other a b word n false other e = record {
+  missed = record { word = word; number = n } ∷ [];
+  lost = e;
+  none = λ exchange among. elim among as (λ _. (p : ℕ) → exchange.word ≢ status p) [
+    | inl is ↦ λ p same. other p (ap (λ (l : Load). l.word) is ∙ same)
+    | inr none ↦ absurd none
+  ];
+}

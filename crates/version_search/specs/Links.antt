@@ -4,7 +4,7 @@ use Rattle.core_rule.specs.View.{View, still, Write, Seen, no_front}
 use Rattle.core_rule.specs.Searching.{stand_in, look_in, joint_in, stamp_seen, counted_more}
 use Rattle.core_rule.specs.Holding.{without, without_fill}
 use Rattle.core_rule.specs.Kinds.{linked_after}
-use Rattle.version_search.specs.Growing.{Grows}
+use Rattle.version_search.specs.Growing.{Grows, LosesNoPlace}
 
 -- the view after an exchange that found this number, where a version is linked
 abbrev pub joined_at : View → ℕ → Seen → View
@@ -27,3 +27,4 @@ pub record IsLinked (u : Write) (v w : View) : Type 0 where
     seen = w.seen;
   }
   pub grows : Grows v.seen w.seen
+  pub no_place : LosesNoPlace v.seen.lost w.seen.lost

@@ -7,7 +7,7 @@ ghost use Rattle.core_rule.specs.Searching.{IsAt, stand_in, look_in, joint_in, s
 ghost use Rattle.core_rule.specs.Holding.{filled_place, IsFilling};
 ghost use Rattle.core_rule.specs.Hands.{IsReady, StaysReady};
 ghost use Rattle.core_rule.specs.Learnt.{IsLink};
-ghost use Rattle.version_search.specs.Growing.{Grows};
+ghost use Rattle.version_search.specs.Growing.{LosesNoPlace};
 ghost use Rattle.version_search.specs.Links.{IsLinked, joined_at};
 
 use core_rule::{Core, Hand, Keeps, link_place};
@@ -72,7 +72,8 @@ fn join_between<J: Keeps>(
     requires stored { (joint_in hand.old.view.work.search).stored ≡ true }
     requires above { (joint_in hand.old.view.work.search).above ≡ above }
     ensures view { hand.new.view ≡ joined_at hand.old.view result hand.new.view.seen }
-    ensures grows { Grows hand.old.view.seen hand.new.view.seen }
+    ensures loads { hand.new.view.seen.loads ≡ hand.old.view.seen.loads }
+    ensures no_place { LosesNoPlace hand.old.view.seen.lost hand.new.view.seen.lost }
     ensures link { IsLink (places core.now.size) result }
     ensures stays { StaysReady core.now hand.old hand.new }
 {

@@ -23,6 +23,7 @@ pub fn load_value<J: Keeps>(core: &Core<J>, hand: &mut Hand<J>, place: u32) -> C
     ensures view { hand.new.view ≡ with_value hand.old.view result hand.new.view.seen }
     ensures left { IsLeftIn hand.new.view result }
     ensures grows { Grows hand.old.view.seen hand.new.view.seen }
+    ensures lost { hand.new.view.seen.lost ≡ hand.old.view.seen.lost }
     // Each word is the number that a load of its cell found.
     ensures loads { hand.new.view.seen.loads ≡ hand.old.view.seen.loads ++ cells_loaded place 0 result }
     ensures stays { StaysReady core.now hand.old hand.new }
@@ -48,7 +49,7 @@ pub fn load_into<J: Keeps>(core: &Core<J>, hand: &mut Hand<J>, place: u32, read:
     ensures whole { length read.new.cells ≡ 32 }
     ensures view { hand.new.view ≡ with_value hand.old.view read.new.cells hand.new.view.seen }
     ensures left { IsLeftIn hand.new.view read.new.cells }
-    ensures grows { Grows hand.old.view.seen hand.new.view.seen }
+    ensures lost { hand.new.view.seen.lost ≡ hand.old.view.seen.lost }
     ensures loads { hand.new.view.seen.loads ≡ hand.old.view.seen.loads ++ cells_loaded place 0 read.new.cells }
     ensures stays { StaysReady core.now hand.old hand.new }
 {

@@ -12,7 +12,7 @@ use Rattle.txn_engine.specs.Pass.{PassView, next_clock}
 use Rattle.txn_engine.specs.Snapshot.{meaning_of_snapshot}
 use Rattle.typed_tables.specs.Listing.{AreRows}
 use Rattle.lane_runner.specs.Rows.{stands}
-use Rattle.input_runner.proofs.Sought.{Sought, sought, told_of, not_torn, never_torn, each_told, left_agrees, clock_later, clock_drawn}
+use Rattle.input_runner.proofs.Sought.{Sought, sought, not_torn, never_torn, each_told, left_agrees, clock_later, clock_drawn}
 use Rattle.input_runner.proofs.reading.read_tables.Goals as goal
 use Rattle.input_runner.proofs.reading.read_tables.Goals.{After-tell}
 
@@ -23,7 +23,7 @@ sight c =
     let f = c.finish.new.self.0 in
     sought p c.tick.new.self.pass c.snapshot-snapshot.result.seat.now.pass s1.pass f.pass c.tell.new.self.pass (next_clock p 0) c.snapshot-snapshot.ensures.begins
     c.in-Ok.ensures.ok (ap (λ (x : SnapshotFrame Beside). x.of_pass) c.list_tables-told.ensures.rest) c.finish.ensures.finishes.after
-    (told_of f.pass _ c.tell.new.self.pass c.tell.ensures.value c.tell.ensures.grows c.tell.ensures.not_back (search rules)) c.requires.pass.1 c.shared.ensures.alone
+    (record { after = search rules; not_back = search rules }) c.requires.pass.1 c.shared.ensures.alone
     (subst (λ (n : ℕ). IsAbove p.log n) (c.in-Ok.ensures.stamp ∙ sym (ap (λ (x : PassView). x.published) c.in-Ok.ensures.ok)) c.in-Ok.ensures.above) (clock_later p 0) (clock_drawn p 0)
 
 pub untorn-requires : goal.untorn-requires

@@ -11,7 +11,7 @@ drawn c =
     let p = c.args.alone.now.pass in
     let q = c.settle.new.self.pass in
     subst (λ (e : EngineView). q.clock ≤ p.clock + 2 * e.size.records) c.requires.pass.same
-    (drawn_most p.clock q.clock _ _ p.shared.size.records c.in-Ok.ensures.settles.draws.drawn c.in-Ok.ensures.settles.counts.0 c.in-Ok.ensures.settles.counts.1)
+    (drawn_most p.clock q.clock _ _ p.shared.size.records c.in-Ok.ensures.settles.draws c.in-Ok.ensures.settles.counts.0 c.in-Ok.ensures.settles.counts.1)
 
 pub unreachable-requires : goal.unreachable-requires
 unreachable-requires c =

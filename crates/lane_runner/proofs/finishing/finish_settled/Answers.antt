@@ -1,7 +1,6 @@
 use Rattle.std.proofs.Common.{◌≡◌, ℕ, ◌≤◌, List, [], length, sym, ap, subst, ◌∙◌, rules, All}
 use Rattle.std.proofs.lemmas.List.Sorted.{answers_always}
 use Rattle.replay_model.specs.declared.input.Block.{Block}
-use Rattle.txn_engine.specs.Alone.{AloneView}
 use Rattle.txn_engine.specs.Pass.{EngineView, engine_of, PassView}
 use Rattle.plain_data.specs.declared.entry.Entry.{Entry}
 use Rattle.histories.specs.History.{Lawful}
@@ -24,7 +23,7 @@ adds c =
     let here = c.collect.new.self.pass in
     let d = c.rescan.new.self.pass in
     let t = c.tell.new.self.pass in
-    Adds-settled p here d t here.met t.met here.bounds d.spare (collected_alone p here c.collect.ensures.collects.after (c.collect.ensures.collects.alone c.collect.ensures.holds)) (ap (λ (a : AloneView). a.pass) c.rescan.ensures.after) c.tell.ensures.value c.requires.pass.idle
+    Adds-settled p here d t here.met t.met here.bounds d.spare (collected_alone p here c.collect.ensures.collects.after (c.collect.ensures.collects.alone c.collect.ensures.holds)) c.rescan.ensures.rescans.after c.tell.ensures.value c.requires.pass.idle
     c.collect.ensures.collects.met (c.collect.ensures.collects.seen c.collect.ensures.holds) c.tell.ensures.not_back
 
 -- the log that was told to be lawful is that of before
@@ -32,8 +31,8 @@ lawful_before : (c : After-tell) → Lawful (StandsForSome stands) c.args.alone.
 lawful_before c =
     let p = c.args.alone.now.pass in
     let d = c.rescan.new.self.pass in
-    let engine : engine_of d ≡ engine_of p = ap (λ (a : AloneView). engine_of a.pass) c.rescan.ensures.after ∙ ap engine_of c.collect.ensures.collects.after in
-    let log : d.log ≡ p.log = ap (λ (a : AloneView). a.pass.log) c.rescan.ensures.after ∙ ap (λ (x : PassView). x.log) c.collect.ensures.collects.after in
+    let engine : engine_of d ≡ engine_of p = ap engine_of c.rescan.ensures.rescans.after ∙ ap engine_of c.collect.ensures.collects.after in
+    let log : d.log ≡ p.log = ap (λ (x : PassView). x.log) c.rescan.ensures.rescans.after ∙ ap (λ (x : PassView). x.log) c.collect.ensures.collects.after in
     subst (λ (es : List Entry). Lawful (StandsForSome stands) p.shared.size.records es) log (subst (λ (e : EngineView). Lawful (StandsForSome stands) e.size.records d.log) engine (c.tell.ensures.lawful c.tell.ensures.holds))
 
 same_clock : (c : After-tell) → c.tell.new.self.pass.clock ≡ c.args.alone.now.pass.clock
@@ -42,7 +41,7 @@ same_clock c =
     let here = c.collect.new.self.pass in
     let d = c.rescan.new.self.pass in
     let t = c.tell.new.self.pass in
-    clock_settled p here d t here.met t.met here.bounds d.spare (collected_alone p here c.collect.ensures.collects.after (c.collect.ensures.collects.alone c.collect.ensures.holds)) (ap (λ (a : AloneView). a.pass) c.rescan.ensures.after) c.tell.ensures.value c.requires.pass.idle
+    clock_settled p here d t here.met t.met here.bounds d.spare (collected_alone p here c.collect.ensures.collects.after (c.collect.ensures.collects.alone c.collect.ensures.holds)) c.rescan.ensures.rescans.after c.tell.ensures.value c.requires.pass.idle
 
 pub run_rests-requires-clause-pass : goal.run_rests-requires-clause-pass
 run_rests-requires-clause-pass c =
@@ -55,8 +54,8 @@ run_rests-requires-clause-holds c =
     let here = c.collect.new.self.pass in
     let d = c.rescan.new.self.pass in
     let t = c.tell.new.self.pass in
-    Holds-settled p here d t here.met t.met here.bounds d.spare (collected_alone p here c.collect.ensures.collects.after (c.collect.ensures.collects.alone c.collect.ensures.holds)) (ap (λ (a : AloneView). a.pass) c.rescan.ensures.after) c.tell.ensures.value c.requires.pass.idle
-    (c.tell.ensures.lawful c.tell.ensures.holds) c.collect.ensures.collects.above c.rescan.ensures.absent (c.collect.ensures.collects.roomy c.collect.ensures.holds (roomy_once p c.requires.roomy))
+    Holds-settled p here d t here.met t.met here.bounds d.spare (collected_alone p here c.collect.ensures.collects.after (c.collect.ensures.collects.alone c.collect.ensures.holds)) c.rescan.ensures.rescans.after c.tell.ensures.value c.requires.pass.idle
+    (c.tell.ensures.lawful c.tell.ensures.holds) c.collect.ensures.collects.above c.rescan.ensures.rescans.absent (c.collect.ensures.collects.roomy c.collect.ensures.holds (roomy_once p c.requires.roomy))
 
 pub run_rests-requires-clause-blocks : goal.run_rests-requires-clause-blocks
 run_rests-requires-clause-blocks c =

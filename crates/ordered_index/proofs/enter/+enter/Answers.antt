@@ -1,6 +1,7 @@
 use Rattle.std.proofs.Common.{◌+◌, ◌<◌, ℕ, Some, None, Ok, refl, sym, ◌∙◌, ap, arith, subst}
 use Rattle.std.specs.Prelude.{is_some}
 use Rattle.ordered_index.specs.Standing.{content_at}
+use Rattle.record_store.specs.Into.{value_if}
 use Rattle.record_store.proofs.Refusals.{torn_moved, IfTorn-map}
 use Rattle.record_store.proofs.Agreement.{OnlyReads-refl, extends-refl, size_same, OnlyReads-trans}
 use Rattle.record_store.proofs.Known.{known-reads, known-behind, known-then-found}
@@ -55,31 +56,31 @@ returns-then-depth-eq-MOST_DEPTH-clause-walk g t c =
       asks = asks_reads c.args.key (content_at c.args.here.now).kind (content_at c.args.here.now).entries c.args.depth (g.S.RecordRead.meaning c.args.store.now) (g.S.RecordRead.meaning c.args.store.now) _ refl c.requires.depth (OnlyReads-refl (g.S.RecordRead.meaning c.args.store.now));
     }
 
-pub returns-in_err-read-clause-torn : goal.returns-in_err-read-clause-torn
-returns-in_err-read-clause-torn g t c =
+pub returns-in_err-read_node-clause-torn : goal.returns-in_err-read_node-clause-torn
+returns-in_err-read_node-clause-torn g t c =
     let kind = c.is_inner.ensures.inner c.if-not-is_inner.false in
     let some = rank_some c.args.size (content_at c.args.here.now) c.args.key c.args.rank c.requires.node.sound kind c.requires.low c.requires.rank in
-    torn_moved c.from_residual.result c.read_node.result c.in_err-read.field-0.0 _ c.in_err-read.was c.from_residual.ensures.1
+    torn_moved c.from_residual.result c.read_node.result c.in_err-read_node.field-0.0 _ c.in_err-read_node.was c.from_residual.ensures.1
     (IfTorn-map c.read_node.result
     (λ rid torn. (kind, tears_unfit c.args.size c.args.depth rid c.args.key (content_at c.args.here.now).entries c.args.rank (g.S.RecordRead.meaning c.args.store.now) (g.S.RecordRead.meaning c.read_node.new.store) c.requires.rank some (rw c.entry-at.ensures at torn.0) (rw c.entry-at.ensures at torn.1)))
     c.read_node.ensures.torn)
 
-pub returns-in_err-read-clause-walk : goal.returns-in_err-read-clause-walk
-returns-in_err-read-clause-walk g t c =
+pub returns-in_err-read_node-clause-walk : goal.returns-in_err-read_node-clause-walk
+returns-in_err-read_node-clause-walk g t c =
     record {
       asked = 0;
-      walk = calls_reads _ c.args.store.now c.read_node.new.store c.from_residual.result (reads_moved c.args.store.now c.read_node.new.store c.from_residual.result c.read_node.result c.in_err-read.field-0.0 c.in_err-read.was c.from_residual.ensures.1 c.read_node.ensures.walk);
+      walk = calls_reads _ c.args.store.now c.read_node.new.store c.from_residual.result (reads_moved c.args.store.now c.read_node.new.store c.from_residual.result c.read_node.result c.in_err-read_node.field-0.0 c.in_err-read_node.was c.from_residual.ensures.1 c.read_node.ensures.walk);
       asks = asks_reads c.args.key (content_at c.args.here.now).kind (content_at c.args.here.now).entries c.args.depth (g.S.RecordRead.meaning c.args.store.now) (g.S.RecordRead.meaning c.read_node.new.store) _ c.from_residual.ensures.0 c.requires.depth c.read_node.ensures.walk.by.only;
     }
 
-pub returns-in_default-clause-torn : goal.returns-in_default-clause-torn
-returns-in_default-clause-torn g t c =
+pub returns-then-not-branch-clause-torn : goal.returns-then-not-branch-clause-torn
+returns-then-not-branch-clause-torn g t c =
     let kind = c.is_inner.ensures.inner c.if-not-is_inner.false in
     let some = rank_some c.args.size (content_at c.args.here.now) c.args.key c.args.rank c.requires.node.sound kind c.requires.low c.requires.rank in
-    (kind, rw c.entry-at.ensures (tears_absent c.args.size c.args.depth c.args.key (content_at c.args.here.now).entries c.args.rank (g.S.RecordRead.meaning c.args.store.now) (g.S.RecordRead.meaning c.read_node.new.store) c.in_ok-read.read c.requires.rank some c.in_default.is (rw c.entry-at.ensures at c.in_ok-read.ensures.read)))
+    (kind, rw c.entry-at.ensures (tears_absent c.args.size c.args.depth c.args.key (content_at c.args.here.now).entries c.args.rank (g.S.RecordRead.meaning c.args.store.now) (g.S.RecordRead.meaning c.read_node.new.store) (value_if c.in_ok-read_node.field-0 c.read_node.new.here) c.requires.rank some (ap (λ present. value_if present c.read_node.new.here) c.if-not-branch.true) (rw c.entry-at.ensures at c.in_ok-read_node.ensures.read)))
 
-pub returns-in_default-clause-walk : goal.returns-in_default-clause-walk
-returns-in_default-clause-walk g t c =
+pub returns-then-not-branch-clause-walk : goal.returns-then-not-branch-clause-walk
+returns-then-not-branch-clause-walk g t c =
     record {
       asked = 0;
       walk = calls_reads _ c.args.store.now c.read_node.new.store _ (reads_quiet c.args.store.now c.read_node.new.store _ c.read_node.result (tt, tt) c.read_node.ensures.walk);
@@ -90,189 +91,189 @@ pub enter-requires : goal.enter-requires
 enter-requires g t c κs within =
     let kind = c.is_inner.ensures.inner c.if-not-is_inner.false in
     let some = rank_some c.args.size (content_at c.args.here.now) c.args.key c.args.rank c.requires.node.sound kind c.requires.low c.requires.rank in
-    let read = rw c.entry-at.ensures at c.in_ok-read.ensures.node in
-    let link = at_some (IsTreeNode c.args.size _ _) c.in-Some-read.child c.in-Some-read.is read in
-    let low = child_low c.args.size c.args.key (content_at c.args.here.now).entries c.args.rank ((content_at c.in-Some-read.child.words).low, c.in-Some-read.child.at) (content_at c.in-Some-read.child.words) (child_is c.args.size c.args.key (content_at c.args.here.now).entries c.args.rank c.in-Some-read.child c.requires.rank some link) in
-    let size = c.requires.size ∙ sym (size_same (g.S.RecordRead.meaning c.args.store.now) (g.S.RecordRead.meaning c.read_node.new.store) c.in_ok-read.ensures.walk.by.only) in
+    let read = rw c.entry-at.ensures at c.in_ok-read_node.ensures.node in
+    let link = at_some (IsTreeNode c.args.size _ _) c.read_node.new.here (ap (λ present. value_if present c.read_node.new.here) c.if-not-branch.false) read in
+    let low = child_low c.args.size c.args.key (content_at c.args.here.now).entries c.args.rank ((content_at c.read_node.new.here.words).low, c.read_node.new.here.at) (content_at c.read_node.new.here.words) (child_is c.args.size c.args.key (content_at c.args.here.now).entries c.args.rank c.read_node.new.here c.requires.rank some link) in
+    let size = c.requires.size ∙ sym (size_same (g.S.RecordRead.meaning c.args.store.now) (g.S.RecordRead.meaning c.read_node.new.store) c.in_ok-read_node.ensures.walk.by.only) in
     (omega (arith, c.decreases, c.requires.depth, c.if-depth-eq-MOST_DEPTH.false), (within.0, (within.1, (size, (c.requires.at_most, (c.requires.rid, (link.node, (c.rank_of-child_rank.ensures.rank, (low, omega (arith, c.requires.depth, c.if-depth-eq-MOST_DEPTH.false))))))))))
 
 pub returns-in_err-enter-clause-torn : goal.returns-in_err-enter-clause-torn
 returns-in_err-enter-clause-torn g t c =
     let kind = c.is_inner.ensures.inner c.if-not-is_inner.false in
     let some = rank_some c.args.size (content_at c.args.here.now) c.args.key c.args.rank c.requires.node.sound kind c.requires.low c.requires.rank in
-    let read = rw c.entry-at.ensures at c.in_ok-read.ensures.node in
-    let link = at_some (IsTreeNode c.args.size _ _) c.in-Some-read.child c.in-Some-read.is read in
-    let child = child_is c.args.size c.args.key (content_at c.args.here.now).entries c.args.rank c.in-Some-read.child c.requires.rank some link in
+    let read = rw c.entry-at.ensures at c.in_ok-read_node.ensures.node in
+    let link = at_some (IsTreeNode c.args.size _ _) c.read_node.new.here (ap (λ present. value_if present c.read_node.new.here) c.if-not-branch.false) read in
+    let child = child_is c.args.size c.args.key (content_at c.args.here.now).entries c.args.rank c.read_node.new.here c.requires.rank some link in
     torn_moved c.from_residual-in_err-enter.result c.enter.result c.in_err-enter.field-0.0 _ c.in_err-enter.was c.from_residual-in_err-enter.ensures.1
     (IfTorn-map c.enter.result
-    (λ rid torn. (kind, tears_below c.args.size c.args.depth rid c.args.key (content_at c.args.here.now).entries c.args.rank ((content_at c.in-Some-read.child.words).low, c.in-Some-read.child.at) (content_at c.in-Some-read.child.words) (g.S.RecordRead.meaning c.args.store.now) (g.S.RecordRead.meaning c.read_node.new.store) (g.S.RecordRead.meaning c.enter.new.store) c.in_ok-read.ensures.walk.by.only c.enter.ensures.walk.walk.by.grow child (child_at c.args.size _ (g.S.RecordRead.meaning c.args.store.now) (g.S.RecordRead.meaning c.read_node.new.store) c.in-Some-read.child c.in_ok-read.read c.in-Some-read.is c.in_ok-read.ensures.read) torn.0 torn.1))
+    (λ rid torn. (kind, tears_below c.args.size c.args.depth rid c.args.key (content_at c.args.here.now).entries c.args.rank ((content_at c.read_node.new.here.words).low, c.read_node.new.here.at) (content_at c.read_node.new.here.words) (g.S.RecordRead.meaning c.args.store.now) (g.S.RecordRead.meaning c.read_node.new.store) (g.S.RecordRead.meaning c.enter.new.store) c.in_ok-read_node.ensures.walk.by.only c.enter.ensures.walk.walk.by.grow child (child_at c.args.size _ (g.S.RecordRead.meaning c.args.store.now) (g.S.RecordRead.meaning c.read_node.new.store) c.read_node.new.here (value_if c.in_ok-read_node.field-0 c.read_node.new.here) (ap (λ present. value_if present c.read_node.new.here) c.if-not-branch.false) c.in_ok-read_node.ensures.read) torn.0 torn.1))
     c.enter.ensures.torn)
 
 pub returns-in_err-enter-clause-walk : goal.returns-in_err-enter-clause-walk
 returns-in_err-enter-clause-walk g t c =
     let kind = c.is_inner.ensures.inner c.if-not-is_inner.false in
     let some = rank_some c.args.size (content_at c.args.here.now) c.args.key c.args.rank c.requires.node.sound kind c.requires.low c.requires.rank in
-    let read = rw c.entry-at.ensures at c.in_ok-read.ensures.node in
-    let link = at_some (IsTreeNode c.args.size _ _) c.in-Some-read.child c.in-Some-read.is read in
-    let child = child_is c.args.size c.args.key (content_at c.args.here.now).entries c.args.rank c.in-Some-read.child c.requires.rank some link in
-    let at = child_at c.args.size _ (g.S.RecordRead.meaning c.args.store.now) (g.S.RecordRead.meaning c.read_node.new.store) c.in-Some-read.child c.in_ok-read.read c.in-Some-read.is c.in_ok-read.ensures.read in
-    let C : ℕ → Type 0 = λ n. IsChild n c.args.key (content_at c.args.here.now).entries c.args.rank ((content_at c.in-Some-read.child.words).low, c.in-Some-read.child.at) (content_at c.in-Some-read.child.words) in
-    let A : ℕ → Type 0 = λ n. EachState (g.S.RecordRead.meaning c.args.store.now) (g.S.RecordRead.meaning c.read_node.new.store) (λ state. IsAt n state (c.in-Some-read.child.at, content_at c.in-Some-read.child.words)) in
+    let read = rw c.entry-at.ensures at c.in_ok-read_node.ensures.node in
+    let link = at_some (IsTreeNode c.args.size _ _) c.read_node.new.here (ap (λ present. value_if present c.read_node.new.here) c.if-not-branch.false) read in
+    let child = child_is c.args.size c.args.key (content_at c.args.here.now).entries c.args.rank c.read_node.new.here c.requires.rank some link in
+    let at = child_at c.args.size _ (g.S.RecordRead.meaning c.args.store.now) (g.S.RecordRead.meaning c.read_node.new.store) c.read_node.new.here (value_if c.in_ok-read_node.field-0 c.read_node.new.here) (ap (λ present. value_if present c.read_node.new.here) c.if-not-branch.false) c.in_ok-read_node.ensures.read in
+    let C : ℕ → Type 0 = λ n. IsChild n c.args.key (content_at c.args.here.now).entries c.args.rank ((content_at c.read_node.new.here.words).low, c.read_node.new.here.at) (content_at c.read_node.new.here.words) in
+    let A : ℕ → Type 0 = λ n. EachState (g.S.RecordRead.meaning c.args.store.now) (g.S.RecordRead.meaning c.read_node.new.store) (λ state. IsAt n state (c.read_node.new.here.at, content_at c.read_node.new.here.words)) in
     record {
       asked = c.enter.ensures.walk.asked;
-      walk = calls_moved c.args.store.now c.enter.new.store c.from_residual-in_err-enter.result c.enter.result c.in_err-enter.field-0.0 c.in_err-enter.was c.from_residual-in_err-enter.ensures.1 (calls_behind _ c.enter.ensures.walk.asked c.args.store.now c.read_node.new.store c.enter.new.store c.read_node.result c.enter.result c.read_node.ensures.walk c.enter.ensures.walk.walk (λ asks later. (kind, due_behind (g.S.RecordRead.meaning c.args.store.now) (g.S.RecordRead.meaning c.read_node.new.store) (g.S.RecordRead.meaning c.enter.new.store) c.args.key (content_at c.args.here.now).entries c.args.rank ((content_at c.in-Some-read.child.words).low, c.in-Some-read.child.at) (content_at c.in-Some-read.child.words) asks c.in_ok-read.ensures.walk.by.only c.enter.ensures.walk.walk.by.grow.reads (subst C c.requires.size child) (subst A c.requires.size at) later)));
-      asks = below_err (g.S.RecordRead.meaning c.args.store.now) (g.S.RecordRead.meaning c.read_node.new.store) (g.S.RecordRead.meaning c.enter.new.store) (g.S.RecordRead.meaning c.enter.new.store) c.args.key (content_at c.args.here.now).entries c.args.rank ((content_at c.in-Some-read.child.words).low, c.in-Some-read.child.at) (content_at c.in-Some-read.child.words) c.enter.ensures.walk.asked c.args.depth (content_at c.args.here.now).kind kind c.in_ok-read.ensures.walk.by.only c.enter.ensures.walk.walk.by.grow.reads (extends-refl (g.S.RecordRead.meaning c.enter.new.store).reads) (subst C c.requires.size child) (subst A c.requires.size at) c.enter.result c.enter.ensures.walk.asks c.from_residual-in_err-enter.result c.from_residual-in_err-enter.ensures.0 refl;
+      walk = calls_moved c.args.store.now c.enter.new.store c.from_residual-in_err-enter.result c.enter.result c.in_err-enter.field-0.0 c.in_err-enter.was c.from_residual-in_err-enter.ensures.1 (calls_behind _ c.enter.ensures.walk.asked c.args.store.now c.read_node.new.store c.enter.new.store c.read_node.result c.enter.result c.read_node.ensures.walk c.enter.ensures.walk.walk (λ asks later. (kind, due_behind (g.S.RecordRead.meaning c.args.store.now) (g.S.RecordRead.meaning c.read_node.new.store) (g.S.RecordRead.meaning c.enter.new.store) c.args.key (content_at c.args.here.now).entries c.args.rank ((content_at c.read_node.new.here.words).low, c.read_node.new.here.at) (content_at c.read_node.new.here.words) asks c.in_ok-read_node.ensures.walk.by.only c.enter.ensures.walk.walk.by.grow.reads (subst C c.requires.size child) (subst A c.requires.size at) later)));
+      asks = below_err (g.S.RecordRead.meaning c.args.store.now) (g.S.RecordRead.meaning c.read_node.new.store) (g.S.RecordRead.meaning c.enter.new.store) (g.S.RecordRead.meaning c.enter.new.store) c.args.key (content_at c.args.here.now).entries c.args.rank ((content_at c.read_node.new.here.words).low, c.read_node.new.here.at) (content_at c.read_node.new.here.words) c.enter.ensures.walk.asked c.args.depth (content_at c.args.here.now).kind kind c.in_ok-read_node.ensures.walk.by.only c.enter.ensures.walk.walk.by.grow.reads (extends-refl (g.S.RecordRead.meaning c.enter.new.store).reads) (subst C c.requires.size child) (subst A c.requires.size at) c.enter.result c.enter.ensures.walk.asks c.from_residual-in_err-enter.result c.from_residual-in_err-enter.ensures.0 refl;
     }
 
 pub returns-in_err-new-in-Takes-clause-walk : goal.returns-in_err-new-in-Takes-clause-walk
 returns-in_err-new-in-Takes-clause-walk g t c =
     let kind = c.is_inner.ensures.inner c.if-not-is_inner.false in
     let some = rank_some c.args.size (content_at c.args.here.now) c.args.key c.args.rank c.requires.node.sound kind c.requires.low c.requires.rank in
-    let read = rw c.entry-at.ensures at c.in_ok-read.ensures.node in
-    let link = at_some (IsTreeNode c.args.size _ _) c.in-Some-read.child c.in-Some-read.is read in
-    let child = child_is c.args.size c.args.key (content_at c.args.here.now).entries c.args.rank c.in-Some-read.child c.requires.rank some link in
-    let at = child_at c.args.size _ (g.S.RecordRead.meaning c.args.store.now) (g.S.RecordRead.meaning c.read_node.new.store) c.in-Some-read.child c.in_ok-read.read c.in-Some-read.is c.in_ok-read.ensures.read in
-    let C : ℕ → Type 0 = λ n. IsChild n c.args.key (content_at c.args.here.now).entries c.args.rank ((content_at c.in-Some-read.child.words).low, c.in-Some-read.child.at) (content_at c.in-Some-read.child.words) in
-    let A : ℕ → Type 0 = λ n. EachState (g.S.RecordRead.meaning c.args.store.now) (g.S.RecordRead.meaning c.read_node.new.store) (λ state. IsAt n state (c.in-Some-read.child.at, content_at c.in-Some-read.child.words)) in
+    let read = rw c.entry-at.ensures at c.in_ok-read_node.ensures.node in
+    let link = at_some (IsTreeNode c.args.size _ _) c.read_node.new.here (ap (λ present. value_if present c.read_node.new.here) c.if-not-branch.false) read in
+    let child = child_is c.args.size c.args.key (content_at c.args.here.now).entries c.args.rank c.read_node.new.here c.requires.rank some link in
+    let at = child_at c.args.size _ (g.S.RecordRead.meaning c.args.store.now) (g.S.RecordRead.meaning c.read_node.new.store) c.read_node.new.here (value_if c.in_ok-read_node.field-0 c.read_node.new.here) (ap (λ present. value_if present c.read_node.new.here) c.if-not-branch.false) c.in_ok-read_node.ensures.read in
+    let C : ℕ → Type 0 = λ n. IsChild n c.args.key (content_at c.args.here.now).entries c.args.rank ((content_at c.read_node.new.here.words).low, c.read_node.new.here.at) (content_at c.read_node.new.here.words) in
+    let A : ℕ → Type 0 = λ n. EachState (g.S.RecordRead.meaning c.args.store.now) (g.S.RecordRead.meaning c.read_node.new.store) (λ state. IsAt n state (c.read_node.new.here.at, content_at c.read_node.new.here.words)) in
     record {
-      asked = c.enter.ensures.walk.asked + asks_at (content_at c.in-Some-read.child.words).entries;
-      walk = calls_moved c.args.store.now c.put_entry.new.store c.from_residual-in_err-new-in-Takes.result c.put_entry.result c.in_err-new-in-Takes.field-0.0 c.in_err-new-in-Takes.was c.from_residual-in_err-new-in-Takes.ensures.1 (calls_then _ c.enter.ensures.walk.asked (asks_at (content_at c.in-Some-read.child.words).entries) c.args.store.now c.enter.new.store c.put_entry.new.store c.enter.result c.put_entry.result (calls_behind (λ _. Unit {0}) c.enter.ensures.walk.asked c.args.store.now c.read_node.new.store c.enter.new.store c.read_node.result c.enter.result c.read_node.ensures.walk c.enter.ensures.walk.walk (λ asks later. tt)) c.put_entry.ensures.walk (λ asks one. (kind, put_due (g.S.RecordRead.meaning c.args.store.now) (g.S.RecordRead.meaning c.read_node.new.store) (g.S.RecordRead.meaning c.enter.new.store) (g.S.RecordRead.meaning c.put_entry.new.store) c.args.key (content_at c.args.here.now).entries c.args.rank ((content_at c.in-Some-read.child.words).low, c.in-Some-read.child.at) (content_at c.in-Some-read.child.words) c.enter.ensures.walk.asked c.args.depth (content_at c.args.here.now).kind kind c.in_ok-read.ensures.walk.by.only c.enter.ensures.walk.walk.by.grow.reads c.put_entry.ensures.walk.by.grow.reads (subst C c.requires.size child) (subst A c.requires.size at) c.enter.result c.enter.ensures.walk.asks c.args.rid c.rank_of-child_rank.result c.in-Takes.entry (c.in_ok-enter.was ∙ ap (λ e. Ok e) c.in-Takes.is) (λ leaf. (let l = rw c.in-Takes.is at (c.in_ok-enter.ensures.leaf leaf) in l.0.1)) (λ inner. from_reads (g.S.RecordRead.meaning c.args.store.now) (g.S.RecordRead.meaning c.read_node.new.store) (g.S.RecordRead.meaning c.enter.new.store) c.args.key c.args.rid (content_at c.in-Some-read.child.words).entries c.rank_of-child_rank.result c.in_ok-enter.field-0 _ c.in_ok-read.ensures.walk.by.only c.in-Takes.is (c.in_ok-enter.ensures.inner inner)) asks (one_at (content_at c.in-Some-read.child.words).entries asks one))));
-      asks = takes_err (g.S.RecordRead.meaning c.args.store.now) (g.S.RecordRead.meaning c.read_node.new.store) (g.S.RecordRead.meaning c.enter.new.store) (g.S.RecordRead.meaning c.put_entry.new.store) c.args.key (content_at c.args.here.now).entries c.args.rank ((content_at c.in-Some-read.child.words).low, c.in-Some-read.child.at) (content_at c.in-Some-read.child.words) c.enter.ensures.walk.asked c.args.depth (content_at c.args.here.now).kind kind c.in_ok-read.ensures.walk.by.only c.enter.ensures.walk.walk.by.grow.reads c.put_entry.ensures.walk.by.grow.reads (subst C c.requires.size child) (subst A c.requires.size at) c.enter.result c.enter.ensures.walk.asks c.args.rid c.rank_of-child_rank.result c.in-Takes.entry (c.in_ok-enter.was ∙ ap (λ e. Ok e) c.in-Takes.is) (λ leaf. (let l = rw c.in-Takes.is at (c.in_ok-enter.ensures.leaf leaf) in l.0.1)) (λ inner. from_reads (g.S.RecordRead.meaning c.args.store.now) (g.S.RecordRead.meaning c.read_node.new.store) (g.S.RecordRead.meaning c.enter.new.store) c.args.key c.args.rid (content_at c.in-Some-read.child.words).entries c.rank_of-child_rank.result c.in_ok-enter.field-0 _ c.in_ok-read.ensures.walk.by.only c.in-Takes.is (c.in_ok-enter.ensures.inner inner)) c.from_residual-in_err-new-in-Takes.result c.from_residual-in_err-new-in-Takes.ensures.0 c.put_entry.ensures.few;
+      asked = c.enter.ensures.walk.asked + asks_at (content_at c.read_node.new.here.words).entries;
+      walk = calls_moved c.args.store.now c.put_entry.new.store c.from_residual-in_err-new-in-Takes.result c.put_entry.result c.in_err-new-in-Takes.field-0.0 c.in_err-new-in-Takes.was c.from_residual-in_err-new-in-Takes.ensures.1 (calls_then _ c.enter.ensures.walk.asked (asks_at (content_at c.read_node.new.here.words).entries) c.args.store.now c.enter.new.store c.put_entry.new.store c.enter.result c.put_entry.result (calls_behind (λ _. Unit {0}) c.enter.ensures.walk.asked c.args.store.now c.read_node.new.store c.enter.new.store c.read_node.result c.enter.result c.read_node.ensures.walk c.enter.ensures.walk.walk (λ asks later. tt)) c.put_entry.ensures.walk (λ asks one. (kind, put_due (g.S.RecordRead.meaning c.args.store.now) (g.S.RecordRead.meaning c.read_node.new.store) (g.S.RecordRead.meaning c.enter.new.store) (g.S.RecordRead.meaning c.put_entry.new.store) c.args.key (content_at c.args.here.now).entries c.args.rank ((content_at c.read_node.new.here.words).low, c.read_node.new.here.at) (content_at c.read_node.new.here.words) c.enter.ensures.walk.asked c.args.depth (content_at c.args.here.now).kind kind c.in_ok-read_node.ensures.walk.by.only c.enter.ensures.walk.walk.by.grow.reads c.put_entry.ensures.walk.by.grow.reads (subst C c.requires.size child) (subst A c.requires.size at) c.enter.result c.enter.ensures.walk.asks c.args.rid c.rank_of-child_rank.result c.in-Takes.entry (c.in_ok-enter.was ∙ ap (λ e. Ok e) c.in-Takes.is) (λ leaf. (let l = rw c.in-Takes.is at (c.in_ok-enter.ensures.leaf leaf) in l.0.1)) (λ inner. from_reads (g.S.RecordRead.meaning c.args.store.now) (g.S.RecordRead.meaning c.read_node.new.store) (g.S.RecordRead.meaning c.enter.new.store) c.args.key c.args.rid (content_at c.read_node.new.here.words).entries c.rank_of-child_rank.result c.in_ok-enter.field-0 _ c.in_ok-read_node.ensures.walk.by.only c.in-Takes.is (c.in_ok-enter.ensures.inner inner)) asks (one_at (content_at c.read_node.new.here.words).entries asks one))));
+      asks = takes_err (g.S.RecordRead.meaning c.args.store.now) (g.S.RecordRead.meaning c.read_node.new.store) (g.S.RecordRead.meaning c.enter.new.store) (g.S.RecordRead.meaning c.put_entry.new.store) c.args.key (content_at c.args.here.now).entries c.args.rank ((content_at c.read_node.new.here.words).low, c.read_node.new.here.at) (content_at c.read_node.new.here.words) c.enter.ensures.walk.asked c.args.depth (content_at c.args.here.now).kind kind c.in_ok-read_node.ensures.walk.by.only c.enter.ensures.walk.walk.by.grow.reads c.put_entry.ensures.walk.by.grow.reads (subst C c.requires.size child) (subst A c.requires.size at) c.enter.result c.enter.ensures.walk.asks c.args.rid c.rank_of-child_rank.result c.in-Takes.entry (c.in_ok-enter.was ∙ ap (λ e. Ok e) c.in-Takes.is) (λ leaf. (let l = rw c.in-Takes.is at (c.in_ok-enter.ensures.leaf leaf) in l.0.1)) (λ inner. from_reads (g.S.RecordRead.meaning c.args.store.now) (g.S.RecordRead.meaning c.read_node.new.store) (g.S.RecordRead.meaning c.enter.new.store) c.args.key c.args.rid (content_at c.read_node.new.here.words).entries c.rank_of-child_rank.result c.in_ok-enter.field-0 _ c.in_ok-read_node.ensures.walk.by.only c.in-Takes.is (c.in_ok-enter.ensures.inner inner)) c.from_residual-in_err-new-in-Takes.result c.from_residual-in_err-new-in-Takes.ensures.0 c.put_entry.ensures.few;
     }
 
 pub returns-in-There-clause-inner : goal.returns-in-There-clause-inner
 returns-in-There-clause-inner g t c = λ kind.
     let some = rank_some c.args.size (content_at c.args.here.now) c.args.key c.args.rank c.requires.node.sound kind c.requires.low c.requires.rank in
-    let read = rw c.entry-at.ensures at c.in_ok-read.ensures.node in
-    let link = at_some (IsTreeNode c.args.size _ _) c.in-Some-read.child c.in-Some-read.is read in
-    let child = child_is c.args.size c.args.key (content_at c.args.here.now).entries c.args.rank c.in-Some-read.child c.requires.rank some link in
-    let at = child_at c.args.size _ (g.S.RecordRead.meaning c.args.store.now) (g.S.RecordRead.meaning c.read_node.new.store) c.in-Some-read.child c.in_ok-read.read c.in-Some-read.is c.in_ok-read.ensures.read in
-    let C : ℕ → Type 0 = λ n. IsChild n c.args.key (content_at c.args.here.now).entries c.args.rank ((content_at c.in-Some-read.child.words).low, c.in-Some-read.child.at) (content_at c.in-Some-read.child.words) in
-    let A : ℕ → Type 0 = λ n. EachState (g.S.RecordRead.meaning c.args.store.now) (g.S.RecordRead.meaning c.read_node.new.store) (λ state. IsAt n state (c.in-Some-read.child.at, content_at c.in-Some-read.child.words)) in
-    enter_there (g.S.RecordRead.meaning c.args.store.now) (g.S.RecordRead.meaning c.read_node.new.store) (g.S.RecordRead.meaning c.enter.new.store) c.args.key c.args.rid (content_at c.args.here.now).entries c.args.rank ((content_at c.in-Some-read.child.words).low, c.in-Some-read.child.at) (content_at c.in-Some-read.child.words) c.rank_of-child_rank.result
+    let read = rw c.entry-at.ensures at c.in_ok-read_node.ensures.node in
+    let link = at_some (IsTreeNode c.args.size _ _) c.read_node.new.here (ap (λ present. value_if present c.read_node.new.here) c.if-not-branch.false) read in
+    let child = child_is c.args.size c.args.key (content_at c.args.here.now).entries c.args.rank c.read_node.new.here c.requires.rank some link in
+    let at = child_at c.args.size _ (g.S.RecordRead.meaning c.args.store.now) (g.S.RecordRead.meaning c.read_node.new.store) c.read_node.new.here (value_if c.in_ok-read_node.field-0 c.read_node.new.here) (ap (λ present. value_if present c.read_node.new.here) c.if-not-branch.false) c.in_ok-read_node.ensures.read in
+    let C : ℕ → Type 0 = λ n. IsChild n c.args.key (content_at c.args.here.now).entries c.args.rank ((content_at c.read_node.new.here.words).low, c.read_node.new.here.at) (content_at c.read_node.new.here.words) in
+    let A : ℕ → Type 0 = λ n. EachState (g.S.RecordRead.meaning c.args.store.now) (g.S.RecordRead.meaning c.read_node.new.store) (λ state. IsAt n state (c.read_node.new.here.at, content_at c.read_node.new.here.words)) in
+    enter_there (g.S.RecordRead.meaning c.args.store.now) (g.S.RecordRead.meaning c.read_node.new.store) (g.S.RecordRead.meaning c.enter.new.store) c.args.key c.args.rid (content_at c.args.here.now).entries c.args.rank ((content_at c.read_node.new.here.words).low, c.read_node.new.here.at) (content_at c.read_node.new.here.words) c.rank_of-child_rank.result
     c.enter.ensures.walk.walk.by.grow.reads (subst C c.requires.size child) (subst A c.requires.size at)
     (λ leaf. (let l = c.in_ok-enter.ensures.leaf leaf in (rw c.in-There.is at l).0))
-    (λ inner. from_reads (g.S.RecordRead.meaning c.args.store.now) (g.S.RecordRead.meaning c.read_node.new.store) (g.S.RecordRead.meaning c.enter.new.store) c.args.key c.args.rid (content_at c.in-Some-read.child.words).entries c.rank_of-child_rank.result c.in_ok-enter.field-0 _ c.in_ok-read.ensures.walk.by.only c.in-There.is (c.in_ok-enter.ensures.inner inner))
+    (λ inner. from_reads (g.S.RecordRead.meaning c.args.store.now) (g.S.RecordRead.meaning c.read_node.new.store) (g.S.RecordRead.meaning c.enter.new.store) c.args.key c.args.rid (content_at c.read_node.new.here.words).entries c.rank_of-child_rank.result c.in_ok-enter.field-0 _ c.in_ok-read_node.ensures.walk.by.only c.in-There.is (c.in_ok-enter.ensures.inner inner))
 
 pub returns-in-There-clause-walk : goal.returns-in-There-clause-walk
 returns-in-There-clause-walk g t c =
     let kind = c.is_inner.ensures.inner c.if-not-is_inner.false in
     let some = rank_some c.args.size (content_at c.args.here.now) c.args.key c.args.rank c.requires.node.sound kind c.requires.low c.requires.rank in
-    let read = rw c.entry-at.ensures at c.in_ok-read.ensures.node in
-    let link = at_some (IsTreeNode c.args.size _ _) c.in-Some-read.child c.in-Some-read.is read in
-    let child = child_is c.args.size c.args.key (content_at c.args.here.now).entries c.args.rank c.in-Some-read.child c.requires.rank some link in
-    let at = child_at c.args.size _ (g.S.RecordRead.meaning c.args.store.now) (g.S.RecordRead.meaning c.read_node.new.store) c.in-Some-read.child c.in_ok-read.read c.in-Some-read.is c.in_ok-read.ensures.read in
-    let C : ℕ → Type 0 = λ n. IsChild n c.args.key (content_at c.args.here.now).entries c.args.rank ((content_at c.in-Some-read.child.words).low, c.in-Some-read.child.at) (content_at c.in-Some-read.child.words) in
-    let A : ℕ → Type 0 = λ n. EachState (g.S.RecordRead.meaning c.args.store.now) (g.S.RecordRead.meaning c.read_node.new.store) (λ state. IsAt n state (c.in-Some-read.child.at, content_at c.in-Some-read.child.words)) in
+    let read = rw c.entry-at.ensures at c.in_ok-read_node.ensures.node in
+    let link = at_some (IsTreeNode c.args.size _ _) c.read_node.new.here (ap (λ present. value_if present c.read_node.new.here) c.if-not-branch.false) read in
+    let child = child_is c.args.size c.args.key (content_at c.args.here.now).entries c.args.rank c.read_node.new.here c.requires.rank some link in
+    let at = child_at c.args.size _ (g.S.RecordRead.meaning c.args.store.now) (g.S.RecordRead.meaning c.read_node.new.store) c.read_node.new.here (value_if c.in_ok-read_node.field-0 c.read_node.new.here) (ap (λ present. value_if present c.read_node.new.here) c.if-not-branch.false) c.in_ok-read_node.ensures.read in
+    let C : ℕ → Type 0 = λ n. IsChild n c.args.key (content_at c.args.here.now).entries c.args.rank ((content_at c.read_node.new.here.words).low, c.read_node.new.here.at) (content_at c.read_node.new.here.words) in
+    let A : ℕ → Type 0 = λ n. EachState (g.S.RecordRead.meaning c.args.store.now) (g.S.RecordRead.meaning c.read_node.new.store) (λ state. IsAt n state (c.read_node.new.here.at, content_at c.read_node.new.here.words)) in
     record {
       asked = c.enter.ensures.walk.asked;
       walk = calls_quiet _ c.args.store.now c.enter.new.store _ c.enter.result (tt, tt) (calls_behind (λ _. Unit {0}) c.enter.ensures.walk.asked c.args.store.now c.read_node.new.store c.enter.new.store c.read_node.result c.enter.result c.read_node.ensures.walk c.enter.ensures.walk.walk (λ asks later. tt));
-      asks = below_there (g.S.RecordRead.meaning c.args.store.now) (g.S.RecordRead.meaning c.read_node.new.store) (g.S.RecordRead.meaning c.enter.new.store) (g.S.RecordRead.meaning c.enter.new.store) c.args.key (content_at c.args.here.now).entries c.args.rank ((content_at c.in-Some-read.child.words).low, c.in-Some-read.child.at) (content_at c.in-Some-read.child.words) c.enter.ensures.walk.asked c.args.depth (content_at c.args.here.now).kind kind c.in_ok-read.ensures.walk.by.only c.enter.ensures.walk.walk.by.grow.reads (extends-refl (g.S.RecordRead.meaning c.enter.new.store).reads) (subst C c.requires.size child) (subst A c.requires.size at) c.enter.result c.enter.ensures.walk.asks (c.in_ok-enter.was ∙ ap (λ e. Ok e) c.in-There.is) refl;
+      asks = below_there (g.S.RecordRead.meaning c.args.store.now) (g.S.RecordRead.meaning c.read_node.new.store) (g.S.RecordRead.meaning c.enter.new.store) (g.S.RecordRead.meaning c.enter.new.store) c.args.key (content_at c.args.here.now).entries c.args.rank ((content_at c.read_node.new.here.words).low, c.read_node.new.here.at) (content_at c.read_node.new.here.words) c.enter.ensures.walk.asked c.args.depth (content_at c.args.here.now).kind kind c.in_ok-read_node.ensures.walk.by.only c.enter.ensures.walk.walk.by.grow.reads (extends-refl (g.S.RecordRead.meaning c.enter.new.store).reads) (subst C c.requires.size child) (subst A c.requires.size at) c.enter.result c.enter.ensures.walk.asks (c.in_ok-enter.was ∙ ap (λ e. Ok e) c.in-There.is) refl;
     }
 
 pub returns-in-Done-clause-inner : goal.returns-in-Done-clause-inner
 returns-in-Done-clause-inner g t c = λ kind.
     let some = rank_some c.args.size (content_at c.args.here.now) c.args.key c.args.rank c.requires.node.sound kind c.requires.low c.requires.rank in
-    let read = rw c.entry-at.ensures at c.in_ok-read.ensures.node in
-    let link = at_some (IsTreeNode c.args.size _ _) c.in-Some-read.child c.in-Some-read.is read in
-    let child = child_is c.args.size c.args.key (content_at c.args.here.now).entries c.args.rank c.in-Some-read.child c.requires.rank some link in
-    let at = child_at c.args.size _ (g.S.RecordRead.meaning c.args.store.now) (g.S.RecordRead.meaning c.read_node.new.store) c.in-Some-read.child c.in_ok-read.read c.in-Some-read.is c.in_ok-read.ensures.read in
-    let C : ℕ → Type 0 = λ n. IsChild n c.args.key (content_at c.args.here.now).entries c.args.rank ((content_at c.in-Some-read.child.words).low, c.in-Some-read.child.at) (content_at c.in-Some-read.child.words) in
-    let A : ℕ → Type 0 = λ n. EachState (g.S.RecordRead.meaning c.args.store.now) (g.S.RecordRead.meaning c.read_node.new.store) (λ state. IsAt n state (c.in-Some-read.child.at, content_at c.in-Some-read.child.words)) in
-    enter_done (g.S.RecordRead.meaning c.args.store.now) (g.S.RecordRead.meaning c.read_node.new.store) (g.S.RecordRead.meaning c.enter.new.store) c.args.key c.args.rid (content_at c.args.here.now).entries c.args.rank ((content_at c.in-Some-read.child.words).low, c.in-Some-read.child.at) (content_at c.in-Some-read.child.words) c.rank_of-child_rank.result
+    let read = rw c.entry-at.ensures at c.in_ok-read_node.ensures.node in
+    let link = at_some (IsTreeNode c.args.size _ _) c.read_node.new.here (ap (λ present. value_if present c.read_node.new.here) c.if-not-branch.false) read in
+    let child = child_is c.args.size c.args.key (content_at c.args.here.now).entries c.args.rank c.read_node.new.here c.requires.rank some link in
+    let at = child_at c.args.size _ (g.S.RecordRead.meaning c.args.store.now) (g.S.RecordRead.meaning c.read_node.new.store) c.read_node.new.here (value_if c.in_ok-read_node.field-0 c.read_node.new.here) (ap (λ present. value_if present c.read_node.new.here) c.if-not-branch.false) c.in_ok-read_node.ensures.read in
+    let C : ℕ → Type 0 = λ n. IsChild n c.args.key (content_at c.args.here.now).entries c.args.rank ((content_at c.read_node.new.here.words).low, c.read_node.new.here.at) (content_at c.read_node.new.here.words) in
+    let A : ℕ → Type 0 = λ n. EachState (g.S.RecordRead.meaning c.args.store.now) (g.S.RecordRead.meaning c.read_node.new.store) (λ state. IsAt n state (c.read_node.new.here.at, content_at c.read_node.new.here.words)) in
+    enter_done (g.S.RecordRead.meaning c.args.store.now) (g.S.RecordRead.meaning c.read_node.new.store) (g.S.RecordRead.meaning c.enter.new.store) c.args.key c.args.rid (content_at c.args.here.now).entries c.args.rank ((content_at c.read_node.new.here.words).low, c.read_node.new.here.at) (content_at c.read_node.new.here.words) c.rank_of-child_rank.result
     c.enter.ensures.walk.walk.by.grow.reads (subst C c.requires.size child) (subst A c.requires.size at)
     (λ leaf. (let l = c.in_ok-enter.ensures.leaf leaf in (rw c.in-Done.is at l).0))
-    (λ inner. from_reads (g.S.RecordRead.meaning c.args.store.now) (g.S.RecordRead.meaning c.read_node.new.store) (g.S.RecordRead.meaning c.enter.new.store) c.args.key c.args.rid (content_at c.in-Some-read.child.words).entries c.rank_of-child_rank.result c.in_ok-enter.field-0 _ c.in_ok-read.ensures.walk.by.only c.in-Done.is (c.in_ok-enter.ensures.inner inner))
+    (λ inner. from_reads (g.S.RecordRead.meaning c.args.store.now) (g.S.RecordRead.meaning c.read_node.new.store) (g.S.RecordRead.meaning c.enter.new.store) c.args.key c.args.rid (content_at c.read_node.new.here.words).entries c.rank_of-child_rank.result c.in_ok-enter.field-0 _ c.in_ok-read_node.ensures.walk.by.only c.in-Done.is (c.in_ok-enter.ensures.inner inner))
 
 pub returns-in-Done-clause-walk : goal.returns-in-Done-clause-walk
 returns-in-Done-clause-walk g t c =
     let kind = c.is_inner.ensures.inner c.if-not-is_inner.false in
     let some = rank_some c.args.size (content_at c.args.here.now) c.args.key c.args.rank c.requires.node.sound kind c.requires.low c.requires.rank in
-    let read = rw c.entry-at.ensures at c.in_ok-read.ensures.node in
-    let link = at_some (IsTreeNode c.args.size _ _) c.in-Some-read.child c.in-Some-read.is read in
-    let child = child_is c.args.size c.args.key (content_at c.args.here.now).entries c.args.rank c.in-Some-read.child c.requires.rank some link in
-    let at = child_at c.args.size _ (g.S.RecordRead.meaning c.args.store.now) (g.S.RecordRead.meaning c.read_node.new.store) c.in-Some-read.child c.in_ok-read.read c.in-Some-read.is c.in_ok-read.ensures.read in
-    let C : ℕ → Type 0 = λ n. IsChild n c.args.key (content_at c.args.here.now).entries c.args.rank ((content_at c.in-Some-read.child.words).low, c.in-Some-read.child.at) (content_at c.in-Some-read.child.words) in
-    let A : ℕ → Type 0 = λ n. EachState (g.S.RecordRead.meaning c.args.store.now) (g.S.RecordRead.meaning c.read_node.new.store) (λ state. IsAt n state (c.in-Some-read.child.at, content_at c.in-Some-read.child.words)) in
+    let read = rw c.entry-at.ensures at c.in_ok-read_node.ensures.node in
+    let link = at_some (IsTreeNode c.args.size _ _) c.read_node.new.here (ap (λ present. value_if present c.read_node.new.here) c.if-not-branch.false) read in
+    let child = child_is c.args.size c.args.key (content_at c.args.here.now).entries c.args.rank c.read_node.new.here c.requires.rank some link in
+    let at = child_at c.args.size _ (g.S.RecordRead.meaning c.args.store.now) (g.S.RecordRead.meaning c.read_node.new.store) c.read_node.new.here (value_if c.in_ok-read_node.field-0 c.read_node.new.here) (ap (λ present. value_if present c.read_node.new.here) c.if-not-branch.false) c.in_ok-read_node.ensures.read in
+    let C : ℕ → Type 0 = λ n. IsChild n c.args.key (content_at c.args.here.now).entries c.args.rank ((content_at c.read_node.new.here.words).low, c.read_node.new.here.at) (content_at c.read_node.new.here.words) in
+    let A : ℕ → Type 0 = λ n. EachState (g.S.RecordRead.meaning c.args.store.now) (g.S.RecordRead.meaning c.read_node.new.store) (λ state. IsAt n state (c.read_node.new.here.at, content_at c.read_node.new.here.words)) in
     record {
       asked = c.enter.ensures.walk.asked;
       walk = calls_quiet _ c.args.store.now c.enter.new.store _ c.enter.result (tt, tt) (calls_behind (λ _. Unit {0}) c.enter.ensures.walk.asked c.args.store.now c.read_node.new.store c.enter.new.store c.read_node.result c.enter.result c.read_node.ensures.walk c.enter.ensures.walk.walk (λ asks later. tt));
-      asks = below_done (g.S.RecordRead.meaning c.args.store.now) (g.S.RecordRead.meaning c.read_node.new.store) (g.S.RecordRead.meaning c.enter.new.store) (g.S.RecordRead.meaning c.enter.new.store) c.args.key (content_at c.args.here.now).entries c.args.rank ((content_at c.in-Some-read.child.words).low, c.in-Some-read.child.at) (content_at c.in-Some-read.child.words) c.enter.ensures.walk.asked c.args.depth (content_at c.args.here.now).kind kind c.in_ok-read.ensures.walk.by.only c.enter.ensures.walk.walk.by.grow.reads (extends-refl (g.S.RecordRead.meaning c.enter.new.store).reads) (subst C c.requires.size child) (subst A c.requires.size at) c.enter.result c.enter.ensures.walk.asks (c.in_ok-enter.was ∙ ap (λ e. Ok e) c.in-Done.is) (λ leaf. (let l = c.in_ok-enter.ensures.leaf leaf in (rw c.in-Done.is at l).0)) refl;
+      asks = below_done (g.S.RecordRead.meaning c.args.store.now) (g.S.RecordRead.meaning c.read_node.new.store) (g.S.RecordRead.meaning c.enter.new.store) (g.S.RecordRead.meaning c.enter.new.store) c.args.key (content_at c.args.here.now).entries c.args.rank ((content_at c.read_node.new.here.words).low, c.read_node.new.here.at) (content_at c.read_node.new.here.words) c.enter.ensures.walk.asked c.args.depth (content_at c.args.here.now).kind kind c.in_ok-read_node.ensures.walk.by.only c.enter.ensures.walk.walk.by.grow.reads (extends-refl (g.S.RecordRead.meaning c.enter.new.store).reads) (subst C c.requires.size child) (subst A c.requires.size at) c.enter.result c.enter.ensures.walk.asks (c.in_ok-enter.was ∙ ap (λ e. Ok e) c.in-Done.is) (λ leaf. (let l = c.in_ok-enter.ensures.leaf leaf in (rw c.in-Done.is at l).0)) refl;
     }
 
 pub returns-in-Some-2-clause-inner : goal.returns-in-Some-2-clause-inner
 returns-in-Some-2-clause-inner g t c = λ kind.
     let some = rank_some c.args.size (content_at c.args.here.now) c.args.key c.args.rank c.requires.node.sound kind c.requires.low c.requires.rank in
-    let read = rw c.entry-at.ensures at c.in_ok-read.ensures.node in
-    let link = at_some (IsTreeNode c.args.size _ _) c.in-Some-read.child c.in-Some-read.is read in
-    let child = child_is c.args.size c.args.key (content_at c.args.here.now).entries c.args.rank c.in-Some-read.child c.requires.rank some link in
-    let at = child_at c.args.size _ (g.S.RecordRead.meaning c.args.store.now) (g.S.RecordRead.meaning c.read_node.new.store) c.in-Some-read.child c.in_ok-read.read c.in-Some-read.is c.in_ok-read.ensures.read in
-    let C : ℕ → Type 0 = λ n. IsChild n c.args.key (content_at c.args.here.now).entries c.args.rank ((content_at c.in-Some-read.child.words).low, c.in-Some-read.child.at) (content_at c.in-Some-read.child.words) in
-    let A : ℕ → Type 0 = λ n. EachState (g.S.RecordRead.meaning c.args.store.now) (g.S.RecordRead.meaning c.read_node.new.store) (λ state. IsAt n state (c.in-Some-read.child.at, content_at c.in-Some-read.child.words)) in
-    let low = child_low c.args.size c.args.key (content_at c.args.here.now).entries c.args.rank ((content_at c.in-Some-read.child.words).low, c.in-Some-read.child.at) (content_at c.in-Some-read.child.words) child in
+    let read = rw c.entry-at.ensures at c.in_ok-read_node.ensures.node in
+    let link = at_some (IsTreeNode c.args.size _ _) c.read_node.new.here (ap (λ present. value_if present c.read_node.new.here) c.if-not-branch.false) read in
+    let child = child_is c.args.size c.args.key (content_at c.args.here.now).entries c.args.rank c.read_node.new.here c.requires.rank some link in
+    let at = child_at c.args.size _ (g.S.RecordRead.meaning c.args.store.now) (g.S.RecordRead.meaning c.read_node.new.store) c.read_node.new.here (value_if c.in_ok-read_node.field-0 c.read_node.new.here) (ap (λ present. value_if present c.read_node.new.here) c.if-not-branch.false) c.in_ok-read_node.ensures.read in
+    let C : ℕ → Type 0 = λ n. IsChild n c.args.key (content_at c.args.here.now).entries c.args.rank ((content_at c.read_node.new.here.words).low, c.read_node.new.here.at) (content_at c.read_node.new.here.words) in
+    let A : ℕ → Type 0 = λ n. EachState (g.S.RecordRead.meaning c.args.store.now) (g.S.RecordRead.meaning c.read_node.new.store) (λ state. IsAt n state (c.read_node.new.here.at, content_at c.read_node.new.here.words)) in
+    let low = child_low c.args.size c.args.key (content_at c.args.here.now).entries c.args.rank ((content_at c.read_node.new.here.words).low, c.read_node.new.here.at) (content_at c.read_node.new.here.words) child in
     let L : ℕ → Type 0 = λ n. c.args.rid < n in
     let N : ℕ → Type 0 = λ n. c.in-Takes.entry.1 < n in
     let within = rw c.in-Takes.is at c.in_ok-enter.ensures.within in
     let puts = rw c.in-Some-2.is at c.in_ok-new-in-Takes.ensures.ok in
-    enter_takes (Some c.in-Some-2.new) (g.S.RecordRead.meaning c.args.store.now) (g.S.RecordRead.meaning c.read_node.new.store) (g.S.RecordRead.meaning c.enter.new.store) (g.S.RecordRead.meaning c.put_entry.new.store) c.args.key c.args.rid (content_at c.args.here.now).entries c.args.rank ((content_at c.in-Some-read.child.words).low, c.in-Some-read.child.at) (content_at c.in-Some-read.child.words) c.rank_of-child_rank.result c.in-Takes.entry
-    c.in_ok-read.ensures.walk.by.only c.enter.ensures.walk.walk.by.grow c.put_entry.ensures.walk.by.grow (subst L c.requires.size c.requires.rid) (subst N c.requires.size within) (subst C c.requires.size child) c.rank_of-child_rank.ensures.rank
-    (λ inner. rank_some c.args.size (content_at c.in-Some-read.child.words) c.args.key c.rank_of-child_rank.result link.node.sound inner low c.rank_of-child_rank.ensures.rank) (subst A c.requires.size at)
+    enter_takes (Some c.in-Some-2.new) (g.S.RecordRead.meaning c.args.store.now) (g.S.RecordRead.meaning c.read_node.new.store) (g.S.RecordRead.meaning c.enter.new.store) (g.S.RecordRead.meaning c.put_entry.new.store) c.args.key c.args.rid (content_at c.args.here.now).entries c.args.rank ((content_at c.read_node.new.here.words).low, c.read_node.new.here.at) (content_at c.read_node.new.here.words) c.rank_of-child_rank.result c.in-Takes.entry
+    c.in_ok-read_node.ensures.walk.by.only c.enter.ensures.walk.walk.by.grow c.put_entry.ensures.walk.by.grow (subst L c.requires.size c.requires.rid) (subst N c.requires.size within) (subst C c.requires.size child) c.rank_of-child_rank.ensures.rank
+    (λ inner. rank_some c.args.size (content_at c.read_node.new.here.words) c.args.key c.rank_of-child_rank.result link.node.sound inner low c.rank_of-child_rank.ensures.rank) (subst A c.requires.size at)
     (λ leaf. (let l = rw c.in-Takes.is at (c.in_ok-enter.ensures.leaf leaf) in (l.0.0, l.0.1, l.1)))
-    (λ inner. from_reads (g.S.RecordRead.meaning c.args.store.now) (g.S.RecordRead.meaning c.read_node.new.store) (g.S.RecordRead.meaning c.enter.new.store) c.args.key c.args.rid (content_at c.in-Some-read.child.words).entries c.rank_of-child_rank.result c.in_ok-enter.field-0 _ c.in_ok-read.ensures.walk.by.only c.in-Takes.is (c.in_ok-enter.ensures.inner inner)) puts
+    (λ inner. from_reads (g.S.RecordRead.meaning c.args.store.now) (g.S.RecordRead.meaning c.read_node.new.store) (g.S.RecordRead.meaning c.enter.new.store) c.args.key c.args.rid (content_at c.read_node.new.here.words).entries c.rank_of-child_rank.result c.in_ok-enter.field-0 _ c.in_ok-read_node.ensures.walk.by.only c.in-Takes.is (c.in_ok-enter.ensures.inner inner)) puts
 
 pub returns-in-Some-2-clause-walk : goal.returns-in-Some-2-clause-walk
 returns-in-Some-2-clause-walk g t c =
     let kind = c.is_inner.ensures.inner c.if-not-is_inner.false in
     let some = rank_some c.args.size (content_at c.args.here.now) c.args.key c.args.rank c.requires.node.sound kind c.requires.low c.requires.rank in
-    let read = rw c.entry-at.ensures at c.in_ok-read.ensures.node in
-    let link = at_some (IsTreeNode c.args.size _ _) c.in-Some-read.child c.in-Some-read.is read in
-    let child = child_is c.args.size c.args.key (content_at c.args.here.now).entries c.args.rank c.in-Some-read.child c.requires.rank some link in
-    let at = child_at c.args.size _ (g.S.RecordRead.meaning c.args.store.now) (g.S.RecordRead.meaning c.read_node.new.store) c.in-Some-read.child c.in_ok-read.read c.in-Some-read.is c.in_ok-read.ensures.read in
-    let C : ℕ → Type 0 = λ n. IsChild n c.args.key (content_at c.args.here.now).entries c.args.rank ((content_at c.in-Some-read.child.words).low, c.in-Some-read.child.at) (content_at c.in-Some-read.child.words) in
-    let A : ℕ → Type 0 = λ n. EachState (g.S.RecordRead.meaning c.args.store.now) (g.S.RecordRead.meaning c.read_node.new.store) (λ state. IsAt n state (c.in-Some-read.child.at, content_at c.in-Some-read.child.words)) in
+    let read = rw c.entry-at.ensures at c.in_ok-read_node.ensures.node in
+    let link = at_some (IsTreeNode c.args.size _ _) c.read_node.new.here (ap (λ present. value_if present c.read_node.new.here) c.if-not-branch.false) read in
+    let child = child_is c.args.size c.args.key (content_at c.args.here.now).entries c.args.rank c.read_node.new.here c.requires.rank some link in
+    let at = child_at c.args.size _ (g.S.RecordRead.meaning c.args.store.now) (g.S.RecordRead.meaning c.read_node.new.store) c.read_node.new.here (value_if c.in_ok-read_node.field-0 c.read_node.new.here) (ap (λ present. value_if present c.read_node.new.here) c.if-not-branch.false) c.in_ok-read_node.ensures.read in
+    let C : ℕ → Type 0 = λ n. IsChild n c.args.key (content_at c.args.here.now).entries c.args.rank ((content_at c.read_node.new.here.words).low, c.read_node.new.here.at) (content_at c.read_node.new.here.words) in
+    let A : ℕ → Type 0 = λ n. EachState (g.S.RecordRead.meaning c.args.store.now) (g.S.RecordRead.meaning c.read_node.new.store) (λ state. IsAt n state (c.read_node.new.here.at, content_at c.read_node.new.here.words)) in
     let puts = rw c.in-Some-2.is at c.in_ok-new-in-Takes.ensures.ok in
     let two = rw c.in-Some-2.is at c.in_ok-new-in-Takes.ensures.parted in
     record {
-      asked = c.enter.ensures.walk.asked + asks_at (content_at c.in-Some-read.child.words).entries;
-      walk = calls_quiet _ c.args.store.now c.put_entry.new.store _ c.put_entry.result (tt, tt) (calls_then (λ _. Unit {0}) c.enter.ensures.walk.asked (asks_at (content_at c.in-Some-read.child.words).entries) c.args.store.now c.enter.new.store c.put_entry.new.store c.enter.result c.put_entry.result (calls_behind (λ _. Unit {0}) c.enter.ensures.walk.asked c.args.store.now c.read_node.new.store c.enter.new.store c.read_node.result c.enter.result c.read_node.ensures.walk c.enter.ensures.walk.walk (λ asks later. tt)) c.put_entry.ensures.walk (λ asks later. tt));
-      asks = takes_more (g.S.RecordRead.meaning c.args.store.now) (g.S.RecordRead.meaning c.read_node.new.store) (g.S.RecordRead.meaning c.enter.new.store) (g.S.RecordRead.meaning c.put_entry.new.store) c.args.key (content_at c.args.here.now).entries c.args.rank ((content_at c.in-Some-read.child.words).low, c.in-Some-read.child.at) (content_at c.in-Some-read.child.words) c.enter.ensures.walk.asked c.args.depth (content_at c.args.here.now).kind kind c.in_ok-read.ensures.walk.by.only c.enter.ensures.walk.walk.by.grow.reads c.put_entry.ensures.walk.by.grow.reads (subst C c.requires.size child) (subst A c.requires.size at) c.enter.result c.enter.ensures.walk.asks c.args.rid c.rank_of-child_rank.result c.in-Takes.entry (c.in_ok-enter.was ∙ ap (λ e. Ok e) c.in-Takes.is) (λ leaf. (let l = rw c.in-Takes.is at (c.in_ok-enter.ensures.leaf leaf) in l.0.1)) (λ inner. from_reads (g.S.RecordRead.meaning c.args.store.now) (g.S.RecordRead.meaning c.read_node.new.store) (g.S.RecordRead.meaning c.enter.new.store) c.args.key c.args.rid (content_at c.in-Some-read.child.words).entries c.rank_of-child_rank.result c.in_ok-enter.field-0 _ c.in_ok-read.ensures.walk.by.only c.in-Takes.is (c.in_ok-enter.ensures.inner inner)) c.in-Some-2.new (omega (arith, puts.0, length-with (content_at c.in-Some-read.child.words).entries c.rank_of-child_rank.result c.in-Takes.entry)) c.put_entry.ensures.few two;
+      asked = c.enter.ensures.walk.asked + asks_at (content_at c.read_node.new.here.words).entries;
+      walk = calls_quiet _ c.args.store.now c.put_entry.new.store _ c.put_entry.result (tt, tt) (calls_then (λ _. Unit {0}) c.enter.ensures.walk.asked (asks_at (content_at c.read_node.new.here.words).entries) c.args.store.now c.enter.new.store c.put_entry.new.store c.enter.result c.put_entry.result (calls_behind (λ _. Unit {0}) c.enter.ensures.walk.asked c.args.store.now c.read_node.new.store c.enter.new.store c.read_node.result c.enter.result c.read_node.ensures.walk c.enter.ensures.walk.walk (λ asks later. tt)) c.put_entry.ensures.walk (λ asks later. tt));
+      asks = takes_more (g.S.RecordRead.meaning c.args.store.now) (g.S.RecordRead.meaning c.read_node.new.store) (g.S.RecordRead.meaning c.enter.new.store) (g.S.RecordRead.meaning c.put_entry.new.store) c.args.key (content_at c.args.here.now).entries c.args.rank ((content_at c.read_node.new.here.words).low, c.read_node.new.here.at) (content_at c.read_node.new.here.words) c.enter.ensures.walk.asked c.args.depth (content_at c.args.here.now).kind kind c.in_ok-read_node.ensures.walk.by.only c.enter.ensures.walk.walk.by.grow.reads c.put_entry.ensures.walk.by.grow.reads (subst C c.requires.size child) (subst A c.requires.size at) c.enter.result c.enter.ensures.walk.asks c.args.rid c.rank_of-child_rank.result c.in-Takes.entry (c.in_ok-enter.was ∙ ap (λ e. Ok e) c.in-Takes.is) (λ leaf. (let l = rw c.in-Takes.is at (c.in_ok-enter.ensures.leaf leaf) in l.0.1)) (λ inner. from_reads (g.S.RecordRead.meaning c.args.store.now) (g.S.RecordRead.meaning c.read_node.new.store) (g.S.RecordRead.meaning c.enter.new.store) c.args.key c.args.rid (content_at c.read_node.new.here.words).entries c.rank_of-child_rank.result c.in_ok-enter.field-0 _ c.in_ok-read_node.ensures.walk.by.only c.in-Takes.is (c.in_ok-enter.ensures.inner inner)) c.in-Some-2.new (omega (arith, puts.0, length-with (content_at c.read_node.new.here.words).entries c.rank_of-child_rank.result c.in-Takes.entry)) c.put_entry.ensures.few two;
     }
 
 pub returns-in-None-2-clause-inner : goal.returns-in-None-2-clause-inner
 returns-in-None-2-clause-inner g t c = λ kind.
     let some = rank_some c.args.size (content_at c.args.here.now) c.args.key c.args.rank c.requires.node.sound kind c.requires.low c.requires.rank in
-    let read = rw c.entry-at.ensures at c.in_ok-read.ensures.node in
-    let link = at_some (IsTreeNode c.args.size _ _) c.in-Some-read.child c.in-Some-read.is read in
-    let child = child_is c.args.size c.args.key (content_at c.args.here.now).entries c.args.rank c.in-Some-read.child c.requires.rank some link in
-    let at = child_at c.args.size _ (g.S.RecordRead.meaning c.args.store.now) (g.S.RecordRead.meaning c.read_node.new.store) c.in-Some-read.child c.in_ok-read.read c.in-Some-read.is c.in_ok-read.ensures.read in
-    let C : ℕ → Type 0 = λ n. IsChild n c.args.key (content_at c.args.here.now).entries c.args.rank ((content_at c.in-Some-read.child.words).low, c.in-Some-read.child.at) (content_at c.in-Some-read.child.words) in
-    let A : ℕ → Type 0 = λ n. EachState (g.S.RecordRead.meaning c.args.store.now) (g.S.RecordRead.meaning c.read_node.new.store) (λ state. IsAt n state (c.in-Some-read.child.at, content_at c.in-Some-read.child.words)) in
-    let low = child_low c.args.size c.args.key (content_at c.args.here.now).entries c.args.rank ((content_at c.in-Some-read.child.words).low, c.in-Some-read.child.at) (content_at c.in-Some-read.child.words) child in
+    let read = rw c.entry-at.ensures at c.in_ok-read_node.ensures.node in
+    let link = at_some (IsTreeNode c.args.size _ _) c.read_node.new.here (ap (λ present. value_if present c.read_node.new.here) c.if-not-branch.false) read in
+    let child = child_is c.args.size c.args.key (content_at c.args.here.now).entries c.args.rank c.read_node.new.here c.requires.rank some link in
+    let at = child_at c.args.size _ (g.S.RecordRead.meaning c.args.store.now) (g.S.RecordRead.meaning c.read_node.new.store) c.read_node.new.here (value_if c.in_ok-read_node.field-0 c.read_node.new.here) (ap (λ present. value_if present c.read_node.new.here) c.if-not-branch.false) c.in_ok-read_node.ensures.read in
+    let C : ℕ → Type 0 = λ n. IsChild n c.args.key (content_at c.args.here.now).entries c.args.rank ((content_at c.read_node.new.here.words).low, c.read_node.new.here.at) (content_at c.read_node.new.here.words) in
+    let A : ℕ → Type 0 = λ n. EachState (g.S.RecordRead.meaning c.args.store.now) (g.S.RecordRead.meaning c.read_node.new.store) (λ state. IsAt n state (c.read_node.new.here.at, content_at c.read_node.new.here.words)) in
+    let low = child_low c.args.size c.args.key (content_at c.args.here.now).entries c.args.rank ((content_at c.read_node.new.here.words).low, c.read_node.new.here.at) (content_at c.read_node.new.here.words) child in
     let L : ℕ → Type 0 = λ n. c.args.rid < n in
     let N : ℕ → Type 0 = λ n. c.in-Takes.entry.1 < n in
     let within = rw c.in-Takes.is at c.in_ok-enter.ensures.within in
     let puts = rw c.in-None-2.is at c.in_ok-new-in-Takes.ensures.ok in
-    enter_takes None (g.S.RecordRead.meaning c.args.store.now) (g.S.RecordRead.meaning c.read_node.new.store) (g.S.RecordRead.meaning c.enter.new.store) (g.S.RecordRead.meaning c.put_entry.new.store) c.args.key c.args.rid (content_at c.args.here.now).entries c.args.rank ((content_at c.in-Some-read.child.words).low, c.in-Some-read.child.at) (content_at c.in-Some-read.child.words) c.rank_of-child_rank.result c.in-Takes.entry
-    c.in_ok-read.ensures.walk.by.only c.enter.ensures.walk.walk.by.grow c.put_entry.ensures.walk.by.grow (subst L c.requires.size c.requires.rid) (subst N c.requires.size within) (subst C c.requires.size child) c.rank_of-child_rank.ensures.rank
-    (λ inner. rank_some c.args.size (content_at c.in-Some-read.child.words) c.args.key c.rank_of-child_rank.result link.node.sound inner low c.rank_of-child_rank.ensures.rank) (subst A c.requires.size at)
+    enter_takes None (g.S.RecordRead.meaning c.args.store.now) (g.S.RecordRead.meaning c.read_node.new.store) (g.S.RecordRead.meaning c.enter.new.store) (g.S.RecordRead.meaning c.put_entry.new.store) c.args.key c.args.rid (content_at c.args.here.now).entries c.args.rank ((content_at c.read_node.new.here.words).low, c.read_node.new.here.at) (content_at c.read_node.new.here.words) c.rank_of-child_rank.result c.in-Takes.entry
+    c.in_ok-read_node.ensures.walk.by.only c.enter.ensures.walk.walk.by.grow c.put_entry.ensures.walk.by.grow (subst L c.requires.size c.requires.rid) (subst N c.requires.size within) (subst C c.requires.size child) c.rank_of-child_rank.ensures.rank
+    (λ inner. rank_some c.args.size (content_at c.read_node.new.here.words) c.args.key c.rank_of-child_rank.result link.node.sound inner low c.rank_of-child_rank.ensures.rank) (subst A c.requires.size at)
     (λ leaf. (let l = rw c.in-Takes.is at (c.in_ok-enter.ensures.leaf leaf) in (l.0.0, l.0.1, l.1)))
-    (λ inner. from_reads (g.S.RecordRead.meaning c.args.store.now) (g.S.RecordRead.meaning c.read_node.new.store) (g.S.RecordRead.meaning c.enter.new.store) c.args.key c.args.rid (content_at c.in-Some-read.child.words).entries c.rank_of-child_rank.result c.in_ok-enter.field-0 _ c.in_ok-read.ensures.walk.by.only c.in-Takes.is (c.in_ok-enter.ensures.inner inner)) puts
+    (λ inner. from_reads (g.S.RecordRead.meaning c.args.store.now) (g.S.RecordRead.meaning c.read_node.new.store) (g.S.RecordRead.meaning c.enter.new.store) c.args.key c.args.rid (content_at c.read_node.new.here.words).entries c.rank_of-child_rank.result c.in_ok-enter.field-0 _ c.in_ok-read_node.ensures.walk.by.only c.in-Takes.is (c.in_ok-enter.ensures.inner inner)) puts
 
 pub returns-in-None-2-clause-walk : goal.returns-in-None-2-clause-walk
 returns-in-None-2-clause-walk g t c =
     let kind = c.is_inner.ensures.inner c.if-not-is_inner.false in
     let some = rank_some c.args.size (content_at c.args.here.now) c.args.key c.args.rank c.requires.node.sound kind c.requires.low c.requires.rank in
-    let read = rw c.entry-at.ensures at c.in_ok-read.ensures.node in
-    let link = at_some (IsTreeNode c.args.size _ _) c.in-Some-read.child c.in-Some-read.is read in
-    let child = child_is c.args.size c.args.key (content_at c.args.here.now).entries c.args.rank c.in-Some-read.child c.requires.rank some link in
-    let at = child_at c.args.size _ (g.S.RecordRead.meaning c.args.store.now) (g.S.RecordRead.meaning c.read_node.new.store) c.in-Some-read.child c.in_ok-read.read c.in-Some-read.is c.in_ok-read.ensures.read in
-    let C : ℕ → Type 0 = λ n. IsChild n c.args.key (content_at c.args.here.now).entries c.args.rank ((content_at c.in-Some-read.child.words).low, c.in-Some-read.child.at) (content_at c.in-Some-read.child.words) in
-    let A : ℕ → Type 0 = λ n. EachState (g.S.RecordRead.meaning c.args.store.now) (g.S.RecordRead.meaning c.read_node.new.store) (λ state. IsAt n state (c.in-Some-read.child.at, content_at c.in-Some-read.child.words)) in
+    let read = rw c.entry-at.ensures at c.in_ok-read_node.ensures.node in
+    let link = at_some (IsTreeNode c.args.size _ _) c.read_node.new.here (ap (λ present. value_if present c.read_node.new.here) c.if-not-branch.false) read in
+    let child = child_is c.args.size c.args.key (content_at c.args.here.now).entries c.args.rank c.read_node.new.here c.requires.rank some link in
+    let at = child_at c.args.size _ (g.S.RecordRead.meaning c.args.store.now) (g.S.RecordRead.meaning c.read_node.new.store) c.read_node.new.here (value_if c.in_ok-read_node.field-0 c.read_node.new.here) (ap (λ present. value_if present c.read_node.new.here) c.if-not-branch.false) c.in_ok-read_node.ensures.read in
+    let C : ℕ → Type 0 = λ n. IsChild n c.args.key (content_at c.args.here.now).entries c.args.rank ((content_at c.read_node.new.here.words).low, c.read_node.new.here.at) (content_at c.read_node.new.here.words) in
+    let A : ℕ → Type 0 = λ n. EachState (g.S.RecordRead.meaning c.args.store.now) (g.S.RecordRead.meaning c.read_node.new.store) (λ state. IsAt n state (c.read_node.new.here.at, content_at c.read_node.new.here.words)) in
     let puts = rw c.in-None-2.is at c.in_ok-new-in-Takes.ensures.ok in
     record {
-      asked = c.enter.ensures.walk.asked + asks_at (content_at c.in-Some-read.child.words).entries;
-      walk = calls_quiet _ c.args.store.now c.put_entry.new.store _ c.put_entry.result (tt, tt) (calls_then (λ _. Unit {0}) c.enter.ensures.walk.asked (asks_at (content_at c.in-Some-read.child.words).entries) c.args.store.now c.enter.new.store c.put_entry.new.store c.enter.result c.put_entry.result (calls_behind (λ _. Unit {0}) c.enter.ensures.walk.asked c.args.store.now c.read_node.new.store c.enter.new.store c.read_node.result c.enter.result c.read_node.ensures.walk c.enter.ensures.walk.walk (λ asks later. tt)) c.put_entry.ensures.walk (λ asks later. tt));
-      asks = takes_none (g.S.RecordRead.meaning c.args.store.now) (g.S.RecordRead.meaning c.read_node.new.store) (g.S.RecordRead.meaning c.enter.new.store) (g.S.RecordRead.meaning c.put_entry.new.store) c.args.key (content_at c.args.here.now).entries c.args.rank ((content_at c.in-Some-read.child.words).low, c.in-Some-read.child.at) (content_at c.in-Some-read.child.words) c.enter.ensures.walk.asked c.args.depth (content_at c.args.here.now).kind kind c.in_ok-read.ensures.walk.by.only c.enter.ensures.walk.walk.by.grow.reads c.put_entry.ensures.walk.by.grow.reads (subst C c.requires.size child) (subst A c.requires.size at) c.enter.result c.enter.ensures.walk.asks c.args.rid c.rank_of-child_rank.result c.in-Takes.entry (c.in_ok-enter.was ∙ ap (λ e. Ok e) c.in-Takes.is) (λ leaf. (let l = rw c.in-Takes.is at (c.in_ok-enter.ensures.leaf leaf) in l.0.1)) (λ inner. from_reads (g.S.RecordRead.meaning c.args.store.now) (g.S.RecordRead.meaning c.read_node.new.store) (g.S.RecordRead.meaning c.enter.new.store) c.args.key c.args.rid (content_at c.in-Some-read.child.words).entries c.rank_of-child_rank.result c.in_ok-enter.field-0 _ c.in_ok-read.ensures.walk.by.only c.in-Takes.is (c.in_ok-enter.ensures.inner inner)) (λ nine. omega (arith, nine, puts.0, length-with (content_at c.in-Some-read.child.words).entries c.rank_of-child_rank.result c.in-Takes.entry)) c.put_entry.ensures.few;
+      asked = c.enter.ensures.walk.asked + asks_at (content_at c.read_node.new.here.words).entries;
+      walk = calls_quiet _ c.args.store.now c.put_entry.new.store _ c.put_entry.result (tt, tt) (calls_then (λ _. Unit {0}) c.enter.ensures.walk.asked (asks_at (content_at c.read_node.new.here.words).entries) c.args.store.now c.enter.new.store c.put_entry.new.store c.enter.result c.put_entry.result (calls_behind (λ _. Unit {0}) c.enter.ensures.walk.asked c.args.store.now c.read_node.new.store c.enter.new.store c.read_node.result c.enter.result c.read_node.ensures.walk c.enter.ensures.walk.walk (λ asks later. tt)) c.put_entry.ensures.walk (λ asks later. tt));
+      asks = takes_none (g.S.RecordRead.meaning c.args.store.now) (g.S.RecordRead.meaning c.read_node.new.store) (g.S.RecordRead.meaning c.enter.new.store) (g.S.RecordRead.meaning c.put_entry.new.store) c.args.key (content_at c.args.here.now).entries c.args.rank ((content_at c.read_node.new.here.words).low, c.read_node.new.here.at) (content_at c.read_node.new.here.words) c.enter.ensures.walk.asked c.args.depth (content_at c.args.here.now).kind kind c.in_ok-read_node.ensures.walk.by.only c.enter.ensures.walk.walk.by.grow.reads c.put_entry.ensures.walk.by.grow.reads (subst C c.requires.size child) (subst A c.requires.size at) c.enter.result c.enter.ensures.walk.asks c.args.rid c.rank_of-child_rank.result c.in-Takes.entry (c.in_ok-enter.was ∙ ap (λ e. Ok e) c.in-Takes.is) (λ leaf. (let l = rw c.in-Takes.is at (c.in_ok-enter.ensures.leaf leaf) in l.0.1)) (λ inner. from_reads (g.S.RecordRead.meaning c.args.store.now) (g.S.RecordRead.meaning c.read_node.new.store) (g.S.RecordRead.meaning c.enter.new.store) c.args.key c.args.rid (content_at c.read_node.new.here.words).entries c.rank_of-child_rank.result c.in_ok-enter.field-0 _ c.in_ok-read_node.ensures.walk.by.only c.in-Takes.is (c.in_ok-enter.ensures.inner inner)) (λ nine. omega (arith, nine, puts.0, length-with (content_at c.read_node.new.here.words).entries c.rank_of-child_rank.result c.in-Takes.entry)) c.put_entry.ensures.few;
     }
 
 pub returns-in-There-clause-walked : goal.returns-in-There-clause-walked
@@ -280,44 +281,44 @@ returns-in-There-clause-walked g t c =
     λ here.
     let kind = c.is_inner.ensures.inner c.if-not-is_inner.false in
     let some = rank_some c.args.size (content_at c.args.here.now) c.args.key c.args.rank c.requires.node.sound kind c.requires.low c.requires.rank in
-    let read = rw c.entry-at.ensures at c.in_ok-read.ensures.node in
-    let link = at_some (IsTreeNode c.args.size _ _) c.in-Some-read.child c.in-Some-read.is read in
-    let child = child_is c.args.size c.args.key (content_at c.args.here.now).entries c.args.rank c.in-Some-read.child c.requires.rank some link in
-    let at = child_at c.args.size _ (g.S.RecordRead.meaning c.args.store.now) (g.S.RecordRead.meaning c.read_node.new.store) c.in-Some-read.child c.in_ok-read.read c.in-Some-read.is c.in_ok-read.ensures.read in
-    each_reaches c.args.size c.args.depth c.args.key (content_at c.args.here.now).entries c.args.rank ((content_at c.in-Some-read.child.words).low, c.in-Some-read.child.at) (content_at c.in-Some-read.child.words) (g.S.RecordRead.meaning c.args.store.now) (g.S.RecordRead.meaning c.read_node.new.store) (g.S.RecordRead.meaning c.enter.new.store) (g.S.RecordRead.meaning c.enter.new.store) c.in_ok-read.ensures.walk.by.only c.enter.ensures.walk.walk.by.grow.reads (extends-refl (g.S.RecordRead.meaning c.enter.new.store).reads) child at (omega (arith, c.requires.depth, c.if-depth-eq-MOST_DEPTH.false)) c.in_ok-enter.ensures.walked
+    let read = rw c.entry-at.ensures at c.in_ok-read_node.ensures.node in
+    let link = at_some (IsTreeNode c.args.size _ _) c.read_node.new.here (ap (λ present. value_if present c.read_node.new.here) c.if-not-branch.false) read in
+    let child = child_is c.args.size c.args.key (content_at c.args.here.now).entries c.args.rank c.read_node.new.here c.requires.rank some link in
+    let at = child_at c.args.size _ (g.S.RecordRead.meaning c.args.store.now) (g.S.RecordRead.meaning c.read_node.new.store) c.read_node.new.here (value_if c.in_ok-read_node.field-0 c.read_node.new.here) (ap (λ present. value_if present c.read_node.new.here) c.if-not-branch.false) c.in_ok-read_node.ensures.read in
+    each_reaches c.args.size c.args.depth c.args.key (content_at c.args.here.now).entries c.args.rank ((content_at c.read_node.new.here.words).low, c.read_node.new.here.at) (content_at c.read_node.new.here.words) (g.S.RecordRead.meaning c.args.store.now) (g.S.RecordRead.meaning c.read_node.new.store) (g.S.RecordRead.meaning c.enter.new.store) (g.S.RecordRead.meaning c.enter.new.store) c.in_ok-read_node.ensures.walk.by.only c.enter.ensures.walk.walk.by.grow.reads (extends-refl (g.S.RecordRead.meaning c.enter.new.store).reads) child at (omega (arith, c.requires.depth, c.if-depth-eq-MOST_DEPTH.false)) c.in_ok-enter.ensures.walked
 
 pub returns-in-Done-clause-walked : goal.returns-in-Done-clause-walked
 returns-in-Done-clause-walked g t c =
     λ here.
     let kind = c.is_inner.ensures.inner c.if-not-is_inner.false in
     let some = rank_some c.args.size (content_at c.args.here.now) c.args.key c.args.rank c.requires.node.sound kind c.requires.low c.requires.rank in
-    let read = rw c.entry-at.ensures at c.in_ok-read.ensures.node in
-    let link = at_some (IsTreeNode c.args.size _ _) c.in-Some-read.child c.in-Some-read.is read in
-    let child = child_is c.args.size c.args.key (content_at c.args.here.now).entries c.args.rank c.in-Some-read.child c.requires.rank some link in
-    let at = child_at c.args.size _ (g.S.RecordRead.meaning c.args.store.now) (g.S.RecordRead.meaning c.read_node.new.store) c.in-Some-read.child c.in_ok-read.read c.in-Some-read.is c.in_ok-read.ensures.read in
-    each_reaches c.args.size c.args.depth c.args.key (content_at c.args.here.now).entries c.args.rank ((content_at c.in-Some-read.child.words).low, c.in-Some-read.child.at) (content_at c.in-Some-read.child.words) (g.S.RecordRead.meaning c.args.store.now) (g.S.RecordRead.meaning c.read_node.new.store) (g.S.RecordRead.meaning c.enter.new.store) (g.S.RecordRead.meaning c.enter.new.store) c.in_ok-read.ensures.walk.by.only c.enter.ensures.walk.walk.by.grow.reads (extends-refl (g.S.RecordRead.meaning c.enter.new.store).reads) child at (omega (arith, c.requires.depth, c.if-depth-eq-MOST_DEPTH.false)) c.in_ok-enter.ensures.walked
+    let read = rw c.entry-at.ensures at c.in_ok-read_node.ensures.node in
+    let link = at_some (IsTreeNode c.args.size _ _) c.read_node.new.here (ap (λ present. value_if present c.read_node.new.here) c.if-not-branch.false) read in
+    let child = child_is c.args.size c.args.key (content_at c.args.here.now).entries c.args.rank c.read_node.new.here c.requires.rank some link in
+    let at = child_at c.args.size _ (g.S.RecordRead.meaning c.args.store.now) (g.S.RecordRead.meaning c.read_node.new.store) c.read_node.new.here (value_if c.in_ok-read_node.field-0 c.read_node.new.here) (ap (λ present. value_if present c.read_node.new.here) c.if-not-branch.false) c.in_ok-read_node.ensures.read in
+    each_reaches c.args.size c.args.depth c.args.key (content_at c.args.here.now).entries c.args.rank ((content_at c.read_node.new.here.words).low, c.read_node.new.here.at) (content_at c.read_node.new.here.words) (g.S.RecordRead.meaning c.args.store.now) (g.S.RecordRead.meaning c.read_node.new.store) (g.S.RecordRead.meaning c.enter.new.store) (g.S.RecordRead.meaning c.enter.new.store) c.in_ok-read_node.ensures.walk.by.only c.enter.ensures.walk.walk.by.grow.reads (extends-refl (g.S.RecordRead.meaning c.enter.new.store).reads) child at (omega (arith, c.requires.depth, c.if-depth-eq-MOST_DEPTH.false)) c.in_ok-enter.ensures.walked
 
 pub returns-in-Some-2-clause-walked : goal.returns-in-Some-2-clause-walked
 returns-in-Some-2-clause-walked g t c =
     λ here.
     let kind = c.is_inner.ensures.inner c.if-not-is_inner.false in
     let some = rank_some c.args.size (content_at c.args.here.now) c.args.key c.args.rank c.requires.node.sound kind c.requires.low c.requires.rank in
-    let read = rw c.entry-at.ensures at c.in_ok-read.ensures.node in
-    let link = at_some (IsTreeNode c.args.size _ _) c.in-Some-read.child c.in-Some-read.is read in
-    let child = child_is c.args.size c.args.key (content_at c.args.here.now).entries c.args.rank c.in-Some-read.child c.requires.rank some link in
-    let at = child_at c.args.size _ (g.S.RecordRead.meaning c.args.store.now) (g.S.RecordRead.meaning c.read_node.new.store) c.in-Some-read.child c.in_ok-read.read c.in-Some-read.is c.in_ok-read.ensures.read in
-    each_reaches c.args.size c.args.depth c.args.key (content_at c.args.here.now).entries c.args.rank ((content_at c.in-Some-read.child.words).low, c.in-Some-read.child.at) (content_at c.in-Some-read.child.words) (g.S.RecordRead.meaning c.args.store.now) (g.S.RecordRead.meaning c.read_node.new.store) (g.S.RecordRead.meaning c.enter.new.store) (g.S.RecordRead.meaning c.put_entry.new.store) c.in_ok-read.ensures.walk.by.only c.enter.ensures.walk.walk.by.grow.reads c.put_entry.ensures.walk.by.grow.reads child at (omega (arith, c.requires.depth, c.if-depth-eq-MOST_DEPTH.false)) c.in_ok-enter.ensures.walked
+    let read = rw c.entry-at.ensures at c.in_ok-read_node.ensures.node in
+    let link = at_some (IsTreeNode c.args.size _ _) c.read_node.new.here (ap (λ present. value_if present c.read_node.new.here) c.if-not-branch.false) read in
+    let child = child_is c.args.size c.args.key (content_at c.args.here.now).entries c.args.rank c.read_node.new.here c.requires.rank some link in
+    let at = child_at c.args.size _ (g.S.RecordRead.meaning c.args.store.now) (g.S.RecordRead.meaning c.read_node.new.store) c.read_node.new.here (value_if c.in_ok-read_node.field-0 c.read_node.new.here) (ap (λ present. value_if present c.read_node.new.here) c.if-not-branch.false) c.in_ok-read_node.ensures.read in
+    each_reaches c.args.size c.args.depth c.args.key (content_at c.args.here.now).entries c.args.rank ((content_at c.read_node.new.here.words).low, c.read_node.new.here.at) (content_at c.read_node.new.here.words) (g.S.RecordRead.meaning c.args.store.now) (g.S.RecordRead.meaning c.read_node.new.store) (g.S.RecordRead.meaning c.enter.new.store) (g.S.RecordRead.meaning c.put_entry.new.store) c.in_ok-read_node.ensures.walk.by.only c.enter.ensures.walk.walk.by.grow.reads c.put_entry.ensures.walk.by.grow.reads child at (omega (arith, c.requires.depth, c.if-depth-eq-MOST_DEPTH.false)) c.in_ok-enter.ensures.walked
 
 pub returns-in-None-2-clause-walked : goal.returns-in-None-2-clause-walked
 returns-in-None-2-clause-walked g t c =
     λ here.
     let kind = c.is_inner.ensures.inner c.if-not-is_inner.false in
     let some = rank_some c.args.size (content_at c.args.here.now) c.args.key c.args.rank c.requires.node.sound kind c.requires.low c.requires.rank in
-    let read = rw c.entry-at.ensures at c.in_ok-read.ensures.node in
-    let link = at_some (IsTreeNode c.args.size _ _) c.in-Some-read.child c.in-Some-read.is read in
-    let child = child_is c.args.size c.args.key (content_at c.args.here.now).entries c.args.rank c.in-Some-read.child c.requires.rank some link in
-    let at = child_at c.args.size _ (g.S.RecordRead.meaning c.args.store.now) (g.S.RecordRead.meaning c.read_node.new.store) c.in-Some-read.child c.in_ok-read.read c.in-Some-read.is c.in_ok-read.ensures.read in
-    each_reaches c.args.size c.args.depth c.args.key (content_at c.args.here.now).entries c.args.rank ((content_at c.in-Some-read.child.words).low, c.in-Some-read.child.at) (content_at c.in-Some-read.child.words) (g.S.RecordRead.meaning c.args.store.now) (g.S.RecordRead.meaning c.read_node.new.store) (g.S.RecordRead.meaning c.enter.new.store) (g.S.RecordRead.meaning c.put_entry.new.store) c.in_ok-read.ensures.walk.by.only c.enter.ensures.walk.walk.by.grow.reads c.put_entry.ensures.walk.by.grow.reads child at (omega (arith, c.requires.depth, c.if-depth-eq-MOST_DEPTH.false)) c.in_ok-enter.ensures.walked
+    let read = rw c.entry-at.ensures at c.in_ok-read_node.ensures.node in
+    let link = at_some (IsTreeNode c.args.size _ _) c.read_node.new.here (ap (λ present. value_if present c.read_node.new.here) c.if-not-branch.false) read in
+    let child = child_is c.args.size c.args.key (content_at c.args.here.now).entries c.args.rank c.read_node.new.here c.requires.rank some link in
+    let at = child_at c.args.size _ (g.S.RecordRead.meaning c.args.store.now) (g.S.RecordRead.meaning c.read_node.new.store) c.read_node.new.here (value_if c.in_ok-read_node.field-0 c.read_node.new.here) (ap (λ present. value_if present c.read_node.new.here) c.if-not-branch.false) c.in_ok-read_node.ensures.read in
+    each_reaches c.args.size c.args.depth c.args.key (content_at c.args.here.now).entries c.args.rank ((content_at c.read_node.new.here.words).low, c.read_node.new.here.at) (content_at c.read_node.new.here.words) (g.S.RecordRead.meaning c.args.store.now) (g.S.RecordRead.meaning c.read_node.new.store) (g.S.RecordRead.meaning c.enter.new.store) (g.S.RecordRead.meaning c.put_entry.new.store) c.in_ok-read_node.ensures.walk.by.only c.enter.ensures.walk.walk.by.grow.reads c.put_entry.ensures.walk.by.grow.reads child at (omega (arith, c.requires.depth, c.if-depth-eq-MOST_DEPTH.false)) c.in_ok-enter.ensures.walked
 
 -- what is written
 pub returns-in-Some-clause-writes : goal.returns-in-Some-clause-writes
@@ -332,43 +333,43 @@ pub returns-then-depth-eq-MOST_DEPTH-clause-writes : goal.returns-then-depth-eq-
 returns-then-depth-eq-MOST_DEPTH-clause-writes g t c =
     known-reads (g.S.RecordRead.meaning c.args.store.now) (g.S.RecordRead.meaning c.args.store.now) (OnlyReads-refl (g.S.RecordRead.meaning c.args.store.now))
 
-pub returns-in_err-read-clause-writes : goal.returns-in_err-read-clause-writes
-returns-in_err-read-clause-writes g t c =
+pub returns-in_err-read_node-clause-writes : goal.returns-in_err-read_node-clause-writes
+returns-in_err-read_node-clause-writes g t c =
     known-reads (g.S.RecordRead.meaning c.args.store.now) (g.S.RecordRead.meaning c.read_node.new.store) c.read_node.ensures.walk.by.only
 
-pub returns-in_default-clause-writes : goal.returns-in_default-clause-writes
-returns-in_default-clause-writes g t c =
+pub returns-then-not-branch-clause-writes : goal.returns-then-not-branch-clause-writes
+returns-then-not-branch-clause-writes g t c =
     known-reads (g.S.RecordRead.meaning c.args.store.now) (g.S.RecordRead.meaning c.read_node.new.store) c.read_node.ensures.walk.by.only
 
 pub returns-in_err-enter-clause-writes : goal.returns-in_err-enter-clause-writes
 returns-in_err-enter-clause-writes g t c =
-    known-behind (g.S.RecordRead.meaning c.args.store.now) (g.S.RecordRead.meaning c.read_node.new.store) (g.S.RecordRead.meaning c.enter.new.store) c.in_ok-read.ensures.walk.by.only c.enter.ensures.writes
+    known-behind (g.S.RecordRead.meaning c.args.store.now) (g.S.RecordRead.meaning c.read_node.new.store) (g.S.RecordRead.meaning c.enter.new.store) c.in_ok-read_node.ensures.walk.by.only c.enter.ensures.writes
 
 pub returns-in-There-clause-writes : goal.returns-in-There-clause-writes
 returns-in-There-clause-writes g t c =
-    known-behind (g.S.RecordRead.meaning c.args.store.now) (g.S.RecordRead.meaning c.read_node.new.store) (g.S.RecordRead.meaning c.enter.new.store) c.in_ok-read.ensures.walk.by.only c.enter.ensures.writes
+    known-behind (g.S.RecordRead.meaning c.args.store.now) (g.S.RecordRead.meaning c.read_node.new.store) (g.S.RecordRead.meaning c.enter.new.store) c.in_ok-read_node.ensures.walk.by.only c.enter.ensures.writes
 
 pub returns-in-Done-clause-writes : goal.returns-in-Done-clause-writes
 returns-in-Done-clause-writes g t c =
-    known-behind (g.S.RecordRead.meaning c.args.store.now) (g.S.RecordRead.meaning c.read_node.new.store) (g.S.RecordRead.meaning c.enter.new.store) c.in_ok-read.ensures.walk.by.only c.enter.ensures.writes
+    known-behind (g.S.RecordRead.meaning c.args.store.now) (g.S.RecordRead.meaning c.read_node.new.store) (g.S.RecordRead.meaning c.enter.new.store) c.in_ok-read_node.ensures.walk.by.only c.enter.ensures.writes
 
 pub returns-in_err-new-in-Takes-clause-writes : goal.returns-in_err-new-in-Takes-clause-writes
 returns-in_err-new-in-Takes-clause-writes g t c =
-    let at = child_at c.args.size _ (g.S.RecordRead.meaning c.args.store.now) (g.S.RecordRead.meaning c.read_node.new.store) c.in-Some-read.child c.in_ok-read.read c.in-Some-read.is c.in_ok-read.ensures.read in
-    known-then-found (asks_at (content_at c.in-Some-read.child.words).entries) (g.S.RecordRead.meaning c.args.store.now) (g.S.RecordRead.meaning c.read_node.new.store) (g.S.RecordRead.meaning c.enter.new.store) (g.S.RecordRead.meaning c.put_entry.new.store) c.in-Some-read.child.at (known-behind (g.S.RecordRead.meaning c.args.store.now) (g.S.RecordRead.meaning c.read_node.new.store) (g.S.RecordRead.meaning c.enter.new.store) c.in_ok-read.ensures.walk.by.only c.enter.ensures.writes) c.enter.ensures.walk.walk.by.grow.reads c.put_entry.ensures.walk.by.grow.reads c.put_entry.ensures.walk.by.given c.put_entry.ensures.writes (λ state agrees. (let is = at state agrees in (is.words, is.here)))
+    let at = child_at c.args.size _ (g.S.RecordRead.meaning c.args.store.now) (g.S.RecordRead.meaning c.read_node.new.store) c.read_node.new.here (value_if c.in_ok-read_node.field-0 c.read_node.new.here) (ap (λ present. value_if present c.read_node.new.here) c.if-not-branch.false) c.in_ok-read_node.ensures.read in
+    known-then-found (asks_at (content_at c.read_node.new.here.words).entries) (g.S.RecordRead.meaning c.args.store.now) (g.S.RecordRead.meaning c.read_node.new.store) (g.S.RecordRead.meaning c.enter.new.store) (g.S.RecordRead.meaning c.put_entry.new.store) c.read_node.new.here.at (known-behind (g.S.RecordRead.meaning c.args.store.now) (g.S.RecordRead.meaning c.read_node.new.store) (g.S.RecordRead.meaning c.enter.new.store) c.in_ok-read_node.ensures.walk.by.only c.enter.ensures.writes) c.enter.ensures.walk.walk.by.grow.reads c.put_entry.ensures.walk.by.grow.reads c.put_entry.ensures.walk.by.given c.put_entry.ensures.writes (λ state agrees. (let is = at state agrees in (is.words, is.here)))
 
 pub returns-in-Some-2-clause-writes : goal.returns-in-Some-2-clause-writes
 returns-in-Some-2-clause-writes g t c =
-    let at = child_at c.args.size _ (g.S.RecordRead.meaning c.args.store.now) (g.S.RecordRead.meaning c.read_node.new.store) c.in-Some-read.child c.in_ok-read.read c.in-Some-read.is c.in_ok-read.ensures.read in
-    known-then-found (asks_at (content_at c.in-Some-read.child.words).entries) (g.S.RecordRead.meaning c.args.store.now) (g.S.RecordRead.meaning c.read_node.new.store) (g.S.RecordRead.meaning c.enter.new.store) (g.S.RecordRead.meaning c.put_entry.new.store) c.in-Some-read.child.at (known-behind (g.S.RecordRead.meaning c.args.store.now) (g.S.RecordRead.meaning c.read_node.new.store) (g.S.RecordRead.meaning c.enter.new.store) c.in_ok-read.ensures.walk.by.only c.enter.ensures.writes) c.enter.ensures.walk.walk.by.grow.reads c.put_entry.ensures.walk.by.grow.reads c.put_entry.ensures.walk.by.given c.put_entry.ensures.writes (λ state agrees. (let is = at state agrees in (is.words, is.here)))
+    let at = child_at c.args.size _ (g.S.RecordRead.meaning c.args.store.now) (g.S.RecordRead.meaning c.read_node.new.store) c.read_node.new.here (value_if c.in_ok-read_node.field-0 c.read_node.new.here) (ap (λ present. value_if present c.read_node.new.here) c.if-not-branch.false) c.in_ok-read_node.ensures.read in
+    known-then-found (asks_at (content_at c.read_node.new.here.words).entries) (g.S.RecordRead.meaning c.args.store.now) (g.S.RecordRead.meaning c.read_node.new.store) (g.S.RecordRead.meaning c.enter.new.store) (g.S.RecordRead.meaning c.put_entry.new.store) c.read_node.new.here.at (known-behind (g.S.RecordRead.meaning c.args.store.now) (g.S.RecordRead.meaning c.read_node.new.store) (g.S.RecordRead.meaning c.enter.new.store) c.in_ok-read_node.ensures.walk.by.only c.enter.ensures.writes) c.enter.ensures.walk.walk.by.grow.reads c.put_entry.ensures.walk.by.grow.reads c.put_entry.ensures.walk.by.given c.put_entry.ensures.writes (λ state agrees. (let is = at state agrees in (is.words, is.here)))
 
 pub returns-in-None-2-clause-writes : goal.returns-in-None-2-clause-writes
 returns-in-None-2-clause-writes g t c =
-    let at = child_at c.args.size _ (g.S.RecordRead.meaning c.args.store.now) (g.S.RecordRead.meaning c.read_node.new.store) c.in-Some-read.child c.in_ok-read.read c.in-Some-read.is c.in_ok-read.ensures.read in
-    known-then-found (asks_at (content_at c.in-Some-read.child.words).entries) (g.S.RecordRead.meaning c.args.store.now) (g.S.RecordRead.meaning c.read_node.new.store) (g.S.RecordRead.meaning c.enter.new.store) (g.S.RecordRead.meaning c.put_entry.new.store) c.in-Some-read.child.at (known-behind (g.S.RecordRead.meaning c.args.store.now) (g.S.RecordRead.meaning c.read_node.new.store) (g.S.RecordRead.meaning c.enter.new.store) c.in_ok-read.ensures.walk.by.only c.enter.ensures.writes) c.enter.ensures.walk.walk.by.grow.reads c.put_entry.ensures.walk.by.grow.reads c.put_entry.ensures.walk.by.given c.put_entry.ensures.writes (λ state agrees. (let is = at state agrees in (is.words, is.here)))
+    let at = child_at c.args.size _ (g.S.RecordRead.meaning c.args.store.now) (g.S.RecordRead.meaning c.read_node.new.store) c.read_node.new.here (value_if c.in_ok-read_node.field-0 c.read_node.new.here) (ap (λ present. value_if present c.read_node.new.here) c.if-not-branch.false) c.in_ok-read_node.ensures.read in
+    known-then-found (asks_at (content_at c.read_node.new.here.words).entries) (g.S.RecordRead.meaning c.args.store.now) (g.S.RecordRead.meaning c.read_node.new.store) (g.S.RecordRead.meaning c.enter.new.store) (g.S.RecordRead.meaning c.put_entry.new.store) c.read_node.new.here.at (known-behind (g.S.RecordRead.meaning c.args.store.now) (g.S.RecordRead.meaning c.read_node.new.store) (g.S.RecordRead.meaning c.enter.new.store) c.in_ok-read_node.ensures.walk.by.only c.enter.ensures.writes) c.enter.ensures.walk.walk.by.grow.reads c.put_entry.ensures.walk.by.grow.reads c.put_entry.ensures.walk.by.given c.put_entry.ensures.writes (λ state agrees. (let is = at state agrees in (is.words, is.here)))
 
 pub returns-in-There-clause-there : goal.returns-in-There-clause-there
-returns-in-There-clause-there g t c = OnlyReads-trans _ _ _ c.in_ok-read.ensures.walk.by.only (rw c.in-There.is at c.in_ok-enter.ensures.there)
+returns-in-There-clause-there g t c = OnlyReads-trans _ _ _ c.in_ok-read_node.ensures.walk.by.only (rw c.in-There.is at c.in_ok-enter.ensures.there)
 
 pub returns-in-Some-clause-there : goal.returns-in-Some-clause-there
 returns-in-Some-clause-there g t c = OnlyReads-refl (g.S.RecordRead.meaning c.args.store.now)

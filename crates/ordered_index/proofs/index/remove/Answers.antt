@@ -29,11 +29,11 @@ returns-clause-ok g c =
     let place = rw c.in-Some-place.is at c.place.ensures.place in
     let m1 = g.S.RecordRead.meaning c.leaf_for.new.store in
     let m2 = g.S.RecordRead.meaning c.write_node.new.store in
-    let node = c.node_of-node.result in
+    let node = c.to_node-node.result in
     let W : Content → Type 0 = λ n. m2 ≡ after_write m1 c.in-Some.leaf.at (Some (tree_node_words (record n { entries = remove n.entries c.in-Some-place.index }))) in
     removes_entry c.size-size.result c.args.root c.in-Some.leaf.at c.in-Some-place.index c.args.key (g.S.RecordRead.meaning c.args.store.now) m1 m2 (content_at c.in-Some.leaf.words)
     c.size-size.ensures.size c.in_ok-leaf.ensures.walk.by.only (λ state agrees. rw c.in-Some.is at (c.in_ok-leaf.ensures.leaf state agrees)) within.1.sound.rising place
-    (subst W c.node_of-node.ensures
+    (subst W c.to_node-node.ensures
     (written_as m1 c.in-Some.leaf.at c.cells.ensures c.in_ok-write_node.ensures.ok ∙ ap (λ es. after_write m1 c.in-Some.leaf.at (Some (tree_node_words (let n : Content = record { kind = node.kind; low = node.low; entries = es; next = node.next } in n)))) c.remove.ensures.items))
 
 pub returns-in_err-leaf-clause-few : goal.returns-in_err-leaf-clause-few

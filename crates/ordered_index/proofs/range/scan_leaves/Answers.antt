@@ -34,23 +34,23 @@ pub returns-in_default-next-clause-ok : goal.returns-in_default-next-clause-ok
 returns-in_default-next-clause-ok g c =
     rw (← c.size-size.ensures.size) (λ state agrees. scans_by c.size-size.result c.args.root c.args.lo c.args.hi c.args.limit (overlay (g.S.RecordRead.meaning c.args.store.now).writes state) (node_of c.loop-goes_on.here) c.args.out.now.items c.loop-goes_on.out.items c.loop-goes_on.goes_on (c.loop-goes_on.invariant.listed state agrees) (no_leaf (sym c.next.ensures ∙ c.in_default-next.is)))
 
-pub returns-in_err-link-clause-torn : goal.returns-in_err-link-clause-torn
-returns-in_err-link-clause-torn g c =
-    torn_moved c.from_residual-in_err-link.result c.read_next_leaf.result c.in_err-link.field-0.0 _ c.in_err-link.was c.from_residual-in_err-link.ensures.1
+pub returns-in_err-read_next_leaf-clause-torn : goal.returns-in_err-read_next_leaf-clause-torn
+returns-in_err-read_next_leaf-clause-torn g c =
+    torn_moved c.from_residual-in_err-read_next_leaf.result c.read_next_leaf.result c.in_err-read_next_leaf.field-0.0 _ c.in_err-read_next_leaf.was c.from_residual-in_err-read_next_leaf.ensures.1
     (IfTorn-map c.read_next_leaf.result
-    (λ rid torn. rw (← c.size-size.ensures.size) (each_torn (g.S.RecordRead.meaning c.args.store.now) (g.S.RecordRead.meaning c.loop-goes_on.store) (g.S.RecordRead.meaning c.read_next_leaf.new.store) c.size-size.result c.args.root rid c.in-Some-next.next c.args.lo c.args.hi c.args.limit c.loop-goes_on.here c.args.out.now.items c.loop-goes_on.out.items c.loop-goes_on.goes_on c.loop-goes_on.invariant.walk.by.only c.read_next_leaf.ensures.walk.by.only c.loop-goes_on.invariant.listed (sym c.next.ensures ∙ c.in-Some-next.is) torn.0 (subst (λ k. EachState (g.S.RecordRead.meaning c.loop-goes_on.store) (g.S.RecordRead.meaning c.read_next_leaf.new.store) (λ state. IsNoLeaf c.size-size.result k state c.in-Some-next.next)) c.fence.ensures torn.1)))
+    (λ rid torn. rw (← c.size-size.ensures.size) (each_torn (g.S.RecordRead.meaning c.args.store.now) (g.S.RecordRead.meaning c.loop-goes_on.store) (g.S.RecordRead.meaning c.read_next_leaf.new.store) c.size-size.result c.args.root rid c.in-Some-next.next c.args.lo c.args.hi c.args.limit c.loop-goes_on.here c.args.out.now.items c.loop-goes_on.out.items c.loop-goes_on.goes_on c.loop-goes_on.invariant.walk.by.only c.read_next_leaf.ensures.walk.by.only c.loop-goes_on.invariant.listed (sym c.next.ensures ∙ c.in-Some-next.is) torn.0 (subst (λ k. EachState (g.S.RecordRead.meaning c.loop-goes_on.store) (g.S.RecordRead.meaning c.read_next_leaf.new.store) (λ state. IsNoLeaf c.size-size.result k state c.in-Some-next.next)) c.fence-before.ensures torn.1)))
     c.read_next_leaf.ensures.torn)
 
 pub returns-then-is_before-clause-ok : goal.returns-then-is_before-clause-ok
 returns-then-is_before-clause-ok g c =
-    let leaf = subst (λ k. IsLeafBehind c.size-size.result c.in-Some-next.next k c.in_ok-link.link) c.fence.ensures c.in_ok-link.ensures.leaf in
-    let next = each_next (g.S.RecordRead.meaning c.args.store.now) (g.S.RecordRead.meaning c.loop-goes_on.store) (g.S.RecordRead.meaning c.read_next_leaf.new.store) c.size-size.result c.in-Some-next.next c.loop-goes_on.here c.in_ok-link.link c.loop-goes_on.invariant.walk.by.only (sym c.next.ensures ∙ c.in-Some-next.is) leaf c.in_ok-link.ensures.read in
+    let leaf = subst (λ k. IsLeafBehind c.size-size.result c.in-Some-next.next k c.read_next_leaf.new.here) c.fence-before.ensures c.in_ok-read_next_leaf.ensures.leaf in
+    let next = each_next (g.S.RecordRead.meaning c.args.store.now) (g.S.RecordRead.meaning c.loop-goes_on.store) (g.S.RecordRead.meaning c.read_next_leaf.new.store) c.size-size.result c.in-Some-next.next c.loop-goes_on.here c.read_next_leaf.new.here c.loop-goes_on.invariant.walk.by.only (sym c.next.ensures ∙ c.in-Some-next.is) leaf c.in_ok-read_next_leaf.ensures.read in
     rw (← c.size-size.ensures.size)
     (each_ends (g.S.RecordRead.meaning c.args.store.now) (g.S.RecordRead.meaning c.loop-goes_on.store) (g.S.RecordRead.meaning c.read_next_leaf.new.store) c.size-size.result c.args.root c.args.lo c.args.hi c.args.limit c.loop-goes_on.here c.args.out.now.items c.loop-goes_on.out.items c.loop-goes_on.goes_on c.read_next_leaf.ensures.walk.by.only c.loop-goes_on.invariant.listed
-    (λ state passed agrees. leaf_behind (node_of c.in_ok-link.link) (next state agrees) (ap (is_before c.args.hi) (sym c.fence-in-loop-goes_on.ensures) ∙ sym c.is_before.ensures ∙ c.if-is_before.true)))
+    (λ state passed agrees. leaf_behind (node_of c.read_next_leaf.new.here) (next state agrees) (ap (is_before c.args.hi) (sym c.fence.ensures) ∙ sym c.is_before.ensures ∙ c.if-is_before.true)))
 
 pub loop-goes_on-smaller : goal.loop-goes_on-smaller
-loop-goes_on-smaller g c = (subst (λ k. IsLeafBehind c.size-size.result c.in-Some-next.next k c.in_ok-link.link) c.fence.ensures c.in_ok-link.ensures.leaf).nearer
+loop-goes_on-smaller g c = (subst (λ k. IsLeafBehind c.size-size.result c.in-Some-next.next k c.read_next_leaf.new.here) c.fence-before.ensures c.in_ok-read_next_leaf.ensures.leaf).nearer
 
 pub loop-goes_on-preserved : goal.loop-goes_on-preserved
 loop-goes_on-preserved g c =
@@ -60,18 +60,18 @@ loop-goes_on-preserved g c =
     let most = c.len.result + c.args.limit in
     let room : most ≡ length old + c.args.limit = omega (arith, c.len.ensures, c.args.out.now.ok.0) in
     let few : length mid < most = omega (arith, c.loop-goes_on.invariant.some c.loop-goes_on-test.true, c.loop-goes_on.out.ok.0) in
-    let leaf = subst (λ k. IsLeafBehind c.size-size.result c.in-Some-next.next k c.in_ok-link.link) c.fence.ensures c.in_ok-link.ensures.leaf in
-    let next = each_next (g.S.RecordRead.meaning c.args.store.now) (g.S.RecordRead.meaning c.loop-goes_on.store) (g.S.RecordRead.meaning c.read_next_leaf.new.store) c.size-size.result c.in-Some-next.next c.loop-goes_on.here c.in_ok-link.link c.loop-goes_on.invariant.walk.by.only (sym c.next.ensures ∙ c.in-Some-next.is) leaf c.in_ok-link.ensures.read in
+    let leaf = subst (λ k. IsLeafBehind c.size-size.result c.in-Some-next.next k c.read_next_leaf.new.here) c.fence-before.ensures c.in_ok-read_next_leaf.ensures.leaf in
+    let next = each_next (g.S.RecordRead.meaning c.args.store.now) (g.S.RecordRead.meaning c.loop-goes_on.store) (g.S.RecordRead.meaning c.read_next_leaf.new.store) c.size-size.result c.in-Some-next.next c.loop-goes_on.here c.read_next_leaf.new.here c.loop-goes_on.invariant.walk.by.only (sym c.next.ensures ∙ c.in-Some-next.is) leaf c.in_ok-read_next_leaf.ensures.read in
     let so_far = each_grown (g.S.RecordRead.meaning c.args.store.now) (g.S.RecordRead.meaning c.loop-goes_on.store) (g.S.RecordRead.meaning c.read_next_leaf.new.store) (λ s. Listed c.size-size.result c.args.root c.args.lo c.args.hi c.args.limit s (node_of c.loop-goes_on.here) old mid true) c.read_next_leaf.ensures.walk.by.only (rw c.loop-goes_on-test.true at c.loop-goes_on.invariant.listed) in
     record {
       walk = reads_quiet c.args.store.now c.read_next_leaf.new.store (Ok (tt {0})) c.read_next_leaf.result (tt, tt) (reads_then c.args.store.now c.loop-goes_on.store c.read_next_leaf.new.store (Ok (tt {0})) c.read_next_leaf.result c.loop-goes_on.invariant.walk c.read_next_leaf.ensures.walk);
       node = leaf.node;
       room = c.take_between-goes_on-in-loop-goes_on.ensures.room;
       some = c.take_between-goes_on-in-loop-goes_on.ensures.goes_on;
-      appends = appends_more c.size-size.result c.args.limit most c.args.lo c.args.hi (content_at c.in_ok-link.link.words).entries old mid now room leaf.node.sound.records c.loop-goes_on.invariant.appends c.take_between-goes_on-in-loop-goes_on.ensures.items;
+      appends = appends_more c.size-size.result c.args.limit most c.args.lo c.args.hi (content_at c.read_next_leaf.new.here.words).entries old mid now room leaf.node.sound.records c.loop-goes_on.invariant.appends c.take_between-goes_on-in-loop-goes_on.ensures.items;
       listed = λ state agrees.
-          listed_more c.size-size.result c.args.root c.args.lo c.args.hi c.args.limit most (overlay (g.S.RecordRead.meaning c.args.store.now).writes state) (node_of c.loop-goes_on.here) (node_of c.in_ok-link.link) old mid now c.take_between-goes_on-in-loop-goes_on.result room (so_far state agrees) (next state agrees) few c.take_between-goes_on-in-loop-goes_on.ensures.items
-          (λ no. elim (c.take_between-goes_on-in-loop-goes_on.ensures.ends no) as (λ _. HasBehind c.args.hi (content_at c.in_ok-link.link.words).entries ⊎ (length now ≡ most)) [ inl behind ↦ inl behind | inr full ↦ inr (omega (arith, full, c.take_between-goes_on-in-loop-goes_on.new.out.ok.0)) ]);
+          listed_more c.size-size.result c.args.root c.args.lo c.args.hi c.args.limit most (overlay (g.S.RecordRead.meaning c.args.store.now).writes state) (node_of c.loop-goes_on.here) (node_of c.read_next_leaf.new.here) old mid now c.take_between-goes_on-in-loop-goes_on.result room (so_far state agrees) (next state agrees) few c.take_between-goes_on-in-loop-goes_on.ensures.items
+          (λ no. elim (c.take_between-goes_on-in-loop-goes_on.ensures.ends no) as (λ _. HasBehind c.args.hi (content_at c.read_next_leaf.new.here.words).entries ⊎ (length now ≡ most)) [ inl behind ↦ inl behind | inr full ↦ inr (omega (arith, full, c.take_between-goes_on-in-loop-goes_on.new.out.ok.0)) ]);
     }
 
 pub returns-clause-ok : goal.returns-clause-ok
@@ -97,8 +97,8 @@ returns-in_default-clause-walk g c = reads_quiet c.args.store.now c.leaf_for.new
 pub returns-in_default-next-clause-walk : goal.returns-in_default-next-clause-walk
 returns-in_default-next-clause-walk g c = reads_quiet c.args.store.now c.loop-goes_on.store _ (Ok (tt {0})) (tt, tt) c.loop-goes_on.invariant.walk
 
-pub returns-in_err-link-clause-walk : goal.returns-in_err-link-clause-walk
-returns-in_err-link-clause-walk g c = reads_moved c.args.store.now c.read_next_leaf.new.store c.from_residual-in_err-link.result c.read_next_leaf.result c.in_err-link.field-0.0 c.in_err-link.was c.from_residual-in_err-link.ensures.1 (reads_then c.args.store.now c.loop-goes_on.store c.read_next_leaf.new.store (Ok (tt {0})) c.read_next_leaf.result c.loop-goes_on.invariant.walk c.read_next_leaf.ensures.walk)
+pub returns-in_err-read_next_leaf-clause-walk : goal.returns-in_err-read_next_leaf-clause-walk
+returns-in_err-read_next_leaf-clause-walk g c = reads_moved c.args.store.now c.read_next_leaf.new.store c.from_residual-in_err-read_next_leaf.result c.read_next_leaf.result c.in_err-read_next_leaf.field-0.0 c.in_err-read_next_leaf.was c.from_residual-in_err-read_next_leaf.ensures.1 (reads_then c.args.store.now c.loop-goes_on.store c.read_next_leaf.new.store (Ok (tt {0})) c.read_next_leaf.result c.loop-goes_on.invariant.walk c.read_next_leaf.ensures.walk)
 
 pub returns-then-is_before-clause-walk : goal.returns-then-is_before-clause-walk
 returns-then-is_before-clause-walk g c = reads_quiet c.args.store.now c.read_next_leaf.new.store _ c.read_next_leaf.result (tt, tt) (reads_then c.args.store.now c.loop-goes_on.store c.read_next_leaf.new.store (Ok (tt {0})) c.read_next_leaf.result c.loop-goes_on.invariant.walk c.read_next_leaf.ensures.walk)

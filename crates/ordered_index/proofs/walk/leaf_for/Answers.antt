@@ -1,5 +1,6 @@
-use Rattle.std.proofs.Common.{Ok, arith}
+use Rattle.std.proofs.Common.{Ok, ap, arith}
 use Rattle.ordered_index.specs.Standing.{content_at}
+use Rattle.record_store.specs.Into.{value_if}
 use Rattle.record_store.proofs.Refusals.{torn_moved, IfTorn-map}
 use Rattle.plain_data.specs.State.{overlay}
 use Rattle.ordered_index.specs.Keys.{first_key}
@@ -11,23 +12,23 @@ use Rattle.ordered_index.proofs.Paths.{walk_begins, walk_ends, root_tears}
 use Rattle.record_store.proofs.Going.{reads_moved, reads_quiet, reads_then}
 use Rattle.ordered_index.proofs.walk.leaf_for.Goals as goal
 
-pub returns-in_err-here-clause-torn : goal.returns-in_err-here-clause-torn
-returns-in_err-here-clause-torn g c =
-    torn_moved c.from_residual.result c.read_node.result c.in_err-here.field-0.0 _ c.in_err-here.was c.from_residual.ensures.1
+pub returns-in_err-read_node-clause-torn : goal.returns-in_err-read_node-clause-torn
+returns-in_err-read_node-clause-torn g c =
+    torn_moved c.from_residual.result c.read_node.result c.in_err-read_node.field-0.0 _ c.in_err-read_node.was c.from_residual.ensures.1
     (IfTorn-map c.read_node.result
     (λ rid torn. λ state agrees. rw torn.0 (root_tears c.args.size c.args.root c.args.key (overlay (g.S.RecordRead.meaning c.args.store.now).writes state) (torn.1 state agrees)))
     c.read_node.ensures.torn)
 
 pub loop-key-init : goal.loop-key-init
 loop-key-init g c =
-    let link = at_some (IsTreeNode c.args.size c.args.root first_key) c.in-Some.here c.in-Some.is c.in_ok-here.ensures.node in
+    let link = at_some (IsTreeNode c.args.size c.args.root first_key) c.read_node.new.here (ap (λ present. value_if present c.read_node.new.here) c.if-not-branch.false) c.in_ok-read_node.ensures.node in
     record {
       walk = reads_quiet c.args.store.now c.read_node.new.store (Ok (tt {0})) c.read_node.result (tt, tt) c.read_node.ensures.walk;
       at = rw link.at c.requires.root;
       node = link.node;
       low = rw link.low (first_not_after c.args.key);
       deep = omega arith;
-      walked = λ state agrees. walk_begins c.args.size c.args.root c.args.key _ c.in-Some.here link.at link.low (rw c.in-Some.is at (c.in_ok-here.ensures.read state agrees));
+      walked = λ state agrees. walk_begins c.args.size c.args.root c.args.key _ c.read_node.new.here link.at link.low (rw (ap (λ present. value_if present c.read_node.new.here) c.if-not-branch.false) at (c.in_ok-read_node.ensures.read state agrees));
     }
 
 pub returns-then-depth-eq-MOST_DEPTH-clause-torn : goal.returns-then-depth-eq-MOST_DEPTH-clause-torn
@@ -37,47 +38,47 @@ returns-then-depth-eq-MOST_DEPTH-clause-torn g c =
 pub read_node-requires-in-loop-key-clause-rid : goal.read_node-requires-in-loop-key-clause-rid
 read_node-requires-in-loop-key-clause-rid g c = last_at-in c.args.size (content_at c.loop-key.here.words).entries c.args.key c.child-rid.result c.loop-key.invariant.node.sound.records c.child-rid.ensures
 
-pub returns-in_err-link-clause-torn : goal.returns-in_err-link-clause-torn
-returns-in_err-link-clause-torn g c =
-    torn_moved c.from_residual-in_err-link.result c.read_node-in-loop-key.result c.in_err-link.field-0.0 _ c.in_err-link.was c.from_residual-in_err-link.ensures.1
+pub returns-in_err-read_node-2-clause-torn : goal.returns-in_err-read_node-2-clause-torn
+returns-in_err-read_node-2-clause-torn g c =
+    torn_moved c.from_residual-in_err-read_node-2.result c.read_node-in-loop-key.result c.in_err-read_node-2.field-0.0 _ c.in_err-read_node-2.was c.from_residual-in_err-read_node-2.ensures.1
     (IfTorn-map c.read_node-in-loop-key.result
     (λ rid torn. each_tears _ _ _ c.args.size c.args.root c.loop-key.depth rid c.args.key c.loop-key.here c.child-rid.result c.loop-key.invariant.walk.by.only c.read_node-in-loop-key.ensures.walk.by.only c.loop-key.invariant.walked (c.is_inner.ensures.inner c.loop-key-test.true) c.child-rid.ensures torn.0 torn.1)
     c.read_node-in-loop-key.ensures.torn)
 
-pub returns-in_default-2-clause-torn : goal.returns-in_default-2-clause-torn
-returns-in_default-2-clause-torn g c =
-    each_absent _ _ _ c.args.size c.args.root c.loop-key.depth c.args.key c.loop-key.here c.child-rid.result c.in_ok-link.field-0 c.loop-key.invariant.walk.by.only c.in_ok-link.ensures.walk.by.only c.loop-key.invariant.walked (c.is_inner.ensures.inner c.loop-key-test.true) c.child-rid.ensures c.in_default-2.is c.in_ok-link.ensures.read
+pub returns-then-not-branch-2-clause-torn : goal.returns-then-not-branch-2-clause-torn
+returns-then-not-branch-2-clause-torn g c =
+    each_absent _ _ _ c.args.size c.args.root c.loop-key.depth c.args.key c.loop-key.here c.child-rid.result (value_if c.in_ok-read_node-2.field-0 c.read_node-in-loop-key.new.here) c.loop-key.invariant.walk.by.only c.in_ok-read_node-2.ensures.walk.by.only c.loop-key.invariant.walked (c.is_inner.ensures.inner c.loop-key-test.true) c.child-rid.ensures (ap (λ present. value_if present c.read_node-in-loop-key.new.here) c.if-not-branch-2.true) c.in_ok-read_node-2.ensures.read
 
 pub loop-key-preserved : goal.loop-key-preserved
 loop-key-preserved g c =
-    let link = at_some (IsTreeNode c.args.size c.child-rid.result.1 c.child-rid.result.0) c.in-Some-2.link c.in-Some-2.is c.in_ok-link.ensures.node in
+    let link = at_some (IsTreeNode c.args.size c.child-rid.result.1 c.child-rid.result.0) c.read_node-in-loop-key.new.here (ap (λ present. value_if present c.read_node-in-loop-key.new.here) c.if-not-branch-2.false) c.in_ok-read_node-2.ensures.node in
     record {
       walk = reads_quiet c.args.store.now c.read_node-in-loop-key.new.store (Ok (tt {0})) c.read_node-in-loop-key.result (tt, tt) (reads_then c.args.store.now c.loop-key.store c.read_node-in-loop-key.new.store (Ok (tt {0})) c.read_node-in-loop-key.result c.loop-key.invariant.walk c.read_node-in-loop-key.ensures.walk);
       at = rw link.at (last_at-in c.args.size (content_at c.loop-key.here.words).entries c.args.key c.child-rid.result c.loop-key.invariant.node.sound.records c.child-rid.ensures);
       node = link.node;
       low = rw link.low (last_at-low (content_at c.loop-key.here.words).entries c.args.key c.child-rid.result c.child-rid.ensures);
       deep = omega (arith, c.loop-key.invariant.deep, c.if-depth-eq-MOST_DEPTH.false);
-      walked = each_steps _ _ _ c.args.size c.args.root c.loop-key.depth c.args.key c.loop-key.here c.in-Some-2.link c.child-rid.result c.in_ok-link.field-0 c.loop-key.invariant.walk.by.only c.in_ok-link.ensures.walk.by.only c.loop-key.invariant.walked (c.is_inner.ensures.inner c.loop-key-test.true) c.child-rid.ensures link.at link.low c.in-Some-2.is c.in_ok-link.ensures.read;
+      walked = each_steps _ _ _ c.args.size c.args.root c.loop-key.depth c.args.key c.loop-key.here c.read_node-in-loop-key.new.here c.child-rid.result (value_if c.in_ok-read_node-2.field-0 c.read_node-in-loop-key.new.here) c.loop-key.invariant.walk.by.only c.in_ok-read_node-2.ensures.walk.by.only c.loop-key.invariant.walked (c.is_inner.ensures.inner c.loop-key-test.true) c.child-rid.ensures link.at link.low (ap (λ present. value_if present c.read_node-in-loop-key.new.here) c.if-not-branch-2.false) c.in_ok-read_node-2.ensures.read;
     }
 
 pub returns-clause-leaf : goal.returns-clause-leaf
 returns-clause-leaf g c = λ state agrees. walk_ends c.args.size c.args.root c.loop-key.depth c.args.key _ c.loop-key.here (c.loop-key.invariant.walked state agrees) c.loop-key.invariant.deep (c.is_inner.ensures.leaf c.loop-key-test.false)
 
 -- how the walk went
-pub returns-in_err-here-clause-walk : goal.returns-in_err-here-clause-walk
-returns-in_err-here-clause-walk g c = reads_moved c.args.store.now c.read_node.new.store c.from_residual.result c.read_node.result c.in_err-here.field-0.0 c.in_err-here.was c.from_residual.ensures.1 c.read_node.ensures.walk
+pub returns-in_err-read_node-clause-walk : goal.returns-in_err-read_node-clause-walk
+returns-in_err-read_node-clause-walk g c = reads_moved c.args.store.now c.read_node.new.store c.from_residual.result c.read_node.result c.in_err-read_node.field-0.0 c.in_err-read_node.was c.from_residual.ensures.1 c.read_node.ensures.walk
 
-pub returns-in_default-clause-walk : goal.returns-in_default-clause-walk
-returns-in_default-clause-walk g c = reads_quiet c.args.store.now c.read_node.new.store _ c.read_node.result (tt, tt) c.read_node.ensures.walk
+pub returns-then-not-branch-clause-walk : goal.returns-then-not-branch-clause-walk
+returns-then-not-branch-clause-walk g c = reads_quiet c.args.store.now c.read_node.new.store _ c.read_node.result (tt, tt) c.read_node.ensures.walk
 
 pub returns-then-depth-eq-MOST_DEPTH-clause-walk : goal.returns-then-depth-eq-MOST_DEPTH-clause-walk
 returns-then-depth-eq-MOST_DEPTH-clause-walk g c = reads_quiet c.args.store.now c.loop-key.store _ (Ok (tt {0})) (tt, tt) c.loop-key.invariant.walk
 
-pub returns-in_err-link-clause-walk : goal.returns-in_err-link-clause-walk
-returns-in_err-link-clause-walk g c = reads_moved c.args.store.now c.read_node-in-loop-key.new.store c.from_residual-in_err-link.result c.read_node-in-loop-key.result c.in_err-link.field-0.0 c.in_err-link.was c.from_residual-in_err-link.ensures.1 (reads_then c.args.store.now c.loop-key.store c.read_node-in-loop-key.new.store (Ok (tt {0})) c.read_node-in-loop-key.result c.loop-key.invariant.walk c.read_node-in-loop-key.ensures.walk)
+pub returns-in_err-read_node-2-clause-walk : goal.returns-in_err-read_node-2-clause-walk
+returns-in_err-read_node-2-clause-walk g c = reads_moved c.args.store.now c.read_node-in-loop-key.new.store c.from_residual-in_err-read_node-2.result c.read_node-in-loop-key.result c.in_err-read_node-2.field-0.0 c.in_err-read_node-2.was c.from_residual-in_err-read_node-2.ensures.1 (reads_then c.args.store.now c.loop-key.store c.read_node-in-loop-key.new.store (Ok (tt {0})) c.read_node-in-loop-key.result c.loop-key.invariant.walk c.read_node-in-loop-key.ensures.walk)
 
-pub returns-in_default-2-clause-walk : goal.returns-in_default-2-clause-walk
-returns-in_default-2-clause-walk g c = reads_quiet c.args.store.now c.read_node-in-loop-key.new.store _ c.read_node-in-loop-key.result (tt, tt) (reads_then c.args.store.now c.loop-key.store c.read_node-in-loop-key.new.store (Ok (tt {0})) c.read_node-in-loop-key.result c.loop-key.invariant.walk c.read_node-in-loop-key.ensures.walk)
+pub returns-then-not-branch-2-clause-walk : goal.returns-then-not-branch-2-clause-walk
+returns-then-not-branch-2-clause-walk g c = reads_quiet c.args.store.now c.read_node-in-loop-key.new.store _ c.read_node-in-loop-key.result (tt, tt) (reads_then c.args.store.now c.loop-key.store c.read_node-in-loop-key.new.store (Ok (tt {0})) c.read_node-in-loop-key.result c.loop-key.invariant.walk c.read_node-in-loop-key.ensures.walk)
 
 pub returns-clause-walk : goal.returns-clause-walk
 returns-clause-walk g c = reads_quiet c.args.store.now c.loop-key.store _ (Ok (tt {0})) (tt, tt) c.loop-key.invariant.walk

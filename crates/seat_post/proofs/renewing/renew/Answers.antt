@@ -1,5 +1,5 @@
 use Rattle.std.specs.Prelude.{if◌then◌else◌}
-use Rattle.std.proofs.Common.{rules, ◌≡◌, ◌≢◌, ◌<◌, ◌+◌, ℕ, sym, ap, ◌∙◌, subst, inr, arith}
+use Rattle.std.proofs.Common.{rules, ◌≡◌, ◌≢◌, ◌<◌, ℕ, sym, ap, ◌∙◌, subst, inr, arith}
 use Rattle.stamp_base.specs.Stamp.{stamp_of}
 use Rattle.core_rule.specs.Hands.{Seated}
 use Rattle.core_rule.specs.View.{View, Counted, version_reserved}
@@ -7,14 +7,15 @@ use Rattle.word_layout.specs.Size.{Size, reserved_place}
 use Rattle.clock_stamps.specs.Clocks.{drawn_clock}
 use Rattle.seat_post.specs.Rewriting.{Rewrites}
 use Rattle.version_search.proofs.Grown.{grows_none, grows_both}
-use Rattle.seat_post.specs.Settling.{IsRewrittenAt}
+use Rattle.seat_post.specs.Settling.{IsSettling, Settles, IsRewrittenAt}
 use Rattle.seat_post.proofs.Dues.{no_place}
 use Rattle.seat_post.proofs.Observed.{drawn_grows}
 use Rattle.seat_post.proofs.Answered.{not_ok, on_err}
 use Rattle.seat_post.proofs.Bounds.{drawn_later, less_is_most, seat_below}
 use Rattle.seat_post.proofs.Steady.{steady_same, steady_settles}
 use Rattle.seat_post.proofs.ReservedPlace.{reserved_in}
-use Rattle.seat_post.proofs.Renewed.{drew_found, drew_taking, alone_drawn, none_taken, taken_alone, was_found, rewritten_settling, rewritten_settles, rewritten_at, none_stops, spare_found, free_found}
+use Rattle.seat_post.proofs.Renewed.{drew_found, drew_taking, alone_drawn, none_taken, taken_alone, was_found, written_again, none_stops, spare_found, free_found}
+use Rattle.seat_post.proofs.renewing.renew.Given.{Over}
 use Rattle.seat_post.proofs.renewing.renew.Goals as goal
 
 pub returns-in_err-stamp-clause-settles : goal.returns-in_err-stamp-clause-settles
@@ -23,17 +24,20 @@ returns-in_err-stamp-clause-settles g c = steady_settles g.J.Keeps.kept c.args.h
 pub unreachable-requires : goal.unreachable-requires
 unreachable-requires g c = c.in-Err.ensures.err.not_alone (alone_drawn c.args.hand.now.view c.draw.new.hand.view _ c.in_ok-stamp.ensures.view c.requires.settling.alone)
 
-pub returns-in_err-taken-clause-settling : goal.returns-in_err-taken-clause-settling
-returns-in_err-taken-clause-settling g c =
+-- no place was taken
+none_was : (g : Over) (c : goal.After-from_residual-in_err-taken g) → IsSettling c.take_place.new.hand.view × Settles g.J.Keeps.kept c.args.hand.now.view c.take_place.new.hand.view
+none_was g c =
     let v = c.args.hand.now.view in
     let r = c.in-Ok.read in
-    (none_taken g.J.Keeps.kept v c.draw.new.hand.view c.search.new.hand.view c.take_place.new.hand.view (drawn_clock v.clock.clock 0) c.args.rid r.place r.wts r.value c.requires.settling (less_is_most _ _ (drawn_later v.clock.clock 0)) c.in_ok-stamp.ensures.view c.in-Ok.ensures.ok c.in_err-taken.ensures.none).0
+    let seat = seat_below c.number.ensures.size (subst (λ (n : ℕ). n < v.size.seats) c.number.ensures.value c.number.ensures.in_range) in
+    let above = subst (λ (n : ℕ). v.published.write < n) c.in_ok-stamp.ensures.stamp c.in_ok-stamp.ensures.above_published in
+    none_taken g.J.Keeps.kept v c.draw.new.hand.view c.search.new.hand.view c.take_place.new.hand.view (drawn_clock v.clock.clock 0) c.args.rid r.place r.wts r.value c.requires.settling seat above (less_is_most _ _ (drawn_later v.clock.clock 0)) c.in_ok-stamp.ensures.view c.in-Ok.ensures.ok c.in_err-taken.ensures.none
+
+pub returns-in_err-taken-clause-settling : goal.returns-in_err-taken-clause-settling
+returns-in_err-taken-clause-settling g c = (none_was g c).0
 
 pub returns-in_err-taken-clause-settles : goal.returns-in_err-taken-clause-settles
-returns-in_err-taken-clause-settles g c =
-    let v = c.args.hand.now.view in
-    let r = c.in-Ok.read in
-    (none_taken g.J.Keeps.kept v c.draw.new.hand.view c.search.new.hand.view c.take_place.new.hand.view (drawn_clock v.clock.clock 0) c.args.rid r.place r.wts r.value c.requires.settling (less_is_most _ _ (drawn_later v.clock.clock 0)) c.in_ok-stamp.ensures.view c.in-Ok.ensures.ok c.in_err-taken.ensures.none).1
+returns-in_err-taken-clause-settles g c = (none_was g c).1
 
 pub returns-in_err-taken-clause-ok : goal.returns-in_err-taken-clause-ok
 returns-in_err-taken-clause-ok g c = not_ok c.from_residual-in_err-taken.result _ _ c.from_residual-in_err-taken.ensures.1
@@ -92,23 +96,22 @@ unreachable-requires-in-Err-rewrite g c =
     none_stops c.args.rid c.in_ok-taken.taken.place _ c.take_place.new.hand.view c.rewrite.new.hand.view c.in-Err-rewrite._conflict
     (taken_alone v c.draw.new.hand.view c.search.new.hand.view c.take_place.new.hand.view (drawn_clock v.clock.clock 0) c.args.rid r.place r.wts c.in_ok-taken.taken.place r.value c.in_ok-stamp.ensures.view c.in-Ok.ensures.ok c.in_ok-taken.ensures.takes c.requires.settling.alone) c.in-Err-rewrite.ensures.err
 
-pub returns-clause-settling : goal.returns-clause-settling
-returns-clause-settling g c =
+-- the record was written again
+again : (g : Over) (c : goal.After-number-in-Ok-rewrite g) → let v = c.args.hand.now.view in let x = c.rewrite.new.hand.view in IsSettling x × Settles g.J.Keeps.kept v x × IsRewrittenAt c.args.rid (stamp_of (drawn_clock v.clock.clock 0) v.number) v x
+again g c =
     let v = c.args.hand.now.view in
     let r = c.in-Ok.read in
     let seat = seat_below c.number.ensures.size (subst (λ (n : ℕ). n < v.size.seats) c.number.ensures.value c.number.ensures.in_range) in
+    let above = subst (λ (n : ℕ). v.published.write < n) c.in_ok-stamp.ensures.stamp c.in_ok-stamp.ensures.above_published in
     let h = c.requires.ready.hand_of in
     let rewrites : Rewrites g.J.Keeps.kept v.size.records c.args.rid c.in_ok-taken.taken.place c.take_place.new.hand.view.published.write r.value c.take_place.new.hand.view c.rewrite.new.hand.view = rw h.same_size c.in-Ok-rewrite.ensures.ok in
-    rewritten_settling v c.draw.new.hand.view c.search.new.hand.view c.take_place.new.hand.view (drawn_clock v.clock.clock 0) c.args.rid r.place r.wts c.in_ok-taken.taken.place r.value c.in_ok-stamp.ensures.view c.in-Ok.ensures.ok c.in_ok-taken.ensures.takes g.J.Keeps.kept c.rewrite.new.hand.view c.requires.settling seat (drawn_later v.clock.clock 0) rewrites
+    written_again v c.draw.new.hand.view c.search.new.hand.view c.take_place.new.hand.view (drawn_clock v.clock.clock 0) c.args.rid r.place r.wts c.in_ok-taken.taken.place r.value c.in_ok-stamp.ensures.view c.in-Ok.ensures.ok c.in_ok-taken.ensures.takes g.J.Keeps.kept c.rewrite.new.hand.view c.requires.settling seat above (drawn_later v.clock.clock 0) rewrites (omega arith)
+
+pub returns-clause-settling : goal.returns-clause-settling
+returns-clause-settling g c = (again g c).0
 
 pub returns-clause-settles : goal.returns-clause-settles
-returns-clause-settles g c =
-    let v = c.args.hand.now.view in
-    let r = c.in-Ok.read in
-    let seat = seat_below c.number.ensures.size (subst (λ (n : ℕ). n < v.size.seats) c.number.ensures.value c.number.ensures.in_range) in
-    let h = c.requires.ready.hand_of in
-    let rewrites : Rewrites g.J.Keeps.kept v.size.records c.args.rid c.in_ok-taken.taken.place c.take_place.new.hand.view.published.write r.value c.take_place.new.hand.view c.rewrite.new.hand.view = rw h.same_size c.in-Ok-rewrite.ensures.ok in
-    rewritten_settles v c.draw.new.hand.view c.search.new.hand.view c.take_place.new.hand.view (drawn_clock v.clock.clock 0) c.args.rid r.place r.wts c.in_ok-taken.taken.place r.value c.in_ok-stamp.ensures.view c.in-Ok.ensures.ok c.in_ok-taken.ensures.takes g.J.Keeps.kept c.rewrite.new.hand.view c.requires.settling seat (drawn_later v.clock.clock 0) rewrites
+returns-clause-settles g c = (again g c).1
 
 pub take_place-requires-clause-spare : goal.take_place-requires-clause-spare
 take_place-requires-clause-spare g c =
@@ -121,14 +124,7 @@ take_place-requires-clause-spare g c =
 pub returns-clause-ok : goal.returns-clause-ok
 returns-clause-ok g c =
     let v = c.args.hand.now.view in
-    let r = c.in-Ok.read in
-    let seat = seat_below c.number.ensures.size (subst (λ (n : ℕ). n < v.size.seats) c.number.ensures.value c.number.ensures.in_range) in
-    let h = c.requires.ready.hand_of in
-    let rewrites : Rewrites g.J.Keeps.kept v.size.records c.args.rid c.in_ok-taken.taken.place c.take_place.new.hand.view.published.write r.value c.take_place.new.hand.view c.rewrite.new.hand.view = rw h.same_size c.in-Ok-rewrite.ensures.ok in
-    let next : drawn_clock v.clock.clock 0 ≡ v.clock.clock + 1 = omega arith in
-    let stamp : stamp_of (drawn_clock v.clock.clock 0) v.number ≡ c.number-in-Ok-rewrite.result = sym (c.number-in-Ok-rewrite.ensures.value ∙ c.in_ok-stamp.ensures.stamp) in
-    subst (λ (n : ℕ). IsRewrittenAt c.args.rid n v c.rewrite.new.hand.view) stamp
-    (rewritten_at v c.draw.new.hand.view c.search.new.hand.view c.take_place.new.hand.view (drawn_clock v.clock.clock 0) c.args.rid r.place r.wts c.in_ok-taken.taken.place r.value c.in_ok-stamp.ensures.view c.in-Ok.ensures.ok c.in_ok-taken.ensures.takes g.J.Keeps.kept c.rewrite.new.hand.view c.requires.settling seat (drawn_later v.clock.clock 0) rewrites next)
+    subst (λ (n : ℕ). IsRewrittenAt c.args.rid n v c.rewrite.new.hand.view) (sym (c.number-in-Ok-rewrite.ensures.value ∙ c.in_ok-stamp.ensures.stamp)) (again g c).2
 
 -- the inline place of a record whose only version stands in the reserved place
 pub returns-in_err-taken-clause-inline : goal.returns-in_err-taken-clause-inline

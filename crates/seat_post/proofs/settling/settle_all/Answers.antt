@@ -1,11 +1,10 @@
-use Rattle.std.proofs.Common.{refl, sym, subst, arith, ℕ}
-use Rattle.seat_post.specs.Settling.{Draws}
+use Rattle.std.proofs.Common.{refl, arith}
 use Rattle.rapid_gc.proofs.Going.{frees_more}
 use Rattle.seat_post.proofs.Answered.{not_ok}
 use Rattle.seat_post.proofs.Dues.{settles_none, settles_more}
 use Rattle.seat_post.proofs.FreedPlaces.{freed_none}
 use Rattle.seat_post.proofs.Steady.{steady_same, steady_settles, settles_both}
-use Rattle.seat_post.proofs.Settlement.{settled_more, draws_both, stays_both}
+use Rattle.seat_post.proofs.Settlement.{settled_more, stays_both}
 use Rattle.seat_post.proofs.settling.settle_all.Goals as goal
 
 pub loop-rid-init : goal.loop-rid-init
@@ -19,7 +18,7 @@ loop-rid-init g c =
       settles = steady_settles g.J.Keeps.kept v v (steady_same v v refl c.requires.settling.ends);
       keeps_none = c.requires.keeps_none;
       settled = λ r below. absurd (omega arith);
-      draws = record { entries = omega arith; clock = omega arith };
+      draws = omega arith;
       freed = freed_none c.none-all.result.places v v c.none-all.ensures.places refl;
       first = settles_none c.args.core.now.size c.none-all.result v n m (freed_none c.none-all.result.places v v c.none-all.ensures.places refl);
       less = omega arith;
@@ -57,7 +56,7 @@ loop-rid-preserved g c =
       settles = settles_both g.J.Keeps.kept v c.loop-rid.hand.view s.new.hand.view i.settles s.ensures.settles;
       keeps_none = s.ensures.keeps_none;
       settled = settled_more c.loop-rid.rid c.loop-rid.hand.view s.new.hand.view i.settled s.ensures.others e.one;
-      draws = subst (λ (n : ℕ). Draws n v s.new.hand.view) (sym rewritten) (draws_both c.loop-rid.all.rewritten _ v c.loop-rid.hand.view s.new.hand.view i.draws e.draws);
+      draws = let h = i.draws in let k = e.draws in omega arith;
       freed = freed;
       first = settles_more c.args.core.now.size c.loop-rid.rid c.loop-rid.all _ c.with-all.result v c.loop-rid.hand.view s.new.hand.view i.first e.done rewritten cut freed;
       less = let h = i.less in let k = e.counts.0 in omega arith;

@@ -1,9 +1,9 @@
-use Rattle.std.proofs.Common.{◌≡◌, ◌≤◌, ◌*◌}
+use Rattle.std.proofs.Common.{◌≡◌, ◌+◌, ◌≤◌, ◌*◌}
 use Rattle.core_rule.specs.View.{nothing_reserved}
 use Rattle.core_rule.specs.Hands.{StaysReady}
 use Rattle.rapid_gc.specs.Ends.{FreesCounted}
 use Rattle.seat_post.specs.Collecting.{trail_in}
-use Rattle.seat_post.specs.Settling.{IsSettling, Settles, AreSettled, Draws, SettlesFirst}
+use Rattle.seat_post.specs.Settling.{IsSettling, Settles, AreSettled, SettlesFirst}
 use Rattle.seat_post.proofs.settling.settle_all.Given as goal
 
 abbrev pub invariant-loop-rid : goal.invariant-loop-rid
@@ -13,7 +13,7 @@ invariant-loop-rid g l = record {
   settles : Settles g.J.Keeps.kept l.fn.hand.view l.hand.view;
   keeps_none : l.hand.view.counts.in_reserved ≡ nothing_reserved;
   settled : AreSettled l.rid l.hand.view.counts;
-  draws : Draws l.all.rewritten l.fn.hand.view l.hand.view;
+  draws : l.hand.view.clock.clock ≡ l.fn.hand.view.clock.clock + l.all.rewritten;
   freed : FreesCounted l.all.places l.fn.hand.view l.hand.view;
   first : SettlesFirst l.core.size l.rid l.all (trail_in l.fn.hand.view) (trail_in l.hand.view);
   less : l.all.rewritten ≤ l.all.cut;

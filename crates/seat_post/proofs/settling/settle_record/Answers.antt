@@ -1,65 +1,50 @@
-use Rattle.std.proofs.Common.{◌≡◌, ℕ, ap, sym, subst, refl, ◌∙◌, inr, arith}
-use Rattle.core_rule.specs.View.{View}
+use Rattle.std.proofs.Common.{◌≡◌, List, ap, refl, ◌∙◌, inr, map, arith}
+use Rattle.plain_data.specs.declared.entry.Entry.{Entry}
+use Rattle.core_rule.specs.View.{View, Gone, Logged}
+use Rattle.core_rule.specs.Deciding.{entry_of}
 use Rattle.rapid_gc.proofs.Going.{frees_more}
 use Rattle.seat_post.proofs.FreedPlaces.{freed_from, freed_none}
-use Rattle.seat_post.specs.Settling.{CutsOf}
+use Rattle.seat_post.specs.Settling.{entries_of}
 use Rattle.seat_post.proofs.Answered.{not_ok, on_err}
-use Rattle.seat_post.proofs.Dues.{settles_one, due_at, cuts_none, cuts_from, cuts_both, cut_none, cut_some, no_place_from, out_from}
+use Rattle.seat_post.proofs.Dues.{settles_one, due_at, appends_none, appends_same, appends_both, cut_none, cut_some, no_place_from, out_from}
 use Rattle.version_search.proofs.Grown.{grows_loads, grows_none, grows_both}
 use Rattle.seat_post.proofs.ReservedPlace.{not_off, reserved_once, reserved_twice, stands_reserved, below_later}
-use Rattle.seat_post.proofs.Steady.{steady_first, steady_settling, steady_settles, settles_both}
+use Rattle.seat_post.proofs.Steady.{first_settles, settles_both}
 use Rattle.seat_post.proofs.settling.settle_record.Goals as goal
 
 pub returns-then-found-clause-settling : goal.returns-then-found-clause-settling
-returns-then-found-clause-settling g c =
-    let v = c.args.hand.now.view in
-    steady_settling v c.first-found.new.hand.view c.requires.settling (steady_first v c.first-found.new.hand.view _ _ _ _ c.first-found.ensures.view (grows_loads v.seen c.first-found.new.hand.view.seen _ c.first-found.ensures.looked.loads c.first-found.ensures.lost) c.requires.settling.ends)
+returns-then-found-clause-settling g c = let e = c.first-found.ensures in (first_settles g.J.Keeps.kept _ _ _ e.view e.looked.loads e.lost c.requires.settling).1
 
 pub returns-then-found-clause-settles : goal.returns-then-found-clause-settles
-returns-then-found-clause-settles g c =
-    let v = c.args.hand.now.view in
-    steady_settles g.J.Keeps.kept v c.first-found.new.hand.view (steady_first v c.first-found.new.hand.view _ _ _ _ c.first-found.ensures.view (grows_loads v.seen c.first-found.new.hand.view.seen _ c.first-found.ensures.looked.loads c.first-found.ensures.lost) c.requires.settling.ends)
+returns-then-found-clause-settles g c = let e = c.first-found.ensures in (first_settles g.J.Keeps.kept _ _ _ e.view e.looked.loads e.lost c.requires.settling).0
 
 pub is_visible-requires-clause-settling : goal.is_visible-requires-clause-settling
-is_visible-requires-clause-settling g c =
-    let v = c.args.hand.now.view in
-    steady_settling v c.first-found.new.hand.view c.requires.settling (steady_first v c.first-found.new.hand.view _ _ _ _ c.first-found.ensures.view (grows_loads v.seen c.first-found.new.hand.view.seen _ c.first-found.ensures.looked.loads c.first-found.ensures.lost) c.requires.settling.ends)
+is_visible-requires-clause-settling g c = let e = c.first-found.ensures in (first_settles g.J.Keeps.kept _ _ _ e.view e.looked.loads e.lost c.requires.settling).1
 
 pub returns-then-is_visible-clause-settles : goal.returns-then-is_visible-clause-settles
 returns-then-is_visible-clause-settles g c =
-    let kept = g.J.Keeps.kept in
-    let v = c.args.hand.now.view in
-    let looked = steady_settles kept v c.first-found.new.hand.view (steady_first v c.first-found.new.hand.view _ _ _ _ c.first-found.ensures.view (grows_loads v.seen c.first-found.new.hand.view.seen _ c.first-found.ensures.looked.loads c.first-found.ensures.lost) c.requires.settling.ends) in
-    let seen = settles_both kept v c.first-found.new.hand.view c.is_visible.new.hand.view looked c.is_visible.ensures.settles in
-    settles_both kept v c.is_visible.new.hand.view c.cut_below-places.new.hand.view seen c.cut_below-places.ensures.settles
+    let e = c.first-found.ensures in
+    let seen = settles_both _ _ _ _ (first_settles g.J.Keeps.kept _ _ _ e.view e.looked.loads e.lost c.requires.settling).0 c.is_visible.ensures.settles in
+    settles_both _ _ _ _ seen c.cut_below-places.ensures.settles
 
 pub returns-in_err-once-clause-settles : goal.returns-in_err-once-clause-settles
 returns-in_err-once-clause-settles g c =
-    let kept = g.J.Keeps.kept in
-    let v = c.args.hand.now.view in
-    let looked = steady_settles kept v c.first-found.new.hand.view (steady_first v c.first-found.new.hand.view _ _ _ _ c.first-found.ensures.view (grows_loads v.seen c.first-found.new.hand.view.seen _ c.first-found.ensures.looked.loads c.first-found.ensures.lost) c.requires.settling.ends) in
-    let seen = settles_both kept v c.first-found.new.hand.view c.is_visible.new.hand.view looked c.is_visible.ensures.settles in
-    settles_both kept v c.is_visible.new.hand.view c.renew.new.hand.view seen c.renew.ensures.settles
+    let e = c.first-found.ensures in
+    let seen = settles_both _ _ _ _ (first_settles g.J.Keeps.kept _ _ _ e.view e.looked.loads e.lost c.requires.settling).0 c.is_visible.ensures.settles in
+    settles_both _ _ _ _ seen c.renew.ensures.settles
 
 pub returns-then-not-once-clause-settles : goal.returns-then-not-once-clause-settles
 returns-then-not-once-clause-settles g c =
-    let kept = g.J.Keeps.kept in
-    let v = c.args.hand.now.view in
-    let looked = steady_settles kept v c.first-found.new.hand.view (steady_first v c.first-found.new.hand.view _ _ _ _ c.first-found.ensures.view (grows_loads v.seen c.first-found.new.hand.view.seen _ c.first-found.ensures.looked.loads c.first-found.ensures.lost) c.requires.settling.ends) in
-    let seen = settles_both kept v c.first-found.new.hand.view c.is_visible.new.hand.view looked c.is_visible.ensures.settles in
-    let once = settles_both kept v c.is_visible.new.hand.view c.renew.new.hand.view seen c.renew.ensures.settles in
-    settles_both kept v c.renew.new.hand.view c.cut_below-places-2.new.hand.view once c.cut_below-places-2.ensures.settles
+    let e = c.first-found.ensures in
+    let seen = settles_both _ _ _ _ (first_settles g.J.Keeps.kept _ _ _ e.view e.looked.loads e.lost c.requires.settling).0 c.is_visible.ensures.settles in
+    settles_both _ _ _ _ (settles_both _ _ _ _ seen c.renew.ensures.settles) c.cut_below-places-2.ensures.settles
 
 pub returns-clause-settles : goal.returns-clause-settles
 returns-clause-settles g c =
-    let kept = g.J.Keeps.kept in
-    let v = c.args.hand.now.view in
-    let looked = steady_settles kept v c.first-found.new.hand.view (steady_first v c.first-found.new.hand.view _ _ _ _ c.first-found.ensures.view (grows_loads v.seen c.first-found.new.hand.view.seen _ c.first-found.ensures.looked.loads c.first-found.ensures.lost) c.requires.settling.ends) in
-    let seen = settles_both kept v c.first-found.new.hand.view c.is_visible.new.hand.view looked c.is_visible.ensures.settles in
-    let once = settles_both kept v c.is_visible.new.hand.view c.renew.new.hand.view seen c.renew.ensures.settles in
-    let cut = settles_both kept v c.renew.new.hand.view c.cut_below-places-2.new.hand.view once c.cut_below-places-2.ensures.settles in
-    let twice = settles_both kept v c.cut_below-places-2.new.hand.view c.renew-2.new.hand.view cut c.renew-2.ensures.settles in
-    settles_both kept v c.renew-2.new.hand.view c.cut_below-more.new.hand.view twice c.cut_below-more.ensures.settles
+    let e = c.first-found.ensures in
+    let seen = settles_both _ _ _ _ (first_settles g.J.Keeps.kept _ _ _ e.view e.looked.loads e.lost c.requires.settling).0 c.is_visible.ensures.settles in
+    let once = settles_both _ _ _ _ (settles_both _ _ _ _ seen c.renew.ensures.settles) c.cut_below-places-2.ensures.settles in
+    settles_both _ _ _ _ (settles_both _ _ _ _ once c.renew-2.ensures.settles) c.cut_below-more.ensures.settles
 
 pub renew-requires-2-clause-spare : goal.renew-requires-2-clause-spare
 renew-requires-2-clause-spare g c =
@@ -107,10 +92,13 @@ returns-clause-keeps_none g c =
     let number = cut.ensures.settles.number ∙ c.renew.ensures.settles.number in
     let first = e.ok.at in
     let second = c.in-Ok.ensures.ok.at in
-    let drawn = e.ok.draws.clock in
+    let drawn = e.ok.drawn in
     c.cut_below-more.ensures.cut_off (below_later (record { rid = c.args.rid; stamp = twice.stamp }) once.stamp c.renew-2.new.hand.view.counts.in_reserved there (omega arith))
 
 -- ---- what was done
+
+abbrev entered : List Logged → List Entry
+entered log = map entry_of log
 
 pub returns-then-found-clause-done : goal.returns-then-found-clause-done
 returns-then-found-clause-done g c =
@@ -120,7 +108,7 @@ returns-then-found-clause-done g c =
     let n = c.none.ensures in
     let gone : w.gone ≡ v.gone = ap (λ (x : View). x.gone) f.ensures.view in
     settles_one c.args.core.now.size c.args.rid c.none.result f.result v w w f.ensures.looked f.ensures.lost (grows_none w.seen) (n.cut ∙ cut_none f.result.single c.none.result.rewritten c.if-found.true)
-    (subst (λ (k : ℕ). CutsOf c.args.rid k v.gone.cuts w.gone.cuts) (sym n.cut) (cuts_none c.args.rid v w gone)) (freed_none c.none.result.places v w n.places gone)
+    (appends_none n.rewritten (ap entries_of f.ensures.view)) (appends_none n.cut (ap (λ (x : Gone). x.cuts) gone)) (freed_none c.none.result.places v w n.places gone)
     (λ some. let none = n.rewritten in absurd (omega arith)) (λ some. let none = n.rewritten in absurd (omega arith))
 
 pub returns-then-is_visible-clause-done : goal.returns-then-is_visible-clause-done
@@ -134,7 +122,7 @@ returns-then-is_visible-clause-done g c =
     let gone : s.new.hand.view.gone ≡ v.gone = s.ensures.searches.gone ∙ ap (λ (x : View). x.gone) f.ensures.view in
     let behind = grows_both f.new.hand.view.seen s.new.hand.view.seen w.seen s.ensures.settles.grows k.ensures.settles.grows in
     settles_one c.args.core.now.size rid (record { rewritten = 0; cut = 1; places = k.result }) f.result v f.new.hand.view w f.ensures.looked f.ensures.lost behind (cut_some f.result.single 0 1 c.if-found.false refl)
-    (cuts_from rid 1 v s.new.hand.view w gone k.ensures.cut.once) (freed_from k.result v s.new.hand.view w gone k.ensures.freed) (λ some. absurd (omega arith)) (λ some. absurd (omega arith))
+    (appends_none refl (ap entered k.ensures.cut.log ∙ ap entered s.ensures.searches.log ∙ ap entries_of f.ensures.view)) (appends_same (ap (λ (x : Gone). x.cuts) gone) refl k.ensures.cut.once) (freed_from k.result v s.new.hand.view w gone k.ensures.freed) (λ some. absurd (omega arith)) (λ some. absurd (omega arith))
 
 pub returns-then-not-once-clause-done : goal.returns-then-not-once-clause-done
 returns-then-not-once-clause-done g c =
@@ -150,7 +138,7 @@ returns-then-not-once-clause-done g c =
     let behind = grows_both f.new.hand.view.seen s.new.hand.view.seen w.seen s.ensures.settles.grows rest in
     let due = due_at rid f.result v f.new.hand.view s.new.hand.view w f.ensures.looked c.if-found.false (s.ensures.hidden c.if-is_visible.false) s.ensures.settles.grows rest in
     settles_one c.args.core.now.size rid (record { rewritten = 1; cut = 1; places = k.result }) f.result v f.new.hand.view w f.ensures.looked f.ensures.lost behind (cut_some f.result.single 1 1 c.if-found.false refl)
-    (cuts_from rid 1 v once w gone k.ensures.cut.once) (freed_from k.result v once w gone k.ensures.freed) (λ some. due) (λ some. absurd (omega arith))
+    (appends_same (ap entered s.ensures.searches.log ∙ ap entries_of f.ensures.view) (ap entered k.ensures.cut.log) c.in_ok-once.ensures.ok.entry) (appends_same (ap (λ (x : Gone). x.cuts) gone) refl k.ensures.cut.once) (freed_from k.result v once w gone k.ensures.freed) (λ some. due) (λ some. absurd (omega arith))
 
 pub returns-clause-done : goal.returns-clause-done
 returns-clause-done g c =
@@ -171,9 +159,10 @@ returns-clause-done g c =
     let due = due_at rid f.result v f.new.hand.view s.new.hand.view w f.ensures.looked c.if-found.false (s.ensures.hidden c.if-is_visible.false) s.ensures.settles.grows rest in
     let before = grows_both v.seen f.new.hand.view.seen s.new.hand.view.seen (grows_loads v.seen f.new.hand.view.seen _ f.ensures.looked.loads f.ensures.lost) s.ensures.settles.grows in
     let kept = no_place_from c.args.core.now.size rid v s.new.hand.view once w before (c.in_ok-once.ensures.wants (not_off c.in_ok-once.once.reserved c.if-not-once.false)) after in
-    let second = cuts_from rid 1 k.new.hand.view twice w c.renew-2.ensures.gone m.ensures.cut.once in
+    let first = appends_same (ap entered s.ensures.searches.log ∙ ap entries_of f.ensures.view) (ap entered k.ensures.cut.log) c.in_ok-once.ensures.ok.entry in
+    let second = appends_same refl (ap entered m.ensures.cut.log) c.in-Ok.ensures.ok.entry in
     settles_one c.args.core.now.size rid (record { rewritten = 2; cut = 2; places = c.saturating_add.result }) f.result v f.new.hand.view w f.ensures.looked f.ensures.lost behind (cut_some f.result.single 2 2 c.if-found.false refl)
-    (cuts_both rid 1 1 v.gone.cuts k.new.hand.view.gone.cuts w.gone.cuts (cuts_from rid 1 v once k.new.hand.view gone k.ensures.cut.once) second) (returns-clause-freed g c) (λ some. due) (λ some. kept)
+    (appends_both first second) (appends_both (appends_same (ap (λ (x : Gone). x.cuts) gone) refl k.ensures.cut.once) (appends_same (ap (λ (x : Gone). x.cuts) c.renew-2.ensures.gone) refl m.ensures.cut.once)) (returns-clause-freed g c) (λ some. due) (λ some. kept)
 
 pub returns-in_err-once-clause-done : goal.returns-in_err-once-clause-done
 returns-in_err-once-clause-done g c = not_ok c.from_residual.result _ _ c.from_residual.ensures.1

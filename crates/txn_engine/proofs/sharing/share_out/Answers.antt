@@ -3,10 +3,11 @@ use Rattle.core_rule.specs.Offers.{MayOffer, made_of}
 use Rattle.core_rule.specs.Views.{Among}
 use Rattle.txn_engine.specs.Alone.{PartsView}
 use Rattle.txn_engine.specs.Pass.{PassView, EngineView, bare, engine_of}
-use Rattle.txn_engine.specs.Sharing.{with_made, share_at, first_share}
-use Rattle.seat_post.specs.Seats.{Others}
+use Rattle.txn_engine.specs.Sharing.{with_made, share_at, first_share, SawNothing}
+use Rattle.seat_post.specs.Seats.{Others, Observed}
 use Rattle.spare_numbers.specs.Spare.{NumbersView, no_numbers, every}
 use Rattle.std.specs.List.{range_with_len}
+use Rattle.std.proofs.lemmas.List.Elements.{All-nil, All-same, All-push}
 use Rattle.txn_engine.proofs.Making.{may_make, next_share, next_made, pushed_share, count_shares}
 use Rattle.core_rule.proofs.Among.{Among-last, Among-left}
 use Rattle.txn_engine.proofs.sharing.share_out.Goals as goal
@@ -20,6 +21,7 @@ loop-seat-init g c =
     record {
       pass = refl;
       passes = ap (map bare) c.parts.invariant;
+      observed = All-same SawNothing _ [] c.parts.invariant (All-nil SawNothing);
       lists = omega arith;
       empty = λ n among. has.empty n (subst (λ (p : PartsView). Among n p.lists) view among);
       room = subst (λ (p : PartsView). c.args.engine.now.size.seats ≤ p.room) (sym view) has.room;
@@ -54,10 +56,11 @@ loop-seat-preserved g c =
     let lists = i.lists in
     let room = i.room in
     let kept = c.in-Ok.ensures.capacity in
-    let made = next_share c.args.pass c.loop-seat.pass c.split.result c.loop-seat._seat some plain i.pass c.split.ensures.made in
+    let made = next_share c.args.pass c.loop-seat.pass c.split.result c.loop-seat._seat some plain i.pass (ap bare c.split.ensures.made) in
     record {
       pass = next_made c.args.pass c.loop-seat.pass c.split.new.self c.loop-seat._seat some plain i.pass c.split.ensures.after;
       passes = pushed_share c.args.pass c.loop-seat.passes.items c.push.new.self.items c.loop-seat._seat c.split.result some i.passes made c.in-Ok.ensures.items;
+      observed = All-same SawNothing _ _ c.in-Ok.ensures.items (All-push SawNothing _ _ i.observed (ap (λ (p : PassView). p.observed) c.split.ensures.made));
       lists = omega arith;
       empty = λ n among. i.empty n (subst (λ (ns : List NumbersView). Among n ns) (sym popped) (Among-left n c.pop.new.self.items (c.in-Some.list ∷ []) among));
       room = omega arith;
@@ -121,3 +124,11 @@ split-requires-clause-room g c =
     let test = c.loop-seat-test.true in
     let end = c.seats-seat-end.ensures.value in
     omega arith
+
+pub returns-clause-observed : goal.returns-clause-observed
+returns-clause-observed g c = λ first rest same.
+    let both = sym c.in-Ok-insert.ensures.items ∙ same in
+    let head : first ≡ c.retain_share.new.self = cc in
+    let tail : rest ≡ c.loop-seat.passes.items = cc in
+    let seen : PassView → Observed = λ p. p.observed in
+    (ap seen head ∙ ap seen c.retain_share.ensures ∙ ap seen c.loop-seat.invariant.pass, All-same SawNothing _ _ tail c.loop-seat.invariant.observed)

@@ -1,15 +1,18 @@
 use Rattle.std.proofs.Common.{sym, ap, subst, ◌∙◌}
 use Rattle.std.specs.Prelude.{IsSome, IfSome}
+use Rattle.word_layout.specs.Name.{published_read}
 use Rattle.core_rule.specs.Hands.{Shared}
+use Rattle.core_rule.specs.Paths.{load}
 use Rattle.seat_post.specs.declared.phase.Phase.TheVariants.{Idle}
 use Rattle.core_rule.specs.Deciding.{StoodAt}
 use Rattle.seat_post.specs.InSnapshot.{logged_snapshot}
 use Rattle.seat_post.specs.Ends.{Stood}
+use Rattle.seat_post.specs.Observing.{with_load}
 use Rattle.seat_post.specs.Post.{PostView}
+use Rattle.seat_post.specs.Seats.{observed_of}
 use Rattle.seat_post.specs.Snapshot.{entry_of_snapshot}
 use Rattle.seat_post.proofs.SnapshotPosts.{in_snapshot_of, post_ended, stood_snapshot}
 use Rattle.seat_post.proofs.Posts.{at_phase}
-use Rattle.seat_post.proofs.Observed.{post_grows}
 use Rattle.seat_post.proofs.post.Post.end_snapshot.Goals as goal
 
 pub end_snapshot-requires-clause-in_snapshot : goal.end_snapshot-requires-clause-in_snapshot
@@ -21,7 +24,7 @@ pub invariant_of-self : goal.invariant_of-self
 invariant_of-self g c =
     let phase = ap (λ (p : PostView). p.phase) c.self.view_is ∙ c.requires.idle in
     let e = c.end_snapshot.ensures in
-    post_ended c.args.core.now _ _ _ _ _ c.self.invariant (at_phase _ Idle _ _ _ c.self.invariant phase) phase e.stays.ready e.view
+    post_ended c.args.core.now _ _ _ _ _ _ c.self.invariant (at_phase _ Idle _ _ _ c.self.invariant phase) phase e.stays.ready e.view.1
 
 pub returns-clause-stood : goal.returns-clause-stood
 returns-clause-stood g c =
@@ -31,5 +34,7 @@ returns-clause-stood g c =
     let stood = subst (λ (x : Shared). StoodAt g.J.Keeps.kept x.size.records v.log (logged_snapshot v)) (sym (ap (λ (p : PostView). p.shared) c.self.view_is ∙ c.requires.core)) c.end_snapshot.ensures.stood in
     subst (λ (p : PostView). IfSome p.snapshot (λ o. Stood g.J.Keeps.kept p.shared.size.records p.log (entry_of_snapshot o))) c.self.view_is (stood_snapshot g.J.Keeps.kept v.size.records v rests stood)
 
-pub returns-clause-grows : goal.returns-clause-grows
-returns-clause-grows g c = let i = c.self.inside in post_grows i.hand c.end_snapshot.new.hand i.phase i.stamp i.sets c.args.self.now c.self.view_is c.end_snapshot.ensures.grows
+pub returns-clause-loads : goal.returns-clause-loads
+returns-clause-loads g c =
+    let e = c.end_snapshot.ensures.view in
+    (e.0, ap observed_of e.1 ∙ ap (λ (p : PostView). with_load p.observed (load (published_read p.seat) e.0)) c.self.view_is)

@@ -1,16 +1,15 @@
 use Rattle.std.specs.Result.{IsErrAnd}
-use Rattle.std.proofs.Common.{◌≡◌, ◌≢◌, ◌<◌, ℕ, ap, ◌∙◌, sym, subst}
+use Rattle.std.proofs.Common.{◌≡◌, ◌<◌, ℕ, ap, ◌∙◌, sym, subst}
 use Rattle.stamp_base.specs.Stamp.{stamp_of}
 use Rattle.core_rule.specs.Hands.{Seated}
 use Rattle.clock_stamps.specs.Clocks.{drawn_clock}
-use Rattle.word_layout.specs.Size.{Size, reserved_place}
 use Rattle.core_rule.specs.View.{View, Seen}
 use Rattle.seat_post.specs.Post.{PostView, post_of, observed_in}
 use Rattle.seat_post.specs.Promoting.{CameUpon, IsStoppedPost}
 use Rattle.seat_post.specs.declared.promoting.PromoteFault.TheVariants as fault
 use Rattle.seat_post.specs.declared.phase.Phase.TheVariants.{Idle}
 use Rattle.seat_post.proofs.Posts.{at_phase}
-use Rattle.seat_post.proofs.Promotions.{inline_apart, is_drawn, promotes_rested, fails_rested, post_rested, promotes_grow, fails_grow, came_upon, fails_post}
+use Rattle.seat_post.proofs.Promotions.{promotes_rested, fails_rested, post_rested, promotes_grow, fails_grow, came_upon, fails_post}
 use Rattle.seat_post.proofs.Answered.{err_told}
 use Rattle.seat_post.proofs.Observed.{post_grows, seen_grows, drawn_grows}
 use Rattle.version_search.proofs.Grown.{grows_both}
@@ -24,22 +23,18 @@ invariant_of-self-in_err-told g c =
     let i = c.self.inside in
     let phase = ap (λ (p : PostView). p.phase) c.self.view_is ∙ c.requires.idle in
     let e = c.in_ok-stamp.ensures in
-    let drew = is_drawn c.in_ok-stamp.stamp _ i.hand.view c.draw.new.hand.view c.self.invariant.holds_none e.view e.published in
     let lt : c.args.rid < i.hand.view.size.records = subst (λ (p : PostView). c.args.rid < p.shared.size.records) (sym c.self.view_is) c.requires.rid in
-    let apart : c.args.rid ≢ reserved_place c.draw.new.hand.view.size = subst (λ (z : Size). c.args.rid ≢ reserved_place z) (sym (ap (λ (v : View). v.size) e.view)) (inline_apart i.hand.view.size c.args.rid c.self.invariant.size lt) in
-    let rested = fails_rested c.in_ok-stamp.stamp c.args.rid c.draw.new.hand.view c.promote_at.new.hand.view c.in_err-told.field-0.0 apart drew c.in_err-told.ensures.err in
-    post_rested c.args.core.now i.phase i.hand c.promote_at.new.hand c.draw.new.hand.view _ i.stamp i.sets phase c.self.invariant e.view rested c.promote_at.ensures.stays.ready
+    post_rested c.args.core.now i.phase i.hand c.promote_at.new.hand c.draw.new.hand.view _ c.in_ok-stamp.stamp c.args.rid i.stamp i.sets phase c.self.invariant lt e.view e.published
+    (λ apart drew. fails_rested c.in_ok-stamp.stamp c.args.rid c.draw.new.hand.view c.promote_at.new.hand.view c.in_err-told.field-0.0 apart drew c.in_err-told.ensures.err) c.promote_at.ensures.stays.ready
 
 pub invariant_of-self-2 : goal.invariant_of-self-2
 invariant_of-self-2 g c =
     let i = c.self.inside in
     let phase = ap (λ (p : PostView). p.phase) c.self.view_is ∙ c.requires.idle in
     let e = c.in_ok-stamp.ensures in
-    let drew = is_drawn c.in_ok-stamp.stamp _ i.hand.view c.draw.new.hand.view c.self.invariant.holds_none e.view e.published in
     let lt : c.args.rid < i.hand.view.size.records = subst (λ (p : PostView). c.args.rid < p.shared.size.records) (sym c.self.view_is) c.requires.rid in
-    let apart : c.args.rid ≢ reserved_place c.draw.new.hand.view.size = subst (λ (z : Size). c.args.rid ≢ reserved_place z) (sym (ap (λ (v : View). v.size) e.view)) (inline_apart i.hand.view.size c.args.rid c.self.invariant.size lt) in
-    let rested = promotes_rested g.J.Keeps.kept c.args.core.now.size.records c.in_ok-stamp.stamp c.args.rid c.draw.new.hand.view c.promote_at.new.hand.view c.in_ok-told.told apart drew c.in_ok-told.ensures.ok in
-    post_rested c.args.core.now i.phase i.hand c.promote_at.new.hand c.draw.new.hand.view _ i.stamp i.sets phase c.self.invariant e.view rested c.promote_at.ensures.stays.ready
+    post_rested c.args.core.now i.phase i.hand c.promote_at.new.hand c.draw.new.hand.view _ c.in_ok-stamp.stamp c.args.rid i.stamp i.sets phase c.self.invariant lt e.view e.published
+    (λ apart drew. promotes_rested g.J.Keeps.kept c.args.core.now.size.records c.in_ok-stamp.stamp c.args.rid c.draw.new.hand.view c.promote_at.new.hand.view c.in_ok-told.told apart drew c.in_ok-told.ensures.ok) c.promote_at.ensures.stays.ready
 
 pub returns-in_err-stamp-clause-grows : goal.returns-in_err-stamp-clause-grows
 returns-in_err-stamp-clause-grows g c =

@@ -7,7 +7,7 @@ use Rattle.seat_post.specs.Post.{PostView, noted, observing, observed_in}
 use Rattle.seat_post.proofs.Listed.{unread}
 use Rattle.seat_post.proofs.ReadMore.{met_at, is_open, open_at, post_room, view_room, post_read, post_stopped, not_read, found_left, found_value}
 use Rattle.seat_post.proofs.Over.{view_noted}
-use Rattle.seat_post.proofs.Stopped.{stopped_post, loaded_post}
+use Rattle.seat_post.proofs.Stopped.{stopped_post, stops_post}
 use Rattle.version_search.proofs.Grown.{grows_none}
 use Rattle.seat_post.proofs.Observed.{post_grows}
 use Rattle.seat_post.proofs.post.Post.read.Goals as goal
@@ -76,10 +76,10 @@ returns-clause-ok g c =
 pub returns-in-Err-clause-grows : goal.returns-in-Err-clause-grows
 returns-in-Err-clause-grows g c = let i = c.self.inside in post_grows i.hand c.note.new.hand i.phase i.stamp i.sets c.args.self.now c.self.view_is c.in-Err.ensures.err.grows
 
-pub returns-in-Err-clause-loaded : goal.returns-in-Err-clause-loaded
-returns-in-Err-clause-loaded g c =
+pub returns-in-Err-clause-stops : goal.returns-in-Err-clause-stops
+returns-in-Err-clause-stops g c =
     let i = c.self.inside in
-    loaded_post i.hand c.note.new.hand i.phase i.stamp _ c.args.rid c.in-Err.met.wts i.sets c.args.self.now c.self.view_is c.in-Err.ensures.err c.number.ensures.value
+    stops_post i.hand c.note.new.hand i.phase i.stamp _ c.args.rid c.in-Err.met.wts i.sets c.args.self.now c.self.view_is c.in-Err.ensures.err c.number.ensures.value
 
 pub returns-in-Err-clause-err : goal.returns-in-Err-clause-err
 returns-in-Err-clause-err g c =

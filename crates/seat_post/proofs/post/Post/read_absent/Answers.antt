@@ -9,7 +9,7 @@ use Rattle.seat_post.proofs.Listed.{unread}
 use Rattle.seat_post.proofs.ReadMore.{met_at, is_open, open_at, post_room, view_room, post_read, post_stopped, post_passed, not_read, found_left, found_value, present_found}
 use Rattle.record_store.proofs.Values.{is_some-false}
 use Rattle.seat_post.proofs.Over.{view_found, view_noted}
-use Rattle.seat_post.proofs.Stopped.{stopped_post, loaded_post}
+use Rattle.seat_post.proofs.Stopped.{stopped_post, stops_post}
 use Rattle.seat_post.specs.Leaves.{LeavesValue}
 use Rattle.seat_post.proofs.Leaving.{some_words}
 use Rattle.version_search.proofs.Grown.{grows_none}
@@ -86,10 +86,10 @@ returns-then-is_some-clause-left g c = λ on off.
 pub returns-in-Err-clause-grows : goal.returns-in-Err-clause-grows
 returns-in-Err-clause-grows g c = let i = c.self.inside in post_grows i.hand c.search.new.hand i.phase i.stamp i.sets c.args.self.now c.self.view_is c.in-Err.ensures.err.grows
 
-pub returns-in-Err-clause-loaded : goal.returns-in-Err-clause-loaded
-returns-in-Err-clause-loaded g c =
+pub returns-in-Err-clause-stops : goal.returns-in-Err-clause-stops
+returns-in-Err-clause-stops g c =
     let i = c.self.inside in
-    loaded_post i.hand c.search.new.hand i.phase i.stamp _ c.args.rid c.in-Err.met.wts i.sets c.args.self.now c.self.view_is c.in-Err.ensures.err c.number.ensures.value
+    stops_post i.hand c.search.new.hand i.phase i.stamp _ c.args.rid c.in-Err.met.wts i.sets c.args.self.now c.self.view_is c.in-Err.ensures.err c.number.ensures.value
 
 pub returns-in-Err-clause-err : goal.returns-in-Err-clause-err
 returns-in-Err-clause-err g c =

@@ -4,10 +4,10 @@ use Rattle.rapid_gc.specs.declared.queue.Queued.{Queued}
 use Rattle.rapid_gc.specs.Bounds.{AreAsBefore, MakesSingle, IsNewest}
 use Rattle.rapid_gc.specs.InReserved.{CutsOff}
 use Rattle.rapid_gc.specs.Queues.{AllBelow}
-use Rattle.core_rule.specs.View.{View}
+use Rattle.core_rule.specs.View.{View, Gone}
 use Rattle.rapid_gc.proofs.Alone.{prepared_alone}
-use Rattle.seat_post.proofs.Dues.{one_cut, cuts_from}
-use Rattle.seat_post.proofs.FreedPlaces.{freed_collecting, idled_gone, idled_tops}
+use Rattle.seat_post.proofs.Dues.{one_cut, appends_same}
+use Rattle.seat_post.proofs.FreedPlaces.{freed_collecting, idled_keeps}
 use Rattle.seat_post.proofs.rewriting.Room.collect.Goals as goal
 
 one_item : (items before : List Queued) (i : Queued) → items ≡ before ++ i ∷ [] → before ≡ [] → items ≡ i ∷ []
@@ -52,8 +52,8 @@ returns-clause-once g c = λ newest.
     let t = e.collects.goes_through in
     let items = one_item c.add.new.self.items c.self.inside.queue.items _ c.add.ensures.items c.self.invariant.1.none in
     let below = subst (λ is. AllBelow (bound_of_clock v.clock.clock) is) (sym items) (one_below (record { rid = c.args.rid; stamp = c.args.stamp }) (bound_of_clock v.clock.clock) c.requires.below) in
-    let tops : e.collects.prepared.tops ≡ v.tops = ap (λ (y : View). y.tops) p.after_is ∙ ap (λ (y : View). y.tops) p.raised_is ∙ idled_tops v in
-    let gone : e.collects.prepared.gone ≡ v.gone = ap (λ (y : View). y.gone) p.after_is ∙ ap (λ (y : View). y.gone) p.raised_is ∙ idled_gone v in
+    let tops : e.collects.prepared.tops ≡ v.tops = ap (λ (y : View). y.tops) p.after_is ∙ ap (λ (y : View). y.tops) p.raised_is ∙ idled_keeps (λ (y : View). y.tops) v refl in
+    let gone : e.collects.prepared.gone ≡ v.gone = ap (λ (y : View). y.gone) p.after_is ∙ ap (λ (y : View). y.gone) p.raised_is ∙ idled_keeps (λ (y : View). y.gone) v refl in
     let fits : IsNewest e.collects.prepared.tops (record { rid = c.args.rid; stamp = c.args.stamp }) = subst (λ ts. IsNewest ts (record { rid = c.args.rid; stamp = c.args.stamp })) (sym tops) newest in
     let cut = one_cut w.reached (record { rid = c.args.rid; stamp = c.args.stamp }) t.ended e.collects.prepared w t.goes (prepared_alone v w.reached e.collects.prepared p c.requires.alone) fits (t.each_item ∙ items) (sym t.stays_in ∙ e.alone c.requires.alone below) in
-    cuts_from c.args.rid 1 v e.collects.prepared w gone cut
+    appends_same (ap (λ (g : Gone). g.cuts) gone) refl cut

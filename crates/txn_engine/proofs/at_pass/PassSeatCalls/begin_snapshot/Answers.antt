@@ -19,7 +19,6 @@ returns-clause-begins g c =
     subst (λ (p : PassView). Begins p (pass_view c.begin_snapshot.new.self i.boost i.queue i.numbers i.refusals i.commits i.dead i.counted)) c.self.view_is (record {
       stamp = c.begin_snapshot.result;
       pass = ap (λ (q : PostView). pass_view q i.boost i.queue i.numbers i.refusals i.commits i.dead i.counted) e.after;
-      grows = e.grows;
       minimum = e.minimum;
       met = e.met;
       snapshots = e.snapshots;

@@ -10,9 +10,7 @@ returns-in-Open-clause-gives g c = subst (λ (r : Result ℕ TxnFault). Gives c.
 
 pub returns-in_err-stopped-in_default-clause-gives : goal.returns-in_err-stopped-in_default-clause-gives
 returns-in_err-stopped-in_default-clause-gives g c =
-    let p = c.args.self.now in
-    let q = c.stopped.new.self in
-    let f = c.in_err-stopped-in_default.field-0.0 in
+    let p = c.args.self.now in let q = c.stopped.new.self in let f = c.in_err-stopped-in_default.field-0.0 in
     told_on c.from_residual.result f (λ (r : Result ℕ TxnFault). Gives p q r) c.from_residual.ensures.1 (stopped_gives p q f c.in_err-stopped-in_default.ensures.err)
 
 pub returns-in_ok-stopped-in_default-clause-gives : goal.returns-in_ok-stopped-in_default-clause-gives

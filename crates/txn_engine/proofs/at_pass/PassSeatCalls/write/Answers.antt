@@ -29,15 +29,12 @@ invariant_of-self-2 g c =
 
 pub returns-in_err-stopped-clause-writes : goal.returns-in_err-stopped-clause-writes
 returns-in_err-stopped-clause-writes g c =
-    let p = c.args.self.now in
-    let q = c.stopped.new.self in
-    let f = c.in_err-stopped.field-0.0 in
+    let p = c.args.self.now in let q = c.stopped.new.self in let f = c.in_err-stopped.field-0.0 in
     told_on c.from_residual.result f (λ (r : Result (Unit {0}) TxnFault). Writes p q c.args.rid c.args.value.now r) c.from_residual.ensures.1 (stopped_writes p q c.args.rid c.args.value.now f c.in_err-stopped.ensures.err)
 
 pub returns-in_err-reserve-clause-writes : goal.returns-in_err-reserve-clause-writes
 returns-in_err-reserve-clause-writes g c =
-    let p = c.args.self.now in
-    let i = c.self.inside in
+    let p = c.args.self.now in let i = c.self.inside in
     let b = pass_view i.post i.boost i.queue i.numbers i.refusals i.commits i.dead i.counted in
     let q = pass_view i.post i.boost c.reserve.new.self i.numbers i.refusals i.commits i.dead i.counted in
     let same : q ≡ p = ap (λ (items : List Queued). record b { queue = items }) c.reserve.ensures.items ∙ c.self.view_is ∙ c.in_ok-stopped.ensures.ok.0 in
@@ -46,8 +43,7 @@ returns-in_err-reserve-clause-writes g c =
 
 pub returns-in_err-write-clause-writes : goal.returns-in_err-write-clause-writes
 returns-in_err-write-clause-writes g c =
-    let p = c.args.self.now in
-    let i = c.self.inside in
+    let p = c.args.self.now in let i = c.self.inside in
     let q = pass_view c.write.new.self i.boost c.reserve.new.self i.numbers i.refusals i.commits i.dead i.counted in
     let same : q ≡ p =
     ap (λ (x : PostView). pass_view x i.boost c.reserve.new.self i.numbers i.refusals i.commits i.dead i.counted) c.in_err-write.ensures.err
@@ -57,8 +53,7 @@ returns-in_err-write-clause-writes g c =
 
 pub returns-clause-writes : goal.returns-clause-writes
 returns-clause-writes g c =
-    let p = c.args.self.now in
-    let i = c.self.inside in
+    let p = c.args.self.now in let i = c.self.inside in
     let q = pass_view c.write.new.self i.boost c.reserve.new.self i.numbers i.refusals i.commits i.dead i.counted in
     let is : q ≡ record p { post = written p.post c.args.rid c.args.value.now } =
     ap (λ (x : PostView). pass_view x i.boost c.reserve.new.self i.numbers i.refusals i.commits i.dead i.counted) c.in_ok-write.ensures.ok

@@ -28,8 +28,7 @@ invariant_of-self-in-Err-NoMemory g c = rw c.in-Err-NoMemory.ensures.err c.self.
 
 pub returns-in-Some-clause-ok : goal.returns-in-Some-clause-ok
 returns-in-Some-clause-ok g c =
-    let a = c.args.self.now in
-    let p = c.self.inside.post in
+    let a = c.args.self.now in let p = c.self.inside.post in
     let unwritten = ap (λ (x : PassView). value_at x.writes c.args.rid) c.self.view_is ∙ c.requires.unwritten in
     let known : known_at p c.args.rid ≡ Some c.value.result = known_unwritten p c.args.rid unwritten ∙ c.in-Some.ensures.found ∙ ap Some (sym c.value.ensures.value) in
     let here : known_at a.post c.args.rid ≡ Some c.value.result = sym (ap (λ (x : PassView). known_at x.post c.args.rid) c.self.view_is) ∙ known in
@@ -48,9 +47,7 @@ returns-in-Some-clause-ok g c =
 
 pub returns-in-Ok-clause-ok : goal.returns-in-Ok-clause-ok
 returns-in-Ok-clause-ok g c =
-    let i = c.self.inside in
-    let p = i.post in
-    let q = c.read_absent.new.self in
+    let i = c.self.inside in let p = i.post in let q = c.read_absent.new.self in
     let b = pass_view p i.boost i.queue i.numbers i.refusals i.commits i.dead i.counted in
     let unread : value_at p.reads c.args.rid ≡ None = rw (none_found c.version_read.result c.in_default.not-Some) at c.version_read.ensures.none in
     let unknown : known_at p c.args.rid ≡ None = known_unwritten p c.args.rid (ap (λ (x : PassView). value_at x.writes c.args.rid) c.self.view_is ∙ c.requires.unwritten) ∙ unread in
@@ -66,9 +63,7 @@ returns-in-Ok-clause-ok g c =
 
 pub returns-in-Err-Pending-clause-err : goal.returns-in-Err-Pending-clause-err
 returns-in-Err-Pending-clause-err g c =
-    let i = c.self.inside in
-    let p = i.post in
-    let a = c.args.self.now in
+    let i = c.self.inside in let p = i.post in let a = c.args.self.now in
     let b = pass_view p i.boost i.queue i.numbers i.refusals i.commits i.dead i.counted in
     let q = pass_view c.read_absent.new.self i.boost i.queue i.numbers i.refusals i.commits i.dead i.counted in
     let unread : value_at p.reads c.args.rid ≡ None = rw (none_found c.version_read.result c.in_default.not-Some) at c.version_read.ensures.none in
@@ -77,7 +72,7 @@ returns-in-Err-Pending-clause-err g c =
     let rid : c.args.rid < p.shared.size.records = subst (λ (x : PassView). c.args.rid < x.shared.size.records) (sym c.self.view_is) c.requires.rid in
     subst (λ (x : PassView). Reads x c.doom.new.self c.args.rid (Err c.doom.result)) c.self.view_is
     (met_pending b q c.doom.new.self c.args.rid c.in-Err-Pending.wts c.doom.result (ap (λ (x : PassView). x.dead) c.self.view_is ∙ c.requires.alive) unknown
-    (ap (λ (x : PostView). record b { post = x }) c.in-Err-Pending.ensures.err) c.read_absent.ensures.grows (rw c.in-Err-Pending.field-0-is at c.in-Err-Pending.ensures.loaded) (rid, met.0, met.1) c.doom.ensures.after c.doom.ensures.fault)
+    (ap (λ (x : PostView). record b { post = x }) c.in-Err-Pending.ensures.err) c.read_absent.ensures.grows (rw c.in-Err-Pending.field-0-is at c.in-Err-Pending.ensures.stops) (rid, met.0, met.1) c.doom.ensures.after c.doom.ensures.fault)
 
 pub returns-in-Err-NoMemory-clause-err : goal.returns-in-Err-NoMemory-clause-err
 returns-in-Err-NoMemory-clause-err g c =

@@ -23,13 +23,10 @@ use Rattle.histories.proofs.States.{IsValue-same, one_value}
 use Rattle.seat_post.specs.Logs.{IsAbove}
 use Rattle.version_search.specs.Finding as finding
 use Rattle.version_search.specs.Loading.{with_value, IsLeftIn, cells_loaded}
-use Rattle.version_search.specs.Growing.{Grows}
-use Rattle.version_search.proofs.Grown.{grows_both}
 use Rattle.version_search.specs.Finding.{status_of}
 use Rattle.seat_post.specs.Reading.{LeadsTo, value_loaded}
 use Rattle.seat_post.specs.Searched.{Finds}
 use Rattle.seat_post.specs.Leaves.{StampedBelow, LeavesValue, LeavesSome, LeavesAs, AreLeft, IsPresent}
-use Rattle.seat_post.proofs.Observed.{reads_grow}
 
 -- a commit entry of the log that writes the record, below the limit
 record Found (log : List Logged) (r limit : ℕ) (other : Entry) : Type 0 where
@@ -177,7 +174,7 @@ finds_absent stamp rid place wts v x reads inside limit = record {
   whole = inl refl;
   inside = inside;
   leads = led_at stamp rid place wts None v x x limit reads.path (sym (append-nil x.seen.loads));
-  grows = reads_grow stamp rid place wts 4 v x reads;
+  lost = reads.lost;
   left = λ alone.
       let left : IsLeft v.log rid stamp wts 4 = rw reads.view at (reads.left (rw reads.view alone)) in
       subst (λ n. LeavesValue (map entry_of v.log) rid n None) (sym limit) (left_absent v.log rid stamp wts left reads.path.early);
@@ -187,15 +184,15 @@ finds_absent stamp rid place wts v x reads inside limit = record {
 abbrev read_in : View → (rid place wts : ℕ) → Seen → View
 read_in v rid place wts seen = record v { work = record v.work { search = still; reads = finding.new_read rid place wts 3 ∷ v.work.reads }; seen = seen }
 
-pub finds_present : (stamp rid place wts : ℕ) (cells : List ℕ) (v w x : View) → finding.Reads stamp rid place wts 3 v w → x ≡ with_value w cells x.seen → IsLeftIn x cells → Grows w.seen x.seen → x.seen.loads ≡ w.seen.loads ++ cells_loaded place 0 cells → length cells ≡ 32 → place < places v.size → limit_in v ≡ stamp → Finds rid place wts (Some cells) v x
-finds_present stamp rid place wts cells v w x reads view left grows loads long inside limit =
+pub finds_present : (stamp rid place wts : ℕ) (cells : List ℕ) (v w x : View) → finding.Reads stamp rid place wts 3 v w → x ≡ with_value w cells x.seen → IsLeftIn x cells → x.seen.lost ≡ w.seen.lost → x.seen.loads ≡ w.seen.loads ++ cells_loaded place 0 cells → length cells ≡ 32 → place < places v.size → limit_in v ≡ stamp → Finds rid place wts (Some cells) v x
+finds_present stamp rid place wts cells v w x reads view left lost loads long inside limit =
     let at : x ≡ with_value (read_in v rid place wts w.seen) cells x.seen = view ∙ ap (λ (y : View). with_value y cells x.seen) reads.view in
     record {
       view = at;
       whole = inr (refl, long);
       inside = inside;
       leads = led_at stamp rid place wts (Some cells) v w x limit reads.path loads;
-      grows = grows_both v.seen w.seen x.seen (reads_grow stamp rid place wts 3 v w reads) grows;
+      lost = lost ∙ reads.lost;
       left = λ alone.
           let told : IsLeftIn (with_value (read_in v rid place wts w.seen) cells x.seen) cells = subst (λ (y : View). IsLeftIn y cells) at left in
           let leaves : LeavesCells v.log rid (limit_in v) wts cells = told alone in

@@ -1,5 +1,5 @@
 -- What the steps of a call came upon, from view to view and from post to post.
-use Rattle.std.proofs.Common.{◌≡◌, ℕ, ◌<◌, ◌≤◌, List, [], ◌∷◌, ◌++◌, append_assoc, append-nil, refl, sym, ap, ◌∙◌, subst, ⊎_elim}
+use Rattle.std.proofs.Common.{◌≡◌, ℕ, ◌<◌, ◌≤◌, List, Option, [], ◌∷◌, ◌++◌, append_assoc, append-nil, refl, sym, ap, ◌∙◌, subst, ⊎_elim}
 use Rattle.std.proofs.lemmas.Bool.{cases_lt}
 use Rattle.stamp_base.specs.Stamp.{bound_of_clock}
 use Rattle.word_layout.specs.Name.{Name}
@@ -12,7 +12,7 @@ use Rattle.clock_stamps.specs.Minima.{Raises, loads_from, bounded}
 use Rattle.version_pool.specs.Takes.{WasMet}
 use Rattle.version_search.specs.Growing as growing
 use Rattle.version_search.specs.Finding.{Reads}
-use Rattle.version_search.proofs.Grown.{grows_loads, grows_same}
+use Rattle.version_search.proofs.Grown.{grows_both, grows_loads, grows_same}
 use Rattle.validate_core.specs.Sets.{SetsView}
 use Rattle.validate_core.specs.Validating.{Met, MetFinal, no_more, its_read_stamp, IsShown}
 use Rattle.validate_core.specs.declared.conflict.Conflict.{Conflict}
@@ -21,6 +21,7 @@ use Rattle.seat_post.specs.declared.phase.Phase.{Phase}
 use Rattle.seat_post.specs.Conflicts.{WasFound, WereFound}
 use Rattle.seat_post.specs.Observing.{Grows, WasLost}
 use Rattle.seat_post.specs.Rewriting.{IsLoadedIn}
+use Rattle.seat_post.specs.Searched.{Finds, Stops}
 use Rattle.seat_post.specs.Post.{PostView, post_of, observed_in}
 
 -- ---- what was added
@@ -55,6 +56,14 @@ drawn_grows v w clock is = seen_grows v.seen w.seen (ap (λ (y : View). y.seen) 
 -- by a search
 pub reads_grow : (limit rid place wts status : ℕ) (v w : View) → Reads limit rid place wts status v w → growing.Grows v.seen w.seen
 reads_grow limit rid place wts status v w found = grows_loads v.seen w.seen _ found.path.loads found.lost
+
+pub finds_grow : (rid place wts : ℕ) (value : Option (List ℕ)) (v w : View) → Finds rid place wts value v w → growing.Grows v.seen w.seen
+finds_grow rid place wts value v w found =
+    let there = record v.seen { loads = found.leads.there } in
+    grows_both v.seen there w.seen (grows_loads v.seen there _ found.leads.path.loads refl) (grows_loads there w.seen _ found.leads.loads found.lost)
+
+pub stops_grow : (stamp rid wts : ℕ) (v w : View) → Stops stamp rid wts v w → growing.Grows v.seen w.seen
+stops_grow stamp rid wts v w stops = grows_loads v.seen w.seen _ stops.at.path.loads stops.at.lost
 
 -- ---- what was met
 

@@ -34,7 +34,7 @@ use Rattle.seat_post.proofs.Posts.{at_phase, post_idle}
 use Rattle.validate_core.proofs.Staging.{met_now}
 use Rattle.seat_post.proofs.ReadMore.{met_at}
 use Rattle.seat_post.proofs.Over.{none_resting}
-use Rattle.seat_post.proofs.Observed.{seen_grows, reads_grow, met_found, met_then, found_met, found_after, loaded_before, drawn_grows}
+use Rattle.seat_post.proofs.Observed.{seen_grows, reads_grow, stops_grow, met_found, met_then, found_met, found_after, loaded_before, drawn_grows}
 
 -- nothing is left to be done where nothing is linked
 ends_none : (work : Work) → Rests work.search → work.linked ≡ [] → work.item ≡ no_work.item → Ends work
@@ -44,16 +44,16 @@ ends_none work rests linked item = record {
   collected = item;
 }
 
-pub pending_at : (hand hand' : Seated) (stamp rid wts : ℕ) → Stops stamp rid wts hand.view hand'.view → hand'.view.seen.lost ≡ hand.view.seen.lost → hand.view.number < hand.view.size.seats → IsDrawn stamp hand.view → MeetsPending stamp rid hand.view hand'.view (Pending rid wts)
-pending_at hand hand' stamp rid wts stops lost inside drawn =
+pub pending_at : (hand hand' : Seated) (stamp rid wts : ℕ) → Stops stamp rid wts hand.view hand'.view → hand.view.number < hand.view.size.seats → IsDrawn stamp hand.view → MeetsPending stamp rid hand.view hand'.view (Pending rid wts)
+pending_at hand hand' stamp rid wts stops inside drawn =
     let met = met_at hand hand' stamp rid wts stops inside in
     let none : hand'.view.work.linked ≡ [] = ap (λ (y : View). y.work.linked) stops.view ∙ ap (λ (w : Work). w.linked) drawn.work in
     record {
       only = subst (λ (y : View). y ≡ worked hand.view y.work y.seen) (sym stops.view) refl;
       none_linked = none;
       ends = ends_none hand'.view.work (rw stops.view stops.rests) none (ap (λ (y : View). y.work.item) stops.view ∙ ap (λ (w : Work). w.item) drawn.work);
-      grows = stops.grows;
-      lost = lost;
+      grows = stops_grow stamp rid wts hand.view hand'.view stops;
+      lost = stops.at.lost;
       shown = (refl, met.0, met.1);
       loaded = met_now stamp rid stops.at.place wts 2 hand.view hand'.view stops.at.path;
     }

@@ -12,7 +12,6 @@ use Rattle.record_store.specs.Meaning.{value_at}
 use Rattle.validate_core.specs.Sets.{SetsView, MayInstall, Once}
 use Rattle.validate_core.specs.Installing.{IsBegun}
 use Rattle.version_search.specs.Finding as finding
-use Rattle.version_search.proofs.Grown.{grows_loads}
 use Rattle.seat_post.specs.Searched.{Finds, Stops}
 use Rattle.seat_post.specs.Conflicts.{IsOfAnother}
 use Rattle.seat_post.specs.Reading.{FindsValue, LeadsTo, value_loaded}
@@ -27,7 +26,7 @@ use Rattle.seat_post.specs.Leaves.{LeavesValue, AreLeft}
 use Rattle.seat_post.specs.Logs.{IsAbove}
 use Rattle.seat_post.specs.Seats.{IsAloneAt, Observed}
 use Rattle.seat_post.specs.Conflicts.{WasFound}
-use Rattle.seat_post.proofs.Observed.{were_found}
+use Rattle.seat_post.proofs.Observed.{finds_grow, stops_grow, were_found}
 use Rattle.seat_post.proofs.Leaving.{post_left, limit_is}
 use Rattle.seat_post.proofs.Listed.{unread, read_values-append, read_value-version}
 
@@ -155,7 +154,6 @@ stops_at stamp rid place wts v w found =
       view = view;
       rests = tt;
       at = record { place = place; path = found.path; lost = r.lost };
-      grows = grows_loads v.seen w.seen _ found.path.loads r.lost;
       before = r.early;
       another = λ e. met.another (rw view e);
       within = rw view at met.within;
@@ -213,7 +211,7 @@ post_read core hand hand' stamp rid place wts value sets sets' is ready finds wi
             let here = post_left hand hand' stamp rid place wts value finds is.at.begun.in_flight is.at.at before in
             rw (finds.view, read_more rid place wts value sets.reads sets'.reads reads) (All-push (λ read. LeavesValue (map entry_of hand.view.log) read.0 stamp read.1) (read_values sets.reads) (rid, value) (is.at.left before) here);
         found = λ e among. elim (among_append sets.reads d e (subst (λ (ds : List Read). Among e ds) reads among)) as (λ _. WasFound stamp e.record_number e.version hand'.view.seen.loads) [
-          | inl earlier ↦ were_found stamp sets.reads hand.view hand'.view finds.grows is.at.found e earlier
+          | inl earlier ↦ were_found stamp sets.reads hand.view hand'.view (finds_grow rid place wts value hand.view hand'.view finds) is.at.found e earlier
           | inr same ↦ subst (λ (x : Read). WasFound stamp x.record_number x.version hand'.view.seen.loads) same (found_at hand.view hand'.view stamp rid place wts value finds (is.at.begun.in_flight ∙ ap writing (sym is.at.at)))
         ];
       };
@@ -231,7 +229,7 @@ post_stopped core hand hand' stamp rid wts sets is ready stops = record {
     at = rw stops.view is.at.at;
     above = rw stops.view is.at.above;
     left = rw stops.view is.at.left;
-    found = were_found stamp sets.reads hand.view hand'.view stops.grows is.at.found;
+    found = were_found stamp sets.reads hand.view hand'.view (stops_grow stamp rid wts hand.view hand'.view stops) is.at.found;
   };
 }
 
@@ -255,7 +253,7 @@ post_passed core hand hand' stamp rid place wts value sets is ready finds =
         at = rw finds.view is.at.at;
         above = rw finds.view is.at.above;
         left = rw finds.view is.at.left;
-        found = were_found stamp sets.reads hand.view hand'.view finds.grows is.at.found;
+        found = were_found stamp sets.reads hand.view hand'.view (finds_grow rid place wts value hand.view hand'.view finds) is.at.found;
       };
     }
 
@@ -267,7 +265,7 @@ value_led hand hand' phase stamp rid place wts value sets p is same flying finds
     (subst (λ (n : ℕ). LeadsTo n rid place wts value hand.view.seen.loads hand'.view.seen.loads) (limit_is hand.view stamp (now.at.begun.in_flight ∙ ap writing (sym now.at.at))) finds.leads)
 
 abbrev pub found_value : (hand hand' : Seated) (phase : Phase) (stamp rid place wts : ℕ) (value : Option (List ℕ)) (sets : SetsView) (p : PostView) → IsPost hand phase stamp sets → post_of hand phase stamp sets ≡ p → p.phase ≡ Open → Finds rid place wts value hand.view hand'.view → FindsValue p.stamp rid p.observed (observed_in hand') value
-found_value hand hand' phase stamp rid place wts value sets p is same flying finds = record { place = place; wts = wts; leads = value_led hand hand' phase stamp rid place wts value sets p is same flying finds }
+found_value hand hand' phase stamp rid place wts value sets p is same flying finds = record { place = place; wts = wts; leads = value_led hand hand' phase stamp rid place wts value sets p is same flying finds; lost = finds.lost ∙ ap (λ (q : PostView). q.observed.lost) same }
 
 -- that it is present
 pub present_found : (stamp rid : ℕ) (before after' : Observed) (value : Option (List ℕ)) → FindsValue stamp rid before after' value → is_some value ≡ true → (words : List ℕ) × FindsValue stamp rid before after' (Some words)

@@ -30,6 +30,7 @@ use Rattle.seat_post.proofs.AloneSeats.{alone_shown}
 use Rattle.seat_post.proofs.Bounds.{above_later, above_more}
 use Rattle.seat_post.proofs.Dues.{appends_one}
 use Rattle.seat_post.proofs.Promotions.{without_only}
+use Rattle.seat_post.proofs.Observed.{finds_grow}
 use Rattle.seat_post.proofs.ReadMore.{found_at}
 use Rattle.seat_post.proofs.Steady.{alone_same}
 
@@ -50,7 +51,7 @@ pub record Drew (clock : ℕ) (held : List ℕ) (v w : View) : Type 0 where
 pub drew_found : (u v w : View) (clock rid place wts : ℕ) (value : Option (List ℕ)) → v ≡ drawn u clock → Finds rid place wts value v w → Drew clock u.places.held u w
 drew_found u v w clock rid place wts value drew found =
     let is = found.view ∙ ap (λ (y : View). record y { work = record y.work { search = still; reads = read_version rid place wts value ∷ y.work.reads }; seen = w.seen }) drew in
-    subst (λ (y : View). Drew clock u.places.held u y) (sym is) (record { number = refl; size = refl; splitting = refl; taken_in = refl; clock_is = refl; met = refl; holds = refl; published = refl; log = refl; grows = subst (λ (s : Seen). Grows s w.seen) (ap (λ (y : View). y.seen) drew) found.grows })
+    subst (λ (y : View). Drew clock u.places.held u y) (sym is) (record { number = refl; size = refl; splitting = refl; taken_in = refl; clock_is = refl; met = refl; holds = refl; published = refl; log = refl; grows = subst (λ (s : Seen). Grows s w.seen) (ap (λ (y : View). y.seen) drew) (finds_grow rid place wts value v w found) })
 
 -- exchanges were lost, and a place was taken
 drew_losing : (u w x : View) (clock : ℕ) (held : List ℕ) (lost : List Load) → Drew clock held u w → x ≡ after_losing w lost → Drew clock held u x

@@ -8,8 +8,6 @@ use Rattle.core_rule.specs.View.{View, Flight, resting, writing, still, Read, Lo
 use Rattle.core_rule.specs.Versions.{read_version}
 use Rattle.core_rule.specs.Views.{Among, IsAlone}
 use Rattle.core_rule.specs.Hands.{Shared, Seated, IsReady}
-use Rattle.version_search.specs.Growing.{Grows}
-use Rattle.version_search.proofs.Grown.{grows_both, grows_loads}
 use Rattle.core_rule.specs.Deciding.{entry_of, StoodAt}
 use Rattle.validate_core.specs.Sets.{SetsView}
 use Rattle.seat_post.specs.declared.phase.Phase.{Phase}
@@ -96,9 +94,6 @@ left_snapshot v rid value rests left = rw rests left
 pub read_alike : (v w : View) (rid : ℕ) (value : Option (List ℕ)) (f : FindsAlike rid value v w) → w ≡ record v { work = record v.work { search = still; reads = read_version rid f.place f.wts value ∷ v.work.reads }; seen = w.seen }
 read_alike v w rid value f = f.last ∙ (λ i. record f.between { seen = sym (ap (λ (x : View). x.seen) f.last) i }) ∙ ap (λ (x : View). record x { seen = w.seen }) f.finds.view
 
-pub alike_grows : (v w : View) (rid : ℕ) (value : Option (List ℕ)) → FindsAlike rid value v w → Grows v.seen w.seen
-alike_grows v w rid value f = grows_both v.seen f.between.seen w.seen f.finds.grows (grows_loads f.between.seen w.seen _ (ap (λ (x : View). x.seen.loads) f.last) (ap (λ (x : View). x.seen.lost) f.last))
-
 pub found_snapshot : (v w : View) (rid : ℕ) (value : Option (List ℕ)) → v.flight ≡ resting → FindsAlike rid value v w → IfSome (snapshot_view v.flight v.published.read v.work.reads) (λ g. FindsInSnapshot (g.stamp + 1) rid (observed_of v) (observed_of w) value)
 found_snapshot v w rid value rests f = rw rests (record {
   between = observed_of f.between;
@@ -106,9 +101,10 @@ found_snapshot v w rid value rests f = rw rests (record {
     place = f.place;
     wts = f.wts;
     leads = subst (λ (n : ℕ). LeadsTo n rid f.place f.wts value v.seen.loads f.between.seen.loads) (limit_rests v v.published.read rests refl) f.finds.leads;
+    lost = f.finds.lost;
   };
   minimum = f.minimum;
-  last = ap (λ (x : View). x.seen.loads) f.last;
+  last = ap observed_of f.last;
 })
 
 -- the published write words of all seats were loaded for the minimum

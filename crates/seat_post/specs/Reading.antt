@@ -7,6 +7,7 @@ use Rattle.core_rule.specs.Versions.{state_of}
 use Rattle.version_search.specs.Loading.{cells_loaded}
 use Rattle.seat_post.specs.Seats.{Observed, IsAloneAt}
 use Rattle.seat_post.specs.Leaves.{LeavesValue}
+use Rattle.seat_post.specs.Observing.{with_load}
 use Rattle.seat_post.specs.Post.{PostView, noted, observing}
 use Rattle.seat_post.specs.declared.reading.ReadFault.{ReadFault}
 use Rattle.seat_post.specs.declared.reading.ReadFault.TheVariants.{Pending, NoMemory}
@@ -27,11 +28,12 @@ pub record LeadsTo (stamp rid place wts : ℕ) (value : Option (List ℕ)) (befo
   pub path : EndsAt stamp rid place wts (state_of value) before there
   pub loads : after' ≡ there ++ value_loaded value place
 
--- a search between the two found this value, and loaded nothing else
+-- A search between the two found this value. It loaded nothing else, and lost no exchange.
 pub record FindsValue (stamp rid : ℕ) (before after' : Observed) (value : Option (List ℕ)) : Type 0 where
   pub place : ℕ
   pub wts : ℕ
   pub leads : LeadsTo stamp rid place wts value before.loads after'.loads
+  pub lost : after'.lost ≡ before.lost
 
 -- A search of the record stopped at a pending version. It loaded nothing else, and lost no exchange.
 pub record StopsAt (stamp rid wts : ℕ) (before after' : Observed) : Type 0 where
@@ -44,7 +46,7 @@ pub record FindsInSnapshot (stamp rid : ℕ) (before after' : Observed) (value :
   pub between : Observed
   pub finds : FindsValue stamp rid before between value
   pub minimum : ℕ
-  pub last : after'.loads ≡ between.loads ++ load min_read minimum ∷ []
+  pub last : after' ≡ with_load between (load min_read minimum)
 
 -- a record is read as this value, and noted so with the version that the search found
 pub record ReadsAs (rid : ℕ) (value : Option (List ℕ)) (before after' : PostView) : Type 0 where

@@ -7,7 +7,6 @@ use Rattle.core_rule.specs.Searching.{Rests, IsWhole, limit_of}
 use Rattle.core_rule.specs.Deciding.{entry_of}
 use Rattle.core_rule.specs.Versions.{read_version}
 use Rattle.stamp_base.specs.Stamp.{seat_of}
-use Rattle.version_search.specs.Growing.{Grows}
 use Rattle.seat_post.specs.Reading.{LeadsTo, StopsAt}
 use Rattle.seat_post.specs.Leaves.{LeavesValue}
 use Rattle.seat_post.specs.Seats.{observed_of}
@@ -17,9 +16,9 @@ pub record Finds (rid place wts : ℕ) (value : Option (List ℕ)) (v w : View) 
   pub view : w ≡ record v { work = record v.work { search = still; reads = read_version rid place wts value ∷ v.work.reads }; seen = w.seen }
   pub whole : IsWhole (read_version rid place wts value)
   pub inside : place < places v.size
-  -- the loads of the search alone led there and to its value, and what was seen has grown
+  -- the loads of the search alone led there and to its value, and it lost no exchange
   pub leads : LeadsTo (limit_of v.flight v.published.read) rid place wts value v.seen.loads w.seen.loads
-  pub grows : Grows v.seen w.seen
+  pub lost : w.seen.lost ≡ v.seen.lost
   -- a seat that is alone finds what its log leaves
   pub left : IsAlone v → LeavesValue (map entry_of v.log) rid (limit_of v.flight v.published.read) value
 
@@ -37,7 +36,6 @@ pub record Stops (stamp rid wts : ℕ) (v w : View) : Type 0 where
   pub view : w ≡ record v { work = record v.work { search = search }; seen = w.seen }
   pub rests : Rests search
   pub at : StopsAt stamp rid wts (observed_of v) (observed_of w)
-  pub grows : Grows v.seen w.seen
   pub before : wts < stamp
   pub another : seat_of wts ≡ v.number → ⊥
   pub within : seat_of wts < v.size.seats

@@ -16,7 +16,7 @@ ghost use Rattle.seat_post.specs.FirstRead.{first_record};
 ghost use Rattle.seat_post.specs.Logs.{IsAbove};
 ghost use Rattle.word_layout.specs.Name.{published_write};
 ghost use Rattle.core_rule.specs.Paths.{load};
-ghost use Rattle.seat_post.specs.Observing.{Grows, with_load};
+ghost use Rattle.seat_post.specs.Observing.{with_load};
 ghost use Rattle.seat_post.specs.Post.{PostView, shared_of, post_view, opened, drawn_at, with_clock, observing};
 
 use crate::phase::Phase;
@@ -159,7 +159,6 @@ impl<J: Keeps> Post<J> {
     pub fn hear(&mut self, core: &Core<J>, stamp: Stamp)
         requires core { self.old.shared ≡ core.now }
         ensures value { self.new ≡ observing (with_clock self.old (max self.old.clock (clock_of stamp))) (with_load self.old.observed (load (published_write self.old.seat) self.old.published)) }
-        ensures grows { Grows self.old.observed self.new.observed }
     {
         hear(core, &mut self.hand, stamp);
     }
@@ -169,7 +168,6 @@ impl<J: Keeps> Post<J> {
         requires core { self.old.shared ≡ core.now }
         requires seat { other < core.now.size.seats }
         ensures value { (word : ℕ) × (self.new ≡ observing (with_clock self.old (adopted self.old.clock word)) (with_load self.old.observed (load (published_write other) word))) }
-        ensures grows { Grows self.old.observed self.new.observed }
     {
         sync(core, &mut self.hand, other);
     }

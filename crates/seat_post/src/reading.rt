@@ -7,7 +7,6 @@ ghost use Rattle.core_rule.specs.Versions.{read_version};
 ghost use Rattle.core_rule.specs.Hands.{IsReady, StaysReady};
 ghost use Rattle.core_rule.specs.Searching.{Rests};
 ghost use Rattle.record_store.specs.Meaning.{value_at};
-ghost use Rattle.seat_post.specs.Observing.{Grows};
 ghost use Rattle.seat_post.specs.Post.{known_at, observing};
 ghost use Rattle.seat_post.specs.Seats.{IsAloneAt};
 ghost use Rattle.seat_post.specs.Logs.{IsAbove};
@@ -137,7 +136,6 @@ impl<J: Keeps> Post<J> {
         requires rid { rid < self.old.shared.size.records }
         requires first { known_at self.old rid ≡ None }
         ensures ok { OnOk result (ReadsOne rid self.old self.new) }
-        ensures grows { Grows self.old.observed self.new.observed }
         ensures err { OnErr result (self.new ≡ observing self.old self.new.observed) }
         ensures stops { IfErr result (λ fault. IfPending fault (λ wts. StopsAt self.old.stamp rid wts self.old.observed self.new.observed)) }
         ensures met { IfErr result (λ fault. IfPending fault (λ wts. (wts < self.old.stamp) × IsOfAnother self.old.shared.size self.old.seat self.old.others wts)) }
@@ -163,7 +161,6 @@ impl<J: Keeps> Post<J> {
         requires open { self.old.phase ≡ Phase.Open }
         requires rid { rid < self.old.shared.size.records }
         requires first { known_at self.old rid ≡ None }
-        ensures grows { Grows self.old.observed self.new.observed }
         // Where it is absent, a deleted version was found; where it is present, a committed one.
         ensures absent { IfOk result (λ absent. absent ≡ true → ReadsAs rid None self.old self.new) }
         ensures passed { IfOk result (λ absent. absent ≡ false → self.new ≡ observing self.old self.new.observed) }

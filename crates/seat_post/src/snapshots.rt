@@ -15,7 +15,7 @@ ghost use Rattle.seat_post.specs.Ends.{Stood};
 ghost use Rattle.seat_post.specs.Snapshot.{with_read, entry_of_snapshot};
 ghost use Rattle.seat_post.specs.InSnapshot.{IsInSnapshot, Opens, FindsAlike, snapshot_reads, IsLeftAt, logged_snapshot, snapshot_ended};
 ghost use Rattle.seat_post.specs.Logs.{AreBelow};
-ghost use Rattle.seat_post.specs.Observing.{Grows, with_load, MeetsMinimum};
+ghost use Rattle.seat_post.specs.Observing.{with_load, MeetsMinimum};
 ghost use Rattle.seat_post.specs.Post.{IsAlonePost, snapshot_begun_at, snapshot_read_at, finished_at, observing};
 ghost use Rattle.seat_post.specs.Reading.{FindsInSnapshot};
 ghost use Rattle.seat_post.specs.Searched.{Finds};
@@ -125,7 +125,6 @@ impl<J: Keeps> Post<J> {
         requires core { self.old.shared ≡ core.now }
         requires idle { self.old.phase ≡ Phase.Idle }
         ensures after { self.new ≡ observing (snapshot_begun_at self.old result) self.new.observed }
-        ensures grows { Grows self.old.observed self.new.observed }
         // The stamp is at least one less than the least published write word that was loaded.
         ensures minimum { MeetsMinimum self.old.shared.size.seats (result + 1) self.old.observed self.new.observed }
         ensures met { self.old.met ≤ result + 1 }
@@ -151,7 +150,6 @@ impl<J: Keeps> Post<J> {
         requires snapshot { IsSome self.old.snapshot }
         requires rid { rid < self.old.shared.size.records }
         ensures after { self.new ≡ observing (snapshot_read_at self.old rid (value_if result into.new)) self.new.observed }
-        ensures grows { Grows self.old.observed self.new.observed }
         ensures answer { IfSome self.new.snapshot (λ g. value_at g.reads rid ≡ Some (value_if result into.new)) }
         // It is the value of the version that the search found.
         ensures found { IfSome self.old.snapshot (λ g. FindsInSnapshot (g.stamp + 1) rid self.old.observed self.new.observed (value_if result into.new)) }

@@ -3,7 +3,7 @@ ghost use Rattle.std.specs.Prelude.{◌≡◌, ◌≤◌};
 ghost use Rattle.histories.specs.History.{Lawful};
 ghost use Rattle.word_layout.specs.Name.{min_write};
 ghost use Rattle.core_rule.specs.Paths.{load};
-ghost use Rattle.seat_post.specs.Observing.{Grows, with_load};
+ghost use Rattle.seat_post.specs.Observing.{with_load};
 ghost use Rattle.seat_post.specs.Seats.{IsAloneAt};
 
 use crate::phase::Phase;
@@ -17,7 +17,6 @@ impl<J: Keeps> Post<J> {
         requires idle { self.old.phase ≡ Phase.Idle }
         ensures value { self.new ≡ record self.old { met = self.new.met; observed = self.new.observed } }
         ensures load { self.new.observed ≡ with_load self.old.observed (load min_write self.new.met) }
-        ensures grows { Grows self.old.observed self.new.observed }
         ensures not_back { self.old.met ≤ self.new.met }
         ensures lawful { IsAloneAt self.old.shared.size self.old.seat self.old.others → Lawful J.kept self.old.shared.size.records self.old.log }
     {

@@ -16,7 +16,7 @@ use Rattle.txn_engine.specs.Faults.{told_by, IsPending}
 use Rattle.txn_engine.specs.Leaves.{ReadsLeft}
 use Rattle.txn_engine.specs.Pass.{PassView, store_at, counted, doomed, observing}
 use Rattle.txn_engine.specs.Txn.{AnswersConflict, Refuses, Reads, Writes, Gives}
-use Rattle.txn_engine.proofs.Growing.{grows_none}
+use Rattle.txn_engine.proofs.Growing.{grows_none, stopped_grows}
 
 -- ---- what a pass answers
 
@@ -113,13 +113,13 @@ stopped_gives p q f a =
 
 -- ---- a search that met a pending version, and want of memory
 
-pending_reads : (p : PassView) (o : Observed) (rid wts : ℕ) → p.dead ≡ None → known_at p.post rid ≡ None → Grows p.observed o → StopsAt p.stamp rid wts p.observed o → IsPending p (Pending rid wts) → Reads p (doomed (observing p o) (Pending rid wts)) rid (Err (txn.Conflict (Pending rid wts)))
-pending_reads p o rid wts alive unknown grows stops shown = record {
+pending_reads : (p : PassView) (o : Observed) (rid wts : ℕ) → p.dead ≡ None → known_at p.post rid ≡ None → StopsAt p.stamp rid wts p.observed o → IsPending p (Pending rid wts) → Reads p (doomed (observing p o) (Pending rid wts)) rid (Err (txn.Conflict (Pending rid wts)))
+pending_reads p o rid wts alive unknown stops shown = record {
   ok = tt;
   answered = tt;
   err = refl;
   spare = refl;
-  stays = record { same_frame = refl; same_accounts = refl; grows = grows };
+  stays = record { same_frame = refl; same_accounts = refl; grows = stopped_grows p.stamp rid wts p.observed o stops };
   refuses = record {
     shown = shown;
     versions = refl;
@@ -137,10 +137,10 @@ pending_reads p o rid wts alive unknown grows stops shown = record {
 }
 
 -- at a pass where the search has ended, before it is noted
-pub met_pending : (p q r : PassView) (rid wts : ℕ) (f : TxnFault) → p.dead ≡ None → known_at p.post rid ≡ None → q ≡ observing p q.observed → Grows p.observed q.observed → StopsAt p.stamp rid wts p.observed q.observed → IsPending p (Pending rid wts) → r ≡ doomed q (Pending rid wts) → f ≡ txn.Conflict (Pending rid wts) → Reads p r rid (Err f)
-met_pending p q r rid wts f alive unknown only grows stops shown after is =
+pub met_pending : (p q r : PassView) (rid wts : ℕ) (f : TxnFault) → p.dead ≡ None → known_at p.post rid ≡ None → q ≡ observing p q.observed → StopsAt p.stamp rid wts p.observed q.observed → IsPending p (Pending rid wts) → r ≡ doomed q (Pending rid wts) → f ≡ txn.Conflict (Pending rid wts) → Reads p r rid (Err f)
+met_pending p q r rid wts f alive unknown only stops shown after is =
     subst (λ (x : TxnFault). Reads p r rid (Err x)) (sym is)
-    (subst (λ (x : PassView). Reads p x rid (Err (txn.Conflict (Pending rid wts)))) (sym (after ∙ ap (λ (x : PassView). doomed x (Pending rid wts)) only)) (pending_reads p q.observed rid wts alive unknown grows stops shown))
+    (subst (λ (x : PassView). Reads p x rid (Err (txn.Conflict (Pending rid wts)))) (sym (after ∙ ap (λ (x : PassView). doomed x (Pending rid wts)) only)) (pending_reads p q.observed rid wts alive unknown stops shown))
 
 refuses_memory : {A : Type 0} (p : PassView) (answer : Result A TxnFault) → answer ≡ Err txn.NoMemory → p.dead ≡ None → Refuses p p answer
 refuses_memory p answer is alive = subst (λ r. Refuses p p r) (sym is) (record {

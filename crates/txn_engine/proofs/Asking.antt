@@ -22,6 +22,7 @@ use Rattle.txn_engine.specs.declared.fresh.Asked.TheVariants.{Given, Next}
 use Rattle.txn_engine.specs.Inside.{IsPass}
 use Rattle.txn_engine.proofs.Passes.{pass_noted}
 use Rattle.txn_engine.proofs.Accounting.{any_shown, accounted_given, accounted_struck}
+use Rattle.txn_engine.proofs.Growing.{absent_grows, present_grows}
 
 -- a record was read, and noted where it is absent
 pub pass_asked : (p p' : PostView) (rid : ℕ) (absent : Bool) (q : Waiting) (n : NumbersView) (most : ℕ) (dead : Option Conflict) → (absent ≡ true → ReadsAs rid None p p') → (absent ≡ false → p' ≡ posts.observing p p'.observed) → IsPass p q n most dead → p.phase ≡ Open → IsPass p' q n most dead
@@ -76,7 +77,6 @@ kept_below (x ∷ xs) zero k r below at = absurd (omega arith)
 kept_below (x ∷ xs) (suc i) zero r below at = at
 kept_below (x ∷ xs) (suc i) (suc k) r below at = kept_below xs i k r (omega arith) at
 
--- what is on the list without one number was on the list, and so was that number
 -- What is left to ask where the number at a place was not given out: a shorter rest of the list, behind numbers that are written;
 -- all of the pass but its list and what its steps came upon is the same.
 pub record LeftToAsk (before after' : PassView) (i next : ℕ) : Type 0 where
@@ -126,7 +126,7 @@ gives_one p q r i rid fresh at tells is = subst (λ (x : PassView). Asks i rid p
   record {
     same_frame = ap frame tells.after;
     same_accounts = accounted_given q i rid (ap (λ (x : PassView). slice_get x.spare i) tells.after ∙ at) ∙ ap accounted tells.after;
-    grows = tells.grows;
+    grows = absent_grows p rid q.versions p.observed q.observed (tells.met_absent refl);
   },
 )
 
@@ -139,6 +139,6 @@ strikes_one p q r i rid unwritten at tells is =
       record {
         same_frame = ap frame tells.after;
         same_accounts = ap accounted after ∙ accounted_struck p i rid at (λ alone. tells.left alone refl);
-        grows = tells.grows;
+        grows = present_grows p rid p.observed q.observed (tells.met_present refl);
       },
     )

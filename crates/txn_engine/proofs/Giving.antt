@@ -46,7 +46,7 @@ one_asked p q r i rid next told h at is asks stays =
       grows = grows_both p.observed q.observed r.observed h.grows stays.grows;
       written = left.written h.written;
       accounts = stays.same_accounts ∙ h.accounts;
-      passed = asks_passed p q r i rid next told h.same h.passed at is stays.grows asks;
+      passed = asks_passed p q r i rid next told h.same h.passed at is asks;
     }
 
 -- ---- from what holds since the last number was asked for to what holds since the call began
@@ -87,7 +87,7 @@ given_gives p q r i rid told opened alive h at is asks stays =
       stays = all;
       refuses = record { shown = tt; versions = tt; noted = ap notes a.1 ∙ ap notes h.same; stopped = rw alive tt; still = rw alive tt; records_out = tt };
       meets = λ first. tt;
-      first = asks_given p q r i rid told h.same h.passed at is stays.grows asks;
+      first = asks_given p q r i rid told h.same h.passed at is asks;
       all_passed = tt;
       none_remains = tt;
       no_memory = λ flying. tt;

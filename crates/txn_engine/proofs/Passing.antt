@@ -3,7 +3,6 @@ use Rattle.std.proofs.Common.{◌≡◌, ℕ, zero, suc, List, [], ◌∷◌, �
 use Rattle.std.specs.Prelude.{IsSome, slice_get}
 use Rattle.std.proofs.lemmas.List.{take_all, drop_all, take-append-drop}
 use Rattle.record_store.specs.Meaning.{value_at}
-use Rattle.seat_post.specs.Observing.{Grows}
 use Rattle.seat_post.specs.Post.{known_at}
 use Rattle.txn_engine.specs.Pass.{PassView, observing}
 use Rattle.txn_engine.specs.Fresh.{IsMetAbsent, IsMetPresent, PassesOver, none_yet, one_stays, one_leaves, GivesFirst, PassesAll, WantsMemory, MeetsNext, Asks}
@@ -59,22 +58,21 @@ stays_passed p q i rid h at written = record {
   list = h.list ∙ passed_one h.numbers q.spare i rid at;
 }
 
-pub leaves_passed : (p q r : PassView) (i rid : ℕ) → HasPassed i p q → slice_get q.spare i ≡ Some rid → r.spare ≡ remove q.spare i → value_at p.writes rid ≡ None → Grows q.observed r.observed → IsMetPresent p rid q.observed r.observed → HasPassed i p r
-leaves_passed p q r i rid h at less unwritten later met = record {
+pub leaves_passed : (p q r : PassView) (i rid : ℕ) → HasPassed i p q → slice_get q.spare i ≡ Some rid → r.spare ≡ remove q.spare i → value_at p.writes rid ≡ None → IsMetPresent p rid q.observed r.observed → HasPassed i p r
+leaves_passed p q r i rid h at less unwritten met = record {
   numbers = h.numbers ++ rid ∷ [];
-  over = subst (λ (xs : List ℕ). PassesOver p (h.numbers ++ rid ∷ []) xs p.observed r.observed) (sym (ap (take i) less ∙ take_removed q.spare i)) (one_leaves h.numbers (take i q.spare) rid p.observed q.observed r.observed h.over unwritten later met);
+  over = subst (λ (xs : List ℕ). PassesOver p (h.numbers ++ rid ∷ []) xs p.observed r.observed) (sym (ap (take i) less ∙ take_removed q.spare i)) (one_leaves h.numbers (take i q.spare) rid p.observed q.observed r.observed h.over unwritten met);
   list = h.list ∙ passed_one h.numbers q.spare i rid at ∙ ap (λ (ys : List ℕ). (h.numbers ++ rid ∷ []) ++ ys) (sym (ap (drop i) less ∙ drop_removed q.spare i));
 }
 
-pub gives_first : (p q r : PassView) (i rid : ℕ) → HasPassed i p q → slice_get q.spare i ≡ Some rid → r.spare ≡ remove q.spare i → r.given ≡ p.given ++ rid ∷ [] → Grows q.observed r.observed → IsMetAbsent p rid r.versions q.observed r.observed → GivesFirst p r rid
-gives_first p q r i rid h at less given later absent = record {
+pub gives_first : (p q r : PassView) (i rid : ℕ) → HasPassed i p q → slice_get q.spare i ≡ Some rid → r.spare ≡ remove q.spare i → r.given ≡ p.given ++ rid ∷ [] → IsMetAbsent p rid r.versions q.observed r.observed → GivesFirst p r rid
+gives_first p q r i rid h at less given absent = record {
   numbers = h.numbers;
   stayed = take i q.spare;
   behind = drop (suc i) q.spare;
   list = h.list ∙ ap (λ (ys : List ℕ). h.numbers ++ ys) (drop_at q.spare i rid at);
   between = q.observed;
   over = h.over;
-  later = later;
   absent = absent;
   spare = less;
   given = given;
@@ -87,16 +85,16 @@ all_passed p q i h none =
 
 -- ---- asking
 
-pub asks_passed : (p q r : PassView) (i rid next : ℕ) (told : Asked) → q ≡ observing (record p { spare = q.spare }) q.observed → HasPassed i p q → slice_get q.spare i ≡ Some rid → told ≡ Next next → Grows q.observed r.observed → Asks i rid q r told → HasPassed next p r
-asks_passed p q r i rid next told same h at is later asks = elim (subst (λ (a : Asked). Asks i rid q r a) is asks) as (λ _. HasPassed next p r) [
+pub asks_passed : (p q r : PassView) (i rid next : ℕ) (told : Asked) → q ≡ observing (record p { spare = q.spare }) q.observed → HasPassed i p q → slice_get q.spare i ≡ Some rid → told ≡ Next next → Asks i rid q r told → HasPassed next p r
+asks_passed p q r i rid next told same h at is asks = elim (subst (λ (a : Asked). Asks i rid q r a) is asks) as (λ _. HasPassed next p r) [
   | inl s ↦ (let at_next : suc i ≡ next = let is_next = s.2 in omega arith in subst (λ (n : ℕ). HasPassed n p r) at_next (subst (λ (x : PassView). HasPassed (suc i) p x) (sym s.0) (stays_passed p q i rid h at (subst (λ (x : PassView). IsSome (value_at x.writes rid)) same s.1))))
-  | inr s ↦ subst (λ (n : ℕ). HasPassed n p r) (sym s.1) (leaves_passed p q r i rid h at (ap (λ (x : PassView). x.spare) s.0) (subst (λ (x : PassView). value_at x.writes rid ≡ None) same s.2) later (subst (λ (x : PassView). IsMetPresent x rid q.observed r.observed) same s.3))
+  | inr s ↦ subst (λ (n : ℕ). HasPassed n p r) (sym s.1) (leaves_passed p q r i rid h at (ap (λ (x : PassView). x.spare) s.0) (subst (λ (x : PassView). value_at x.writes rid ≡ None) same s.2) (subst (λ (x : PassView). IsMetPresent x rid q.observed r.observed) same s.3))
 ]
 
-pub asks_given : (p q r : PassView) (i rid : ℕ) (told : Asked) → q ≡ observing (record p { spare = q.spare }) q.observed → HasPassed i p q → slice_get q.spare i ≡ Some rid → told ≡ Given → Grows q.observed r.observed → Asks i rid q r told → GivesFirst p r rid
-asks_given p q r i rid told same h at is later asks =
+pub asks_given : (p q r : PassView) (i rid : ℕ) (told : Asked) → q ≡ observing (record p { spare = q.spare }) q.observed → HasPassed i p q → slice_get q.spare i ≡ Some rid → told ≡ Given → Asks i rid q r told → GivesFirst p r rid
+asks_given p q r i rid told same h at is asks =
     let a = subst (λ (a : Asked). Asks i rid q r a) is asks in
-    gives_first p q r i rid h at (ap (λ (x : PassView). x.spare) a.1) (ap (λ (x : PassView). x.given) a.1 ∙ ap (λ (x : PassView). x.given ++ rid ∷ []) same) later (subst (λ (x : PassView). IsMetAbsent x rid r.versions q.observed r.observed) same a.2)
+    gives_first p q r i rid h at (ap (λ (x : PassView). x.spare) a.1) (ap (λ (x : PassView). x.given) a.1 ∙ ap (λ (x : PassView). x.given ++ rid ∷ []) same) (subst (λ (x : PassView). IsMetAbsent x rid r.versions q.observed r.observed) same a.2)
 
 -- no memory for the number at this place, of which nothing is known
 pub wants_memory : (p q r : PassView) (i rid : ℕ) → q ≡ observing (record p { spare = q.spare }) q.observed → HasPassed i p q → slice_get q.spare i ≡ Some rid → known_at q.post rid ≡ None → r ≡ q → WantsMemory p r

@@ -5,7 +5,6 @@ use Rattle.record_store.specs.Store.{IsFresh}
 use Rattle.txn_engine.specs.declared.fresh.Asked.{Asked}
 use Rattle.txn_engine.specs.declared.fresh.Asked.TheVariants.{Given, Next}
 use Rattle.validate_core.specs.declared.conflict.Conflict.{Conflict}
-use Rattle.seat_post.specs.Observing.{Grows}
 use Rattle.seat_post.specs.Post.{known_at}
 use Rattle.seat_post.specs.Reading.{FindsValue}
 use Rattle.seat_post.specs.Seats.{Observed}
@@ -42,7 +41,6 @@ IsMetPresent p rid before after' = (words : List ℕ) × (((known_at p.post rid 
 -- What a call tells of a record that is not written: where it is absent, it was read, if it was not before, and is noted; else nothing is.
 pub record TellsAbsent (before after' : PassView) (rid : ℕ) (absent : Bool) : Type 0 where
   pub after : after' ≡ observing (if absent then read_absent before rid after'.versions else before) after'.observed
-  pub grows : Grows before.observed after'.observed
   pub met_absent : absent ≡ true → IsMetAbsent before rid after'.versions before.observed after'.observed
   pub met_present : absent ≡ false → IsMetPresent before rid before.observed after'.observed
   -- a seat that is alone meets what its log leaves
@@ -53,7 +51,7 @@ pub data PassesOver (p : PassView) : (numbers stayed : List ℕ) → Observed �
   none_yet : (o : Observed) → PassesOver p [] [] o o
   one_stays : (numbers stayed : List ℕ) (rid : ℕ) (o t : Observed) → PassesOver p numbers stayed o t → IsSome (value_at p.writes rid)
       → PassesOver p (numbers ++ rid ∷ []) (stayed ++ rid ∷ []) o t
-  one_leaves : (numbers stayed : List ℕ) (rid : ℕ) (o t u : Observed) → PassesOver p numbers stayed o t → value_at p.writes rid ≡ None → Grows t u → IsMetPresent p rid t u
+  one_leaves : (numbers stayed : List ℕ) (rid : ℕ) (o t u : Observed) → PassesOver p numbers stayed o t → value_at p.writes rid ≡ None → IsMetPresent p rid t u
       → PassesOver p (numbers ++ rid ∷ []) stayed o u
 
 -- The first number of the list that is met absent and not written is given out: those before it were passed.
@@ -64,7 +62,6 @@ pub record GivesFirst (before after' : PassView) (rid : ℕ) : Type 0 where
   pub list : before.spare ≡ numbers ++ rid ∷ behind
   pub between : Observed
   pub over : PassesOver before numbers stayed before.observed between
-  pub later : Grows between after'.observed
   pub absent : IsMetAbsent before rid after'.versions between after'.observed
   pub spare : after'.spare ≡ stayed ++ behind
   pub given : after'.given ≡ before.given ++ rid ∷ []

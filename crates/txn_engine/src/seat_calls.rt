@@ -18,7 +18,6 @@ use seat_post::Phase;
 pub trait SeatCalls {
     ghost use Rattle.seat_post.specs.Leaves.{AreLeft};
     ghost use Rattle.seat_post.specs.Logs.{IsAbove};
-    ghost use Rattle.seat_post.specs.Observing.{Grows};
     ghost use Rattle.txn_engine.specs.declared.faults.CommitFault.{CommitFault};
     ghost use Rattle.txn_engine.specs.declared.faults.TxnFault.{TxnFault};
     ghost use Rattle.txn_engine.specs.Commits.{Commits};
@@ -135,7 +134,6 @@ pub trait SeatCalls {
         ensures frame { unread (pass self.new) ≡ unread (pass self.old) }
         ensures after { pass self.new ≡ observing (snapshot_read (pass self.old) rid (value_if result into.new)) (pass self.new).observed }
         ensures beside { beside self.new ≡ beside self.old }
-        ensures grows { Grows (pass self.old).observed (pass self.new).observed }
         ensures answer { known (meaning_of_snapshot (pass self.new)) rid ≡ Some (value_if result into.new) }
         ensures absent { result ≡ false → into.new ≡ into.old }
         ensures found { FindsSeen (pass self.old) (pass self.new) rid (value_if result into.new) }

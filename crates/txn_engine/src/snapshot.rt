@@ -53,7 +53,6 @@ impl<S: SeatCalls> RecordRead for SnapshotOver<'_, S> {
     type Fault = NoFault;
 
     ghost use Rattle.std.specs.Prelude.{IfOk};
-    ghost use Rattle.seat_post.specs.Observing.{Grows};
     ghost use Rattle.txn_engine.specs.Snapshot.{meaning_of_snapshot, SnapshotFrame, unread, FindsSeen, ReadsLeft};
 
     ghost meaning = { λ s. meaning_of_snapshot (S.pass s.seat.now) };
@@ -62,7 +61,7 @@ impl<S: SeatCalls> RecordRead for SnapshotOver<'_, S> {
 
     ghost rest = { λ s. record { name = s.seat.ghost_name; of_pass = unread (S.pass s.seat.now); beside = S.beside s.seat.now } };
 
-    ghost read_gives = { λ s rid answer s'. IfOk answer (ReadsLeft (S.pass s.seat.now) rid) × Grows (S.pass s.seat.now).observed (S.pass s'.seat.now).observed × IfOk answer (FindsSeen (S.pass s.seat.now) (S.pass s'.seat.now) rid) };
+    ghost read_gives = { λ s rid answer s'. IfOk answer (ReadsLeft (S.pass s.seat.now) rid) × IfOk answer (FindsSeen (S.pass s.seat.now) (S.pass s'.seat.now) rid) };
 
     fn read_into(&mut self, rid: u32, into: &mut Cells) -> Result<bool, NoFault> {
         Ok(self.seat.read_snapshot(self.engine, rid, into))

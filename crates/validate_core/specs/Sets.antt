@@ -54,3 +54,4 @@ pub record LoadsOne (rid place wts : ℕ) (before after' : SetsView) (v w : View
   pub view : w ≡ with_value v cells w.seen
   pub left : IsLeftIn w cells
   pub loads : w.seen.loads ≡ v.seen.loads ++ cells_loaded place 0 cells
+  pub lost : w.seen.lost ≡ v.seen.lost

@@ -8,7 +8,6 @@ ghost use Rattle.core_rule.specs.Hands.{IsReady, StaysReady};
 ghost use Rattle.core_rule.specs.Searching.{IsLoading, read_place, read_cells};
 ghost use Rattle.core_rule.specs.Versions.{read_version, written_version};
 ghost use Rattle.record_store.specs.Meaning.{value_at, with_value};
-ghost use Rattle.version_search.specs.Growing.{Grows};
 ghost use Rattle.validate_core.specs.Noted.{few};
 ghost use Rattle.validate_core.specs.Sets.{SetsView, Turn, Once, LoadsOne, count_below};
 
@@ -112,7 +111,6 @@ impl Sets {
         ensures once { Once (λ (d : Read). d.record_number) self.new.reads }
         ensures read_room { self.old.read_room ≤ self.new.read_room }
         ensures write_room { self.old.write_room ≤ self.new.write_room }
-        ensures grows { Grows hand.old.view.seen hand.new.view.seen }
         ensures stays { StaysReady core.now hand.old hand.new }
     {
         self.reads.make_item();

@@ -8,7 +8,7 @@ use Rattle.seat_post.proofs.promoting.promote_at.Goals as goal
 pub returns-in-Pending-clause-err : goal.returns-in-Pending-clause-err
 returns-in-Pending-clause-err g c =
     let h = c.requires.ready.hand_of in
-    inl (pending_at c.args.hand.now c.find.new.hand c.args.stamp c.args.rid c.in-Pending.wts (rw c.number.ensures.value at (stops_at _ _ _ _ _ _ c.in-Pending.ensures.pending.1)) c.in-Pending.ensures.pending.1.reaches.lost (rw h.same_size h.in_range) c.requires.drawn)
+    inl (pending_at c.args.hand.now c.find.new.hand c.args.stamp c.args.rid c.in-Pending.wts (rw c.number.ensures.value at (stops_at _ _ _ _ _ _ c.in-Pending.ensures.pending.1)) (rw h.same_size h.in_range) c.requires.drawn)
 
 pub rewrite-requires-clause-read : goal.rewrite-requires-clause-read
 rewrite-requires-clause-read g c =

@@ -35,6 +35,6 @@ returns-in-Version-default-default-false-clause-ok g c =
       place = a.place;
       wts = a.wts;
       value = Some l.cells;
-      finds = finds_present c.args.stamp c.args.rid a.place a.wts l.cells v w c.load.new.hand.view found l.view l.left c.load.ensures.grows l.loads l.whole inside (limit_is v c.args.stamp c.requires.in_flight);
+      finds = finds_present c.args.stamp c.args.rid a.place a.wts l.cells v w c.load.new.hand.view found l.view l.left l.lost l.loads l.whole inside (limit_is v c.args.stamp c.requires.in_flight);
       reads = l.reads;
     }

@@ -6,10 +6,9 @@ use Rattle.core_rule.specs.View.{View, Counted, version_reserved}
 use Rattle.word_layout.specs.Size.{Size, reserved_place}
 use Rattle.clock_stamps.specs.Clocks.{drawn_clock}
 use Rattle.seat_post.specs.Rewriting.{Rewrites}
-use Rattle.version_search.proofs.Grown.{grows_none, grows_both}
+use Rattle.version_search.proofs.Grown.{grows_none}
 use Rattle.seat_post.specs.Settling.{IsSettling, Settles, IsRewrittenAt}
 use Rattle.seat_post.proofs.Dues.{no_place}
-use Rattle.seat_post.proofs.Observed.{drawn_grows}
 use Rattle.seat_post.proofs.Answered.{not_ok, on_err}
 use Rattle.seat_post.proofs.Bounds.{drawn_later, less_is_most, seat_below}
 use Rattle.seat_post.proofs.Steady.{steady_same, steady_settles}
@@ -62,7 +61,7 @@ returns-in_err-taken-clause-runs_out g c =
     let v = c.args.hand.now.view in
     let t = c.take_place.new.hand.view in
     let drew = ap (λ (y : View). y.clock.clock) c.in_err-taken.ensures.none.view ∙ ap (λ (y : View). y.clock.clock) c.in-Ok.ensures.ok.view ∙ ap (λ (y : View). y.clock.clock) c.in_ok-stamp.ensures.view in
-    let before = grows_both v.seen c.draw.new.hand.view.seen c.search.new.hand.view.seen (drawn_grows v c.draw.new.hand.view _ c.in_ok-stamp.ensures.view) c.in-Ok.ensures.ok.grows in
+    let before = (drew_found v c.draw.new.hand.view c.search.new.hand.view _ c.args.rid c.in-Ok.read.place c.in-Ok.read.wts c.in-Ok.read.value c.in_ok-stamp.ensures.view c.in-Ok.ensures.ok).grows in
     on_err c.from_residual-in_err-taken.result (inr (omega arith, no_place c.args.core.now.size c.args.rid v c.search.new.hand.view t t before c.in_err-taken.ensures.wanted (grows_none t.seen)))
 
 pub returns-in_err-taken-clause-wants : goal.returns-in_err-taken-clause-wants
@@ -71,7 +70,7 @@ returns-in_err-taken-clause-wants g c = not_ok c.from_residual-in_err-taken.resu
 pub returns-clause-wants : goal.returns-clause-wants
 returns-clause-wants g c = λ on.
     let v = c.args.hand.now.view in
-    let before = grows_both v.seen c.draw.new.hand.view.seen c.search.new.hand.view.seen (drawn_grows v c.draw.new.hand.view _ c.in_ok-stamp.ensures.view) c.in-Ok.ensures.ok.grows in
+    let before = (drew_found v c.draw.new.hand.view c.search.new.hand.view _ c.args.rid c.in-Ok.read.place c.in-Ok.read.wts c.in-Ok.read.value c.in_ok-stamp.ensures.view c.in-Ok.ensures.ok).grows in
     no_place c.args.core.now.size c.args.rid v c.search.new.hand.view c.take_place.new.hand.view c.rewrite.new.hand.view before (c.in_ok-taken.ensures.reserved on).1 c.in-Ok-rewrite.ensures.ok.links.grows
 
 pub rewrite-requires-clause-read : goal.rewrite-requires-clause-read

@@ -20,4 +20,4 @@ returns-in-Version-default-default-false-clause-ok g c =
     let inside = subst (λ (z : Size). a.place < places z) (sym c.requires.ready.hand_of.same_size) a.ensures.place in
     let found = subst (λ (b : Bool). Reads c.args.stamp c.args.rid a.place a.wts (status_of b) c.args.hand.now.view c.find.new.hand.view) a.absent-test a.ensures.version in
     let long : length c.load_value-cells.result ≡ 32 = search rules in
-    finds_present c.args.stamp c.args.rid a.place a.wts c.load_value-cells.result c.args.hand.now.view c.find.new.hand.view c.load_value-cells.new.hand.view found c.load_value-cells.ensures.view c.load_value-cells.ensures.left c.load_value-cells.ensures.grows c.load_value-cells.ensures.loads long inside (limit_is c.args.hand.now.view c.args.stamp c.requires.in_flight)
+    finds_present c.args.stamp c.args.rid a.place a.wts c.load_value-cells.result c.args.hand.now.view c.find.new.hand.view c.load_value-cells.new.hand.view found c.load_value-cells.ensures.view c.load_value-cells.ensures.left c.load_value-cells.ensures.lost c.load_value-cells.ensures.loads long inside (limit_is c.args.hand.now.view c.args.stamp c.requires.in_flight)

@@ -25,4 +25,4 @@ returns-in-Version-default-default-false-clause-finds g c =
     let same : c.new.result ≡ c.load_value-cells.result = c.new.ensures ∙ c.words.ensures in
     let long : length c.load_value-cells.result ≡ 32 = search rules in
     subst (λ (cells : List ℕ). Finds c.args.rid a.place a.wts (Some cells) v c.load_value-cells.new.hand.view) (sym same)
-    (finds_present (stamp + 1) c.args.rid a.place a.wts c.load_value-cells.result v c.find.new.hand.view c.load_value-cells.new.hand.view found c.load_value-cells.ensures.view c.load_value-cells.ensures.left c.load_value-cells.ensures.grows c.load_value-cells.ensures.loads long inside limit)
+    (finds_present (stamp + 1) c.args.rid a.place a.wts c.load_value-cells.result v c.find.new.hand.view c.load_value-cells.new.hand.view found c.load_value-cells.ensures.view c.load_value-cells.ensures.left c.load_value-cells.ensures.lost c.load_value-cells.ensures.loads long inside limit)

@@ -6,8 +6,6 @@ use Rattle.seat_post.specs.Post.{PostView, IsAlonePost, observed_in}
 use Rattle.seat_post.proofs.AloneSeats.{alone_told}
 use Rattle.seat_post.proofs.SnapshotPosts.{post_in_snapshot, opened_size, opened_held, opened_kept, opened_alone, opened_minimum, below_logged}
 use Rattle.seat_post.proofs.Posts.{at_phase}
-use Rattle.version_search.proofs.Grown.{grows_both}
-use Rattle.seat_post.proofs.Observed.{post_grows, raises_grow, bounded_grows}
 use Rattle.seat_post.proofs.post.Post.begin_snapshot.Goals as goal
 
 pub begin_snapshot-requires-clause-ends : goal.begin_snapshot-requires-clause-ends
@@ -26,14 +24,6 @@ pub returns-clause-alone : goal.returns-clause-alone
 returns-clause-alone g c =
     let v = c.self.inside.hand.view in
     subst (λ (p : PostView). IsAlonePost p → p.published ≤ c.begin_snapshot.result + 1) c.self.view_is (λ alone. opened_alone c.begin_snapshot.result v c.begin_snapshot.new.hand.view c.begin_snapshot.ensures.opens (alone_told v alone))
-
-pub returns-clause-grows : goal.returns-clause-grows
-returns-clause-grows g c =
-    let i = c.self.inside in
-    let w = c.begin_snapshot.new.hand.view in
-    let o = c.begin_snapshot.ensures.opens in
-    post_grows i.hand c.begin_snapshot.new.hand i.phase i.stamp i.sets c.args.self.now c.self.view_is
-    (grows_both i.hand.view.seen o.between.seen w.seen (raises_grow _ _ _ i.hand.view o.met o.between o.raises) (bounded_grows o.between w c.begin_snapshot.result o.bound))
 
 pub returns-clause-minimum : goal.returns-clause-minimum
 returns-clause-minimum g c =

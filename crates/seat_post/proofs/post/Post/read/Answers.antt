@@ -8,8 +8,6 @@ use Rattle.seat_post.proofs.Listed.{unread}
 use Rattle.seat_post.proofs.ReadMore.{met_at, is_open, open_at, post_room, view_room, post_read, post_stopped, not_read, found_left, found_value}
 use Rattle.seat_post.proofs.Over.{view_noted}
 use Rattle.seat_post.proofs.Stopped.{stopped_post, stops_post}
-use Rattle.version_search.proofs.Grown.{grows_none}
-use Rattle.seat_post.proofs.Observed.{post_grows}
 use Rattle.seat_post.proofs.post.Post.read.Goals as goal
 
 pub invariant_of-self : goal.invariant_of-self
@@ -73,9 +71,6 @@ returns-clause-ok g c =
       left = found_left i.hand c.note.new.hand i.phase i.stamp c.args.rid l.place l.wts l.value i.sets c.args.self.now c.self.invariant c.self.view_is c.requires.open l.finds;
     }
 
-pub returns-in-Err-clause-grows : goal.returns-in-Err-clause-grows
-returns-in-Err-clause-grows g c = let i = c.self.inside in post_grows i.hand c.note.new.hand i.phase i.stamp i.sets c.args.self.now c.self.view_is c.in-Err.ensures.err.grows
-
 pub returns-in-Err-clause-stops : goal.returns-in-Err-clause-stops
 returns-in-Err-clause-stops g c =
     let i = c.self.inside in
@@ -86,9 +81,3 @@ returns-in-Err-clause-err g c =
     let i = c.self.inside in
     let flight = (is_open _ _ _ _ (ap (λ (p : PostView). p.phase) c.self.view_is ∙ c.requires.open) c.self.invariant).at.begun.in_flight in
     stopped_post i.hand c.note.new.hand i.phase i.stamp _ c.args.rid c.in-Err.met.wts i.sets c.args.self.now c.self.view_is c.in-Err.ensures.err _ c.note.new.sets (c.in-Err.ensures.unread ∙ c.reserve.ensures.reads) (c.note.ensures.writes ∙ c.reserve.ensures.writes) c.note.ensures.stays.seat.same_table flight
-
-pub returns-clause-grows : goal.returns-clause-grows
-returns-clause-grows g c = let i = c.self.inside in post_grows i.hand c.note.new.hand i.phase i.stamp i.sets c.args.self.now c.self.view_is c.in-Ok.ensures.ok.finds.grows
-
-pub returns-in_err-reserve-clause-grows : goal.returns-in_err-reserve-clause-grows
-returns-in_err-reserve-clause-grows g c = let i = c.self.inside in post_grows i.hand i.hand i.phase i.stamp i.sets c.args.self.now c.self.view_is (grows_none i.hand.view.seen)

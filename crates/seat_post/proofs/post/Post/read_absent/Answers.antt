@@ -12,8 +12,6 @@ use Rattle.seat_post.proofs.Over.{view_found, view_noted}
 use Rattle.seat_post.proofs.Stopped.{stopped_post, stops_post}
 use Rattle.seat_post.specs.Leaves.{LeavesValue}
 use Rattle.seat_post.proofs.Leaving.{some_words}
-use Rattle.version_search.proofs.Grown.{grows_none}
-use Rattle.seat_post.proofs.Observed.{post_grows}
 use Rattle.seat_post.proofs.post.Post.read_absent.Goals as goal
 
 pub invariant_of-self : goal.invariant_of-self
@@ -83,9 +81,6 @@ returns-then-is_some-clause-left g c = λ on off.
     let w = some_words c.in-Ok.read.value (sym c.is_some.ensures ∙ c.if-is_some.true) in
     (w.0, subst (λ (v : Option (List ℕ)). LeavesValue c.args.self.now.log c.args.rid c.args.self.now.stamp v) w.1 left)
 
-pub returns-in-Err-clause-grows : goal.returns-in-Err-clause-grows
-returns-in-Err-clause-grows g c = let i = c.self.inside in post_grows i.hand c.search.new.hand i.phase i.stamp i.sets c.args.self.now c.self.view_is c.in-Err.ensures.err.grows
-
 pub returns-in-Err-clause-stops : goal.returns-in-Err-clause-stops
 returns-in-Err-clause-stops g c =
     let i = c.self.inside in
@@ -96,12 +91,6 @@ returns-in-Err-clause-err g c =
     let i = c.self.inside in
     let flight = (is_open _ _ _ _ (ap (λ (p : PostView). p.phase) c.self.view_is ∙ c.requires.open) c.self.invariant).at.begun.in_flight in
     stopped_post i.hand c.search.new.hand i.phase i.stamp _ c.args.rid c.in-Err.met.wts i.sets c.args.self.now c.self.view_is c.in-Err.ensures.err _ c.reserve.new.self c.reserve.ensures.reads c.reserve.ensures.writes c.search.ensures.stays.seat.same_table flight
-
-pub returns-then-is_some-clause-grows : goal.returns-then-is_some-clause-grows
-returns-then-is_some-clause-grows g c = let i = c.self.inside in post_grows i.hand c.search.new.hand i.phase i.stamp i.sets c.args.self.now c.self.view_is c.in-Ok.ensures.ok.grows
-
-pub returns-else-is_some-clause-grows : goal.returns-else-is_some-clause-grows
-returns-else-is_some-clause-grows g c = let i = c.self.inside in post_grows i.hand c.search.new.hand i.phase i.stamp i.sets c.args.self.now c.self.view_is c.in-Ok.ensures.ok.grows
 
 pub returns-then-is_some-clause-present : goal.returns-then-is_some-clause-present
 returns-then-is_some-clause-present g c = λ off.
@@ -123,6 +112,3 @@ returns-else-is_some-clause-absent g c = λ on.
           view_noted i.hand c.search.new.hand i.phase i.stamp _ c.args.rid _ wts None c.reserve.new.self c.read.new.self c.search.ensures.stays.seat.same_table finds flight c.read.ensures.reads c.read.ensures.writes
           ∙ ap (λ (p : PostView). observing (noted p c.args.rid wts None) (observed_in c.search.new.hand)) (view_room i.hand i.phase i.stamp i.sets c.reserve.new.self r.reads r.writes ∙ c.self.view_is);
     }
-
-pub returns-in_err-reserve-clause-grows : goal.returns-in_err-reserve-clause-grows
-returns-in_err-reserve-clause-grows g c = let i = c.self.inside in post_grows i.hand i.hand i.phase i.stamp i.sets c.args.self.now c.self.view_is (grows_none i.hand.view.seen)

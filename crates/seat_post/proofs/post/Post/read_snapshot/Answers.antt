@@ -7,9 +7,8 @@ use Rattle.record_store.specs.Into.{value_if}
 use Rattle.seat_post.specs.Reading.{FindsInSnapshot}
 use Rattle.seat_post.specs.Post.{PostView, IsAlonePost, observed_in}
 use Rattle.seat_post.proofs.AloneSeats.{alone_told}
-use Rattle.seat_post.proofs.SnapshotPosts.{in_snapshot_of, post_in_snapshot, left_snapshot, read_alike, alike_grows, found_snapshot}
+use Rattle.seat_post.proofs.SnapshotPosts.{in_snapshot_of, post_in_snapshot, left_snapshot, read_alike, found_snapshot}
 use Rattle.seat_post.proofs.Posts.{at_phase}
-use Rattle.seat_post.proofs.Observed.{post_grows}
 use Rattle.seat_post.proofs.post.Post.read_snapshot.Goals as goal
 
 pub read_snapshot-requires-clause-in_snapshot : goal.read_snapshot-requires-clause-in_snapshot
@@ -31,11 +30,6 @@ returns-clause-left g c =
     let idle = at_phase _ Idle _ _ _ c.self.invariant (ap (λ (p : PostView). p.phase) c.self.view_is ∙ c.requires.idle) in
     let rests = (in_snapshot_of _ _ _ idle (subst (λ (p : PostView). IsSome p.snapshot) (sym c.self.view_is) c.requires.snapshot)).rests in
     subst (λ (p : PostView). IsAlonePost p → IfSome p.snapshot (λ o. IsValue (UpTo p.log o.stamp) c.args.rid (value_if c.read_snapshot.result c.read_snapshot.new.into))) c.self.view_is (λ alone. left_snapshot v c.args.rid (value_if c.read_snapshot.result c.read_snapshot.new.into) rests (c.read_snapshot.ensures.left (alone_told v alone)))
-
-pub returns-clause-grows : goal.returns-clause-grows
-returns-clause-grows g c =
-    let i = c.self.inside in
-    post_grows i.hand c.read_snapshot.new.hand i.phase i.stamp i.sets c.args.self.now c.self.view_is (alike_grows i.hand.view c.read_snapshot.new.hand.view c.args.rid (value_if c.read_snapshot.result c.read_snapshot.new.into) c.read_snapshot.ensures.finds_alike)
 
 pub returns-clause-found : goal.returns-clause-found
 returns-clause-found g c =

@@ -12,8 +12,6 @@ use Rattle.seat_post.specs.declared.phase.Phase.TheVariants.{Idle}
 use Rattle.seat_post.proofs.AloneSeats.{alone_told}
 use Rattle.seat_post.proofs.Posts.{at_phase}
 use Rattle.seat_post.proofs.Announcing.{post_ended, ready_same}
-use Rattle.version_search.proofs.Grown.{grows_loads}
-use Rattle.seat_post.proofs.Observed.{post_grows}
 use Rattle.seat_post.proofs.post.Post.tell.Goals as goal
 
 pub invariant_of-self : goal.invariant_of-self
@@ -38,9 +36,3 @@ returns-clause-load g c =
     ap (λ (v : View). observed_of v) e
     ∙ ap (λ (n : ℕ). with_load (observed_in c.self.inside.hand) (load min_write n)) met
     ∙ ap (λ (p : PostView). with_load p.observed (load min_write h.view.clock.met)) c.self.view_is
-
-pub returns-clause-grows : goal.returns-clause-grows
-returns-clause-grows g c =
-    let i = c.self.inside in
-    let e = c.load_min_write.ensures.view in
-    post_grows i.hand c.load_min_write.new.hand i.phase i.stamp i.sets c.args.self.now c.self.view_is (grows_loads _ _ _ (ap (λ (v : View). v.seen.loads) e) (ap (λ (v : View). v.seen.lost) e))

@@ -13,6 +13,7 @@ use Rattle.seat_post.specs.Post.{PostView, known_at, noted, observing}
 use Rattle.txn_engine.specs.Fresh.{NotesFound}
 use Rattle.txn_engine.proofs.Passes.{none_found, known_written, known_unwritten, known_noted}
 use Rattle.txn_engine.proofs.Answering.{handed_on, stopped_reads, known_reads}
+use Rattle.txn_engine.proofs.Growing.{reads_as_grows}
 use Rattle.txn_engine.proofs.at_pass.PassSeatCalls.read_into.Goals as goal
 
 pub returns-in_err-stopped-clause-reads : goal.returns-in_err-stopped-clause-reads
@@ -78,7 +79,7 @@ returns-clause-reads g c =
       stays = record {
         same_frame = ap frame is ∙ ap frame begun;
         same_accounts = ap accounted is ∙ ap accounted begun;
-        grows = subst (λ (x : PassView). Grows x.observed c.note.new.self.observed) begun n.grows;
+        grows = subst (λ (x : PassView). Grows x.observed c.note.new.self.observed) begun (reads_as_grows c.args.rid r.value b.post c.note.new.self.post r.reads);
       };
       refuses = record {
         shown = tt;

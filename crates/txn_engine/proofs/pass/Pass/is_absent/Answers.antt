@@ -11,7 +11,6 @@ use Rattle.txn_engine.specs.Inside.{pass_view}
 use Rattle.txn_engine.specs.Txn.{Reads}
 use Rattle.txn_engine.proofs.Asking.{pass_asked, asked_absent, known_absent}
 use Rattle.txn_engine.proofs.Passes.{none_found, known_unwritten}
-use Rattle.txn_engine.proofs.Growing.{grows_none}
 use Rattle.txn_engine.proofs.Answering.{met_pending, memory_reads}
 use Rattle.txn_engine.proofs.pass.Pass.is_absent.Goals as goal
 
@@ -34,7 +33,6 @@ returns-in-Some-clause-ok g c =
     let here : known_at a.post c.args.rid ≡ Some c.value.result = sym (ap (λ (x : PassView). known_at x.post c.args.rid) c.self.view_is) ∙ known in
     record {
       after = known_absent a c.args.rid c.is_none.result c.value.result here;
-      grows = grows_none a.observed;
       met_absent = λ on. inl (here ∙ ap Some (is_some-false c.value.result (c.is_none.ensures ∙ ap not on)), refl, refl);
       met_present = λ off. let w = some_words c.value.result (c.is_none.ensures ∙ ap not off) in (w.0, inl (here ∙ ap Some w.1, refl));
       left = λ alone off.
@@ -53,7 +51,6 @@ returns-in-Ok-clause-ok g c =
     let unknown : known_at p c.args.rid ≡ None = known_unwritten p c.args.rid (ap (λ (x : PassView). value_at x.writes c.args.rid) c.self.view_is ∙ c.requires.unwritten) ∙ unread in
     subst (λ (x : PassView). TellsAbsent x (record b { post = q }) c.args.rid c.in-Ok.absent) c.self.view_is (record {
       after = asked_absent b q c.args.rid c.in-Ok.absent unknown c.in-Ok.ensures.absent c.in-Ok.ensures.passed;
-      grows = c.read_absent.ensures.grows;
       met_absent = λ on. let r = c.in-Ok.ensures.absent on in inr (unknown, (r.found, ap (λ (x : PostView). x.versions) r.after));
       met_present = λ off. let found = c.in-Ok.ensures.present off in (found.0, inr found.1);
       left = λ alone off.
@@ -72,7 +69,7 @@ returns-in-Err-Pending-clause-err g c =
     let rid : c.args.rid < p.shared.size.records = subst (λ (x : PassView). c.args.rid < x.shared.size.records) (sym c.self.view_is) c.requires.rid in
     subst (λ (x : PassView). Reads x c.doom.new.self c.args.rid (Err c.doom.result)) c.self.view_is
     (met_pending b q c.doom.new.self c.args.rid c.in-Err-Pending.wts c.doom.result (ap (λ (x : PassView). x.dead) c.self.view_is ∙ c.requires.alive) unknown
-    (ap (λ (x : PostView). record b { post = x }) c.in-Err-Pending.ensures.err) c.read_absent.ensures.grows (rw c.in-Err-Pending.field-0-is at c.in-Err-Pending.ensures.stops) (rid, met.0, met.1) c.doom.ensures.after c.doom.ensures.fault)
+    (ap (λ (x : PostView). record b { post = x }) c.in-Err-Pending.ensures.err) (rw c.in-Err-Pending.field-0-is at c.in-Err-Pending.ensures.stops) (rid, met.0, met.1) c.doom.ensures.after c.doom.ensures.fault)
 
 pub returns-in-Err-NoMemory-clause-err : goal.returns-in-Err-NoMemory-clause-err
 returns-in-Err-NoMemory-clause-err g c =

@@ -1,5 +1,4 @@
 use Rattle.std.proofs.Common.{◌≡◌, ◌<◌, Err, None, sym, ap, ◌∙◌, subst}
-use Rattle.seat_post.specs.Observing.{Grows}
 use Rattle.seat_post.specs.Post.{PostView, known_at}
 use Rattle.txn_engine.specs.declared.faults.TxnFault.TheVariants as txn
 use Rattle.txn_engine.specs.Pass.{PassView}
@@ -26,12 +25,11 @@ returns-in-Err-Pending g c =
     let unknown : known_at p c.args.rid ≡ None = ap (λ (x : PassView). known_at x.post c.args.rid) c.self.view_is ∙ c.requires.first in
     let reads =
     met_pending b q c.doom.new.self c.args.rid c.in-Err-Pending.wts c.doom.result (ap (λ (x : PassView). x.dead) c.self.view_is ∙ c.requires.alive) unknown
-    (ap (λ (x : PostView). record b { post = x }) c.in-Err-Pending.ensures.err) c.read.ensures.grows (rw c.in-Err-Pending.field-0-is at c.in-Err-Pending.ensures.stops) (rid, met.0, met.1) c.doom.ensures.after c.doom.ensures.fault in
+    (ap (λ (x : PostView). record b { post = x }) c.in-Err-Pending.ensures.err) (rw c.in-Err-Pending.field-0-is at c.in-Err-Pending.ensures.stops) (rid, met.0, met.1) c.doom.ensures.after c.doom.ensures.fault in
     record {
       notes = record {
         ok = tt;
         reads = tt;
-        grows = subst (λ (x : PassView). Grows x.observed c.doom.new.self.observed) c.self.view_is reads.stays.grows;
         err = subst (λ (x : PassView). Reads x c.doom.new.self c.args.rid (Err c.doom.result)) c.self.view_is reads;
       };
     }
@@ -48,7 +46,6 @@ returns-in-Err-NoMemory g c =
       notes = record {
         ok = tt;
         reads = tt;
-        grows = subst (λ (x : PassView). Grows x.observed q.observed) c.self.view_is reads.stays.grows;
         err = subst (λ (x : PassView). Reads x q c.args.rid (Err txn.NoMemory)) c.self.view_is reads;
       };
     }

@@ -2,7 +2,6 @@ use Rattle.std.proofs.Common.{◌<◌, ◌∙◌, ℕ, ap, sym, subst, set, leng
 use Rattle.std.proofs.lemmas.List.{take-set, get_or-set_same}
 use Rattle.core_rule.specs.View.{Read}
 use Rattle.core_rule.specs.Views.{Among}
-use Rattle.version_search.proofs.Grown.{grows_loads}
 use Rattle.validate_core.specs.Sets.{SetsView}
 use Rattle.validate_core.proofs.Noting.{of_set}
 use Rattle.validate_core.proofs.sets.Sets.load.Goals as goal
@@ -19,6 +18,3 @@ enter-requires-clause-first g c =
     let n = c.make_item.new.self in let begun = c.begin.new.self in
     λ x among.
     c.requires.first x (subst (Among x) (take-set (set n.items.items n.count begun) n.count c.load_into.new.read ∙ take-set n.items.items n.count begun ∙ c.make_item.ensures.same ∙ ap (λ (s : SetsView). s.reads) c.self.view_is) among)
-
-pub returns-clause-grows : goal.returns-clause-grows
-returns-clause-grows g c = grows_loads c.args.hand.now.view.seen c.load_into.new.hand.view.seen _ c.load_into.ensures.loads c.load_into.ensures.lost

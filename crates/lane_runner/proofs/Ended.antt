@@ -8,8 +8,8 @@ use Rattle.replay_model.specs.declared.outcome.Outcome.{Outcome}
 use Rattle.stored_tables.specs.Laws.{FitsRecords, FitsMore}
 use Rattle.seat_post.specs.FirstRead.{first_record}
 use Rattle.seat_post.specs.Logs.{IsAbove}
-use Rattle.txn_engine.specs.declared.faults.CommitFault.{CommitFault}
-use Rattle.txn_engine.specs.declared.transacting.Committed.{Committed}
+use Rattle.engine_answers.specs.declared.faults.CommitFault.{CommitFault}
+use Rattle.engine_answers.specs.declared.committed.Committed.{Committed}
 use Rattle.txn_engine.specs.Commits as calls
 use Rattle.txn_engine.specs.Lists.{IsFull}
 use Rattle.txn_engine.specs.Pass.{PassView, frame, IsAlone, begun, refused, with_bounds, entry_of, engine_of, desk_of, observing, placing}

@@ -18,8 +18,8 @@ use Rattle.validate_core.specs.declared.conflict.Conflict.TheVariants.{Pending, 
 use Rattle.seat_post.specs.Snapshot.{entry_of_snapshot}
 use Rattle.seat_post.specs.Logs.{IsAbove}
 use Rattle.seat_post.specs.Seats.{Bounds, IsAloneAt}
-use Rattle.txn_engine.specs.declared.faults.CommitFault.{CommitFault}
-use Rattle.txn_engine.specs.declared.faults.CommitFault.TheVariants as commit
+use Rattle.engine_answers.specs.declared.faults.CommitFault.{CommitFault}
+use Rattle.engine_answers.specs.declared.faults.CommitFault.TheVariants as commit
 use Rattle.txn_engine.specs.Collecting.{collected}
 use Rattle.txn_engine.specs.Faults.{IsShown, IsPending, MatchStopped}
 use Rattle.txn_engine.specs.Leaves.{HoldsAbsent}

@@ -4,8 +4,8 @@ use Rattle.history_replay.specs.Results.{StandsForSome}
 use Rattle.replay_model.specs.declared.input.Block.{Block}
 use Rattle.replay_model.specs.declared.outcome.Outcome.{Outcome}
 use Rattle.seat_post.specs.FirstRead.{first_record}
-use Rattle.txn_engine.specs.declared.faults.CommitFault.{CommitFault}
-use Rattle.txn_engine.specs.declared.transacting.Committed.{Committed}
+use Rattle.engine_answers.specs.declared.faults.CommitFault.{CommitFault}
+use Rattle.engine_answers.specs.declared.committed.Committed.{Committed}
 use Rattle.txn_engine.specs.Commits as calls
 use Rattle.txn_engine.specs.Pass.{PassView}
 use Rattle.lane_runner.specs.declared.done.BlockDone.{BlockDone}

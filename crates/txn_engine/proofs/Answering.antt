@@ -9,8 +9,8 @@ use Rattle.seat_post.specs.Observing.{Grows}
 use Rattle.seat_post.specs.Post.{known_at, written}
 use Rattle.seat_post.specs.Reading.{StopsAt}
 use Rattle.seat_post.specs.Seats.{Observed}
-use Rattle.txn_engine.specs.declared.faults.TxnFault.{TxnFault}
-use Rattle.txn_engine.specs.declared.faults.TxnFault.TheVariants as txn
+use Rattle.engine_answers.specs.declared.faults.TxnFault.{TxnFault}
+use Rattle.engine_answers.specs.declared.faults.TxnFault.TheVariants as txn
 use Rattle.txn_engine.specs.Accounts.{Stays}
 use Rattle.txn_engine.specs.Faults.{told_by, IsPending}
 use Rattle.txn_engine.specs.Leaves.{ReadsLeft}

@@ -7,8 +7,8 @@ use Rattle.validate_core.specs.declared.conflict.Conflict.{Conflict}
 use Rattle.seat_post.specs.declared.phase.Phase.TheVariants.{Open}
 use Rattle.seat_post.specs.Observing.{Grows}
 use Rattle.seat_post.specs.Post.{known_at}
-use Rattle.txn_engine.specs.declared.faults.TxnFault.{TxnFault}
-use Rattle.txn_engine.specs.declared.faults.TxnFault.TheVariants as txn
+use Rattle.engine_answers.specs.declared.faults.TxnFault.{TxnFault}
+use Rattle.engine_answers.specs.declared.faults.TxnFault.TheVariants as txn
 use Rattle.txn_engine.specs.declared.fresh.Asked.{Asked}
 use Rattle.txn_engine.specs.declared.fresh.Asked.TheVariants.{Given, Next}
 use Rattle.txn_engine.specs.Accounts.{accounted, Stays}

@@ -2,10 +2,10 @@
 use Rattle.std.specs.Prelude.{◌≡◌, ℕ, Result, Ok, Err, ⊤}
 use Rattle.validate_core.specs.declared.conflict.Conflict.{Conflict}
 use Rattle.validate_core.specs.declared.conflict.Conflict.TheVariants.{Pending, ReadLater, Overtaken}
-use Rattle.txn_engine.specs.declared.faults.TxnFault.{TxnFault}
-use Rattle.txn_engine.specs.declared.faults.TxnFault.TheVariants as txn
-use Rattle.txn_engine.specs.declared.faults.CommitFault.{CommitFault}
-use Rattle.txn_engine.specs.declared.faults.CommitFault.TheVariants as commit
+use Rattle.engine_answers.specs.declared.faults.TxnFault.{TxnFault}
+use Rattle.engine_answers.specs.declared.faults.TxnFault.TheVariants as txn
+use Rattle.engine_answers.specs.declared.faults.CommitFault.{CommitFault}
+use Rattle.engine_answers.specs.declared.faults.CommitFault.TheVariants as commit
 use Rattle.seat_post.specs.Conflicts.{ShowsPending, Touches, IsLoaded}
 use Rattle.seat_post.specs.Placing.{WantsPlaceAt}
 use Rattle.seat_post.specs.Post.{IsShownAt}

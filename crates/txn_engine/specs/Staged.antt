@@ -10,9 +10,9 @@ use Rattle.seat_post.specs.Logs.{IsAbove}
 use Rattle.seat_post.specs.Observing.{Grows}
 use Rattle.seat_post.specs.Placing.{HavePlaces, AreInlineFirst, CountsPlaces}
 use Rattle.seat_post.specs.Seats.{Bounds}
-use Rattle.txn_engine.specs.declared.faults.CommitFault.{CommitFault}
-use Rattle.txn_engine.specs.declared.faults.CommitFault.TheVariants as fault
-use Rattle.txn_engine.specs.declared.transacting.Committed.{Committed}
+use Rattle.engine_answers.specs.declared.faults.CommitFault.{CommitFault}
+use Rattle.engine_answers.specs.declared.faults.CommitFault.TheVariants as fault
+use Rattle.engine_answers.specs.declared.committed.Committed.{Committed}
 use Rattle.txn_engine.specs.Faults.{IsShown, IsTouched, MatchStopped, WasLoaded, WantsPlace}
 use Rattle.txn_engine.specs.Leaves.{HoldsAbsent}
 use Rattle.txn_engine.specs.Lists.{IsFull, IsTidyOnceCollected, IsRoomyOnceCollected}

@@ -2,16 +2,15 @@
 
 use crate::alone::Alone;
 use crate::engine::Engine;
-use crate::faults::{AloneFault, BeginFault, CommitFault, TxnFault};
 use crate::pass::Pass;
 use crate::seat_calls::SeatCalls;
-use crate::transacting::Committed;
 use core_rule::Keeps;
+use engine_answers::{AloneFault, BeginFault, CommitFault, Committed, TxnFault};
 use plain_data::Cells;
 use version_pool::PlacesOut;
 
 impl<J: Keeps> SeatCalls for Alone<J> {
-    ghost use Rattle.txn_engine.specs.declared.faults.CommitFault.TheVariants as commit_fault;
+    ghost use Rattle.engine_answers.specs.declared.faults.CommitFault.TheVariants as commit_fault;
     ghost use Rattle.txn_engine.specs.Alone.{Beside, fault_of};
     ghost use Rattle.txn_engine.specs.Pass.{IsAlone};
 

@@ -1,11 +1,11 @@
 //! What transactions and snapshots do at a pass.
 
 use crate::engine::Engine;
-use crate::faults::{BeginFault, CommitFault, TxnFault};
 use crate::pass::Pass;
 use crate::seat_calls::SeatCalls;
-use crate::transacting::{Committed, boost_after_end, one_if};
+use crate::transacting::{boost_after_end, one_if};
 use core_rule::Keeps;
+use engine_answers::{BeginFault, CommitFault, Committed, TxnFault};
 use plain_data::Cells;
 use record_store::put_value;
 use seat_post::Phase;

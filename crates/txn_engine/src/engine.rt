@@ -6,10 +6,10 @@ ghost use Rattle.txn_engine.specs.Leaves.{HoldsAbsent};
 ghost use Rattle.txn_engine.specs.Lists.{IsTidy, IsRoomy};
 
 use crate::alone::Alone;
-use crate::faults::StartFault;
 use crate::parts::{Part, Parts};
 use crate::pass::Pass;
 use core_rule::{Core, Keeps};
+use engine_answers::StartFault;
 use std::alloc::Global;
 use std::marker::Model;
 use word_layout::Layout;

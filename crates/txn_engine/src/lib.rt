@@ -5,7 +5,6 @@ mod alone;
 mod at_alone;
 mod at_pass;
 mod engine;
-mod faults;
 mod fresh;
 mod joining;
 mod opened;
@@ -26,15 +25,16 @@ mod txn;
 pub use alone::Alone;
 pub use clock_stamps::ClockOut;
 pub use engine::{Engine, Lent};
-pub use faults::{AloneFault, BeginFault, CommitFault, StartFault, TxnFault};
+pub use engine_answers::{
+    AloneFault, BeginFault, CommitFault, Committed, NoFault, StartFault, TxnFault,
+};
 pub use pass::Pass;
 pub use rapid_gc::Collected;
 pub use retired::Retired;
 pub use seat::Seat;
 pub use seat_post::{PromoteFault, Promotion, Settled};
-pub use snapshot::{AloneSnapshot, NoFault, Snapshot, SnapshotOver};
+pub use snapshot::{AloneSnapshot, Snapshot, SnapshotOver};
 pub use staged::{DecidedOver, DecidedTxn, InstalledOver, InstalledTxn};
-pub use transacting::Committed;
 pub use txn::{AloneTxn, Txn, TxnOver};
 pub use validate_core::Conflict;
 pub use version_pool::PlacesOut;

@@ -16,13 +16,13 @@ ghost use Rattle.txn_engine.specs.Snapshot.{Begins};
 
 use crate::alone::Alone;
 use crate::engine::Engine;
-use crate::faults::BeginFault;
 use crate::pass::Pass;
 use crate::seat_calls::SeatCalls;
 use crate::snapshot::{AloneSnapshot, Snapshot, SnapshotOver};
 use crate::txn::{AloneTxn, Txn, TxnOver};
 use clock_stamps::ClockOut;
 use core_rule::Keeps;
+use engine_answers::BeginFault;
 use rapid_gc::Collected;
 use stamp_base::Stamp;
 

@@ -7,10 +7,9 @@ ghost use Rattle.record_store.specs.Meaning.{known, after_read};
 ghost use Rattle.stamp_base.specs.Limits.{greatest_clock};
 
 use crate::engine::Engine;
-use crate::faults::BeginFault;
 use crate::pass::Pass;
-use crate::transacting::Committed;
 use core_rule::Keeps;
+use engine_answers::{BeginFault, Committed};
 use plain_data::Cells;
 use seat_post::Phase;
 
@@ -18,8 +17,8 @@ use seat_post::Phase;
 pub trait SeatCalls {
     ghost use Rattle.seat_post.specs.Leaves.{AreLeft};
     ghost use Rattle.seat_post.specs.Logs.{IsAbove};
-    ghost use Rattle.txn_engine.specs.declared.faults.CommitFault.{CommitFault};
-    ghost use Rattle.txn_engine.specs.declared.faults.TxnFault.{TxnFault};
+    ghost use Rattle.engine_answers.specs.declared.faults.CommitFault.{CommitFault};
+    ghost use Rattle.engine_answers.specs.declared.faults.TxnFault.{TxnFault};
     ghost use Rattle.txn_engine.specs.Commits.{Commits};
     ghost use Rattle.txn_engine.specs.Faults.{told_by};
     ghost use Rattle.txn_engine.specs.Pass.{PassView, IsIdle, IsAlone, next_clock, begun, entry_of, aborted, observing, engine_of};

@@ -8,12 +8,9 @@ use crate::alone::Alone;
 use crate::engine::Engine;
 use crate::pass::Pass;
 use crate::seat_calls::SeatCalls;
+use engine_answers::NoFault;
 use plain_data::Cells;
 use record_store::RecordRead;
-
-/// A fault that never comes: it has no values.
-#[derive(Clone, Copy, Drop)]
-pub enum NoFault {}
 
 /// A snapshot of a seat: records as they stand at its stamp. Each read answers, and takes no memory. It must be spent.
 pub struct SnapshotOver<'a, S: SeatCalls> {

@@ -2,8 +2,8 @@ use Rattle.std.proofs.Common.{false, Some, sym, ap, ◌∙◌}
 use Rattle.std.specs.Prelude.{Result}
 use Rattle.seat_post.specs.FirstRead.{first_record}
 use Rattle.txn_engine.specs.Faults.{told_by}
-use Rattle.txn_engine.specs.declared.faults.CommitFault.{CommitFault}
-use Rattle.txn_engine.specs.declared.transacting.Committed.{Committed}
+use Rattle.engine_answers.specs.declared.faults.CommitFault.{CommitFault}
+use Rattle.engine_answers.specs.declared.committed.Committed.{Committed}
 use Rattle.lane_runner.specs.Ending.{done_at}
 use Rattle.lane_runner.proofs.trying.commit_block.Goals as goal
 

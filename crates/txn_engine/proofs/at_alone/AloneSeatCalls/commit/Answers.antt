@@ -1,7 +1,7 @@
 use Rattle.std.proofs.Common.{Result, sym, ap, subst, rules}
 use Rattle.version_pool.specs.declared.takes.PlacesOut.{PlacesOut}
-use Rattle.txn_engine.specs.declared.faults.CommitFault.TheVariants as commit_fault
-use Rattle.txn_engine.specs.declared.transacting.Committed.{Committed}
+use Rattle.engine_answers.specs.declared.faults.CommitFault.TheVariants as commit_fault
+use Rattle.engine_answers.specs.declared.committed.Committed.{Committed}
 use Rattle.txn_engine.specs.Alone.{AloneView}
 use Rattle.txn_engine.specs.Commits.{Commits}
 use Rattle.txn_engine.specs.Faults.{told_by}

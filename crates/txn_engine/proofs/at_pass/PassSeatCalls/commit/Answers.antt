@@ -9,7 +9,7 @@ use Rattle.seat_post.specs.Lists.{AreBounded, count_raised, AreSomeLinked}
 use Rattle.seat_post.proofs.Answered.{on_err, err_told}
 use Rattle.seat_post.specs.Conflicts.{IsLoaded}
 use Rattle.txn_engine.specs.Faults.{MatchStopped, WasLoaded, told_by}
-use Rattle.txn_engine.specs.declared.faults.CommitFault.TheVariants as fault
+use Rattle.engine_answers.specs.declared.faults.CommitFault.TheVariants as fault
 use Rattle.std.specs.Prelude.{⊤}
 use Rattle.txn_engine.specs.Lists.{IsTidyOnceCollected, IsRoomyOnceCollected}
 use Rattle.txn_engine.specs.Pass.{PassView, entry_of, with_bounds, observing, placing, decided, published, committed, refused as refused_at}

@@ -1,5 +1,5 @@
 use Rattle.std.proofs.Common.{ℕ, Result, sym, ap, ◌∙◌, subst}
-use Rattle.txn_engine.specs.declared.faults.TxnFault.{TxnFault}
+use Rattle.engine_answers.specs.declared.faults.TxnFault.{TxnFault}
 use Rattle.txn_engine.specs.Pass.{PassView}
 use Rattle.txn_engine.specs.Txn.{Gives}
 use Rattle.txn_engine.proofs.Answering.{told_same, told_on, stopped_gives, closed_gives}

@@ -2,7 +2,7 @@ use Rattle.std.proofs.Common.{◌≡◌, Bool, Option, List, ℕ, Result, Ok, Er
 use Rattle.std.specs.Prelude.{◌++◌, ◌∷◌, [], if◌then◌else◌, is_some, option_copied}
 use Rattle.record_store.specs.Into.{told_into}
 use Rattle.record_store.specs.Meaning.{value_at, after_read}
-use Rattle.txn_engine.specs.declared.faults.TxnFault.{TxnFault}
+use Rattle.engine_answers.specs.declared.faults.TxnFault.{TxnFault}
 use Rattle.txn_engine.specs.Pass.{PassView, IsAlone, frame, store_of}
 use Rattle.txn_engine.specs.Accounts.{accounted}
 use Rattle.txn_engine.specs.Faults.{told_by}

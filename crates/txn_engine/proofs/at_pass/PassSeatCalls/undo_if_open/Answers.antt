@@ -29,7 +29,8 @@ returns-in-Open-clause-undoes g c =
       noted = search rules;
       stays = record { same_frame = search rules; same_accounts = accounts; grows = grows_same c.args.self.now.observed c.drop_writes.new.self.observed looks };
       looks = looks;
+      closed = λ off. absurd (off (sym (ap (λ (x : PassView). x.phase) c.self.view_is) ∙ sym c.phase.ensures ∙ c.in-Open.is));
     }
 
 pub returns-in_default-clause-undoes : goal.returns-in_default-clause-undoes
-returns-in_default-clause-undoes g c = record { meaning = search rules; spare = search rules; versions = refl; noted = refl; stays = record { same_frame = refl; same_accounts = refl; grows = grows_none c.args.self.now.observed }; looks = refl }
+returns-in_default-clause-undoes g c = record { meaning = search rules; spare = search rules; versions = refl; noted = refl; stays = record { same_frame = refl; same_accounts = refl; grows = grows_none c.args.self.now.observed }; looks = refl; closed = λ off. refl }

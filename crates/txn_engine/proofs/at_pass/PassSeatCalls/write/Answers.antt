@@ -3,8 +3,8 @@ use Rattle.record_store.specs.Meaning.{with_value}
 use Rattle.rapid_gc.specs.declared.queue.Queued.{Queued}
 use Rattle.seat_post.specs.Post.{PostView, written}
 use Rattle.seat_post.proofs.Listed.{longer}
-use Rattle.txn_engine.specs.declared.faults.TxnFault.{TxnFault}
-use Rattle.txn_engine.specs.declared.faults.TxnFault.TheVariants as txn
+use Rattle.engine_answers.specs.declared.faults.TxnFault.{TxnFault}
+use Rattle.engine_answers.specs.declared.faults.TxnFault.TheVariants as txn
 use Rattle.txn_engine.specs.Inside.{pass_view}
 use Rattle.txn_engine.specs.Pass.{PassView}
 use Rattle.txn_engine.specs.Txn.{Writes}

@@ -6,7 +6,7 @@ use Rattle.record_store.specs.Store.{IsFresh}
 use Rattle.record_store.proofs.Values.{is_some-false}
 use Rattle.spare_numbers.specs.Spare.{NumbersView}
 use Rattle.seat_post.proofs.Answered.{err_told}
-use Rattle.txn_engine.specs.declared.faults.TxnFault.{TxnFault}
+use Rattle.engine_answers.specs.declared.faults.TxnFault.{TxnFault}
 use Rattle.txn_engine.specs.Pass.{PassView, store_of}
 use Rattle.txn_engine.specs.Fresh.{TellsAbsent}
 use Rattle.txn_engine.specs.Inside.{pass_view}

@@ -1,6 +1,6 @@
 use Rattle.std.proofs.Common.{◌≡◌, ℕ, Result, None, sym, ap, ◌∙◌}
 use Rattle.std.specs.Prelude.{slice_get}
-use Rattle.txn_engine.specs.declared.faults.TxnFault.{TxnFault}
+use Rattle.engine_answers.specs.declared.faults.TxnFault.{TxnFault}
 use Rattle.txn_engine.specs.Pass.{PassView}
 use Rattle.txn_engine.specs.Txn.{Gives}
 use Rattle.txn_engine.proofs.Asking.{asks_left}

@@ -4,7 +4,7 @@ use Rattle.record_store.proofs.Values.{is_some-false}
 use Rattle.seat_post.specs.Leaves.{LeavesValue, LeavesSome, IsPresent}
 use Rattle.seat_post.specs.Post.{PostView, known_at}
 use Rattle.seat_post.proofs.Leaving.{some_words, present_all}
-use Rattle.txn_engine.specs.declared.faults.TxnFault.TheVariants as txn
+use Rattle.engine_answers.specs.declared.faults.TxnFault.TheVariants as txn
 use Rattle.txn_engine.specs.Pass.{PassView, IsAlone}
 use Rattle.txn_engine.specs.Fresh.{TellsAbsent}
 use Rattle.txn_engine.specs.Inside.{pass_view}

@@ -1,6 +1,6 @@
 use Rattle.std.proofs.Common.{◌≡◌, ◌<◌, Err, None, sym, ap, ◌∙◌, subst}
 use Rattle.seat_post.specs.Post.{PostView, known_at}
-use Rattle.txn_engine.specs.declared.faults.TxnFault.TheVariants as txn
+use Rattle.engine_answers.specs.declared.faults.TxnFault.TheVariants as txn
 use Rattle.txn_engine.specs.Pass.{PassView}
 use Rattle.txn_engine.specs.Inside.{pass_view}
 use Rattle.txn_engine.specs.Txn.{Reads}

@@ -28,37 +28,48 @@ pub enum BeginFault {
 }
 
 /// Why a transaction does not read or write.
-#[derive(Clone, Copy, PartialEq, Eq, Debug)]
+#[derive(Clone, Copy, PartialEq, Eq, Debug, thiserror::Error)]
 pub enum TxnFault {
     /// Another transaction is in the way. From then on every call answers the same.
+    #[error("conflict")]
     Conflict(Conflict),
     /// No spare record number is left for a new record.
+    #[error("records out")]
     RecordsOut,
     /// The allocator had no room. The transaction is as before.
+    #[error("no memory")]
     NoMemory,
 }
 
 /// Why a transaction of the seat that is alone does not read or write.
-#[derive(Clone, Copy, PartialEq, Eq, Debug)]
+#[derive(Clone, Copy, PartialEq, Eq, Debug, thiserror::Error)]
 pub enum AloneFault {
     /// No spare record number is left for a new record.
+    #[error("records out")]
     RecordsOut,
     /// The allocator had no room. The transaction is as before.
+    #[error("no memory")]
     NoMemory,
 }
 
 /// Why a transaction does not commit.
-#[derive(Clone, Copy, PartialEq, Eq, Debug)]
+#[derive(Clone, Copy, PartialEq, Eq, Debug, thiserror::Error)]
 pub enum CommitFault {
     /// Another transaction is in the way.
+    #[error("conflict")]
     Conflict(Conflict),
     /// There is no place for one of its versions.
+    #[error("places out")]
     PlacesOut,
 }
 
+/// A fault that never comes: it has no values.
+#[derive(Clone, Copy, Drop)]
+pub enum NoFault {}
+
 impl From<NoMemory> for StartFault {
     ghost use Rattle.std.specs.Prelude.{◌≡◌};
-    ghost use Rattle.txn_engine.specs.declared.faults.StartFault.TheVariants as fault;
+    ghost use Rattle.engine_answers.specs.declared.faults.StartFault.TheVariants as fault;
 
     ghost from_gives = { λ _ answer. answer ≡ fault.NoMemory };
 
@@ -69,7 +80,7 @@ impl From<NoMemory> for StartFault {
 
 impl From<NoMemory> for BeginFault {
     ghost use Rattle.std.specs.Prelude.{◌≡◌};
-    ghost use Rattle.txn_engine.specs.declared.faults.BeginFault.TheVariants as fault;
+    ghost use Rattle.engine_answers.specs.declared.faults.BeginFault.TheVariants as fault;
 
     ghost from_gives = { λ _ answer. answer ≡ fault.NoMemory };
 
@@ -80,7 +91,7 @@ impl From<NoMemory> for BeginFault {
 
 impl From<ClockOut> for BeginFault {
     ghost use Rattle.std.specs.Prelude.{◌≡◌};
-    ghost use Rattle.txn_engine.specs.declared.faults.BeginFault.TheVariants as fault;
+    ghost use Rattle.engine_answers.specs.declared.faults.BeginFault.TheVariants as fault;
 
     ghost from_gives = { λ _ answer. answer ≡ fault.ClockOut };
 
@@ -91,7 +102,7 @@ impl From<ClockOut> for BeginFault {
 
 impl From<NoMemory> for TxnFault {
     ghost use Rattle.std.specs.Prelude.{◌≡◌};
-    ghost use Rattle.txn_engine.specs.declared.faults.TxnFault.TheVariants as fault;
+    ghost use Rattle.engine_answers.specs.declared.faults.TxnFault.TheVariants as fault;
 
     ghost from_gives = { λ _ answer. answer ≡ fault.NoMemory };
 
@@ -102,7 +113,7 @@ impl From<NoMemory> for TxnFault {
 
 impl From<PlacesOut> for CommitFault {
     ghost use Rattle.std.specs.Prelude.{◌≡◌};
-    ghost use Rattle.txn_engine.specs.declared.faults.CommitFault.TheVariants as fault;
+    ghost use Rattle.engine_answers.specs.declared.faults.CommitFault.TheVariants as fault;
 
     ghost from_gives = { λ _ answer. answer ≡ fault.PlacesOut };
 
@@ -113,7 +124,7 @@ impl From<PlacesOut> for CommitFault {
 
 impl From<Conflict> for CommitFault {
     ghost use Rattle.std.specs.Prelude.{◌≡◌};
-    ghost use Rattle.txn_engine.specs.declared.faults.CommitFault.TheVariants as fault;
+    ghost use Rattle.engine_answers.specs.declared.faults.CommitFault.TheVariants as fault;
 
     ghost from_gives = { λ conflict answer. answer ≡ fault.Conflict conflict };
 

@@ -17,7 +17,7 @@ bind_some None f y e = absurd cc
 
 -- ---- digits
 
-in_range : (c : ℕ) → is_ascii_digit c ≡ true → IsInRange 48 57 c
+pub in_range : (c : ℕ) → is_ascii_digit c ≡ true → IsInRange 48 57 c
 in_range c e = let parts = and_parts (leb 48 c) (leb c 57) e in (leb-true 48 c parts.0, leb-true c 57 parts.1)
 
 is_digit : (c : ℕ) → IsInRange 48 57 c → is_ascii_digit c ≡ true

@@ -1,5 +1,6 @@
 pub mod WordLaws
 pub mod DigitLaws
+pub mod AheadLaws
 pub mod RowLaws
 pub mod NumberLaws
 pub mod LineLaws

@@ -8,3 +8,4 @@ pub mod Reading
 pub mod Narrow
 pub mod Answer
 pub mod RowPlaces
+pub mod Ahead

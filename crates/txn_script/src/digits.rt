@@ -1,47 +1,58 @@
 //! Numbers of 64 bits in decimal digits.
 
-ghost use Rattle.std.specs.Prelude.{◌≡◌};
-ghost use Rattle.txn_script.specs.LineReading.{number_of, starts_no_number, digits_behind, digit_behind};
+ghost use Rattle.std.specs.Prelude.{◌≡◌, option_map};
+ghost use Rattle.txn_script.specs.Ahead.{words_ahead, number_with, number_before};
+ghost use Rattle.txn_script.specs.LineReading.{left, number_at, digit_behind};
 
-/// The number of 64 bits that a word spells, without a sign or a leading zero.
-pub fn number_of(word: &[u8]) -> Option<u64>
-    ensures { result ≡ number_of word.now }
+use crate::words::Words;
+
+/// The number of 64 bits that the first word spells, without a sign or a leading zero, and the words behind it.
+pub fn number_at(bytes: &[u8]) -> Option<(u64, Words)>
+    ensures { option_map (λ read. (read.0, left read.1)) result ≡ number_at (words_ahead bytes.now) }
 {
-    if starts_no_number(word) {
-        None
+    let (first, rest) = bytes.split_first()?;
+    let value = digit_behind(0, *first)?;
+    if value == 0 {
+        ended(0, rest)
     } else {
-        value_of(word)
+        number_with(value, rest)
     }
 }
 
-/// Whether no number starts so: there is no digit, or a zero stands before another byte.
-fn starts_no_number(word: &[u8]) -> bool
-    ensures { result ≡ starts_no_number word.now }
+/// The value with the digits of the first word behind it, and the words behind that.
+fn number_with(first: u64, bytes: &[u8]) -> Option<(u64, Words)>
+    ensures { option_map (λ read. (read.0, left read.1)) result ≡ number_with first (words_ahead bytes.now) }
 {
-    match word {
-        [] | [b'0', _, ..] => true,
-        _ => false,
+    let mut value = first;
+    for i in 0..bytes.len() {
+        let Some(longer) = digit_behind(value, bytes[i]) else {
+            return ended(value, &bytes[i..]);
+        };
+        value = longer;
     }
+    ended(value, &[])
 }
 
-/// The value of these digits; none where another byte stands among them or the value is above 64 bits.
-fn value_of(digits: &[u8]) -> Option<u64>
-    ensures { result ≡ digits_behind 0 digits.now }
+/// The number, where it ends before these bytes.
+fn ended(value: u64, bytes: &[u8]) -> Option<(u64, Words)>
+    ensures { option_map (λ read. (read.0, left read.1)) result ≡ number_before value bytes.now }
 {
-    let mut value: u64 = 0;
-    for byte in digits {
-        value = digit_behind(value, *byte)?;
-    }
-    Some(value)
+    let words = Words::behind(bytes)?;
+    Some((value, words))
 }
 
 /// The value with one more digit behind it.
 fn digit_behind(value: u64, byte: u8) -> Option<u64>
     ensures { result ≡ digit_behind value byte }
 {
-    if byte.is_ascii_digit() {
-        value.checked_mul(10)?.checked_add((byte - b'0') as u64)
+    if !byte.is_ascii_digit() {
+        return None;
+    }
+    let digit = (byte - b'0') as u64;
+    // Most numbers are short; these need no further test.
+    if value < 100_000_000 {
+        Some(value * 10 + digit)
     } else {
-        None
+        value.checked_mul(10)?.checked_add(digit)
     }
 }

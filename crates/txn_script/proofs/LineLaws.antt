@@ -179,6 +179,10 @@ line_of-reads version bytes line e =
     let b = bind_some (next_word (slice_split (λ b. eqb b 32) bytes)) (λ word. line_with version bytes word.1 (keyword_of word.0) (mark_of word.0)) line e in
     line_with-reads version bytes b.0.0 b.0.1 line (keyword_of b.0.0) (mark_of b.0.0) (next_word-some (slice_split (λ b. eqb b 32) bytes) b.0 b.1) refl refl b.2
 
+pub line_of-marked : (version : Version) (bytes w : List ℕ) (ws : List (List ℕ)) (m : Mark) → next_word (slice_split (λ b. eqb b 32) bytes) ≡ Some (w, ws) → keyword_of w ≡ None → mark_of w ≡ Some m → line_of version bytes ≡ marked m ws
+unfolding line_of
+line_of-marked version bytes w ws m is k_none m_some = rw (is, k_none, m_some) refl
+
 -- ---- from a line to its words
 
 -- no byte of the word is c

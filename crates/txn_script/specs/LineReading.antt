@@ -106,10 +106,11 @@ keyword_of word =
     (if bytes_eq word (codes "scan") then Some Scan else
     (if bytes_eq word (codes "find") then Some Find else None))))))))))
 
-abbrev pub seen : ReadLine → Line
-seen (lines.Head version) = head_line version
-seen (lines.Mark mark) = mark_line mark
-seen (lines.Named keyword name numbers) = named_line keyword name.now numbers
+-- a line that is read, with its numbers
+abbrev pub seen : ReadLine → List ℕ → Line
+seen (lines.Head version) numbers = head_line version
+seen (lines.Mark mark) numbers = mark_line mark
+seen (lines.Named keyword name) numbers = named_line keyword name.now numbers
 
 -- a line of one word, if no other is left
 abbrev pub marked : Mark → List (List ℕ) → Option Line

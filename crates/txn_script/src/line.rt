@@ -1,6 +1,6 @@
 //! Lines of an input text, one after another.
 
-ghost use Rattle.std.specs.Prelude.{◌≡◌, ◌&&◌, nat_le, option_map};
+ghost use Rattle.std.specs.Prelude.{◌≡◌, ◌&&◌, ℕ, List, nat_le, option_map};
 ghost use Rattle.txn_script.specs.Line.{has_numbers};
 ghost use Rattle.txn_script.specs.LineReading.{left, seen, head_of, version_in, marked, named_of, line_of};
 
@@ -8,16 +8,12 @@ use crate::keyword::{Keyword, Mark, Version};
 use crate::numbers::Numbers;
 use crate::words::Words;
 
-/// One line; a table is given by its name.
+/// One line, without its numbers; a table is given by its name.
 #[derive(Drop)]
 pub enum Line<'a> {
     Head(Version),
     Mark(Mark),
-    Named {
-        keyword: Keyword,
-        name: &'a [u8],
-        numbers: Numbers,
-    },
+    Named { keyword: Keyword, name: &'a [u8] },
 }
 
 /// The version that a first line tells, without its line feed.
@@ -46,14 +42,15 @@ fn version(words: Words) -> Option<Version>
 }
 
 impl<'a> Line<'a> {
-    /// The line that a text without its line feed spells, behind the head of a text of this version.
+    /// The line that a text without its line feed spells, behind the head of a text of this version; its numbers are put into
+    /// those handed in.
     #[tactic(auto, unfolding(crate::specs::LineReading::line_of))]
-    pub fn read(version: Version, text: &'a [u8]) -> Option<Line<'a>>
-        ensures { option_map seen result ≡ line_of version text.now }
+    pub fn read(version: Version, text: &'a [u8], numbers: &mut Numbers) -> Option<Line<'a>>
+        ensures { option_map (λ line. seen line numbers.new) result ≡ line_of version text.now }
     {
         let (word, words) = Words::new(text).next()?;
         if let Some(keyword) = Keyword::read(word) {
-            return named(version, keyword, words);
+            return named(version, keyword, words, numbers);
         }
         if let Some(mark) = Mark::read(word) {
             return marked(mark, words);
@@ -68,7 +65,7 @@ impl<'a> Line<'a> {
 
 /// A line of one word, where no other is left.
 fn marked<'a>(mark: Mark, words: Words<'a>) -> Option<Line<'a>>
-    ensures { option_map seen result ≡ marked mark (left words.entry) }
+    ensures { (numbers : List ℕ) → option_map (λ line. seen line numbers) result ≡ marked mark (left words.entry) }
 {
     if words.is_empty() {
         Some(Line::Mark(mark))
@@ -79,17 +76,18 @@ fn marked<'a>(mark: Mark, words: Words<'a>) -> Option<Line<'a>>
 
 /// A line of a keyword, a name and as many numbers as that keyword has.
 #[tactic(auto, unfolding(crate::specs::LineReading::named_of))]
-fn named<'a>(version: Version, keyword: Keyword, words: Words<'a>) -> Option<Line<'a>>
-    ensures { option_map seen result ≡ named_of version keyword (left words.entry) }
+fn named<'a>(
+    version: Version,
+    keyword: Keyword,
+    words: Words<'a>,
+    numbers: &mut Numbers,
+) -> Option<Line<'a>>
+    ensures { option_map (λ line. seen line numbers.new) result ≡ named_of version keyword (left words.entry) }
 {
     let (name, words) = words.name()?;
-    let numbers = Numbers::read(words)?;
-    if has_numbers(version, keyword, &numbers) {
-        Some(Line::Named {
-            keyword,
-            name,
-            numbers,
-        })
+    numbers.read(words)?;
+    if has_numbers(version, keyword, numbers) {
+        Some(Line::Named { keyword, name })
     } else {
         None
     }

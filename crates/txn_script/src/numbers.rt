@@ -36,18 +36,24 @@ impl Numbers {
         }
     }
 
-    /// The numbers that all words spell, if they are at most seven.
-    pub fn read<'a>(words: Words<'a>) -> Option<Self>
-        ensures { result ≡ more_numbers [] (left words.entry) }
+    /// Holds the numbers that all words spell, and no others, if they are at most seven.
+    pub fn read(&mut self, words: Words) -> Option<()>
+        ensures { option_map (λ _. self.new) result ≡ more_numbers [] (left words.entry) }
     {
-        let mut numbers = Numbers::new();
+        self.clear();
         let mut words = words;
         while !words.is_empty() {
             let (number, rest) = words.number()?;
-            numbers.push(number)?;
+            self.push(number)?;
             words = rest;
         }
-        Some(numbers)
+        Some(())
+    }
+
+    fn clear(&mut self)
+        ensures { self.new ≡ [] }
+    {
+        self.count = 0;
     }
 
     /// One more number, if they are fewer than seven.

@@ -9,6 +9,7 @@ use crate::bytes::cut_line;
 use crate::fault::{Kind, ParseFault, Stop};
 use crate::keyword::Version;
 use crate::line::{Line, head};
+use crate::numbers::Numbers;
 use crate::reader::Reader;
 use replay_model::Input;
 use std::alloc::Global;
@@ -48,16 +49,17 @@ fn read(alloc: Global, version: Version, bytes: &[u8]) -> Result<Input, ParseFau
     ensures runnable { IfOk result IsRunnable }
 {
     let mut reader = Reader::new(alloc, version);
+    let mut numbers = Numbers::new();
     let mut number = 2;
     let mut rest = bytes;
     while !reader.is_finished() {
         let Some((text, behind)) = cut_line(rest) else {
             return Err(Stop::Refused(Kind::End).at(number));
         };
-        let Some(line) = Line::read(version, text) else {
+        let Some(line) = Line::read(version, text, &mut numbers) else {
             return Err(Stop::Refused(Kind::Form).at(number));
         };
-        if let Err(stop) = reader.step(&line) {
+        if let Err(stop) = reader.step(&line, &numbers) {
             return Err(stop.at(number));
         }
         number += 1;

@@ -1,6 +1,6 @@
 //! Where a line may stand.
 
-ghost use Rattle.std.specs.Prelude.{◌≡◌};
+ghost use Rattle.std.specs.Prelude.{◌≡◌, ℕ, List};
 ghost use Rattle.txn_script.specs.LineReading.{seen};
 ghost use Rattle.txn_script.specs.Places.{after, after_mark, after_named};
 
@@ -25,7 +25,7 @@ pub enum Place {
 impl Place {
     /// The place behind a line; none where the line may not stand here.
     pub fn after(self, line: &Line) -> Option<Place>
-        ensures { result ≡ after self (seen line.now) }
+        ensures { (numbers : List ℕ) → result ≡ after self (seen line.now numbers) }
     {
         match line {
             Line::Head(_) => None,

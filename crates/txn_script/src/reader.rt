@@ -62,15 +62,15 @@ impl Reader {
         }
     }
 
-    /// Takes one line more. After a fault nothing is said of what is gathered.
+    /// Takes one line more, with its numbers. After a fault nothing is said of what is gathered.
     #[tactic(auto, unfolding(crate::specs::Reading::step))]
-    pub fn step(&mut self, line: &Line) -> Result<(), Stop>
+    pub fn step(&mut self, line: &Line, numbers: &Numbers) -> Result<(), Stop>
         requires steady { IsSteady (progress self.old) }
-        requires form { HasForm (progress self.old).version (seen line.now) }
-        ensures { Gives (λ _. progress self.new) result (step (progress self.old) (seen line.now)) }
+        requires form { HasForm (progress self.old).version (seen line.now numbers.now) }
+        ensures { Gives (λ _. progress self.new) result (step (progress self.old) (seen line.now numbers.now)) }
     {
         let place = self.place.after(line).ok_or(Kind::Place)?;
-        self.take_in(line)?;
+        self.take_in(line, numbers)?;
         self.place = place;
         Ok(())
     }
@@ -98,19 +98,15 @@ impl Reader {
     }
 
     /// What a line adds, which stands at its place.
-    fn take_in(&mut self, line: &Line) -> Result<(), Stop>
+    fn take_in(&mut self, line: &Line, numbers: &Numbers) -> Result<(), Stop>
         requires steady { IsSteady (progress self.old) }
-        requires form { HasForm (progress self.old).version (seen line.now) }
-        ensures { Gives (λ _. progress self.new) result (taken_in (progress self.old) (seen line.now)) }
+        requires form { HasForm (progress self.old).version (seen line.now numbers.now) }
+        ensures { Gives (λ _. progress self.new) result (taken_in (progress self.old) (seen line.now numbers.now)) }
     {
         match line {
             Line::Head(_) => Err(Stop::Refused(Kind::Place)),
             Line::Mark(mark) => self.take_mark(*mark),
-            Line::Named {
-                keyword,
-                name,
-                numbers,
-            } => self.take_named(*keyword, name, numbers),
+            Line::Named { keyword, name } => self.take_named(*keyword, name, numbers),
         }
     }
 

@@ -32,18 +32,18 @@ returns-in_default-read-clause-answer c =
 
 pub step-requires-clause-form : goal.step-requires-clause-form
 step-requires-clause-form c =
-    let form = (line_of-reads c.args.version c.in-Some.text.now (seen c.in-Some-read.line) (sym c.in-Some-read.ensures)).1 in
-    subst (λ (v : Version). HasForm v (seen c.in-Some-read.line)) (sym c.loop-version.invariant.same) form
+    let form = (line_of-reads c.args.version c.in-Some.text.now (seen c.in-Some-read.line c.read.new.numbers) (sym c.in-Some-read.ensures)).1 in
+    subst (λ (v : Version). HasForm v (seen c.in-Some-read.line c.read.new.numbers)) (sym c.loop-version.invariant.same) form
 
 pub returns-in-Err-clause-answer : goal.returns-in-Err-clause-answer
 returns-in-Err-clause-answer c =
     let p = progress c.loop-version.reader in
-    stopped c.args.version c.args.bytes.now c.loop-version.rest.now c.loop-version.number p c.loop-version.invariant c.in-Some.text.now c.in-Some.behind.now (seen c.in-Some-read.line) c.in-Err.stop c.at-in-Err.result
+    stopped c.args.version c.args.bytes.now c.loop-version.rest.now c.loop-version.number p c.loop-version.invariant c.in-Some.text.now c.in-Some.behind.now (seen c.in-Some-read.line c.read.new.numbers) c.in-Err.stop c.at-in-Err.result
     (not_yet c.is_finished.result (p.place ≡ Finished) c.is_finished.ensures c.loop-version-test.true) (sym c.in-Some.ensures) (sym c.in-Some-read.ensures) c.in-Err.ensures c.at-in-Err.ensures
 
 pub loop-version-preserved : goal.loop-version-preserved
 loop-version-preserved c =
-    Reached-line c.args.version c.args.bytes.now c.loop-version.rest.now c.loop-version.number (progress c.loop-version.reader) c.loop-version.invariant c.in-Some.text.now c.in-Some.behind.now (seen c.in-Some-read.line) (progress c.step.new.self)
+    Reached-line c.args.version c.args.bytes.now c.loop-version.rest.now c.loop-version.number (progress c.loop-version.reader) c.loop-version.invariant c.in-Some.text.now c.in-Some.behind.now (seen c.in-Some-read.line c.read.new.numbers) (progress c.step.new.self)
     (sym c.in-Some.ensures) (sym c.in-Some-read.ensures) c.in_default-step.ensures
 
 pub returns-then-not-is_empty-clause-answer : goal.returns-then-not-is_empty-clause-answer

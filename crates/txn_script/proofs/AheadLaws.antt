@@ -1,16 +1,15 @@
 -- A word read byte by byte.
-use Rattle.std.proofs.Common.{◌≡◌, ℕ, ◌+◌, ◌*◌, ◌-◌, ◌^◌, Bool, true, false, cond, eqb, ltb, List, [], ◌∷◌, ◌++◌, Option, Some, None, refl, sym, ap, ◌∙◌, arith}
+use Rattle.std.proofs.Common.{◌≡◌, ℕ, Bool, true, false, cond, eqb, List, [], ◌∷◌, ◌++◌, Option, Some, None, refl, sym, ap, ◌∙◌}
 use Rattle.std.specs.Prelude.{◌&&◌}
-use Rattle.std.specs.Char.{is_ascii_digit, is_ascii_lowercase}
+use Rattle.std.specs.Char.{is_ascii_lowercase}
 use Rattle.std.specs.List.{onto_first, list_all}
 use Rattle.std.proofs.lemmas.Bool.{eqb-true}
 use Rattle.std.proofs.lemmas.List.{append-nil}
 use Rattle.std.proofs.lemmas.List.Folds.{list_all-append}
-use Rattle.std.proofs.lemmas.Option.{cond_some, same_Some}
-use Rattle.txn_script.specs.LineReading.{◌>>=◌, name_at, number_of, number_at, starts_no_number, digit_behind, digits_behind}
+use Rattle.txn_script.specs.LineReading.{◌>>=◌, name_at, number_at, starts_no_number, digit_behind}
 use Rattle.txn_script.specs.Ahead.{words_ahead, words_behind, number_with, number_before, is_short, BeginsWithNoLetter}
 use Rattle.txn_script.proofs.WordLaws.{and_parts, false_from}
-use Rattle.txn_script.proofs.DigitLaws.{in_range, number_of-starts_no_number, number_of-digits}
+use Rattle.txn_script.proofs.DigitLaws.{number_of-starts_no_number, number_of-digits}
 
 -- ---- words byte by byte
 
@@ -77,14 +76,8 @@ number_at-none c bytes none =
           ] refl
     ] refl
 
-digit_is_zero : (c : ℕ) → digit_behind 0 c ≡ Some 0 → c ≡ 48
-digit_is_zero c e =
-    let given = cond_some (is_ascii_digit c && ltb (0 * 10 + (c - 48)) (2 ^ 64)) (0 * 10 + (c - 48)) 0 e in
-    let low = in_range c (and_parts (is_ascii_digit c) (ltb (0 * 10 + (c - 48)) (2 ^ 64)) given.0).0 in
-    omega (arith, given.1, low.0)
-
-pub number_at-zero : (c : ℕ) (bytes : List ℕ) → digit_behind 0 c ≡ Some 0 → number_at (words_ahead (c ∷ bytes)) ≡ number_before 0 bytes
-number_at-zero c bytes e = ap (λ (d : ℕ). number_at (words_ahead (d ∷ bytes))) (digit_is_zero c e) ∙ alone bytes
+pub number_at-zero : (c : ℕ) (bytes : List ℕ) → c ≡ 48 → number_at (words_ahead (c ∷ bytes)) ≡ number_before 0 bytes
+number_at-zero c bytes e = ap (λ (d : ℕ). number_at (words_ahead (d ∷ bytes))) e ∙ alone bytes
   where
     alone : (bytes : List ℕ) → number_at (words_ahead (48 ∷ bytes)) ≡ number_before 0 bytes
     alone [] = number_at-is (48 ∷ []) [] refl
@@ -96,8 +89,8 @@ number_at-zero c bytes e = ap (λ (d : ℕ). number_at (words_ahead (d ∷ bytes
               ap (λ (ws : List (List ℕ)). number_at (onto_first 48 ws)) (ahead-more c bytes rest.0 rest.1 e rest.2) ∙ number_at-not (48 ∷ c ∷ rest.0) rest.1 refl ∙ rw e refl
         ] refl
 
-pub number_at-more : (c value : ℕ) (bytes : List ℕ) → digit_behind 0 c ≡ Some value → (value ≡ 0 → ⊥) → number_at (words_ahead (c ∷ bytes)) ≡ number_with value (words_ahead bytes)
-number_at-more c value bytes e some =
+pub number_at-more : (c value : ℕ) (bytes : List ℕ) → digit_behind 0 c ≡ Some value → (c ≡ 48 → ⊥) → number_at (words_ahead (c ∷ bytes)) ≡ number_with value (words_ahead bytes)
+number_at-more c value bytes e other =
     elim (eqb c 32) as (λ b. eqb c 32 ≡ b → number_at (words_ahead (c ∷ bytes)) ≡ number_with value (words_ahead bytes)) [
       | true ↦ λ space. let none = ap (digit_behind 0) (eqb-true c 32 space) ∙ no_digit 0 in absurd cc
       | false ↦ λ space.
@@ -106,12 +99,9 @@ number_at-more c value bytes e some =
           ap number_at is ∙ number_at-is (c ∷ rest.0) rest.1 (plain rest.0) ∙ sym (ap (number_with 0) is) ∙ number_with-more 0 c value bytes e
     ] refl
   where
-    not_zero : eqb c 48 ≡ true → ⊥
-    not_zero t = some (sym (same_Some 0 value (sym (ap (digit_behind 0) (eqb-true c 48 t)) ∙ e)))
-
     plain : (word : List ℕ) → starts_no_number (c ∷ word) ≡ false
     plain [] = refl
-    plain (next ∷ word) = false_from (eqb c 48) not_zero
+    plain (next ∷ word) = false_from (eqb c 48) (λ t. other (eqb-true c 48 t))
 
 -- ---- names
 

@@ -1,5 +1,5 @@
 -- A line that is read is spelled so, and a line that is spelled so is read.
-use Rattle.std.proofs.Common.{◌≡◌, ℕ, ◌^◌, ◌<◌, ◌≤◌, Bool, true, false, cond, leb, eqb, List, [], ◌∷◌, length, map, get_or, All, Option, Some, None, refl, sym, ap, subst, ◌∙◌, inl, inr, ⊎_elim, ◌⊎◌, arith}
+use Rattle.std.proofs.Common.{◌≡◌, ℕ, ◌^◌, ◌<◌, ◌≤◌, Bool, true, false, cond, leb, eqb, List, [], ◌∷◌, ◌++◌, length, map, get_or, All, Option, Some, None, refl, sym, ap, subst, ◌∙◌, inl, inr, ⊎_elim, ◌⊎◌, arith}
 use Rattle.std.specs.Prelude.{◌&&◌, not, codes, decimal, slice_index}
 use Rattle.std.specs.List.{slice_split, join_with_byte, list_all, AllByRecursion}
 use Rattle.std.specs.Char.{is_ascii_lowercase}
@@ -22,7 +22,8 @@ use Rattle.txn_script.specs.declared.keyword.Version.{Version}
 use Rattle.txn_script.specs.declared.keyword.Version.TheVariants.{One, Two}
 use Rattle.txn_script.specs.Line.{Line, head_line, mark_line, named_line, version_text, mark_text, keyword_text, words, text, IsName, IsNumber, has_numbers, HasForm}
 use Rattle.txn_script.specs.LineReading.{◌>>=◌, next_word, is_name, name_at, more_numbers, version_of, mark_of, keyword_of, marked, named_of, version_in, head_of, same_version, head_again, line_with, line_of}
-use Rattle.txn_script.proofs.WordLaws.{and_parts}
+use Rattle.txn_script.specs.Ahead.{HasNoKeyword}
+use Rattle.txn_script.proofs.WordLaws.{and_parts, none_from}
 use Rattle.txn_script.proofs.NumberLaws.{more_numbers-some, more_numbers-decimal}
 
 -- ---- steps
@@ -77,12 +78,12 @@ mark_of-some : (w : List ℕ) (m : Mark) → mark_of w ≡ Some m → w ≡ mark
 mark_of-some w m =
     branch mark_text w Lane m _ (branch mark_text w Txn m _ (branch mark_text w Snap m _ (branch mark_text w End m _ (branch mark_text w Done m None (λ e. absurd cc)))))
 
-keyword_of-some : (w : List ℕ) (k : Keyword) → keyword_of w ≡ Some k → w ≡ keyword_text k
+pub keyword_of-some : (w : List ℕ) (k : Keyword) → keyword_of w ≡ Some k → w ≡ keyword_text k
 keyword_of-some w k =
     branch keyword_text w Table k _ (branch keyword_text w Index k _ (branch keyword_text w Row k _ (branch keyword_text w Get k _ (branch keyword_text w Put k _ (branch keyword_text w Ins k _
     (branch keyword_text w Del k _ (branch keyword_text w Add k _ (branch keyword_text w Sub k _ (branch keyword_text w Scan k _ (branch keyword_text w Find k None (λ e. absurd cc)))))))))))
 
-keyword_of-text : (k : Keyword) → keyword_of (keyword_text k) ≡ Some k
+pub keyword_of-text : (k : Keyword) → keyword_of (keyword_text k) ≡ Some k
 keyword_of-text Table = refl
 keyword_of-text Index = refl
 keyword_of-text Row = refl
@@ -178,10 +179,6 @@ unfolding line_of
 line_of-reads version bytes line e =
     let b = bind_some (next_word (slice_split (λ b. eqb b 32) bytes)) (λ word. line_with version bytes word.1 (keyword_of word.0) (mark_of word.0)) line e in
     line_with-reads version bytes b.0.0 b.0.1 line (keyword_of b.0.0) (mark_of b.0.0) (next_word-some (slice_split (λ b. eqb b 32) bytes) b.0 b.1) refl refl b.2
-
-pub line_of-marked : (version : Version) (bytes w : List ℕ) (ws : List (List ℕ)) (m : Mark) → next_word (slice_split (λ b. eqb b 32) bytes) ≡ Some (w, ws) → keyword_of w ≡ None → mark_of w ≡ Some m → line_of version bytes ≡ marked m ws
-unfolding line_of
-line_of-marked version bytes w ws m is k_none m_some = rw (is, k_none, m_some) refl
 
 -- ---- from a line to its words
 
@@ -345,3 +342,45 @@ text-injective version a b form_a form_b same = some_is a b (sym (line_of-text v
 
 pub head-injective : (a b : Version) → text (head_line a) ≡ text (head_line b) → a ≡ b
 head-injective a b same = some_is a b (sym (head_of-text a) ∙ ap head_of same ∙ head_of-text b)
+
+-- ---- the line of a text, by what it begins with
+
+pub line_of-keyword : (version : Version) (bytes : List ℕ) (k : Keyword) (rest : List ℕ) → bytes ≡ keyword_text k ++ 32 ∷ rest → line_of version bytes ≡ named_of version k (slice_split (λ b. eqb b 32) rest)
+unfolding line_of
+line_of-keyword version bytes k rest e =
+    let split = ap (slice_split (λ b. eqb b 32)) e ∙ slice_split_at (λ b. eqb b 32) (keyword_text k) 32 rest (keyword-avoids 32 k (inl refl)) refl in
+    ap (line_from version bytes) split ∙ rw (keyword_of-text k) refl
+
+pub line_of-mark : (version : Version) (bytes : List ℕ) (m : Mark) → mark_of bytes ≡ Some m → line_of version bytes ≡ Some (mark_line m)
+line_of-mark version bytes m e = ap (line_of version) (mark_of-some bytes m e) ∙ line_of-text version (mark_line m) tt
+
+pub line_of-head : (version : Version) (bytes : List ℕ) → bytes_eq bytes (text (head_line version)) ≡ true → line_of version bytes ≡ Some (head_line version)
+line_of-head version bytes e = ap (line_of version) ((bytes_eq-Decides bytes (text (head_line version))).0 e) ∙ line_of-text version (head_line version) refl
+
+mark_of-text : (m : Mark) → mark_of (mark_text m) ≡ Some m
+mark_of-text Lane = refl
+mark_of-text Txn = refl
+mark_of-text Snap = refl
+mark_of-text End = refl
+mark_of-text Done = refl
+
+is_no_head : (version : Version) (bytes : List ℕ) → bytes_eq bytes (text (head_line version)) ≡ false → bytes ≡ text (head_line version) → ⊥
+is_no_head version bytes other e = let yes : true ≡ false = sym ((bytes_eq-Decides bytes (text (head_line version))).1 e) ∙ other in absurd cc
+
+pub head_of-is : (version : Version) (bytes : List ℕ) → bytes_eq bytes (text (head_line version)) ≡ true → head_of bytes ≡ Some version
+head_of-is version bytes e = ap head_of ((bytes_eq-Decides bytes (text (head_line version))).0 e) ∙ head_of-text version
+
+pub head_of-none : (bytes : List ℕ) → bytes_eq bytes (text (head_line One)) ≡ false → bytes_eq bytes (text (head_line Two)) ≡ false → head_of bytes ≡ None
+head_of-none bytes no_one no_two = none_from (head_of bytes) (λ v e. other v (head_of-some bytes v e))
+  where
+    other : (v : Version) → bytes ≡ text (head_line v) → ⊥
+    other One e = is_no_head One bytes no_one e
+    other Two e = is_no_head Two bytes no_two e
+
+pub line_of-none : (version : Version) (bytes : List ℕ) → HasNoKeyword bytes → mark_of bytes ≡ None → bytes_eq bytes (text (head_line version)) ≡ false → line_of version bytes ≡ None
+line_of-none version bytes no_keyword no_mark no_head = none_from (line_of version bytes) (λ line e. let is = line_of-reads version bytes line e in other line is.0 is.1)
+  where
+    other : (line : Line) → bytes ≡ text line → HasForm version line → ⊥
+    other (head_line v) e form = is_no_head version bytes no_head (e ∙ ap (λ (x : Version). text (head_line x)) form)
+    other (mark_line m) e form = none-some m (sym no_mark ∙ ap mark_of e ∙ mark_of-text m)
+    other (named_line k name numbers) e form = no_keyword k (join_with_byte 32 (name ∷ map decimal numbers)) e

@@ -1,8 +1,10 @@
 -- What readers of one word answer, byte by byte; no public contract cites these.
-use Rattle.std.specs.Prelude.{◌≡◌, ℕ, ◌==◌, ◌&&◌, nat_le, Bool, false, length, if◌then◌else◌, List, [], ◌∷◌, Option, None, Some}
+use Rattle.std.specs.Prelude.{◌≡◌, ℕ, ◌==◌, ◌&&◌, nat_le, Bool, false, length, if◌then◌else◌, List, [], ◌∷◌, ◌++◌, Option, None, Some}
 use Rattle.std.specs.List.{slice_split}
 use Rattle.std.specs.Char.{is_ascii_lowercase}
-use Rattle.txn_script.specs.LineReading.{◌>>=◌, next_word, digits_behind}
+use Rattle.txn_script.specs.declared.keyword.Keyword.{Keyword}
+use Rattle.txn_script.specs.Line.{keyword_text}
+use Rattle.txn_script.specs.LineReading.{◌>>=◌, digits_behind}
 
 -- the words that bytes begin with
 abbrev pub words_ahead : List ℕ → List (List ℕ)
@@ -29,3 +31,10 @@ BeginsWithNoLetter (byte ∷ bytes) = is_ascii_lowercase byte ≡ false
 -- a name has 1 to 16 letters
 abbrev pub is_short : List ℕ → Bool
 is_short name = nat_le 1 (length name) && nat_le (length name) 16
+
+-- no keyword, or none of so many letters, stands at the front with a space behind it
+abbrev pub HasNoKeyword : List ℕ → Type 0
+HasNoKeyword text = (keyword : Keyword) (rest : List ℕ) → text ≡ keyword_text keyword ++ 32 ∷ rest → ⊥
+
+abbrev pub HasNoKeywordOf : ℕ → List ℕ → Type 0
+HasNoKeywordOf n text = (keyword : Keyword) (rest : List ℕ) → length (keyword_text keyword) ≡ n → text ≡ keyword_text keyword ++ 32 ∷ rest → ⊥

@@ -11,12 +11,11 @@ pub fn number_at(bytes: &[u8]) -> Option<(u64, Words)>
     ensures { option_map (λ read. (read.0, left read.1)) result ≡ number_at (words_ahead bytes.now) }
 {
     let (first, rest) = bytes.split_first()?;
-    let value = digit_behind(0, *first)?;
-    if value == 0 {
-        ended(0, rest)
-    } else {
-        number_with(value, rest)
+    if *first == b'0' {
+        return ended(0, rest);
     }
+    let value = digit_behind(0, *first)?;
+    number_with(value, rest)
 }
 
 /// The value with the digits of the first word behind it, and the words behind that.

@@ -1,7 +1,9 @@
 //! The words that lines begin with.
 
-ghost use Rattle.std.specs.Prelude.{◌≡◌};
-ghost use Rattle.txn_script.specs.LineReading.{keyword_of, mark_of, version_of};
+ghost use Rattle.std.specs.Prelude.{◌≡◌, ◌++◌, ◌∷◌, MatchOption};
+ghost use Rattle.txn_script.specs.Line.{keyword_text};
+ghost use Rattle.txn_script.specs.Ahead.{HasNoKeyword, HasNoKeywordOf};
+ghost use Rattle.txn_script.specs.LineReading.{keyword_of, mark_of};
 
 /// The version of a text.
 #[derive(Clone, Copy, PartialEq, Eq, Debug)]
@@ -38,21 +40,6 @@ pub enum Keyword {
     Find,
 }
 
-impl Version {
-    /// The version that a word behind `cicada` names.
-    pub fn read(word: &[u8]) -> Option<Version>
-        ensures { result ≡ version_of word.now }
-    {
-        if word == b"1".as_slice() {
-            Some(Version::One)
-        } else if word == b"2".as_slice() {
-            Some(Version::Two)
-        } else {
-            None
-        }
-    }
-}
-
 impl Mark {
     /// The line that a word is, if it stands alone.
     pub fn read(word: &[u8]) -> Option<Mark>
@@ -75,8 +62,35 @@ impl Mark {
 }
 
 impl Keyword {
+    /// The keyword that a text begins with, and what stands behind it and a space.
+    pub fn before(text: &[u8]) -> Option<(Keyword, &[u8])>
+        ensures { MatchOption result (HasNoKeyword text.now) (λ read. text.now ≡ keyword_text read.0 ++ 32 ∷ read.1.now) }
+    {
+        if let Some(read) = Keyword::of_length(text, 3) {
+            return Some(read);
+        }
+        if let Some(read) = Keyword::of_length(text, 4) {
+            return Some(read);
+        }
+        Keyword::of_length(text, 5)
+    }
+
+    /// The same, where the keyword has so many letters.
+    fn of_length(text: &[u8], length: usize) -> Option<(Keyword, &[u8])>
+        ensures { MatchOption result (HasNoKeywordOf length text.now) (λ read. text.now ≡ keyword_text read.0 ++ 32 ∷ read.1.now) }
+    {
+        if text.len() <= length {
+            return None;
+        }
+        if text[length] != b' ' {
+            return None;
+        }
+        let keyword = Keyword::read(&text[..length])?;
+        Some((keyword, &text[length + 1..]))
+    }
+
     /// The keyword that a word is.
-    pub fn read(word: &[u8]) -> Option<Keyword>
+    fn read(word: &[u8]) -> Option<Keyword>
         ensures { result ≡ keyword_of word.now }
     {
         if word == b"table".as_slice() {

@@ -1,8 +1,9 @@
 //! Lines of an input text, one after another.
 
-ghost use Rattle.std.specs.Prelude.{◌≡◌, ◌&&◌, ℕ, List, nat_le, option_map};
-ghost use Rattle.txn_script.specs.Line.{has_numbers};
-ghost use Rattle.txn_script.specs.LineReading.{left, seen, head_of, version_in, marked, named_of, line_of};
+ghost use Rattle.std.specs.Prelude.{◌≡◌, ◌&&◌, nat_le, option_map};
+ghost use Rattle.std.specs.Str.{bytes_eq};
+ghost use Rattle.txn_script.specs.Line.{head_line, text, has_numbers};
+ghost use Rattle.txn_script.specs.LineReading.{left, seen, head_of, named_of, line_of};
 
 use crate::keyword::{Keyword, Mark, Version};
 use crate::numbers::Numbers;
@@ -17,60 +18,45 @@ pub enum Line<'a> {
 }
 
 /// The version that a first line tells, without its line feed.
-#[tactic(auto, unfolding(crate::specs::LineReading::head_of))]
-pub fn head(text: &[u8]) -> Option<Version>
-    ensures { result ≡ head_of text.now }
+pub fn head(line: &[u8]) -> Option<Version>
+    ensures { result ≡ head_of line.now }
 {
-    let (keyword, words) = Words::new(text).next()?;
-    if keyword == b"cicada".as_slice() {
-        version(words)
+    if is_head(Version::One, line) {
+        Some(Version::One)
+    } else if is_head(Version::Two, line) {
+        Some(Version::Two)
     } else {
         None
     }
 }
 
-#[tactic(auto, unfolding(crate::specs::LineReading::version_in))]
-fn version(words: Words) -> Option<Version>
-    ensures { result ≡ version_in (left words.entry) }
+/// Whether a line is the head of a text of this version.
+fn is_head(version: Version, line: &[u8]) -> bool
+    ensures { result ≡ bytes_eq line.now (text (head_line version)) }
 {
-    let (word, words) = words.next()?;
-    if words.is_empty() {
-        Version::read(word)
-    } else {
-        None
+    match version {
+        Version::One => line == b"cicada 1".as_slice(),
+        Version::Two => line == b"cicada 2".as_slice(),
     }
 }
 
 impl<'a> Line<'a> {
     /// The line that a text without its line feed spells, behind the head of a text of this version; its numbers are put into
     /// those handed in.
-    #[tactic(auto, unfolding(crate::specs::LineReading::line_of))]
     pub fn read(version: Version, text: &'a [u8], numbers: &mut Numbers) -> Option<Line<'a>>
         ensures { option_map (λ line. seen line numbers.new) result ≡ line_of version text.now }
     {
-        let (word, words) = Words::new(text).next()?;
-        if let Some(keyword) = Keyword::read(word) {
-            return named(version, keyword, words, numbers);
+        if let Some((keyword, rest)) = Keyword::before(text) {
+            return named(version, keyword, Words::new(rest), numbers);
         }
-        if let Some(mark) = Mark::read(word) {
-            return marked(mark, words);
+        if let Some(mark) = Mark::read(text) {
+            return Some(Line::Mark(mark));
         }
-        if head(text)? == version {
+        if is_head(version, text) {
             Some(Line::Head(version))
         } else {
             None
         }
-    }
-}
-
-/// A line of one word, where no other is left.
-fn marked<'a>(mark: Mark, words: Words<'a>) -> Option<Line<'a>>
-    ensures { (numbers : List ℕ) → option_map (λ line. seen line numbers) result ≡ marked mark (left words.entry) }
-{
-    if words.is_empty() {
-        Some(Line::Mark(mark))
-    } else {
-        None
     }
 }
 

@@ -1,12 +1,9 @@
-use Rattle.std.proofs.Common.{◌≡◌, ◌+◌, ℕ, List, None, Some, ◌-◌, length, arith, length-drop, take, get_or, ap, sym, ◌∙◌, drop}
-use Rattle.std.proofs.lemmas.List.{take_all, at_drop_more, at_drop_all}
+use Rattle.std.proofs.Common.{◌≡◌, ◌+◌, ℕ, List, None, Some, get_or, ap, sym, ◌∙◌, drop}
+use Rattle.std.proofs.lemmas.List.{take_rest, at_drop_more, at_drop_all}
 use Rattle.txn_script.specs.LineReading.{digit_behind}
 use Rattle.txn_script.specs.Ahead.{words_ahead, number_with, number_before}
 use Rattle.txn_script.proofs.AheadLaws.{number_with-stop, number_with-more}
 use Rattle.txn_script.proofs.digits.number_with.Goals as goal
-
-to_end : (i : ℕ) (bytes : List ℕ) → take (length bytes - i) (drop i bytes) ≡ drop i bytes
-to_end i bytes = take_all (length bytes - i) (drop i bytes) (omega (arith, length-drop i bytes))
 
 pub returns-in_default : goal.returns-in_default
 returns-in_default c =
@@ -18,7 +15,7 @@ returns-in_default c =
     ∙ at_drop_more (λ (b : List ℕ). number_with value (words_ahead b)) bytes i 0 c.loop-i-test.true
     ∙ number_with-stop value (get_or bytes i 0) (drop (i + 1) bytes) none
     ∙ sym (at_drop_more (number_before value) bytes i 0 c.loop-i-test.true)
-    ∙ ap (number_before value) (sym (to_end i bytes)))
+    ∙ ap (number_before value) (sym (take_rest bytes i)))
 
 pub loop-i-preserved : goal.loop-i-preserved
 loop-i-preserved c =

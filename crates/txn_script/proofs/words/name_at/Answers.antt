@@ -1,6 +1,5 @@
-use Rattle.std.proofs.Common.{◌≡◌, ◌++◌, ℕ, List, Option, Some, None, true, false, cond, refl, sym, ap, ◌∙◌}
-use Rattle.txn_script.specs.LineReading.{◌>>=◌, name_at}
-use Rattle.txn_script.specs.Ahead.{words_ahead, words_behind, is_short}
+use Rattle.std.proofs.Common.{◌≡◌, true, false, refl, sym, ◌∙◌}
+use Rattle.txn_script.specs.Ahead.{is_short}
 use Rattle.txn_script.proofs.AheadLaws.{name_at-split}
 use Rattle.txn_script.proofs.words.name_at.Goals as goal
 

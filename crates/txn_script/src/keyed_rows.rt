@@ -12,7 +12,8 @@ use std::marker::Model;
 #[derive(Drop)]
 pub struct KeyedRows {
     rows: Rows,
-    places: BTreeSet<(u32, u64)>,
+    /// A key and its table: keys differ sooner than tables do.
+    places: BTreeSet<(u64, u32)>,
 }
 
 impl Model for KeyedRows {
@@ -47,7 +48,7 @@ impl KeyedRows {
             mut rows,
             mut places,
         } = self;
-        if !places.insert((table, key))? {
+        if !places.insert((key, table))? {
             return Err(Stop::Refused(Kind::Twice));
         }
         rows.push((table, key, row))?;

@@ -24,6 +24,7 @@ number_with value (word ∷ words) = digits_behind value word >>= λ n. Some (n,
 abbrev pub number_before : ℕ → List ℕ → Option (ℕ × List (List ℕ))
 number_before value bytes = words_behind bytes >>= λ words. Some (value, words)
 
+-- nothing stands there, or a byte that is no letter
 abbrev pub BeginsWithNoLetter : List ℕ → Type 0
 BeginsWithNoLetter [] = Unit {0}
 BeginsWithNoLetter (byte ∷ bytes) = is_ascii_lowercase byte ≡ false

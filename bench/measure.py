@@ -28,8 +28,9 @@ import time
 
 here = os.path.dirname(os.path.abspath(__file__))
 
-# As the script `cicada` does: where the system gives large pages on request alone, the C library asks for them, in each contender.
-os.environ.setdefault("GLIBC_TUNABLES", "glibc.malloc.hugetlb=1")
+# As the script `cicada` does: where the system gives large pages on request alone, the C library asks for them, and what was let go of it
+# uses again; in each contender.
+os.environ.setdefault("GLIBC_TUNABLES", "glibc.malloc.hugetlb=1:glibc.malloc.mmap_threshold=1073741824:glibc.malloc.trim_threshold=1073741824")
 
 top = os.path.dirname(here)
 

@@ -1,6 +1,7 @@
 //! A row as it stands in a record.
 
-ghost use Rattle.std.specs.Prelude.{◌≡◌, ℕ, List, IfSome, IfNone, length};
+ghost use Rattle.std.specs.Prelude.{◌≡◌, ◌==◌, ℕ, List, IfSome, IfNone, length};
+ghost use Rattle.std.specs.List.{list_all};
 ghost use Rattle.stored_tables.specs.Tables.{row_words};
 
 use plain_data::Cells;
@@ -23,19 +24,15 @@ pub fn read_row(cells: &Cells) -> Option<Columns>
     ensures row { IfSome result (λ row. cells.now ≡ row_words row) }
     ensures no_row { IfNone result ((row : List ℕ) → cells.now ≡ row_words row → ⊥) }
 {
-    let row = Columns::new([
-        cells.word(0),
-        cells.word(1),
-        cells.word(2),
-        cells.word(3),
-        cells.word(4),
-        cells.word(5),
-    ]);
-    if row_cells(&row) == *cells {
-        Some(row)
-    } else {
-        // Its type tells contracts how long it is.
-        let _words = cells.words();
-        None
+    let words = cells.words();
+    if !has_zeros_alone(&words[6..]) {
+        return None;
     }
+    Some(Columns::new([words[0], words[1], words[2], words[3], words[4], words[5]]))
+}
+
+fn has_zeros_alone(words: &[u64]) -> bool
+    ensures { result ≡ list_all (λ word. word == 0) words.now }
+{
+    words.iter().all(|word| *word == 0)
 }

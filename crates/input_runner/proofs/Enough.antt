@@ -80,7 +80,7 @@ blocks_lightest tables blocks none =
 
 -- records for so many commands that bring a row, and that bring or change one: with an index somewhere, and with none
 abbrev records_at : Bool → (brought changed : ℕ) → ℕ
-records_at indexed brought changed = 8 * brought + (if indexed then 3 * changed else 0)
+records_at indexed brought changed = 6 * brought + (if indexed then 3 * changed else 0)
 
 record AreLight (indexed : Bool) (rows : List (ℕ × ℕ × Row)) (indexes : List (ℕ × ℕ)) (lanes : List (List Block)) : Type 0 where
   few_rows : length rows ≤ 16384

@@ -23,10 +23,10 @@ count_in_all changes lanes = sum_by (count_in changes) lanes
 abbrev pub records_for_rows : Input → ℕ
 records_for_rows input = 2 * length input.rows + 4
 
--- records for the commands of all blocks: twice what one that brings a row adds at most, and where there is an index half as much again as
--- one that brings or changes a row adds there, since each seat has a share of them
+-- records for the commands of all blocks: half as much again as one that brings a row adds at most, and where there is an index as one that
+-- brings or changes a row adds there, since each seat has a share of them
 abbrev pub records_for_commands : Input → ℕ
-records_for_commands input = 8 * count_by (counts false) (commands_in input.lanes) + (if is_indexed input.indexes then 3 * count_by (counts true) (commands_in input.lanes) else 0)
+records_for_commands input = 6 * count_by (counts false) (commands_in input.lanes) + (if is_indexed input.indexes then 3 * count_by (counts true) (commands_in input.lanes) else 0)
 
 -- records that are never given out: those of the tables' chains, of their trees' roots and of their indexes
 abbrev pub fixed_of_run : ℕ

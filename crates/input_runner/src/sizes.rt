@@ -42,13 +42,13 @@ fn for_rows(input: &Input) -> u32
     2 * input.rows.len() as u32 + 4
 }
 
-/// Records for the commands: eight for each that may bring a row, and, where there is an index, three for each that may bring or
+/// Records for the commands: six for each that may bring a row, and, where there is an index, three for each that may bring or
 /// change one.
 fn for_commands(input: &Input) -> u32
     requires within { IsWithinLimits input.now }
     ensures value { result ≡ records_for_commands input.now }
 {
-    let rows = 8 * count_in_lanes(&input.lanes, false);
+    let rows = 6 * count_in_lanes(&input.lanes, false);
     if input.indexes.len() == 0 {
         rows
     } else {

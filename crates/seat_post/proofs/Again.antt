@@ -19,7 +19,7 @@ use Rattle.validate_core.specs.Sets.{SetsView, SameWrites, Turn}
 use Rattle.validate_core.specs.Installing.{SameSets, InstallsHeld}
 use Rattle.validate_core.specs.Validating as validating
 use Rattle.version_search.specs.Growing.{Grows, LosesNoPlace}
-use Rattle.version_search.proofs.Grown.{grows_both}
+use Rattle.version_search.proofs.Grown.{grows_both, linked_grows, linked_no_place}
 use Rattle.seat_post.specs.Conflicts.{ShowsOf, WasFound, WereFound}
 use Rattle.seat_post.specs.Seats.{Placed, placed_of}
 use Rattle.seat_post.specs.Rewriting.{rewriting, LinksOne, Rewrites, IsStopped, IsLoadedIn, others_in}
@@ -88,8 +88,8 @@ module _ (z : Size) (before after' : SetsView) (rid place : ℕ) (value : Option
     only = subst (λ (y : View). y ≡ record v { places = y.places; work = y.work; counts = counted_more v.size rid v.published.write place v.counts; tops = record { record_number = rid; stamp = v.published.write } ∷ v.tops; front = y.front; log = y.log; seen = y.seen })
         (sym (then ∙ ap (λ (y : View). record (validating.worked y w.work w.seen) { log = w.log }) linked_only)) refl;
     held = ap (λ (y : View). y.places.held) then ∙ installs.held;
-    grows = grows_both v.seen x.seen w.seen installs.puts.linked.grows grows;
-    no_place = subst (λ (ls : List Load). LosesNoPlace v.seen.lost ls) (sym lost) installs.puts.linked.no_place;
+    grows = grows_both v.seen x.seen w.seen (linked_grows _ _ _ installs.puts.linked) grows;
+    no_place = subst (λ (ls : List Load). LosesNoPlace v.seen.lost ls) (sym lost) (linked_no_place _ _ _ installs.puts.linked);
     ends = ends;
   }
 
@@ -176,11 +176,11 @@ stopped_at rid from wts place value z s s' v x w t conflict read written same in
     let number : x.number ≡ v.number = ap (λ (y : View). y.number) installs.only in
     let size : x.size ≡ v.size = ap (λ (y : View). y.size) installs.only in
     let within : x.number < x.size.seats = rw (number, size) inside in
-    let were = read_found rid from wts value s s' t v w read same (grows_both v.seen x.seen w.seen installs.puts.linked.grows works.grows) (subst (λ (n : ℕ). WasFound n rid wts v.seen.loads) (sym at) found) in
+    let were = read_found rid from wts value s s' t v w read same (grows_both v.seen x.seen w.seen (linked_grows _ _ _ installs.puts.linked) works.grows) (subst (λ (n : ℕ). WasFound n rid wts v.seen.loads) (sym at) found) in
     record {
       links = links_then z s s' rid place value v x installs written w then linked works.grows works.lost ends;
       log = log ∙ before;
       shown = subst (λ (n : ℕ). ShowsOf rid v.size v.number (others_in v) n conflict) at
           (subst (λ (y : View). ShowsOf rid y.size y.number (others_in y) t conflict) installs.only (shows_of rid from wts value s s' x w t conflict read written same stands within shown));
-      loaded = loaded_before v.published.write v x w conflict installs.puts.linked.grows (subst (λ (n : ℕ). IsLoadedIn n conflict x w) at (shown_loaded t s' x w conflict were shown));
+      loaded = loaded_before v.published.write v x w conflict (linked_grows _ _ _ installs.puts.linked) (subst (λ (n : ℕ). IsLoadedIn n conflict x w) at (shown_loaded t s' x w conflict were shown));
     }

@@ -1,5 +1,5 @@
 -- What a post keeps where the versions of its transaction are linked, decided and published, and what that tells.
-use Rattle.std.proofs.Common.{◌≡◌, ◌≢◌, ℕ, ◌<◌, ◌≤◌, eqb, zero, suc, List, [], ◌∷◌, ◌++◌, None, refl, sym, ap, ◌∙◌, subst, inl, inr, ◌⊎◌, arith, length, map, take, drop, length-append, eq-eqb}
+use Rattle.std.proofs.Common.{◌≡◌, ◌≢◌, ℕ, ◌<◌, ◌≤◌, eqb, zero, suc, List, [], ◌∷◌, ◌++◌, Option, None, refl, sym, ap, ◌∙◌, subst, inl, inr, ◌⊎◌, arith, length, map, take, drop, length-append, eq-eqb}
 use Rattle.std.specs.Prelude.{IsSome, Contains, slice_index_or}
 use Rattle.std.proofs.lemmas.List.{map_push}
 use Rattle.plain_data.specs.declared.entry.Entry.{Entry}
@@ -14,14 +14,14 @@ use Rattle.core_rule.specs.Deciding.{entry_of, value_of, read_values, written_va
 use Rattle.record_store.specs.Meaning.{value_at}
 use Rattle.validate_core.specs.declared.conflict.Conflict.{Conflict}
 use Rattle.validate_core.specs.declared.conflict.Conflict.TheVariants.{Pending, ReadLater, Overtaken}
-use Rattle.validate_core.specs.Sets.{SetsView, Once, SameWrites, Turn, IsInside}
+use Rattle.validate_core.specs.Sets.{SetsView, Once, SameWrites, Turn, IsInside, versions_read, records_written}
 use Rattle.validate_core.specs.Installing.{SameSets, Installs}
 use Rattle.validate_core.specs.Validating as validating
 use Rattle.seat_post.proofs.AloneSeats.{others_of, alone_told}
 use Rattle.seat_post.specs.Snapshot.{snapshot_view}
 use Rattle.seat_post.specs.Conflicts.{IsOfAnother, Touches}
 use Rattle.seat_post.specs.Ends.{Stood}
-use Rattle.seat_post.specs.Post.{IsPost, IsShownAt, entered, PostView, post_of, entry_at, observing, observed_in, versions_read}
+use Rattle.seat_post.specs.Post.{IsPost, IsShownAt, entered, PostView, post_of, entry_at, observing, observed_in}
 use Rattle.seat_post.specs.declared.phase.Phase.{Phase}
 use Rattle.seat_post.specs.declared.phase.Phase.TheVariants.{Idle, Open, Installed, Decided}
 use Rattle.seat_post.proofs.Observed.{were_found}
@@ -154,6 +154,11 @@ another_of v w n stands inside is =
 -- what stands in the sets was read, or is written
 read_some : (sets : SetsView) (rid version : ℕ) → validating.HasRead rid version sets → IsSome (value_at (read_values sets.reads) rid)
 read_some sets rid version d = subst (λ (n : ℕ). IsSome (value_at (read_values sets.reads) n)) d.of_record (among_read sets.reads d.read d.among)
+
+-- the records that are written, as a post shows them
+pub records_of : (us : List Write) → records_written us ≡ map (λ (write : ℕ × Option (List ℕ)). write.0) (written_values us)
+records_of [] = refl
+records_of (u ∷ us) = ap (λ (rids : List ℕ). u.record_number ∷ rids) (records_of us)
 
 -- with its version
 among_version : (ds : List Read) (d : Read) → Among d ds → Among (d.record_number, d.version) (versions_read ds)

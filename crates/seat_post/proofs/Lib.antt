@@ -5,6 +5,7 @@ pub mod Answered
 pub mod Bounds
 pub mod EndMore
 pub mod FreedPlaces
+pub mod Growing
 pub mod SnapshotReads
 pub mod ReservedPlace
 pub mod Leaving

@@ -10,7 +10,8 @@ use Rattle.core_rule.specs.Deciding.{written_values, value_of}
 use Rattle.core_rule.specs.Reckoning.{total, IsWithin, AtMost}
 use Rattle.record_store.specs.Meaning.{value_at}
 use Rattle.validate_core.specs.Sets.{SetsView, Once}
-use Rattle.validate_core.specs.Installing.{LinksEach, none_yet, one_more as one_more_linked, FindsNoPlace, IsFullFor}
+use Rattle.validate_core.specs.Installing.{LinksEach, FindsNoPlace, IsFullFor}
+use Rattle.validate_core.specs.OneByOne.{none_yet, one_more as one_more_linked}
 use Rattle.validate_core.proofs.Placing.{one_view}
 use Rattle.seat_post.specs.Seats.{Bounds}
 use Rattle.seat_post.specs.Lists.{HasOutside, IsOneMore, AreLinked, IsRoomyAt, IsFullAt}

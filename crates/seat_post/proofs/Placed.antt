@@ -1,26 +1,30 @@
 -- Which of the versions that were linked stand in inline places, and how many, as what is known of lists tells.
-use Rattle.std.proofs.Common.{◌≡◌, ℕ, ◌+◌, suc, true, false, Bool, cond, not, List, [], ◌∷◌, ◌++◌, Option, None, Some, refl, sym, ap, ◌∙◌, subst, inl, inr, arith, length, length-append, lt-ltb, le-ltb, eqb, eq-eqb, ne_eqb, ◌<◌, map}
+use Rattle.std.proofs.Common.{◌≡◌, ℕ, ◌+◌, suc, true, false, Bool, cond, not, List, [], ◌∷◌, ◌++◌, Option, None, Some, refl, sym, ap, ◌∙◌, subst, inl, inr, append_assoc, append-nil, arith, length, length-append, lt-ltb, le-ltb, eqb, eq-eqb, ne_eqb, ◌<◌, map}
 use Rattle.std.specs.Prelude.{IsSome, nat_lt}
 use Rattle.word_layout.specs.Size.{Size}
 use Rattle.core_rule.specs.View.{View, Write, Load, Bound, Counted, Reserved}
+use Rattle.core_rule.specs.Paths.{load}
 use Rattle.core_rule.specs.Views.{Among}
+use Rattle.word_layout.specs.Name.{wts}
 use Rattle.core_rule.specs.Searching.{known_of, one_more, counted_more}
 use Rattle.core_rule.specs.Deciding.{written_values, value_of}
+use Rattle.std.proofs.lemmas.List.{map_push}
 use Rattle.std.proofs.lemmas.List.Sums.{sum_by-cons}
 use Rattle.core_rule.specs.Hands.{Seated}
 use Rattle.validate_core.specs.Sets.{Once, count_below}
-use Rattle.validate_core.specs.Installing.{IsFor, LinksOne, LinksEach, none_yet, one_more as one_more_linked}
-use Rattle.validate_core.proofs.Placing.{one_view, each_grows}
-use Rattle.version_pool.specs.Takes.{IsLostOn, AreLostOn}
-use Rattle.version_search.specs.Growing.{Grows}
-use Rattle.version_search.proofs.Grown.{grows_none, grows_both}
+use Rattle.validate_core.specs.Installing.{IsFor, LinksOne, LinksEach}
+use Rattle.validate_core.specs.OneByOne.{OneByOne, none_yet, one_more as one_more_linked}
+use Rattle.validate_core.proofs.Placing.{one_view}
+use Rattle.version_pool.specs.Takes.{IsLostOn, AreLostOn, first_in_turn}
+use Rattle.version_search.specs.Links.{DescendsTo}
 use Rattle.seat_post.specs.Observing.{WasLost}
 use Rattle.seat_post.specs.Observing as observing
-use Rattle.seat_post.specs.Seats.{Bounds, Observed, Placed as PlacedAt, observed_of, placed_of}
-use Rattle.seat_post.specs.Placing.{is_inline, count_inline, HavePlaces, AreInlineFirst}
+use Rattle.seat_post.specs.Seats.{Bounds, Observed, Placed as PlacedAt, observed_of, placed_of, at_of}
+use Rattle.seat_post.specs.Placing.{is_inline, count_inline, HavePlaces, AreInlineFirst, Puts, FindsNone, WantsPlaceAt}
+use Rattle.seat_post.proofs.Growing.{grows_none, grows_both}
 use Rattle.seat_post.proofs.Observed.{lost_earlier, lost_later}
 use Rattle.seat_post.specs.Lists.{bounds_before, AreBounded, is_raised, count_raised}
-use Rattle.seat_post.specs.Post.{bounds_in, ArePlaced}
+use Rattle.seat_post.specs.Post.{PostView, bounds_in, ArePlaced}
 use Rattle.spare_numbers.proofs.Written.{length-written}
 use Rattle.seat_post.proofs.Listed.{among_written}
 use Rattle.core_rule.proofs.Among.{Among-split}
@@ -106,29 +110,14 @@ each_counted z stamp us hand hand' each kept once = λ known.
 
 -- ---- each in a place for its record
 
--- between two views the version was linked
-record LinkedBetween (z : Size) (stamp : ℕ) (u : Write) (v w : View) : Type 0 where
-  from : View
-  to : View
-  one : LinksOne z stamp u from to
-  before : Grows v.seen from.seen
-  behind : Grows to.seen w.seen
-
-each_between : (z : Size) (stamp : ℕ) (us : List Write) (v w : View) → LinksEach z stamp us v w → (u : Write) → Among u us → LinkedBetween z stamp u v w
-each_between z stamp _ _ _ (none_yet v) u among = absurd among
-each_between z stamp _ _ _ (one_more_linked us c v w x each l) u among =
-    elim (Among-split u us (c ∷ []) among) as (λ _. LinkedBetween z stamp u v x) [
-      | inl old ↦ (
-          let b = each_between z stamp us v w each u old in
-          record { from = b.from; to = b.to; one = b.one; before = b.before; behind = grows_both b.to.seen w.seen x.seen b.behind (each_grows z stamp (c ∷ []) w x (one_more_linked [] c w w x (none_yet w) l)) })
-      | inr new ↦ elim new as (λ _. LinkedBetween z stamp u v x) [
-        | inl same ↦ record { from = w; to = x; one = subst (λ (y : Write). LinksOne z stamp y w x) same l; before = each_grows z stamp us v w each; behind = grows_none x.seen }
-        | inr none ↦ absurd none
-      ]
-    ]
-
 pub each_fits : (z : Size) (stamp : ℕ) (us : List Write) (v w : View) → LinksEach z stamp us v w → (u : Write) → Among u us → IsFor z u.record_number u.place
-each_fits z stamp us v w each u among = (each_between z stamp us v w each u among).one.fits
+each_fits z stamp _ _ _ (none_yet v) u among = absurd among
+each_fits z stamp _ _ _ (one_more_linked us c v w x each l) u among =
+    elim (Among-split u us (c ∷ []) among) as (λ _. IsFor z u.record_number u.place) [
+      | inl old ↦ each_fits z stamp us v w each u old
+      | inr (inl same) ↦ subst (λ (y : Write). IsFor z y.record_number y.place) same l.fits
+      | inr (inr none) ↦ absurd none
+    ]
 
 -- of such a place, whether it is inline
 inline_below : (z : Size) (rid place : ℕ) → rid < z.records → IsFor z rid place → nat_lt place z.records ≡ eqb place rid
@@ -165,28 +154,72 @@ first_lost rid place others [] later a lost turn on apart = absurd (let same : p
 first_lost rid place others (e ∷ es) later a [] turn on apart = absurd on
 first_lost rid place others (e ∷ es) later a (l ∷ ls) turn on apart = record { earlier = []; exchange = l; later = ls; not_free = let same : e ≡ rid = cc in subst (λ (p : ℕ). IsLostOn p l) same on.0; lost = refl }
 
-each_first : (z : Size) (stamp : ℕ) (us : List Write) (v w : View) → LinksEach z stamp us v w → (u : Write) → Among u us → eqb u.place u.record_number ≡ false → WasLost u.record_number v.seen.lost w.seen.lost
-each_first z stamp us v w each u among apart =
-    let b = each_between z stamp us v w each u among in
-    let t = b.one.takes in
-    let met = first_lost u.record_number u.place _ t.earlier t.later b.from.seen.lost t.lost t.turn t.not_free apart in
-    let taken = subst (λ (ls : List Load). WasLost u.record_number b.from.seen.lost ls) (sym (ap (λ (x : View). x.seen.lost) t.takes.view)) met in
-    let linked = lost_later u.record_number _ _ _ b.one.linked.grows.missed b.one.linked.grows.lost taken in
-    lost_later u.record_number _ _ _ b.behind.missed b.behind.lost (lost_earlier u.record_number _ _ _ b.before.missed b.before.lost linked)
-
-placed_first : (a b : Observed) (us : List Write) → ((u : Write) → Among u us → eqb u.place u.record_number ≡ false → WasLost u.record_number a.lost b.lost) → AreInlineFirst a b (placed_of us)
-placed_first a b [] each at among = absurd among
-placed_first a b (u ∷ us) each at (inl same) = subst (λ (p : PlacedAt). is_inline p ≡ false → WasLost p.rid a.lost b.lost) same (each u (inl refl))
-placed_first a b (u ∷ us) each at (inr more) = placed_first a b us (λ c among. each c (inr among)) at more
-
-pub inline_first : (z : Size) (stamp : ℕ) (us : List Write) (v w x : View) → LinksEach z stamp us v w → Grows w.seen x.seen → x.work.linked ≡ us → AreInlineFirst (observed_of v) (observed_of x) (placed_of x.work.linked)
-inline_first z stamp us v w x each g linked =
-    subst (λ (xs : List Write). AreInlineFirst (observed_of v) (observed_of x) (placed_of xs)) (sym linked)
-    (placed_first (observed_of v) (observed_of x) us (λ u among apart. lost_later u.record_number _ _ _ g.missed g.lost (each_first z stamp us v w each u among apart)))
-
 -- it stays so where more was come upon
 pub inline_first_later : (a b c : Observed) (placed : List PlacedAt) → observing.Grows b c → AreInlineFirst a b placed → AreInlineFirst a c placed
 inline_first_later a b c placed g first at among apart = lost_later at.rid a.lost b.lost c.lost g.missed g.lost (first at among apart)
+
+-- each was put so
+put_one : (z : Size) (stamp : ℕ) (u : Write) (v w : View) → LinksOne z stamp u v w → Puts z stamp (at_of u) (observed_of v) (observed_of w)
+put_one z stamp u v w l = record {
+  first = first_in_turn z v.places.last_pool;
+  tried = l.takes.earlier;
+  later = l.takes.later;
+  turn = l.takes.turn;
+  met = l.takes.lost;
+  not_free = l.takes.not_free;
+  descends = subst (λ (n : ℕ). DescendsTo n u.record_number v.seen.loads (v.seen.lost ++ l.takes.lost) w.seen.loads w.seen.lost) l.at
+      (subst (λ (t : View). DescendsTo u.stamp u.record_number t.seen.loads t.seen.lost w.seen.loads w.seen.lost) l.takes.takes.view l.linked.descends);
+}
+
+pub each_puts : (z : Size) (stamp : ℕ) (us : List Write) (v w : View) → LinksEach z stamp us v w → OneByOne (Puts z stamp) (placed_of us) (observed_of v) (observed_of w)
+each_puts z stamp _ _ _ (none_yet v) = none_yet (observed_of v)
+each_puts z stamp _ _ _ (one_more_linked us u v w x each l) =
+    subst (λ (ps : List PlacedAt). OneByOne (Puts z stamp) ps (observed_of v) (observed_of x)) (sym (map_push at_of us u))
+    (one_more_linked (placed_of us) (at_of u) (observed_of v) (observed_of w) (observed_of x) (each_puts z stamp us v w each) (put_one z stamp u w x l))
+
+-- as a post shows it
+pub puts_told : {z z' : Size} {n n' : ℕ} {ps ps' : List PlacedAt} {a a' b : Observed} → OneByOne (Puts z n) ps a b → z ≡ z' → n ≡ n' → ps ≡ ps' → a ≡ a' → OneByOne (Puts z' n') ps' a' b
+puts_told {z} {z'} {n} {n'} {ps} {ps'} {a} {a'} {b} each size stamp placed from =
+    subst (λ (x : Size). OneByOne (Puts x n') ps' a' b) size
+    (subst (λ (k : ℕ). OneByOne (Puts z k) ps' a' b) stamp
+    (subst (λ (qs : List PlacedAt). OneByOne (Puts z n) qs a' b) placed (subst (λ (o : Observed). OneByOne (Puts z n) ps o b) from each)))
+
+-- what was come upon has grown by it
+pub put_grows : (z : Size) (stamp : ℕ) (at : PlacedAt) (a b : Observed) → Puts z stamp at a b → observing.Grows a b
+put_grows z stamp at a b p =
+    let d = p.descends in record {
+      loaded = d.loaded ++ load (wts d.place) d.version ∷ [];
+      missed = p.met ++ d.missed;
+      loads = d.loads;
+      lost = d.lost ∙ append_assoc a.lost p.met d.missed;
+    }
+
+pub puts_grow : (z : Size) (stamp : ℕ) (ps : List PlacedAt) (a b : Observed) → OneByOne (Puts z stamp) ps a b → observing.Grows a b
+puts_grow z stamp _ _ _ (none_yet a) = grows_none a
+puts_grow z stamp _ _ _ (one_more_linked ps p a b c each put) = grows_both a b c (puts_grow z stamp ps a b each) (put_grows z stamp p b c put)
+
+pub puts_first : (z : Size) (stamp : ℕ) (ps : List PlacedAt) (a b : Observed) → OneByOne (Puts z stamp) ps a b → AreInlineFirst a b ps
+puts_first z stamp _ _ _ (none_yet a) at among = absurd among
+puts_first z stamp _ _ _ (one_more_linked ps p a b c each put) at among =
+    let g = puts_grow z stamp ps a b each in
+    let h = put_grows z stamp p b c put in
+    let d = put.descends in
+    elim (Among-split at ps (p ∷ []) among) as (λ _. is_inline at ≡ false → WasLost at.rid a.lost c.lost) [
+      | inl old ↦ λ apart. lost_later at.rid a.lost b.lost c.lost h.missed h.lost (puts_first z stamp ps a b each at old apart)
+      | inr (inl same) ↦ subst (λ (q : PlacedAt). is_inline q ≡ false → WasLost q.rid a.lost c.lost) same
+          (λ apart. lost_earlier p.rid a.lost b.lost c.lost g.missed g.lost (lost_later p.rid b.lost (b.lost ++ put.met) c.lost d.missed d.lost (first_lost p.rid p.place _ put.tried put.later b.lost put.met put.turn put.not_free apart)))
+      | inr (inr none) ↦ absurd none
+    ]
+
+-- and where there was no place for the next one
+none_grows : (z : Size) (rid : ℕ) (a b : Observed) → FindsNone z rid a b → observing.Grows a b
+none_grows z rid a b f = record { loaded = []; missed = f.met; loads = ap (λ (o : Observed). o.loads) f.after ∙ sym (append-nil a.loads); lost = ap (λ (o : Observed). o.lost) f.after }
+
+pub wants_grows : (p q : PostView) → WantsPlaceAt p q → observing.Grows p.observed q.observed
+wants_grows p q w = grows_both p.observed w.between q.observed (puts_grow p.shared.size p.stamp q.placed p.observed w.between w.puts) (none_grows p.shared.size w.write.0 w.between q.observed w.none)
+
+pub wants_first : (p q : PostView) → WantsPlaceAt p q → AreInlineFirst p.observed q.observed q.placed
+wants_first p q w = inline_first_later p.observed w.between q.observed q.placed (none_grows p.shared.size w.write.0 w.between q.observed w.none) (puts_first p.shared.size p.stamp q.placed p.observed w.between w.puts)
 
 -- nothing of it has changed
 pub placed_kept : (hand hand' : Seated) (us : List Write) → hand'.view.size ≡ hand.view.size → hand'.view.counts ≡ hand.view.counts → ArePlaced hand us → ArePlaced hand' us

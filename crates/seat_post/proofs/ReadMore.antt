@@ -9,13 +9,13 @@ use Rattle.core_rule.specs.Searching.{Rests, IsWhole, IsFinal}
 use Rattle.core_rule.specs.Deciding.{AreReads, read_values, entry_of}
 use Rattle.core_rule.specs.Versions.{read_version, state_of}
 use Rattle.record_store.specs.Meaning.{value_at}
-use Rattle.validate_core.specs.Sets.{SetsView, MayInstall, Once}
+use Rattle.validate_core.specs.Sets.{SetsView, MayInstall, Once, versions_read}
 use Rattle.validate_core.specs.Installing.{IsBegun}
 use Rattle.version_search.specs.Finding as finding
 use Rattle.seat_post.specs.Searched.{Finds, Stops}
 use Rattle.seat_post.specs.Conflicts.{IsOfAnother}
 use Rattle.seat_post.specs.Reading.{FindsValue, LeadsTo, value_loaded}
-use Rattle.seat_post.specs.Post.{PostView, IsPost, post_of, observed_in, versions_read}
+use Rattle.seat_post.specs.Post.{PostView, IsPost, post_of, observed_in}
 use Rattle.seat_post.specs.declared.phase.Phase.{Phase}
 use Rattle.seat_post.specs.declared.phase.Phase.TheVariants.{Open}
 use Rattle.seat_post.proofs.AloneSeats.{others_of, alone_told}

@@ -1,41 +1,42 @@
 -- What a post keeps where it looks for the absent records, and that they are those that the log leaves.
 use Rattle.std.proofs.Common.{◌≡◌, ℕ, zero, suc, ◌<◌, ◌≤◌, ◌+◌, ◌-◌, Bool, true, false, ◌||◌, List, [], ◌∷◌, ◌++◌, None, map, refl, sym, ap, subst, ◌∙◌, arith, inl, inr, eqb, eq-eqb, eqb-true}
-use Rattle.std.specs.Prelude.{slice_index}
+use Rattle.std.specs.Prelude.{slice_index, if◌then◌else◌}
+use Rattle.std.specs.List.{range_with_len}
 use Rattle.std.specs.List.Sorted.{IsStrictlyIncreasing}
 use Rattle.std.proofs.lemmas.Bool.{or_cases, or_right}
 use Rattle.std.proofs.lemmas.Bool.Decides.{eqb_tells}
 use Rattle.plain_data.specs.declared.entry.Entry.{Entry}
 use Rattle.word_layout.specs.Name.{min_write}
 use Rattle.clock_stamps.specs.Minima.{bounded}
-use Rattle.core_rule.specs.View.{View, Work, Read, Logged, Seen, still, resting, no_work, Raises as Raised}
+use Rattle.core_rule.specs.View.{View, Work, Read, Load, Logged, Seen, still, resting, no_work, Raises as Raised}
 use Rattle.core_rule.specs.Deciding.{entry_of}
 use Rattle.core_rule.specs.Paths.{load}
 use Rattle.core_rule.specs.Hands.{Seated}
 use Rattle.core_rule.specs.Views.{IsAlone}
 use Rattle.core_rule.specs.Searching.{Rests, Ends}
 use Rattle.version_search.specs.Finding.{Reads, new_read}
+use Rattle.validate_core.specs.OneByOne.{OneByOne, none_yet, one_more}
 use Rattle.validate_core.specs.Sets.{SetsView}
 use Rattle.seat_post.specs.Leaves.{LeavesAs, AreAbsent}
 use Rattle.seat_post.specs.Observing.{with_load}
-use Rattle.seat_post.specs.Rescan.{Looks, LooksOver, looked_over}
+use Rattle.seat_post.specs.Rescan.{Looks, Searches, LooksAt, LooksOver, looked_over}
 use Rattle.seat_post.specs.Seats.{observed_of}
 use Rattle.seat_post.specs.declared.phase.Phase.{Phase}
 use Rattle.seat_post.specs.Post.{post_of, observing, observed_in}
 use Rattle.spare_numbers.specs.Spare.{NumbersView, is_on, added}
 use Rattle.seat_post.proofs.Announcing.{word, Announces}
-use Rattle.version_search.proofs.Grown.{grows_none, grows_both}
+use Rattle.version_pool.proofs.Turns.{range_with_len-more}
 use Rattle.spare_numbers.proofs.NumberLists.{or_off, on_either}
-use Rattle.seat_post.proofs.Observed.{reads_grow}
 
 -- ---- searches
 
 pub looks_none : (v : View) → Rests v.work.search → Looks v v
-looks_none v rests = record { view = refl; grows = grows_none v.seen; rests = rests; ends = λ e. e }
+looks_none v rests = record { view = refl; lost = refl; rests = rests; ends = λ e. e }
 
 pub looks_more : (u v w : View) → Looks u v → Looks v w → Looks u w
 looks_more u v w first second = record {
   view = second.view ∙ ap (λ (x : View). record x { work = w.work; seen = w.seen }) first.view;
-  grows = grows_both u.seen v.seen w.seen first.grows second.grows;
+  lost = second.lost ∙ first.lost;
   rests = second.rests;
   ends = λ e. second.ends (first.ends e);
 }
@@ -48,7 +49,7 @@ looks_read limit rid place w s v x is =
     let work : x.work ≡ record v.work { search = still; reads = new_read rid place w s ∷ v.work.reads } = ap (λ (y : View). y.work) is.view in
     record {
       view = is.view ∙ ap (λ (y : Work). record v { work = y; seen = x.seen }) (sym work);
-      grows = reads_grow limit rid place w s v x is;
+      lost = is.lost;
       rests = subst (λ (y : Work). Rests y.search) (sym work) tt;
       ends = λ e. subst Ends (sym work) (ends_read v.work (new_read rid place w s) e);
     }
@@ -108,7 +109,7 @@ none_absent log limit from to rids same none = rw none (record {
   each = λ r low below. absurd (omega arith);
 })
 
-pub present_more : (log : List Entry) (limit from to : ℕ) (rids : List ℕ) → from ≤ to → AreAbsent log limit from to rids → LeavesAs log to limit false → AreAbsent log limit from (to + 1) rids
+present_more : (log : List Entry) (limit from to : ℕ) (rids : List ℕ) → from ≤ to → AreAbsent log limit from to rids → LeavesAs log to limit false → AreAbsent log limit from (to + 1) rids
 present_more log limit from to rids some are left = record {
   rising = are.rising;
   in_range = λ r on. (let h = are.in_range r on in let i = h.0 in let j = h.1 in (omega arith, omega arith));
@@ -118,8 +119,23 @@ present_more log limit from to rids some are left = record {
   ];
 }
 
-pub absent_more : (log : List Entry) (limit from to : ℕ) (rids : List ℕ) → from ≤ to → AreAbsent log limit from to rids → LeavesAs log to limit true → AreAbsent log limit from (to + 1) (added rids to)
-absent_more log limit from to rids some are left = rw (off_above log limit from to rids are) (with_absent log limit from to rids some are left)
+-- its number put on the list where it is absent
+pub absent_more : (log : List Entry) (limit from to : ℕ) (rids : List ℕ) (absent : Bool) → from ≤ to → AreAbsent log limit from to rids → LeavesAs log to limit absent → AreAbsent log limit from (to + 1) (if absent then rids ++ to ∷ [] else rids)
+absent_more log limit from to rids true some are left = with_absent log limit from to rids some are left
+absent_more log limit from to rids false some are left = present_more log limit from to rids some are left
+
+pub added_above : (log : List Entry) (limit from to : ℕ) (rids : List ℕ) → AreAbsent log limit from to rids → added rids to ≡ rids ++ to ∷ []
+added_above log limit from to rids are = rw (off_above log limit from to rids are) refl
+
+-- ---- searches, one by one
+
+pub listed_none : (such : ℕ → (before after' : List Load × List ℕ) → Type 0) (fixed at : ℕ) (loads : List Load) (spare : List ℕ) → at ≡ fixed → spare ≡ [] → OneByOne such (range_with_len fixed (at - fixed)) (loads, []) (loads, spare)
+listed_none such fixed at loads spare same none = let z : at - fixed ≡ 0 = omega arith in rw (none, z) (none_yet (loads, []))
+
+pub listed_more : (limit fixed rid : ℕ) (s t u : List Load × List ℕ) (absent : Bool) → fixed ≤ rid → OneByOne (LooksAt limit) (range_with_len fixed (rid - fixed)) s t → Searches limit rid absent t.0 u.0 → u.1 ≡ (if absent then t.1 ++ rid ∷ [] else t.1)
+    → OneByOne (LooksAt limit) (range_with_len fixed (rid + 1 - fixed)) s u
+listed_more limit fixed rid s t u absent from before searches listed =
+    subst (λ rids. OneByOne (LooksAt limit) rids s u) (sym (range_with_len-more fixed rid from)) (one_more (range_with_len fixed (rid - fixed)) rid s t u before (record { absent = absent; searches = searches; listed = listed }))
 
 -- ---- the list of numbers
 
@@ -184,13 +200,15 @@ pub absent_below : (v y z w : View) (stamp fixed records : ℕ) (rids : List ℕ
 absent_below v y z w stamp fixed records rids is over log absent =
     subst (λ (n : ℕ). AreAbsent (map entry_of v.log) n fixed records rids) (is.reached ∙ sym (ap (λ (x : View). x.published.write) over.only)) (subst (λ (es : List Logged). AreAbsent (map entry_of es) (stamp + 1) fixed records rids) log absent)
 
-pub looks_over : (v x y z w : View) (stamp last : ℕ) → Announces v x → y ≡ bounded x stamp → Overlooks v z stamp → Looks y z → w ≡ bounded z last → Overlooked v w → LooksOver v.size.seats w.clock.met (observed_of v) (observed_of w)
-looks_over v x y z w stamp last is told over looks ended end =
+pub looks_over : (v x y z w : View) (stamp last fixed records : ℕ) (rids : List ℕ) → Announces v x → y ≡ bounded x stamp → Overlooks v z stamp → Looks y z → OneByOne (LooksAt (stamp + 1)) (range_with_len fixed (records - fixed)) (y.seen.loads, []) (z.seen.loads, rids)
+    → w ≡ bounded z last → Overlooked v w → LooksOver v.size.seats w.clock.met w.published.write fixed records rids (observed_of v) (observed_of w)
+looks_over v x y z w stamp last fixed records rids is told over looks each ended end =
     let met = ap (λ (u : View). u.clock.met) end.only in
     record {
       raised = observed_of y;
       minimum = record { raised = word v; between = observed_of x; raises = is.raised; not_less = omega arith; loads = ap observed_of told ∙ ap (λ (n : ℕ). with_load (observed_of x) (load min_write n)) (over.reached ∙ sym met) };
       searched = observed_of z;
-      grows = record { loaded = looks.grows.loaded; missed = looks.grows.missed; loads = looks.grows.loads; lost = looks.grows.lost };
+      each = subst (λ (n : ℕ). OneByOne (LooksAt n) (range_with_len fixed (records - fixed)) (y.seen.loads, []) (z.seen.loads, rids)) (over.reached ∙ sym (ap (λ (u : View). u.published.write) end.only)) each;
+      lost = looks.lost;
       last = ap observed_of ended ∙ ap (λ (n : ℕ). with_load (observed_of z) (load min_write n)) (sym (ap (λ (u : View). u.clock.met) ended));
     }

@@ -10,7 +10,7 @@ use Rattle.core_rule.specs.Views.{IsAlone, Among}
 use Rattle.core_rule.specs.Searching.{Ends}
 use Rattle.core_rule.specs.Deciding.{read_values, written_values}
 use Rattle.core_rule.specs.Deciding as deciding
-use Rattle.validate_core.specs.Sets.{SetsView, IsInside, count_below}
+use Rattle.validate_core.specs.Sets.{SetsView, IsInside, count_below, versions_read}
 use Rattle.validate_core.specs.Installing.{IsBegun, IsFor}
 use Rattle.validate_core.specs.Validating as validating
 use Rattle.validate_core.specs.declared.conflict.Conflict.{Conflict}
@@ -48,6 +48,10 @@ pub record PostView : Type 0 where
   pub versions : List (ℕ × ℕ)
   pub writes : List (ℕ × Option (List ℕ))
 
+-- the records that are written
+abbrev pub rids_written : PostView → List ℕ
+rids_written p = map (λ (write : ℕ × Option (List ℕ)). write.0) p.writes
+
 -- no other seat of its table is open
 abbrev pub IsAlonePost : PostView → Type 0
 IsAlonePost p = IsAloneAt p.shared.size p.seat p.others
@@ -84,10 +88,6 @@ post_view hand phase stamp reads versions writes = record {
   versions = versions;
   writes = writes;
 }
-
--- of each read its record and the stamp of its version
-abbrev pub versions_read : List Read → List (ℕ × ℕ)
-versions_read ds = map (λ (d : Read). (d.record_number, d.version)) ds
 
 -- what it shows of these sets
 abbrev pub post_of : Seated → Phase → ℕ → SetsView → PostView

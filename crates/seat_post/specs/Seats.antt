@@ -56,6 +56,9 @@ pub record Placed : Type 0 where
   pub rid : ℕ
   pub place : ℕ
 
+abbrev pub at_of : Write → Placed
+at_of u = record { rid = u.record_number; place = u.place }
+
 -- the versions that the transaction in flight has linked, or the last one
 abbrev pub placed_of : List Write → List Placed
-placed_of us = map (λ (u : Write). record { rid = u.record_number; place = u.place }) us
+placed_of us = map at_of us

@@ -7,9 +7,11 @@ ghost use Rattle.seat_post.specs.Seats.{IsAloneAt};
 ghost use Rattle.seat_post.specs.Leaves.{AreLeft};
 ghost use Rattle.seat_post.specs.Logs.{IsAbove};
 ghost use Rattle.seat_post.specs.Lists.{AreLinked, bounds_before, AreBounded, count_raised, IsFullAt};
-ghost use Rattle.seat_post.specs.Observing.{Grows};
-ghost use Rattle.seat_post.specs.Placing.{HavePlaces, AreInlineFirst, CountsPlaces, WantsPlaceAt};
-ghost use Rattle.seat_post.specs.Post.{with_bounds, placing, in_phase, closed, entered, entry_at, observing, IsShownAt};
+ghost use Rattle.seat_post.specs.Placing.{HavePlaces, Puts, CountsPlaces, WantsPlaceAt};
+ghost use Rattle.seat_post.specs.Post.{with_bounds, placing, in_phase, closed, entered, entry_at, observing, rids_written, IsShownAt};
+ghost use Rattle.validate_core.specs.Checked.{Validates};
+ghost use Rattle.validate_core.specs.Halting.{Halts};
+ghost use Rattle.validate_core.specs.OneByOne.{OneByOne};
 
 use crate::phase::Phase;
 use crate::post::Post;
@@ -25,10 +27,9 @@ impl<J: Keeps> Post<J> {
         requires open { self.old.phase ≡ Phase.Open }
         ensures ok { OnOk result (self.new ≡ observing (placing (in_phase (with_bounds self.old self.new.bounds) Phase.Installed) self.new.placed) self.new.observed) }
         ensures places { OnOk result (HavePlaces self.old.shared.size self.old.writes self.new.placed) }
-        ensures inline_first { AreInlineFirst self.old.observed self.new.observed self.new.placed }
+        ensures puts { OnOk result (OneByOne (Puts self.old.shared.size self.old.stamp) self.new.placed self.old.observed self.new.observed) }
         ensures stamp { IfOk result (λ installed. installed.stamp ≡ self.old.stamp) }
         ensures err { OnErr result (self.new ≡ observing (placing (closed (with_bounds self.old self.new.bounds)) self.new.placed) self.new.observed) }
-        ensures grows { Grows self.old.observed self.new.observed }
         ensures wants { OnErr result (WantsPlaceAt self.old self.new) }
         ensures written { OnErr result (self.old.writes ≢ []) }
         ensures above { IsAbove self.old.log self.old.stamp }
@@ -74,10 +75,12 @@ impl<J: Keeps> Post<J> {
         ensures stood { OnOk result (Stood J.kept self.old.shared.size.records self.old.log (entry_at self.old)) }
         ensures stamp { IfOk result (λ decided. decided.stamp ≡ self.old.stamp) }
         ensures err { OnErr result (self.new ≡ observing (closed self.old) self.new.observed) }
-        ensures grows { Grows self.old.observed self.new.observed }
+        ensures validates { OnOk result (Validates self.old.stamp self.old.seat self.old.versions (rids_written self.old) self.old.observed.loads self.new.observed.loads) }
+        ensures lost { self.new.observed.lost ≡ self.old.observed.lost }
         ensures shown { IfErr result (IsShownAt self.old) }
         ensures touches { IfErr result (Touches self.old.reads self.old.writes) }
         ensures loaded { IfErr result (λ conflict. IsLoaded self.old.stamp conflict self.old.observed self.new.observed) }
+        ensures halts { IfErr result (Halts self.old.stamp self.old.versions (rids_written self.old) self.old.observed.loads self.new.observed.loads) }
     {
         match installed.decide(core, &mut self.hand, &self.sets) {
             Ok(decided) => {

@@ -1,13 +1,15 @@
 //! Finding the absent records, at a post that is alone.
-ghost use Rattle.std.specs.Prelude.{◌≡◌, ◌+◌, ◌<◌, ◌≤◌, [], true, map};
+ghost use Rattle.std.specs.Prelude.{◌≡◌, ◌+◌, ◌-◌, ◌<◌, ◌≤◌, [], true, map};
+ghost use Rattle.std.specs.List.{range_with_len};
 ghost use Rattle.core_rule.specs.Deciding.{entry_of};
 ghost use Rattle.core_rule.specs.Hands.{IsReady, StaysReady};
 ghost use Rattle.core_rule.specs.Searching.{Rests};
 ghost use Rattle.core_rule.specs.View.{resting};
 ghost use Rattle.core_rule.specs.Views as views;
+ghost use Rattle.validate_core.specs.OneByOne.{OneByOne};
 ghost use Rattle.seat_post.specs.Leaves.{LeavesAs, AreAbsent};
 ghost use Rattle.seat_post.specs.Post.{observing};
-ghost use Rattle.seat_post.specs.Rescan.{Looks, LooksOver, looked_over};
+ghost use Rattle.seat_post.specs.Rescan.{Looks, Searches, LooksAt, LooksOver, looked_over};
 ghost use Rattle.seat_post.specs.Seats.{IsAloneAt};
 
 use crate::phase::Phase;
@@ -25,6 +27,7 @@ fn is_absent<J: Keeps>(core: &Core<J>, hand: &mut Hand<J>, rid: u32, stamp: u64)
     requires resting { hand.old.view.flight ≡ resting }
     requires up_to { hand.old.view.published.read ≡ stamp }
     ensures looks { Looks hand.old.view hand.new.view }
+    ensures searches { Searches (stamp + 1) rid result hand.old.view.seen.loads hand.new.view.seen.loads }
     ensures left { views.IsAlone hand.old.view → LeavesAs (map entry_of hand.old.view.log) rid (stamp + 1) result }
     ensures stays { StaysReady core.now hand.old hand.new }
 {
@@ -50,6 +53,7 @@ fn list_absent<J: Keeps>(core: &Core<J>, hand: &mut Hand<J>, stamp: u64, numbers
     requires none { numbers.old.spare ≡ [] }
     requires none_given { numbers.old.given ≡ [] }
     ensures looks { Looks hand.old.view hand.new.view }
+    ensures each { OneByOne (LooksAt (stamp + 1)) (range_with_len numbers.old.fixed (numbers.old.records - numbers.old.fixed)) (hand.old.view.seen.loads, []) (hand.new.view.seen.loads, numbers.new.spare) }
     ensures numbers { numbers.new ≡ record numbers.old { spare = numbers.new.spare } }
     ensures absent { AreAbsent (map entry_of hand.old.view.log) (stamp + 1) numbers.old.fixed numbers.old.records numbers.new.spare }
     ensures stays { StaysReady core.now hand.old hand.new }
@@ -73,7 +77,7 @@ impl<J: Keeps> Post<J> {
         requires none { numbers.old.spare ≡ [] }
         requires none_given { numbers.old.given ≡ [] }
         ensures value { self.new ≡ observing (looked_over self.old) self.new.observed }
-        ensures loads { LooksOver self.old.shared.size.seats self.new.met self.old.observed self.new.observed }
+        ensures loads { LooksOver self.old.shared.size.seats self.new.met self.new.published numbers.old.fixed numbers.old.records numbers.new.spare self.old.observed self.new.observed }
         ensures not_back { self.old.met ≤ self.new.met }
         ensures numbers { numbers.new ≡ record numbers.old { spare = numbers.new.spare } }
         ensures absent { AreAbsent self.old.log self.new.published numbers.old.fixed numbers.old.records numbers.new.spare }

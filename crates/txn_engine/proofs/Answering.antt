@@ -5,7 +5,6 @@ use Rattle.validate_core.specs.declared.conflict.Conflict.{Conflict}
 use Rattle.validate_core.specs.declared.conflict.Conflict.TheVariants.{Pending}
 use Rattle.seat_post.specs.declared.phase.Phase.{Phase}
 use Rattle.seat_post.specs.declared.phase.Phase.TheVariants.{Idle, Open, Installed, Decided}
-use Rattle.seat_post.specs.Observing.{Grows}
 use Rattle.seat_post.specs.Post.{known_at, written}
 use Rattle.seat_post.specs.Reading.{StopsAt}
 use Rattle.seat_post.specs.Seats.{Observed}
@@ -16,7 +15,8 @@ use Rattle.txn_engine.specs.Faults.{told_by, IsPending}
 use Rattle.txn_engine.specs.Leaves.{ReadsLeft}
 use Rattle.txn_engine.specs.Pass.{PassView, store_at, counted, doomed, observing}
 use Rattle.txn_engine.specs.Txn.{AnswersConflict, Refuses, Reads, Writes, Gives}
-use Rattle.txn_engine.proofs.Growing.{grows_none, stopped_grows}
+use Rattle.seat_post.proofs.Growing.{grows_none}
+use Rattle.txn_engine.proofs.Growing.{stopped_grows}
 
 -- ---- what a pass answers
 

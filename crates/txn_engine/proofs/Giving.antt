@@ -17,7 +17,7 @@ use Rattle.txn_engine.specs.Pass.{PassView, store_of, meaning_of_pass, frame, co
 use Rattle.txn_engine.specs.Txn.{notes, notes_after_fault, Reads, Gives}
 use Rattle.txn_engine.proofs.Accounting.{none_remains}
 use Rattle.txn_engine.proofs.Asking.{asks_left, all_written}
-use Rattle.txn_engine.proofs.Growing.{grows_none, grows_both}
+use Rattle.seat_post.proofs.Growing.{grows_none, grows_both}
 use Rattle.txn_engine.proofs.Passing.{HasPassed, none_passed, asks_passed, asks_given, all_passed, wants_memory, meets_next}
 
 -- The numbers before place i of the list that is left were asked for: they are written, and those that were not have left it. All else

@@ -1,5 +1,5 @@
 -- What the steps of a seat came upon, from call to call.
-use Rattle.std.proofs.Common.{◌≡◌, ℕ, List, [], ◌++◌, Option, None, Some, inl, inr, append_assoc, append-nil, sym, ap, ◌∙◌, subst}
+use Rattle.std.proofs.Common.{◌≡◌, ℕ, List, [], ◌++◌, Option, None, Some, inl, inr, append_assoc, append-nil, sym, ap, ◌∙◌}
 use Rattle.core_rule.specs.Paths.{glanced}
 use Rattle.core_rule.specs.Versions.{state_of}
 use Rattle.core_rule.specs.View.{Load, shown}
@@ -8,26 +8,15 @@ use Rattle.validate_core.specs.declared.conflict.Conflict.{Conflict}
 use Rattle.validate_core.specs.declared.conflict.Conflict.TheVariants.{Pending, ReadLater, Overtaken}
 use Rattle.seat_post.specs.Conflicts.{IsLoaded}
 use Rattle.seat_post.specs.Observing.{Grows}
+use Rattle.seat_post.proofs.Growing.{grows_same}
 use Rattle.seat_post.proofs.Observed.{met_before}
 use Rattle.seat_post.specs.Post.{PostView}
 use Rattle.seat_post.specs.Reading.{FindsValue, ReadsAs, StopsAt, value_loaded}
 use Rattle.seat_post.specs.Seats.{Observed}
 use Rattle.txn_engine.specs.Fresh.{IsMetAbsent, IsMetPresent}
 use Rattle.txn_engine.specs.Pass.{PassView}
-
-pub grows_none : (o : Observed) → Grows o o
-grows_none o = record { loaded = []; missed = []; loads = sym (append-nil o.loads); lost = sym (append-nil o.lost) }
-
-pub grows_same : (o p : Observed) → p ≡ o → Grows o p
-grows_same o p same = subst (λ (x : Observed). Grows o x) (sym same) (grows_none o)
-
-pub grows_both : (o p q : Observed) → Grows o p → Grows p q → Grows o q
-grows_both o p q a b = record {
-  loaded = a.loaded ++ b.loaded;
-  missed = a.missed ++ b.missed;
-  loads = b.loads ∙ ap (λ (x : List Load). x ++ b.loaded) a.loads ∙ append_assoc o.loads a.loaded b.loaded;
-  lost = b.lost ∙ ap (λ (x : List Load). x ++ b.missed) a.lost ∙ append_assoc o.lost a.missed b.missed;
-}
+use Rattle.txn_engine.specs.Staged.{IsValidated, IsHaltedBy}
+use Rattle.validate_core.proofs.Behind.{validates_grow, halts_grow}
 
 -- by a search that found a value, or stopped, and so by each number that was asked for
 found_grows : (stamp rid : ℕ) (value : Option (List ℕ)) (o p : Observed) → FindsValue stamp rid o p value → Grows o p
@@ -54,6 +43,13 @@ absent_grows p rid versions o t (inr found) = found_grows p.stamp rid None o t f
 pub present_grows : (p : PassView) (rid : ℕ) (o t : Observed) → IsMetPresent p rid o t → Grows o t
 present_grows p rid o t (words, inl known) = grows_same o t known.1
 present_grows p rid o t (words, inr found) = found_grows p.stamp rid (Some words) o t found
+
+-- by what validates a transaction, or stops at a conflict
+pub validated_grows : (p q : PassView) → IsValidated p p.observed.loads q.observed.loads → q.observed.lost ≡ p.observed.lost → Grows p.observed q.observed
+validated_grows p q v lost = let more = validates_grow p.stamp p.seat p.versions _ p.observed.loads q.observed.loads v in record { loaded = more.0; missed = []; loads = more.1; lost = lost ∙ sym (append-nil p.observed.lost) }
+
+pub halted_grows : (p q : PassView) (conflict : Conflict) → IsHaltedBy p conflict p.observed.loads q.observed.loads → q.observed.lost ≡ p.observed.lost → Grows p.observed q.observed
+halted_grows p q conflict h lost = let more = halts_grow p.stamp p.versions _ p.observed.loads q.observed.loads conflict h in record { loaded = more.0; missed = []; loads = more.1; lost = lost ∙ sym (append-nil p.observed.lost) }
 
 -- what a conflict names was loaded between two, also where the first of them was earlier
 pub loaded_earlier : (stamp : ℕ) (o p q : Observed) (conflict : Conflict) → Grows o p → IsLoaded stamp conflict p q → IsLoaded stamp conflict o q

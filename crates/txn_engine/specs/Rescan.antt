@@ -11,11 +11,12 @@ abbrev pub rescanned : PassView → List ℕ → PassView
 rescanned p spare = record p { post = looked_over p.post; spare = spare; given = [] }
 
 -- The spare numbers are those of the absent records from the first that is given out on, and are counted. They are so below what is
--- published, which is above each commit entry of the log, since the bound of the clock is; and what was loaded shows the minimum.
+-- published, which is above each commit entry of the log, since the bound of the clock is; and what was loaded shows the minimum, and
+-- the search for each of them.
 pub record Rescans (before after' : PassView) (told : ℕ) : Type 0 where
   pub after : after' ≡ observing (rescanned before after'.spare) after'.observed
   pub absent : AreAbsent before.log after'.published before.fixed before.shared.size.records after'.spare
   pub count : told ≡ length after'.spare
   pub above : IsAbove before.log (bound_of_clock before.clock)
   pub not_back : before.met ≤ after'.met
-  pub loads : LooksOver before.shared.size.seats after'.met before.observed after'.observed
+  pub loads : LooksOver before.shared.size.seats after'.met after'.published before.fixed before.shared.size.records after'.spare before.observed after'.observed

@@ -2,13 +2,18 @@
 use Rattle.std.specs.Prelude.{◌≡◌, ◌≢◌, ◌+◌, List, [], ◌∷◌, ◌++◌, None, IfSome, length}
 use Rattle.plain_data.specs.declared.entry.Entry.{Entry}
 use Rattle.plain_data.specs.State.{State}
+use Rattle.core_rule.specs.View.{Load}
+use Rattle.validate_core.specs.Checked.{Validates}
+use Rattle.validate_core.specs.Halting.{Halts}
+use Rattle.validate_core.specs.OneByOne.{OneByOne}
 use Rattle.validate_core.specs.declared.conflict.Conflict.{Conflict}
 use Rattle.seat_post.specs.Ends.{Stood}
 use Rattle.seat_post.specs.Leaves.{AreLeft}
 use Rattle.seat_post.specs.Lists.{AreLinked, AreSomeLinked, bounds_before, AreBounded, count_raised}
 use Rattle.seat_post.specs.Logs.{IsAbove}
 use Rattle.seat_post.specs.Observing.{Grows}
-use Rattle.seat_post.specs.Placing.{HavePlaces, AreInlineFirst, CountsPlaces}
+use Rattle.seat_post.specs.Placing.{HavePlaces, AreInlineFirst, Puts, CountsPlaces}
+use Rattle.seat_post.specs.Post.{rids_written}
 use Rattle.seat_post.specs.Seats.{Bounds}
 use Rattle.engine_answers.specs.declared.faults.CommitFault.{CommitFault}
 use Rattle.engine_answers.specs.declared.faults.CommitFault.TheVariants as fault
@@ -18,13 +23,13 @@ use Rattle.txn_engine.specs.Leaves.{HoldsAbsent}
 use Rattle.txn_engine.specs.Lists.{IsFull, IsTidyOnceCollected, IsRoomyOnceCollected}
 use Rattle.txn_engine.specs.Pass.{PassView, IsAlone, with_bounds, observing, placing, with_log, entry_of, installed, decided, refused, published}
 
--- its versions are linked as pending ones, each in a place for its record, the inline one where that was met free
+-- its versions are linked one by one as pending ones, each in a place for its record, the inline one where that was met free, and nothing
+-- else is loaded
 pub record Installs (before after' : PassView) : Type 0 where
   pub after : after' ≡ observing (placing (installed (with_bounds before after'.bounds)) after'.placed) after'.observed
-  pub grows : Grows before.observed after'.observed
   pub alive : before.dead ≡ None
   pub have : HavePlaces before.shared.size before.writes after'.placed
-  pub inline_first : AreInlineFirst before.observed after'.observed after'.placed
+  pub puts : OneByOne (Puts before.shared.size before.stamp) after'.placed before.observed after'.observed
   pub above : IsAbove before.log before.stamp
   pub read_left : IsAlone before → AreLeft before.log before.stamp before.reads
   pub first : bounds_before (length before.writes) after'.bounds ≡ before.bounds
@@ -53,16 +58,26 @@ pub record RefusesInstall (before after' : PassView) (why : CommitFault) : Type 
 abbrev pub bounds_first : PassView → Bounds
 bounds_first p = bounds_before (length p.writes) p.bounds
 
+-- the loads between two lists validate it: each record read was searched once more, and each written one was checked
+abbrev pub IsValidated : PassView → (before after' : List Load) → Type 0
+IsValidated p before after' = Validates p.stamp p.seat p.versions (rids_written p.post) before after'
+
+-- they end at this conflict, behind what passed before it
+abbrev pub IsHaltedBy : PassView → Conflict → (before after' : List Load) → Type 0
+IsHaltedBy p conflict before after' = Halts p.stamp p.versions (rids_written p.post) before after' conflict
+
 -- it is valid: its entry stands at the end of the log, and a kept state of the history agrees with its reads
 pub record Decides (kept : State → Type 0) (before after' : PassView) : Type 0 where
   pub after : after' ≡ observing (decided before) after'.observed
-  pub grows : Grows before.observed after'.observed
+  pub validated : IsValidated before before.observed.loads after'.observed.loads
+  pub lost : after'.observed.lost ≡ before.observed.lost
   pub stood : Stood kept before.shared.size.records before.log (entry_of before)
 
 -- it is not, since a load showed a conflict with what it has read or written, and has ended
 pub record RefusesDecision (before after' : PassView) (conflict : Conflict) : Type 0 where
   pub after : after' ≡ observing (refused before) after'.observed
-  pub grows : Grows before.observed after'.observed
+  pub halts : IsHaltedBy before conflict before.observed.loads after'.observed.loads
+  pub lost : after'.observed.lost ≡ before.observed.lost
   pub shown : IsShown before conflict
   pub touched : IsTouched before conflict
   pub loaded : WasLoaded before after' conflict

@@ -13,7 +13,8 @@ use Rattle.core_rule.specs.Searching.{known_of, one_more, counted_more}
 use Rattle.core_rule.specs.Reckoning.{total, IsWithin, AtMost}
 use Rattle.version_pool.specs.Takes.{IsFull}
 use Rattle.validate_core.specs.Sets.{SetsView}
-use Rattle.validate_core.specs.Installing.{IsBegun, LinksOne, LinksEach, none_yet, one_more as one_more_linked, IsFullFor}
+use Rattle.validate_core.specs.Installing.{IsBegun, LinksOne, LinksEach, IsFullFor}
+use Rattle.validate_core.specs.OneByOne.{none_yet, one_more as one_more_linked}
 use Rattle.validate_core.proofs.Placing.{one_view, Placing, placing_collected}
 
 -- ---- one bound more

@@ -1,5 +1,5 @@
 -- The checks of what a transaction overwrites, from step to step.
-use Rattle.std.proofs.Common.{◌≡◌, ◌≢◌, ℕ, ◌+◌, ◌<◌, ◌≤◌, true, false, cond, List, [], ◌∷◌, ◌++◌, append-nil, refl, sym, ap, ◌∙◌, subst, inl, inr, ⊎_elim, take, take_all, length, arith}
+use Rattle.std.proofs.Common.{◌≡◌, ◌≢◌, ℕ, ◌+◌, ◌<◌, ◌≤◌, true, false, cond, List, [], ◌∷◌, ◌++◌, append-nil, refl, sym, ap, ◌∙◌, subst, inl, inr, ⊎_elim, take, take_all, length, arith, Result, Ok, Err, OnOk}
 use Rattle.std.specs.Prelude.{nat_le}
 use Rattle.std.proofs.lemmas.Bool.{le-leb, lt-leb}
 use Rattle.plain_data.specs.State.{State}
@@ -13,10 +13,13 @@ use Rattle.core_rule.specs.Kinds.{load_read_stamp, decide_by_check}
 use Rattle.core_rule.specs.Learnt.{IsOfAnother}
 use Rattle.core_rule.specs.Paths.{EndsAt, load}
 use Rattle.version_search.specs.Finding.{Finds, stand_for}
-use Rattle.validate_core.specs.Sets.{SetsView, Turn}
+use Rattle.validate_core.specs.Sets.{SetsView, Turn, records_written}
+use Rattle.validate_core.specs.Checked.{IsReadInTime, PassesCheck, Checks}
+use Rattle.validate_core.specs.OneByOne.{OneByOne, none_yet}
 use Rattle.validate_core.specs.Validating.{Works, Stage, StageOf, MetFinal, its_read_stamp, Writes}
 use Rattle.validate_core.proofs.Works.{works_none, works_both, works_step, ready_none, ready_both, among_turn, among_last}
-use Rattle.validate_core.proofs.Staging.{take_next, found_works, another_works}
+use Rattle.validate_core.proofs.OneByOne.{take_next, each_next, each_all, read_in_time, checks_some}
+use Rattle.validate_core.proofs.Staging.{found_works, another_works}
 
 pub check_begins : (stamp : ℕ) (s : SetsView) (up done : List Read) (checked : List Write) (i : ℕ) (u : Write) (v : View) → Turn i s.writes u → Stage stamp s up done checked v → Begins (checks u) u.record_number v.work
 check_begins stamp s up done checked i u v turn st = (st.rests, refl, subst (Among u) (sym st.linked) (among_turn i s.writes u turn), st.undecided.undecided)
@@ -94,22 +97,53 @@ module _ (stamp : ℕ) (s : SetsView) (i : ℕ) (u : Write) (place w n : ℕ) (v
 pub record Checking (core : Shared) (before : Seated) (stamp : ℕ) (s : SetsView) (i : ℕ) (now : Seated) : Type 0 where
   pub stays : StaysReady core before now
   pub works : Works before.view now.view
+  pub checked : OneByOne (IsReadInTime stamp) (records_written (take i s.writes)) before.view.seen.loads now.view.seen.loads
   pub stage : Stage stamp s s.reads s.reads (take i s.writes) now.view
 
 pub checking_starts : (core : Shared) (before : Seated) (stamp : ℕ) (s : SetsView) → IsReady core before → Stage stamp s s.reads s.reads [] before.view → Checking core before stamp s 0 before
-checking_starts core before stamp s ready stage = record { stays = ready_none core before ready; works = works_none before.view; stage = stage }
+checking_starts core before stamp s ready stage = record { stays = ready_none core before ready; works = works_none before.view; checked = none_yet before.view.seen.loads; stage = stage }
 
 pub checking_next : (core : Shared) (before : Seated) (stamp : ℕ) (s : SetsView) (i : ℕ) (now at : Seated) → Checking core before stamp s i now → StaysReady core now at → Works now.view at.view
-    → Stage stamp s s.reads s.reads (take (i + 1) s.writes) at.view → Checking core before stamp s (i + 1) at
-checking_next core before stamp s i now at c stays works stage = record { stays = ready_both core before now at c.stays stays; works = works_both before.view now.view at.view c.works works; stage = stage }
+    → PassesCheck stamp i s.writes now.view.seen.loads at.view.seen.loads → Stage stamp s s.reads s.reads (take (i + 1) s.writes) at.view → Checking core before stamp s (i + 1) at
+checking_next core before stamp s i now at c stays works passes stage = record {
+  stays = ready_both core before now at c.stays stays;
+  works = works_both before.view now.view at.view c.works works;
+  checked = each_next (λ (w : Write). w.record_number) (IsReadInTime stamp) i s.writes passes.write before.view.seen.loads now.view.seen.loads at.view.seen.loads passes.turn c.checked passes.in_time;
+  stage = stage;
+}
+
+-- all of them, with the last one
+checks_all : (core : Shared) (before : Seated) (stamp : ℕ) (s : SetsView) (i : ℕ) (now : Seated) (after' : List Load) → i + 1 ≡ length s.writes → Checking core before stamp s i now → PassesCheck stamp i s.writes now.view.seen.loads after' → Checks stamp before.view.number (records_written s.writes) before.view.seen.loads after'
+checks_all core before stamp s i now after' last c passes =
+    checks_some stamp before.view.number s.writes before.view.seen.loads after' (omega arith)
+    (each_all (λ (w : Write). w.record_number) (IsReadInTime stamp) (i + 1) s.writes before.view.seen.loads after' (omega arith)
+    (each_next (λ (w : Write). w.record_number) (IsReadInTime stamp) i s.writes passes.write before.view.seen.loads now.view.seen.loads after' passes.turn c.checked passes.in_time))
+
+pub ok_checks : {E : Type 0} (core : Shared) (before : Seated) (stamp : ℕ) (s : SetsView) (i : ℕ) (now : Seated) (after' : List Load) (r : Result (Unit {0}) E) → i + 1 ≡ length s.writes → Checking core before stamp s i now
+    → OnOk r (PassesCheck stamp i s.writes now.view.seen.loads after') → OnOk r (Checks stamp before.view.number (records_written s.writes) before.view.seen.loads after')
+ok_checks core before stamp s i now after' (Ok t) last c passes = checks_all core before stamp s i now after' last c passes
+ok_checks core before stamp s i now after' (Err e) last c passes = tt
+
+-- the next load was at the place of the version
+pub loads_there : (stamp : ℕ) (s : SetsView) (i : ℕ) (u : Write) (place w n r : ℕ) (v x y : View) → Finds (checks u) stamp u.record_number place w n v x → y.seen.loads ≡ x.seen.loads ++ load (rts (stand_in x.work.search).place) r ∷ []
+    → y.seen.loads ≡ x.seen.loads ++ load (rts place) r ∷ []
+loads_there stamp s i u place w n r v x y f loads = loads ∙ ap (λ (z : Search). x.seen.loads ++ load (rts (stand_in z).place) r ∷ []) (found_search stamp s i u place w n v x f)
+
+-- the next load found no greater read stamp at the place of the version
+pub check_passes : (stamp : ℕ) (s : SetsView) (i : ℕ) (u : Write) (place w n r : ℕ) (v x y : View) → Turn i s.writes u → Finds (checks u) stamp u.record_number place w n v x → n ≢ 2 → r ≤ stamp
+    → y.seen.loads ≡ x.seen.loads ++ load (rts (stand_in x.work.search).place) r ∷ [] → PassesCheck stamp i s.writes v.seen.loads y.seen.loads
+check_passes stamp s i u place w n r v x y turn f ne le loads = record {
+  write = u;
+  turn = turn;
+  in_time = read_in_time (checks u) stamp u.record_number place w n r v x y.seen.loads ne f le (loads_there stamp s i u place w n r v x y f loads);
+}
 
 -- a greater read stamp, which the next load found at the place of the version
 pub later_shown : (stamp : ℕ) (s : SetsView) (i : ℕ) (u : Write) (place w n r : ℕ) (v x y : View) → Turn i s.writes u → Finds (checks u) stamp u.record_number place w n v x → n ≢ 2 → stamp < r → Works x y
     → y.seen.loads ≡ x.seen.loads ++ load (rts (stand_in x.work.search).place) r ∷ [] → IsOfAnother x r
     → (stamp < r) × IsOfAnother y r × Writes u.record_number s × MetFinal stamp u.record_number w (its_read_stamp r) v.seen.loads y.seen.loads
 later_shown stamp s i u place w n r v x y turn f ne later works loads o =
-    let range = f.reaches.state in let low = range.0 in let high = range.1 in
-    let here : (stand_in x.work.search).place ≡ place = ap (λ (z : Search). (stand_in z).place) (found_search stamp s i u place w n v x f) in (
+    let range = f.reaches.state in let low = range.0 in let high = range.1 in (
       later,
       another_works r x y works o,
       record { write = u; among = among_turn i s.writes u turn; of_record = refl },
@@ -122,7 +156,7 @@ later_shown stamp s i u place w n r v x y turn f ne later works loads o =
           met = x.seen.loads;
           later = [];
           path = subst (λ (ls : List Load). EndsAt stamp u.record_number place w n ls x.seen.loads) (sym (append-nil v.seen.loads)) f.path;
-          loads = loads ∙ ap (λ (p : ℕ). x.seen.loads ++ load (rts p) r ∷ []) here;
+          loads = loads_there stamp s i u place w n r v x y f loads;
         };
       },
     )

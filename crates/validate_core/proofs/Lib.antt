@@ -1,8 +1,11 @@
+pub mod Behind
 pub mod Bounds
 pub mod Chaining
 pub mod Checks
+pub mod Halting
 pub mod LastCheck
 pub mod Noting
+pub mod OneByOne
 pub mod Placing
 pub mod Settling
 pub mod Staging

@@ -12,10 +12,11 @@ use Rattle.version_pool.specs.Fills.{after_filling}
 use Rattle.version_pool.specs.Takes.{after_taking, after_losing}
 use Rattle.version_search.specs.Growing.{Grows}
 use Rattle.version_search.specs.Links.{IsLinked}
-use Rattle.version_search.proofs.Grown.{grows_none, grows_both, grows_lost}
+use Rattle.version_search.proofs.Grown.{grows_none, grows_both, grows_lost, linked_grows}
 use Rattle.validate_core.specs.Sets.{SetsView, Turn, Once, IsInside, SameWrites}
 use Rattle.validate_core.specs.Validating.{Stands, worked, Works, IsInstalled}
-use Rattle.validate_core.specs.Installing.{IsBegun, SameSets, installed_in, Puts, InstallsOne, FindsNoneFor, LinksOne, LinksEach, none_yet, one_more, Installs, InstallsHeld, FindsNoPlace}
+use Rattle.validate_core.specs.Installing.{IsBegun, SameSets, installed_in, Puts, InstallsOne, FindsNoneFor, LinksOne, LinksEach, Installs, InstallsHeld, FindsNoPlace}
+use Rattle.validate_core.specs.OneByOne.{none_yet, one_more}
 use Rattle.validate_core.proofs.Works.{works_stands, logs_stand, stands_both, ready_none, ready_both, among_turn, among_last, once_turn}
 use Rattle.validate_core.proofs.Writes.{same_none, same_both, same_set, same_among, same_once, same_length}
 
@@ -55,7 +56,7 @@ module _ (z : Size) (stamp : ℕ) (u : Write) (v w : View) (l : LinksOne z stamp
   one_grows : Grows v.seen w.seen
   one_grows =
       let e = l.takes.takes.view in
-      grows_both v.seen l.taken.seen w.seen (grows_lost v.seen l.taken.seen l.takes.lost (ap (λ (x : View). x.seen.loads) e) (ap (λ (x : View). x.seen.lost) e)) l.linked.grows
+      grows_both v.seen l.taken.seen w.seen (grows_lost v.seen l.taken.seen l.takes.lost (ap (λ (x : View). x.seen.loads) e) (ap (λ (x : View). x.seen.lost) e)) (linked_grows u _ w l.linked)
 
   one_rests : Rests w.work.search
   one_rests = subst (λ (x : View). Rests x.work.search) (sym one_view) tt

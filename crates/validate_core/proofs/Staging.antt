@@ -1,5 +1,5 @@
 -- The reads and the writes of a transaction, checked one by one.
-use Rattle.std.proofs.Common.{◌≡◌, ◌≢◌, ℕ, suc, ◌+◌, ◌<◌, ◌≤◌, Bool, true, false, cond, eq-eqb, List, [], ◌∷◌, ◌++◌, append_assoc, append-nil, refl, sym, ap, ◌∙◌, subst, inl, inr, take, take_all, length, arith, Result, Ok, Err, OnOk, OnErr, IfErr}
+use Rattle.std.proofs.Common.{◌≡◌, ◌≢◌, ℕ, ◌+◌, ◌<◌, ◌≤◌, Bool, true, false, cond, eq-eqb, List, [], ◌∷◌, ◌++◌, append_assoc, append-nil, refl, sym, ap, ◌∙◌, subst, inl, inr, take, take_all, length, arith, Result, Ok, Err, OnOk, OnErr, IfErr}
 use Rattle.std.proofs.lemmas.Bool.{le-leb}
 use Rattle.plain_data.specs.State.{State}
 use Rattle.word_layout.specs.Size.{Size, places}
@@ -15,8 +15,11 @@ use Rattle.core_rule.specs.Learnt.{IsOfAnother}
 use Rattle.core_rule.specs.Paths.{EndsAt}
 use Rattle.version_search.specs.Finding.{Finds, stand_for}
 use Rattle.version_search.proofs.Grown.{grows_both}
-use Rattle.validate_core.specs.Sets.{SetsView, Turn, IsInside, Once}
+use Rattle.validate_core.specs.Sets.{SetsView, Turn, IsInside, Once, versions_read, records_written}
+use Rattle.validate_core.specs.Checked.{Raises, FindsFinal, FindsAgain, Checks, Validates}
+use Rattle.validate_core.specs.OneByOne.{OneByOne, none_yet}
 use Rattle.validate_core.specs.Validating.{Works, Decides, Stage, Stopped, Met, MetFinal, no_more, its_read_stamp, IsShown, HasRead}
+use Rattle.validate_core.proofs.OneByOne.{take_next, each_next, finds_final}
 use Rattle.validate_core.proofs.Works.{works_none, works_both, works_step, ready_over, ready_none, ready_both, among_turn, once_turn}
 
 pub read_of : (ds found : List Read) (d : Read) → AreReads ds found → Among d ds → Among d found × IsWhole d
@@ -28,18 +31,16 @@ pub once_reads : (ds found : List Read) → AreReads ds found → Once (λ (d : 
 once_reads [] found h = tt
 once_reads (d ∷ ds) found h = (λ c a e. h.2 c a e, once_reads ds found h.3)
 
-pub take_next : {A : Type 0} → (i : ℕ) (xs : List A) (x : A) → Turn i xs x → take (i + 1) xs ≡ take i xs ++ x ∷ []
-take_next i xs x t = (let k : i + 1 ≡ suc i = omega arith in ap (λ (n : ℕ). take n xs) k) ∙ t.next
-
 -- ---- read stamps are raised
 
 pub record Raising (core : Shared) (before : Seated) (stamp : ℕ) (s : SetsView) (i : ℕ) (now : Seated) : Type 0 where
   pub stays : StaysReady core before now
   pub works : Works before.view now.view
+  pub raised : OneByOne Raises (versions_read (take i s.reads)) before.view.seen.loads now.view.seen.loads
   pub stage : Stage stamp s (take i s.reads) [] [] now.view
 
 pub raising_starts : (core : Shared) (before : Seated) (stamp : ℕ) (s : SetsView) → IsReady core before → Stage stamp s [] [] [] before.view → Raising core before stamp s 0 before
-raising_starts core before stamp s ready stage = record { stays = ready_none core before ready; works = works_none before.view; stage = stage }
+raising_starts core before stamp s ready stage = record { stays = ready_none core before ready; works = works_none before.view; raised = none_yet before.view.seen.loads; stage = stage }
 
 module _ (core : Shared) (before : Seated) (stamp : ℕ) (s : SetsView) (i : ℕ) (now : Seated) (d : Read) (turn : Turn i s.reads d) (at : Raising core before stamp s i now) where
   pub raise_found : Among d now.view.work.reads × IsWhole d
@@ -56,6 +57,7 @@ module _ (core : Shared) (before : Seated) (stamp : ℕ) (s : SetsView) (i : ℕ
       let e = step.view in let st = at.stage in record {
         stays = ready_both core before now next' at.stays (ready_over core now next' _ e refl refl refl at.stays.ready step.seat);
         works = works_both before.view now.view next'.view at.works (works_step now.view next'.view _ _ _ e refl refl);
+        raised = each_next (λ (x : Read). (x.record_number, x.version)) Raises i s.reads d before.view.seen.loads now.view.seen.loads next'.view.seen.loads turn at.raised record { place = d.place; found = n; loads = ap (λ (v : View). v.seen.loads) e };
         stage = subst (Stage stamp s (take (i + 1) s.reads) [] []) (sym e) record {
           in_flight = st.in_flight;
           rests = st.rests;
@@ -202,16 +204,19 @@ overtaken_shown stamp s i d place w n v x turn f ne apart =
 pub record Again (core : Shared) (before : Seated) (stamp : ℕ) (s : SetsView) (i : ℕ) (now : Seated) : Type 0 where
   pub stays : StaysReady core before now
   pub works : Works before.view now.view
+  pub again : OneByOne (FindsAgain stamp) (versions_read (take i s.reads)) before.view.seen.loads now.view.seen.loads
   pub stage : Stage stamp s s.reads (take i s.reads) [] now.view
 
 pub again_starts : (core : Shared) (before : Seated) (stamp : ℕ) (s : SetsView) → IsReady core before → Stage stamp s s.reads [] [] before.view → Again core before stamp s 0 before
-again_starts core before stamp s ready stage = record { stays = ready_none core before ready; works = works_none before.view; stage = stage }
+again_starts core before stamp s ready stage = record { stays = ready_none core before ready; works = works_none before.view; again = none_yet before.view.seen.loads; stage = stage }
 
 pub again_next : (core : Shared) (before : Seated) (stamp : ℕ) (s : SetsView) (i : ℕ) (d : Read) (place w n : ℕ) (now at : Seated) → Turn i s.reads d → Again core before stamp s i now → StaysReady core now at
     → Finds (again d) stamp d.record_number place w n now.view at.view → n ≢ 2 → w ≡ d.version → Again core before stamp s (i + 1) at
 again_next core before stamp s i d place w n now at turn a stays f ne is = record {
   stays = ready_both core before now at a.stays stays;
   works = works_both before.view now.view at.view a.works (found_works (again d) stamp d.record_number place w n now.view at.view f);
+  again = each_next (λ (x : Read). (x.record_number, x.version)) (FindsAgain stamp) i s.reads d before.view.seen.loads now.view.seen.loads at.view.seen.loads turn a.again
+      (subst (λ (m : ℕ). FindsFinal stamp d.record_number m now.view.seen.loads at.view.seen.loads) is (finds_final (again d) stamp d.record_number place w n now.view at.view ne f));
   stage = again_stage stamp s i d place w n now.view at.view turn a.stage f ne is;
 }
 
@@ -241,3 +246,14 @@ decides_earlier kept records stamp s u v x a d =
 pub ok_decides : {E : Type 0} (kept : State → Type 0) (records stamp : ℕ) (s : SetsView) (u v x : View) (r : Result (Unit {0}) E) → Works u v → OnOk r (Decides kept records stamp s v x) → OnOk r (Decides kept records stamp s u x)
 ok_decides kept records stamp s u v x (Ok t) a h = decides_earlier kept records stamp s u v x a h
 ok_decides kept records stamp s u v x (Err e) a h = tt
+
+pub ok_validates : {E : Type 0} (stamp : ℕ) (s : SetsView) (v u x : View) (after' : List Load) (r : Result (Unit {0}) E) → Works v x → OneByOne Raises (versions_read s.reads) v.seen.loads u.seen.loads → OneByOne (FindsAgain stamp) (versions_read s.reads) u.seen.loads x.seen.loads
+    → OnOk r (Checks stamp x.number (records_written s.writes) x.seen.loads after') → OnOk r (Validates stamp v.number (versions_read s.reads) (records_written s.writes) v.seen.loads after')
+ok_validates stamp s v u x after' (Ok t) works up found passed = record {
+  raised = u.seen.loads;
+  raises = up;
+  searched = x.seen.loads;
+  again = found;
+  checks = subst (λ (n : ℕ). Checks stamp n (records_written s.writes) x.seen.loads after') (ap (λ (y : View). y.number) works.only) passed;
+}
+ok_validates stamp s v u x after' (Err e) works up found passed = tt

@@ -12,6 +12,7 @@ use Rattle.core_rule.specs.Versions.{cells_of}
 use Rattle.version_pool.specs.Fills.{after_filling}
 use Rattle.version_pool.specs.Takes.{usable_in_turn, TakesFirst, FindsNone, WasMet}
 use Rattle.version_search.specs.Links.{IsLinked}
+use Rattle.validate_core.specs.OneByOne.{OneByOne}
 use Rattle.validate_core.specs.Sets.{SetsView, Turn, MayInstall, IsInside, SameWrites}
 use Rattle.validate_core.specs.Validating.{Works, IsInstalled}
 
@@ -86,10 +87,9 @@ pub record LinksOne (z : Size) (stamp : ℕ) (u : Write) (v w : View) : Type 0 w
   pub value_is : cells_of value ≡ u.cells
   pub linked : IsLinked u (after_filling taken u.place u.stamp value) w
 
--- this was done for these versions, for each before the next one, between two views
-pub data LinksEach (z : Size) (stamp : ℕ) : List Write → View → View → Type 0 where
-  none_yet : (v : View) → LinksEach z stamp [] v v
-  one_more : (us : List Write) (u : Write) (v w x : View) → LinksEach z stamp us v w → LinksOne z stamp u w x → LinksEach z stamp (us ++ u ∷ []) v x
+-- this was done for these versions, between two views
+abbrev pub LinksEach : Size → (stamp : ℕ) → List Write → View → View → Type 0
+LinksEach z stamp us v w = OneByOne (LinksOne z stamp) us v w
 
 -- all writes are linked at the stamp
 pub record Installs (z : Size) (after' : SetsView) (v w : View) : Type 0 where

@@ -1,4 +1,7 @@
+pub mod Checked
+pub mod Halting
 pub mod Installing
 pub mod Noted
+pub mod OneByOne
 pub mod Sets
 pub mod Validating

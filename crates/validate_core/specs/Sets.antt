@@ -1,5 +1,5 @@
 -- What a transaction has read and what it writes.
-use Rattle.std.specs.Prelude.{◌≡◌, ◌≢◌, ℕ, suc, ◌<◌, List, [], ◌∷◌, ◌++◌, Some, take, drop, length, nat_lt, count_by}
+use Rattle.std.specs.Prelude.{◌≡◌, ◌≢◌, ℕ, suc, ◌<◌, List, [], ◌∷◌, ◌++◌, Some, take, drop, length, map, nat_lt, count_by}
 use Rattle.word_layout.specs.Size.{Size, places}
 use Rattle.core_rule.specs.View.{View, Read, Write}
 use Rattle.core_rule.specs.Views.{Among}
@@ -12,6 +12,13 @@ pub record SetsView : Type 0 where
   pub writes : List Write
   pub read_room : ℕ
   pub write_room : ℕ
+
+-- of each read its record and the stamp of its version; and of each write its record
+abbrev pub versions_read : List Read → List (ℕ × ℕ)
+versions_read ds = map (λ (d : Read). (d.record_number, d.version)) ds
+
+abbrev pub records_written : List Write → List ℕ
+records_written us = map (λ (u : Write). u.record_number) us
 
 -- the element of this number
 pub record Turn {A : Type 0} (i : ℕ) (xs : List A) (x : A) : Type 0 where

@@ -6,7 +6,10 @@ ghost use Rattle.core_rule.specs.Status.{status_word};
 ghost use Rattle.core_rule.specs.Deciding.{commit_of, IsFitting};
 ghost use Rattle.core_rule.specs.Hands.{IsReady, StaysReady};
 ghost use Rattle.version_search.specs.Finding.{Finds};
-ghost use Rattle.validate_core.specs.Sets.{IsInside, Turn};
+ghost use Rattle.validate_core.specs.Sets.{IsInside, Turn, versions_read, records_written};
+ghost use Rattle.validate_core.specs.Checked.{Raises, FindsAgain, IsReadInTime, PassesCheck, Checks, Validates};
+ghost use Rattle.validate_core.specs.Halting.{StopsSearch, StopsCheck, FailsCheck, Halts};
+ghost use Rattle.validate_core.specs.OneByOne.{OneByOne, StopsIn};
 ghost use Rattle.validate_core.specs.Validating.{Works, Stage, Stopped, Decides, IsShown};
 
 use crate::conflict::Conflict;
@@ -26,9 +29,11 @@ pub(crate) fn validate<J: Keeps>(
     requires installed { Stage stamp sets.now [] [] [] hand.old.view }
     requires fits { IsFitting J.kept core.now.size.records (commit_of (writing stamp) sets.now.reads sets.now.writes) }
     ensures ok { OnOk result (Decides J.kept core.now.size.records stamp sets.now hand.old.view hand.new.view) }
+    ensures validates { OnOk result (Validates stamp hand.old.view.number (versions_read sets.now.reads) (records_written sets.now.writes) hand.old.view.seen.loads hand.new.view.seen.loads) }
     ensures works { OnErr result (Works hand.old.view hand.new.view) }
     ensures stopped { OnErr result (Stopped sets.now hand.new.view) }
     ensures conflict { IfErr result (IsShown stamp sets.now hand.old.view hand.new.view) }
+    ensures halts { IfErr result (Halts stamp (versions_read sets.now.reads) (records_written sets.now.writes) hand.old.view.seen.loads hand.new.view.seen.loads) }
     ensures stays { StaysReady core.now hand.old hand.new }
 {
     raise_all(core, hand, sets, stamp);
@@ -44,6 +49,7 @@ fn raise_all<J: Keeps>(core: &Core<J>, hand: &mut Hand<J>, sets: &Sets, stamp: u
     requires inside { IsInside core.now.size sets.now }
     requires stage { Stage stamp sets.now [] [] [] hand.old.view }
     ensures stage { Stage stamp sets.now sets.now.reads [] [] hand.new.view }
+    ensures raises { OneByOne Raises (versions_read sets.now.reads) hand.old.view.seen.loads hand.new.view.seen.loads }
     ensures works { Works hand.old.view hand.new.view }
     ensures stays { StaysReady core.now hand.old hand.new }
 {
@@ -63,9 +69,11 @@ fn search_again<J: Keeps>(
     requires inside { IsInside core.now.size sets.now }
     requires stage { Stage stamp sets.now sets.now.reads [] [] hand.old.view }
     ensures stage { OnOk result (Stage stamp sets.now sets.now.reads sets.now.reads [] hand.new.view) }
+    ensures again { OnOk result (OneByOne (FindsAgain stamp) (versions_read sets.now.reads) hand.old.view.seen.loads hand.new.view.seen.loads) }
     ensures works { Works hand.old.view hand.new.view }
     ensures stopped { OnErr result (Stopped sets.now hand.new.view) }
     ensures conflict { IfErr result (IsShown stamp sets.now hand.old.view hand.new.view) }
+    ensures halts { IfErr result (λ conflict. StopsIn (FindsAgain stamp) (StopsSearch stamp conflict) (versions_read sets.now.reads) hand.old.view.seen.loads hand.new.view.seen.loads) }
     ensures stays { StaysReady core.now hand.old hand.new }
 {
     for i in 0..sets.count_reads() {
@@ -101,9 +109,11 @@ fn check_writes<J: Keeps>(
     requires stage { Stage stamp sets.now sets.now.reads sets.now.reads [] hand.old.view }
     requires fits { IsFitting J.kept core.now.size.records (commit_of (writing stamp) sets.now.reads sets.now.writes) }
     ensures ok { OnOk result (Decides J.kept core.now.size.records stamp sets.now hand.old.view hand.new.view) }
+    ensures checks { OnOk result (Checks stamp hand.old.view.number (records_written sets.now.writes) hand.old.view.seen.loads hand.new.view.seen.loads) }
     ensures works { OnErr result (Works hand.old.view hand.new.view) }
     ensures stopped { OnErr result (Stopped sets.now hand.new.view) }
     ensures conflict { IfErr result (IsShown stamp sets.now hand.old.view hand.new.view) }
+    ensures halts { IfErr result (λ conflict. StopsIn (IsReadInTime stamp) (StopsCheck stamp conflict) (records_written sets.now.writes) hand.old.view.seen.loads hand.new.view.seen.loads) }
     ensures stays { StaysReady core.now hand.old hand.new }
 {
     let count = sets.count_writes();
@@ -137,6 +147,7 @@ fn find_overwritten<J: Keeps>(
     ensures works { OnErr result (Works hand.old.view hand.new.view) }
     ensures stopped { OnErr result (Stopped sets.now hand.new.view) }
     ensures conflict { IfErr result (IsShown stamp sets.now hand.old.view hand.new.view) }
+    ensures halts { IfErr result (FailsCheck stamp i sets.now.writes hand.old.view.seen.loads hand.new.view.seen.loads) }
     ensures stays { StaysReady core.now hand.old hand.new }
 {
     let write = sets.write_at(i);
@@ -163,9 +174,11 @@ fn check<J: Keeps>(
     requires number { i < length sets.now.writes }
     requires stage { Stage stamp sets.now sets.now.reads sets.now.reads (take i sets.now.writes) hand.old.view }
     ensures stage { OnOk result (Stage stamp sets.now sets.now.reads sets.now.reads (take (i + 1) sets.now.writes) hand.new.view) }
+    ensures passes { OnOk result (PassesCheck stamp i sets.now.writes hand.old.view.seen.loads hand.new.view.seen.loads) }
     ensures works { Works hand.old.view hand.new.view }
     ensures stopped { OnErr result (Stopped sets.now hand.new.view) }
     ensures conflict { IfErr result (IsShown stamp sets.now hand.old.view hand.new.view) }
+    ensures halts { IfErr result (FailsCheck stamp i sets.now.writes hand.old.view.seen.loads hand.new.view.seen.loads) }
     ensures stays { StaysReady core.now hand.old hand.new }
 {
     let write = sets.write_at(i);
@@ -198,9 +211,11 @@ fn check_last<J: Keeps>(
     requires stage { Stage stamp sets.now sets.now.reads sets.now.reads (take i sets.now.writes) hand.old.view }
     requires fits { IsFitting J.kept core.now.size.records (commit_of (writing stamp) sets.now.reads sets.now.writes) }
     ensures ok { OnOk result (Decides J.kept core.now.size.records stamp sets.now hand.old.view hand.new.view) }
+    ensures passes { OnOk result (PassesCheck stamp i sets.now.writes hand.old.view.seen.loads hand.new.view.seen.loads) }
     ensures works { OnErr result (Works hand.old.view hand.new.view) }
     ensures stopped { OnErr result (Stopped sets.now hand.new.view) }
     ensures conflict { IfErr result (IsShown stamp sets.now hand.old.view hand.new.view) }
+    ensures halts { IfErr result (FailsCheck stamp i sets.now.writes hand.old.view.seen.loads hand.new.view.seen.loads) }
     ensures stays { StaysReady core.now hand.old hand.new }
 {
     let write = sets.write_at(i);

@@ -3,7 +3,9 @@ ghost use Rattle.std.specs.Prelude.{◌≡◌, true, false, OnOk, OnErr, IfOk, I
 ghost use Rattle.core_rule.specs.View.{writing};
 ghost use Rattle.core_rule.specs.Deciding.{commit_of, IsFitting};
 ghost use Rattle.core_rule.specs.Hands.{IsReady, StaysReady};
-ghost use Rattle.validate_core.specs.Sets.{IsInside};
+ghost use Rattle.validate_core.specs.Sets.{IsInside, versions_read, records_written};
+ghost use Rattle.validate_core.specs.Checked.{Validates};
+ghost use Rattle.validate_core.specs.Halting.{Halts};
 ghost use Rattle.validate_core.specs.Validating.{Stands, Works, IsInstalled, IsDecidedAt, Decides, IsOver, IsShown};
 
 use crate::checking::validate;
@@ -37,10 +39,12 @@ impl Installed {
         requires fits { IsFitting J.kept core.now.size.records (commit_of (writing self.stamp) sets.now.reads sets.now.writes) }
         ensures stands { Stands hand.old.view hand.new.view }
         ensures ok { OnOk result (Decides J.kept core.now.size.records self.stamp sets.now hand.old.view hand.new.view) }
+        ensures validates { OnOk result (Validates self.stamp hand.old.view.number (versions_read sets.now.reads) (records_written sets.now.writes) hand.old.view.seen.loads hand.new.view.seen.loads) }
         ensures stamp { IfOk result (λ decided. decided.stamp ≡ self.stamp) }
         ensures log { OnErr result (hand.new.view.log ≡ hand.old.view.log) }
         ensures aborted { OnErr result (IsOver false sets.now hand.new.view) }
         ensures conflict { IfErr result (IsShown self.stamp sets.now hand.old.view hand.new.view) }
+        ensures halts { IfErr result (Halts self.stamp (versions_read sets.now.reads) (records_written sets.now.writes) hand.old.view.seen.loads hand.new.view.seen.loads) }
         ensures as_before { OnErr result (Works hand.old.view hand.new.view) }
         ensures linked { hand.new.view.work.linked ≡ sets.now.writes }
         ensures stays { StaysReady core.now hand.old hand.new }

@@ -1,5 +1,5 @@
 -- The place of a version that is linked, from step to step.
-use Rattle.std.proofs.Common.{◌≡◌, ◌≢◌, ℕ, ◌-◌, ◌<◌, ◌≤◌, suc, true, false, Bool, cond, eqb, List, [], ◌∷◌, ◌++◌, sym, ap, ◌∙◌, subst, arith, eq-eqb, ne_eqb, Option, Some, None}
+use Rattle.std.proofs.Common.{◌≡◌, ◌≢◌, ℕ, ◌-◌, ◌<◌, ◌≤◌, suc, true, false, Bool, cond, eqb, List, [], ◌∷◌, ◌++◌, sym, ap, ◌∙◌, subst, arith, eq-eqb, ne_eqb, append_assoc, append-nil, Option, Some, None}
 use Rattle.std.specs.Option.{ForSome}
 use Rattle.stamp_base.specs.Limits.{end_of_stamps}
 use Rattle.plain_data.specs.State.{State}
@@ -10,11 +10,11 @@ use Rattle.core_rule.specs.Searching.{stand_in, look_in, joint_in, write_in, fir
 use Rattle.core_rule.specs.Hands.{Shared, Seated, IsReady, IsSameSeat, StaysReady, Steps}
 use Rattle.core_rule.specs.Kinds.{mark, load_head, load_next, load_stamp, point, linked_after}
 use Rattle.core_rule.specs.Learnt.{IsLink}
+use Rattle.core_rule.specs.Paths.{load}
+use Rattle.word_layout.specs.Name.{head, next, wts as wts_word}
 use Rattle.version_search.specs.Finding.{with_work}
-use Rattle.version_search.specs.Growing.{Grows, LosesNoPlace}
-use Rattle.version_search.specs.Links.{joined_at, IsLinked}
+use Rattle.version_search.specs.Links.{joined_at, link_word, missed_at, Descends, from_head, past_late, past_lost, IsLinked}
 use Rattle.version_search.proofs.Calls.{stays-ready, starts-ready, both-ready, only_of}
-use Rattle.version_search.proofs.Grown.{grows_both, grows_loads, grows_lost, grows_same, no_place_none, no_place_both}
 
 abbrev pub between : Write → Option ℕ → (below under least : ℕ) → Bool → Stand
 between u above below under least done =
@@ -38,8 +38,11 @@ pub record Between (core : Shared) (layout : Size) (before now : Seated) (u : Wr
   pub above_inside : ForSome above (λ a. a < places core.size)
   pub flight : now.view.flight ≡ writing u.stamp
   pub view : now.view ≡ marked_with before.view u.place now.view.work.search now.view.seen
-  pub grows : Grows before.view.seen now.view.seen
-  pub no_place : LosesNoPlace before.view.seen.lost now.view.seen.lost
+  pub loads : List Load
+  pub lost : List Load
+  pub descends : Descends u.stamp u.record_number loads lost above below
+  pub loaded : now.view.seen.loads ≡ before.view.seen.loads ++ loads
+  pub missed : now.view.seen.lost ≡ before.view.seen.lost ++ lost
 
 marked_then : (v w x : View) (p : ℕ) → w ≡ marked_with v p w.work.search w.seen → x ≡ with_work w x.work.search x.seen → x ≡ marked_with v p x.work.search x.seen
 marked_then v w x p e f =
@@ -76,9 +79,11 @@ module _ (core : Shared) (layout : Size) (layout_is : layout ≡ core.size) (bef
         flight = ap (λ (v : View). v.flight) g ∙ ap (λ (v : View). v.flight) e ∙ flight;
         view = marked_then before.view a.view now.view f.place
             (e ∙ same_marked before.view f.place _ _ _ _ (sym (ap (λ (v : View). v.work.search) e)) (sym (ap (λ (v : View). v.seen) e))) (only_of a.view now.view _ _ g);
-        grows = grows_both before.view.seen a.view.seen now.view.seen (grows_same before.view.seen a.view.seen (ap (λ (v : View). v.seen.loads) e) (ap (λ (v : View). v.seen.lost) e))
-            (grows_loads a.view.seen now.view.seen _ (ap (λ (v : View). v.seen.loads) g) (ap (λ (v : View). v.seen.lost) g));
-        no_place = no_place_none before.view.seen.lost now.view.seen.lost (ap (λ (v : View). v.seen.lost) g ∙ ap (λ (v : View). v.seen.lost) e);
+        loads = load (head rid) n ∷ [];
+        lost = [];
+        descends = from_head n;
+        loaded = ap (λ (v : View). v.seen.loads) g ∙ ap (λ (v : View). v.seen.loads ++ load (head rid) n ∷ []) e;
+        missed = ap (λ (v : View). v.seen.lost) g ∙ ap (λ (v : View). v.seen.lost) e ∙ sym (append-nil before.view.seen.lost);
       }
 
   module _ {kept : State → Type 0} (u : Write) (above : Option ℕ) (below wts : ℕ) (now at : Seated) (b : Between core layout before now u above below) (looked : Steps kept (load_stamp (stand_in now.view.work.search)) now wts at) where
@@ -93,19 +98,21 @@ module _ (core : Shared) (layout : Size) (layout_is : layout ≡ core.size) (bef
     at_view : at.view ≡ marked_with before.view u.place at.view.work.search at.view.seen
     at_view = marked_then before.view now.view at.view u.place b.view (only_of now.view at.view _ _ looked.view)
 
-    at_grows : Grows before.view.seen at.view.seen
-    at_grows = grows_both before.view.seen now.view.seen at.view.seen b.grows (grows_loads now.view.seen at.view.seen _ (ap (λ (v : View). v.seen.loads) looked.view) (ap (λ (v : View). v.seen.lost) looked.view))
+    at_loaded : at.view.seen.loads ≡ before.view.seen.loads ++ (b.loads ++ load (wts_word below) wts ∷ [])
+    at_loaded =
+        let s : stand_in now.view.work.search ≡ between u above below b.under b.least false = ap stand_in b.search in
+        ap (λ (v : View). v.seen.loads) looked.view ∙ ap (λ (x : Stand). now.view.seen.loads ++ load (wts_word x.place) wts ∷ []) s
+        ∙ ap (λ (ls : List Load). ls ++ load (wts_word below) wts ∷ []) b.loaded ∙ append_assoc before.view.seen.loads b.loads (load (wts_word below) wts ∷ [])
 
-    -- it has lost none on a place by then, and neither has one that ends where this one ends
-    at_no_place : (x : List Load) → x ≡ at.view.seen.lost → LosesNoPlace before.view.seen.lost x
-    at_no_place x e = no_place_both before.view.seen.lost now.view.seen.lost x b.no_place (no_place_none now.view.seen.lost x (e ∙ ap (λ (v : View). v.seen.lost) looked.view))
+    at_missed : at.view.seen.lost ≡ before.view.seen.lost ++ b.lost
+    at_missed = ap (λ (v : View). v.seen.lost) looked.view ∙ b.missed
 
     at_flight : at.view.flight ≡ writing u.stamp
     at_flight = ap (λ (v : View). v.flight) looked.view ∙ b.flight
 
     -- it goes on below
-    pub goes_down : (n : ℕ) (next' : Seated) → Steps kept (load_next (stand_in at.view.work.search) (look_in at.view.work.search)) at n next' → Between core layout before next' u (Some below) (n - 1)
-    goes_down n next' step =
+    pub goes_down : u.stamp ≤ wts → (n : ℕ) (next' : Seated) → Steps kept (load_next (stand_in at.view.work.search) (look_in at.view.work.search)) at n next' → Between core layout before next' u (Some below) (n - 1)
+    goes_down late n next' step =
         let e = step.view in
         let s : stand_in at.view.work.search ≡ between u above below b.under b.least false = ap stand_in at_search in
         let l : look_in at.view.work.search ≡ stamped wts = ap look_in at_search in
@@ -122,22 +129,32 @@ module _ (core : Shared) (layout : Size) (layout_is : layout ≡ core.size) (bef
           above_inside = λ a e. let same : below ≡ a = cc in subst (λ (x : ℕ). x < places core.size) same b.inside;
           flight = ap (λ (v : View). v.flight) e ∙ at_flight;
           view = marked_then before.view at.view next'.view u.place at_view (only_of at.view next'.view _ _ e);
-          grows = grows_both before.view.seen at.view.seen next'.view.seen at_grows (grows_loads at.view.seen next'.view.seen _ (ap (λ (v : View). v.seen.loads) e) (ap (λ (v : View). v.seen.lost) e));
-          no_place = at_no_place next'.view.seen.lost (ap (λ (v : View). v.seen.lost) e);
+          loads = b.loads ++ load (wts_word below) wts ∷ load (next below) n ∷ [];
+          lost = b.lost;
+          descends = past_late b.loads b.lost above below wts n b.descends late;
+          loaded =
+              ap (λ (v : View). v.seen.loads) e ∙ ap (λ (x : Stand). at.view.seen.loads ++ load (next x.place) n ∷ []) s ∙ ap (λ (ls : List Load). ls ++ load (next below) n ∷ []) at_loaded
+              ∙ append_assoc before.view.seen.loads (b.loads ++ load (wts_word below) wts ∷ []) (load (next below) n ∷ [])
+              ∙ ap (λ (ls : List Load). before.view.seen.loads ++ ls) (append_assoc b.loads (load (wts_word below) wts ∷ []) (load (next below) n ∷ []));
+          missed = ap (λ (v : View). v.seen.lost) e ∙ at_missed;
         }
 
-    joined_grows : (po jo : Seated) → Steps kept (point (stand_in at.view.work.search) (joint_in at.view.work.search) (stamp_seen (look_in at.view.work.search))) at (suc below) po → jo.view.seen.loads ≡ po.view.seen.loads → LosesNoPlace po.view.seen.lost jo.view.seen.lost → Grows before.view.seen jo.view.seen
-    joined_grows po jo pointed loads no_place =
-        grows_both before.view.seen at.view.seen jo.view.seen at_grows (grows_both at.view.seen po.view.seen jo.view.seen
-        (grows_same at.view.seen po.view.seen (ap (λ (v : View). v.seen.loads) pointed.view) (ap (λ (v : View). v.seen.lost) pointed.view)) (grows_lost po.view.seen jo.view.seen no_place.missed loads no_place.lost))
+    module _ (n : ℕ) (po jo : Seated) (pointed : Steps kept (point (stand_in at.view.work.search) (joint_in at.view.work.search) (stamp_seen (look_in at.view.work.search))) at (suc below) po)
+        (loads : jo.view.seen.loads ≡ po.view.seen.loads) (lost : jo.view.seen.lost ≡ po.view.seen.lost ++ missed_at u.record_number above (stand_in po.view.work.search).place n) where
+      joined_loaded : jo.view.seen.loads ≡ before.view.seen.loads ++ (b.loads ++ load (wts_word below) wts ∷ [])
+      joined_loaded = loads ∙ ap (λ (v : View). v.seen.loads) pointed.view ∙ at_loaded
 
-    joined_no_place : (po jo : Seated) → Steps kept (point (stand_in at.view.work.search) (joint_in at.view.work.search) (stamp_seen (look_in at.view.work.search))) at (suc below) po → LosesNoPlace po.view.seen.lost jo.view.seen.lost → LosesNoPlace before.view.seen.lost jo.view.seen.lost
-    joined_no_place po jo pointed no_place = no_place_both before.view.seen.lost po.view.seen.lost jo.view.seen.lost (at_no_place po.view.seen.lost (ap (λ (v : View). v.seen.lost) pointed.view)) no_place
+      joined_missed : jo.view.seen.lost ≡ before.view.seen.lost ++ (b.lost ++ missed_at u.record_number above below n)
+      joined_missed =
+          let s : stand_in at.view.work.search ≡ between u above below b.under b.least false = ap stand_in at_search in
+          let here : (stand_in po.view.work.search).place ≡ below = ap (λ (v : View). (stand_in v.work.search).place) pointed.view ∙ ap (λ (x : Stand). x.place) s in
+          let was : po.view.seen.lost ≡ before.view.seen.lost ++ b.lost = ap (λ (v : View). v.seen.lost) pointed.view ∙ at_missed in
+          lost ∙ (λ i. was i ++ missed_at u.record_number above (here i) n) ∙ append_assoc before.view.seen.lost b.lost (missed_at u.record_number above below n)
 
     -- the exchange is lost
     pub loses : (n : ℕ) (po jo : Seated) → Steps kept (point (stand_in at.view.work.search) (joint_in at.view.work.search) (stamp_seen (look_in at.view.work.search))) at (suc below) po → StaysReady core po jo
-        → jo.view ≡ joined_at po.view n jo.view.seen → jo.view.seen.loads ≡ po.view.seen.loads → LosesNoPlace po.view.seen.lost jo.view.seen.lost → IsLink (places core.size) n → n ≢ suc below → Between core layout before jo u above (n - 1)
-    loses n po jo pointed stays joined loads no_place link ne =
+        → jo.view ≡ joined_at po.view n jo.view.seen → jo.view.seen.loads ≡ po.view.seen.loads → jo.view.seen.lost ≡ po.view.seen.lost ++ missed_at u.record_number above (stand_in po.view.work.search).place n → wts < u.stamp → IsLink (places core.size) n → n ≢ suc below → Between core layout before jo u above (n - 1)
+    loses n po jo pointed stays joined loads missed early link ne =
         let e = pointed.view in
         let s : stand_in at.view.work.search ≡ between u above below b.under b.least false = ap stand_in at_search in
         let j : joint_in at.view.work.search ≡ record { write = u; above = above; least = b.least; stored = false } = ap joint_in at_search in
@@ -184,14 +201,17 @@ module _ (core : Shared) (layout : Size) (layout_is : layout ≡ core.size) (bef
           above_inside = b.above_inside;
           flight = ap (λ (v : View). v.flight) jo_view ∙ ap (λ (v : View). v.flight) e ∙ at_flight;
           view = marked_then before.view po.view jo.view u.place (marked_then before.view at.view po.view u.place at_view (only_of at.view po.view _ _ e)) (only_of po.view jo.view _ _ jo_view);
-          grows = joined_grows po jo pointed loads no_place;
-          no_place = joined_no_place po jo pointed no_place;
+          loads = b.loads ++ load (wts_word below) wts ∷ [];
+          lost = b.lost ++ load (link_word u.record_number above) n ∷ [];
+          descends = past_lost b.loads b.lost above below wts n b.descends early ne;
+          loaded = joined_loaded n po jo pointed loads missed;
+          missed = joined_missed n po jo pointed loads missed ∙ ap (λ (won : Bool). before.view.seen.lost ++ (b.lost ++ cond won [] (load (link_word u.record_number above) n ∷ []))) no;
         }
 
     -- the exchange is won
     pub wins : (n : ℕ) (po jo : Seated) → Steps kept (point (stand_in at.view.work.search) (joint_in at.view.work.search) (stamp_seen (look_in at.view.work.search))) at (suc below) po
-        → jo.view ≡ joined_at po.view n jo.view.seen → jo.view.seen.loads ≡ po.view.seen.loads → LosesNoPlace po.view.seen.lost jo.view.seen.lost → n ≡ suc below → IsLinked u before.view jo.view
-    wins n po jo pointed joined loads no_place is =
+        → jo.view ≡ joined_at po.view n jo.view.seen → jo.view.seen.loads ≡ po.view.seen.loads → jo.view.seen.lost ≡ po.view.seen.lost ++ missed_at u.record_number above (stand_in po.view.work.search).place n → wts < u.stamp → n ≡ suc below → IsLinked u before.view jo.view
+    wins n po jo pointed joined loads lost early is =
         let e = pointed.view in
         let s : stand_in at.view.work.search ≡ between u above below b.under b.least false = ap stand_in at_search in
         let j : joint_in at.view.work.search ≡ record { write = u; above = above; least = b.least; stored = false } = ap joint_in at_search in
@@ -228,6 +248,17 @@ module _ (core : Shared) (layout : Size) (layout_is : layout ≡ core.size) (bef
                 front = no_front;
                 seen = jo.view.seen;
               }) po_view;
-          grows = joined_grows po jo pointed loads no_place;
-          no_place = joined_no_place po jo pointed no_place;
+          descends = record {
+            loaded = b.loads;
+            missed = b.lost;
+            above = above;
+            place = below;
+            version = wts;
+            leads = b.descends;
+            early = early;
+            loads = joined_loaded n po jo pointed loads lost;
+            lost =
+                joined_missed n po jo pointed loads lost ∙ ap (λ (yes : Bool). before.view.seen.lost ++ (b.lost ++ cond yes [] (load (link_word u.record_number above) n ∷ []))) won
+                ∙ ap (λ (ls : List Load). before.view.seen.lost ++ ls) (append-nil b.lost);
+          };
         }

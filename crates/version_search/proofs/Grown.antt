@@ -1,9 +1,12 @@
 -- The lists of what was seen, from call to call.
-use Rattle.std.proofs.Common.{◌≡◌, ◌≢◌, ℕ, Bool, true, false, cond, List, [], ◌∷◌, ◌++◌, append_assoc, append-nil, sym, ap, ◌∙◌, inl, inr, ⊎_elim}
-use Rattle.word_layout.specs.Name.{Name, status}
-use Rattle.core_rule.specs.View.{Load, Seen}
+use Rattle.std.proofs.Common.{◌≡◌, ◌≢◌, ℕ, List, [], ◌∷◌, ◌++◌, append_assoc, append-nil, sym, ap, ◌∙◌, inl, inr, Option, None, Some}
+use Rattle.word_layout.specs.Name.{status, wts}
+use Rattle.core_rule.specs.Paths.{load}
+use Rattle.core_rule.specs.View.{View, Write, Load, Seen}
+use Rattle.core_rule.specs.Views.{Among}
 use Rattle.core_rule.proofs.Among.{Among-split}
 use Rattle.version_search.specs.Growing.{Grows, LosesNoPlace}
+use Rattle.version_search.specs.Links.{link_word, Descends, from_head, past_late, past_lost, IsLinked}
 
 pub grows_none : (s : Seen) → Grows s s
 grows_none s = record { loaded = []; missed = []; loads = sym (append-nil s.loads); lost = sym (append-nil s.lost) }
@@ -26,24 +29,30 @@ grows_lost s t ls e f = record { loaded = []; missed = ls; loads = e ∙ sym (ap
 pub grows_same : (s t : Seen) → t.loads ≡ s.loads → t.lost ≡ s.lost → Grows s t
 grows_same s t e f = grows_lost s t [] e (f ∙ sym (append-nil s.lost))
 
--- no exchange on a place was lost, where none was lost at all; from call to call; and where one on another word was
+-- no exchange on a place was lost, where none was lost at all
 pub no_place_none : (a b : List Load) → b ≡ a → LosesNoPlace a b
 no_place_none a b e = record { missed = []; lost = e ∙ sym (append-nil a); none = λ exchange among. absurd among }
 
-pub no_place_both : (a b c : List Load) → LosesNoPlace a b → LosesNoPlace b c → LosesNoPlace a c
-no_place_both a b c first second = record {
-  missed = first.missed ++ second.missed;
-  lost = second.lost ∙ ap (λ (x : List Load). x ++ second.missed) first.lost ∙ append_assoc a first.missed second.missed;
-  none = λ exchange among. ⊎_elim (first.none exchange) (second.none exchange) (Among-split exchange first.missed second.missed among);
-}
+-- ---- where a version was linked
 
-pub no_place_other : (a b : List Load) (word : Name) (n : ℕ) (won : Bool) → ((p : ℕ) → word ≢ status p) → b ≡ a ++ cond won [] (record { word = word; number = n } ∷ []) → LosesNoPlace a b
-no_place_other a b word n true other e = no_place_none a b (e ∙ append-nil a)
-no_place_other a b word n false other e = record {
-  missed = record { word = word; number = n } ∷ [];
-  lost = e;
-  none = λ exchange among. elim among as (λ _. (p : ℕ) → exchange.word ≢ status p) [
-    | inl is ↦ λ p same. other p (ap (λ (l : Load). l.word) is ∙ same)
-    | inr none ↦ absurd none
-  ];
-}
+pub linked_grows : (u : Write) (v w : View) → IsLinked u v w → Grows v.seen w.seen
+linked_grows u v w l = let d = l.descends in record { loaded = d.loaded ++ load (wts d.place) d.version ∷ []; missed = d.missed; loads = d.loads; lost = d.lost }
+
+link_is_no_place : (rid : ℕ) (above : Option ℕ) (p : ℕ) → link_word rid above ≢ status p
+link_is_no_place rid None p = λ same. cc
+link_is_no_place rid (Some a) p = λ same. cc
+
+descends_no_place : (stamp rid : ℕ) (ls ms : List Load) (above : Option ℕ) (p : ℕ) → Descends stamp rid ls ms above p → (exchange : Load) → Among exchange ms → (q : ℕ) → exchange.word ≢ status q
+descends_no_place stamp rid _ _ _ _ (from_head n) exchange among q = absurd among
+descends_no_place stamp rid _ _ _ _ (past_late ls ms above p w n before late) exchange among q = descends_no_place stamp rid ls ms above p before exchange among q
+descends_no_place stamp rid _ _ _ _ (past_lost ls ms above p w n before early other) exchange among q =
+    elim (Among-split exchange ms (load (link_word rid above) n ∷ []) among) as (λ _. exchange.word ≢ status q) [
+      | inl old ↦ descends_no_place stamp rid ls ms above p before exchange old q
+      | inr (inl is) ↦ λ same. link_is_no_place rid above q (ap (λ (l : Load). l.word) is ∙ same)
+      | inr (inr none) ↦ absurd none
+    ]
+
+pub linked_no_place : (u : Write) (v w : View) → IsLinked u v w → LosesNoPlace v.seen.lost w.seen.lost
+linked_no_place u v w l =
+    let d = l.descends in
+    record { missed = d.missed; lost = d.lost; none = descends_no_place u.stamp u.record_number d.loaded d.missed d.above d.place d.leads }

@@ -1,5 +1,5 @@
 //! Linking a version into the list of its record.
-ghost use Rattle.std.specs.Prelude.{◌≡◌, ◌+◌, ◌<◌, ◌≤◌, true, false};
+ghost use Rattle.std.specs.Prelude.{◌≡◌, ◌+◌, ◌<◌, ◌≤◌, ◌++◌, true, false};
 ghost use Rattle.word_layout.specs.Size.{places};
 ghost use Rattle.std.specs.Option.{ForSome};
 ghost use Rattle.core_rule.specs.View.{links, stamped, writing};
@@ -7,8 +7,7 @@ ghost use Rattle.core_rule.specs.Searching.{IsAt, stand_in, look_in, joint_in, s
 ghost use Rattle.core_rule.specs.Holding.{filled_place, IsFilling};
 ghost use Rattle.core_rule.specs.Hands.{IsReady, StaysReady};
 ghost use Rattle.core_rule.specs.Learnt.{IsLink};
-ghost use Rattle.version_search.specs.Growing.{LosesNoPlace};
-ghost use Rattle.version_search.specs.Links.{IsLinked, joined_at};
+ghost use Rattle.version_search.specs.Links.{IsLinked, joined_at, missed_at};
 
 use core_rule::{Core, Hand, Keeps, link_place};
 
@@ -73,7 +72,7 @@ fn join_between<J: Keeps>(
     requires above { (joint_in hand.old.view.work.search).above ≡ above }
     ensures view { hand.new.view ≡ joined_at hand.old.view result hand.new.view.seen }
     ensures loads { hand.new.view.seen.loads ≡ hand.old.view.seen.loads }
-    ensures no_place { LosesNoPlace hand.old.view.seen.lost hand.new.view.seen.lost }
+    ensures lost { hand.new.view.seen.lost ≡ hand.old.view.seen.lost ++ missed_at rid above (stand_in hand.old.view.work.search).place result }
     ensures link { IsLink (places core.now.size) result }
     ensures stays { StaysReady core.now hand.old hand.new }
 {

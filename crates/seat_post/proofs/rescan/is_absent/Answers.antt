@@ -9,6 +9,9 @@ use Rattle.seat_post.proofs.rescan.is_absent.Goals as goal
 pub returns-clause-looks : goal.returns-clause-looks
 returns-clause-looks g c = looks_read _ c.args.rid c.in-Version.place c.in-Version.wts _ c.args.hand.now.view c.find.new.hand.view c.in-Version.ensures.version
 
+pub returns-clause-searches : goal.returns-clause-searches
+returns-clause-searches g c = record { place = c.in-Version.place; version = c.in-Version.wts; path = c.in-Version.ensures.version.path }
+
 pub returns-clause-left : goal.returns-clause-left
 returns-clause-left g c = λ alone.
     let found = c.in-Version.ensures.version in

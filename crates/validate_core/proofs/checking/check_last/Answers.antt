@@ -5,7 +5,8 @@ use Rattle.core_rule.specs.View.{View, checks}
 use Rattle.core_rule.specs.Deciding.{stamp_in}
 use Rattle.validate_core.specs.Validating.{IsShown, Decides}
 use Rattle.validate_core.specs.declared.conflict.Conflict.TheVariants.{ReadLater}
-use Rattle.validate_core.proofs.Checks.{found_at, found_look, found_final, found_aim, others_passed, found_stage, later_shown, refused_works, fits_found}
+use Rattle.validate_core.proofs.Checks.{found_at, found_look, found_final, found_aim, others_passed, found_stage, later_shown, check_passes, refused_works, fits_found}
+use Rattle.validate_core.proofs.Halting.{check_fails}
 use Rattle.validate_core.proofs.LastCheck.{check_stops, check_decides}
 use Rattle.validate_core.proofs.Staging.{found_works, decides_earlier}
 use Rattle.validate_core.proofs.Works.{works_both, ready_both, ready_over}
@@ -82,7 +83,20 @@ returns-clause-ok g c =
     (decides_earlier g.J.Keeps.kept x.view.size.records c.args.stamp c.args.sets.now v x.view y.view (found_works (checks u) c.args.stamp u.record_number f.place f.wts (status_word f.status) v x.view found)
     (check_decides g.J.Keeps.kept c.args.stamp c.args.sets.now _ x y c.decide_by_check-rts.result (found_stage c.args.stamp c.args.sets.now c.args.i u f.place f.wts (status_word f.status) v x.view found c.requires.stage) _ _ _ _ c.decide_by_check-rts.ensures le))
 
+pub returns-clause-passes : goal.returns-clause-passes
+returns-clause-passes g c =
+    let u = c.write_at-write.result.now in let f = c.in-Ok.shown in let x = c.find_overwritten.new.hand in
+    let le : c.decide_by_check-rts.result ≤ c.args.stamp = omega arith in
+    check_passes c.args.stamp c.args.sets.now c.args.i u f.place f.wts (status_word f.status) c.decide_by_check-rts.result c.args.hand.now.view x.view c.decide_by_check-rts.new.hand.view c.write_at-write.ensures
+    (c.in-Ok.ensures.finds u c.write_at-write.ensures) c.in-Ok.ensures.not_pending le (ap (λ (v : View). v.seen.loads) c.decide_by_check-rts.ensures.view)
+
 pub returns-clause-stays : goal.returns-clause-stays
 returns-clause-stays g c =
     let x = c.find_overwritten.new.hand in let stays = c.find_overwritten.ensures.stays in let step = c.decide_by_check-rts.ensures in
     ready_both c.args.core.now c.args.hand.now x c.decide_by_check-rts.new.hand stays (ready_over c.args.core.now x c.decide_by_check-rts.new.hand _ step.view refl refl refl stays.ready step.seat)
+
+pub returns-then-rts-stamp-clause-halts : goal.returns-then-rts-stamp-clause-halts
+returns-then-rts-stamp-clause-halts g c =
+    let u = c.write_at-write.result.now in let f = c.in-Ok.shown in
+    check_fails c.args.stamp c.args.sets.now c.args.i u f.place f.wts (status_word f.status) c.decide_by_check-rts.result c.rid.result c.args.hand.now.view c.find_overwritten.new.hand.view c.decide_by_check-rts.new.hand.view c.write_at-write.ensures
+    (c.in-Ok.ensures.finds u c.write_at-write.ensures) c.in-Ok.ensures.not_pending c.rid.ensures (ap (λ (v : View). v.seen.loads) c.decide_by_check-rts.ensures.view)

@@ -8,6 +8,7 @@ use Rattle.validate_core.proofs.Writes.{turn_same}
 use Rattle.validate_core.specs.Validating.{IsShown}
 use Rattle.validate_core.specs.declared.conflict.Conflict.TheVariants.{Pending}
 use Rattle.validate_core.proofs.Checks.{check_begins}
+use Rattle.validate_core.proofs.Halting.{finds_pending}
 use Rattle.validate_core.proofs.Staging.{pending_shown, found_stops, found_works}
 use Rattle.validate_core.proofs.Works.{among_turn}
 use Rattle.validate_core.proofs.checking.find_overwritten.Goals as goal
@@ -40,3 +41,12 @@ returns-clause-finds g c = λ u turn.
     let f = c.find_to_check-shown.result in
     subst (λ (y : Write). Finds (checks y) c.args.stamp y.record_number f.place f.wts (status_word f.status) c.args.hand.now.view c.find_to_check-shown.new.hand.view)
     (turn_same c.args.i c.args.sets.now.writes c.write_at-write.result.now u c.write_at-write.ensures turn) c.find_to_check-shown.ensures.finds
+
+pub returns-then-eq-clause-halts : goal.returns-then-eq-clause-halts
+returns-then-eq-clause-halts g c =
+    let u = c.write_at-write.result.now in let f = c.find_to_check-shown.result in
+    record {
+      write = u;
+      turn = c.write_at-write.ensures;
+      stop = (c.rid.ensures, finds_pending (checks u) c.args.stamp u.record_number f.place f.wts (status_word f.status) c.args.hand.now.view c.find_to_check-shown.new.hand.view (word_is f.status PendingStatus (sym c.eq.ensures ∙ c.if-eq.true)) c.find_to_check-shown.ensures.finds);
+    }

@@ -2,7 +2,11 @@ use Rattle.std.proofs.Common.{◌≡◌, ◌≢◌, ◌≤◌, ℕ, refl, sym, �
 use Rattle.core_rule.specs.Status.{status_word}
 use Rattle.core_rule.specs.declared.status.Status.TheVariants.{Pending as PendingStatus}
 use Rattle.version_search.proofs.Statuses.{word_is, word_is_not}
-use Rattle.core_rule.specs.View.{again}
+use Rattle.core_rule.specs.View.{Read, again}
+use Rattle.validate_core.specs.Checked.{FindsAgain}
+use Rattle.validate_core.specs.Halting.{StopsSearch}
+use Rattle.validate_core.proofs.OneByOne.{each_all, finds_final}
+use Rattle.validate_core.proofs.Halting.{finds_pending, stops_next}
 use Rattle.validate_core.specs.Validating.{IsShown}
 use Rattle.validate_core.specs.declared.conflict.Conflict.TheVariants.{Pending, Overtaken}
 use Rattle.validate_core.proofs.Staging.{again_starts, again_begins, again_next, again_all, found_stops, found_works, overtaken_shown, pending_shown, shown_earlier}
@@ -73,3 +77,22 @@ returns-then-shown-wts-clause-stays g c = ready_both c.args.core.now c.args.hand
 
 pub returns-clause-stage : goal.returns-clause-stage
 returns-clause-stage g c = let over : length c.args.sets.now.reads ≤ c.loop-i.i = omega arith in again_all c.args.core.now c.args.hand.now c.args.stamp c.args.sets.now c.loop-i.i c.loop-i.hand over c.loop-i.invariant
+
+pub returns-clause-again : goal.returns-clause-again
+returns-clause-again g c =
+    let over : length c.args.sets.now.reads ≤ c.loop-i.i = omega arith in
+    each_all (λ (d : Read). (d.record_number, d.version)) (FindsAgain c.args.stamp) c.loop-i.i c.args.sets.now.reads c.args.hand.now.view.seen.loads c.loop-i.hand.view.seen.loads over c.loop-i.invariant.again
+
+-- ---- what was loaded until then
+
+pub returns-then-eq-clause-halts : goal.returns-then-eq-clause-halts
+returns-then-eq-clause-halts g c =
+    let d = c.read_at-read.result.now in let f = c.find_again-shown.result in let x = c.find_again-shown.new.hand.view in
+    stops_next (λ (y : Read). (y.record_number, y.version)) (FindsAgain c.args.stamp) (StopsSearch c.args.stamp (Pending c.rid.result f.wts)) c.loop-i.i c.args.sets.now.reads d c.args.hand.now.view.seen.loads c.loop-i.hand.view.seen.loads x.seen.loads c.read_at-read.ensures c.loop-i.invariant.again
+    (c.rid.ensures, finds_pending (again d) c.args.stamp d.record_number f.place f.wts (status_word f.status) c.loop-i.hand.view x (word_is f.status PendingStatus (sym c.eq.ensures ∙ c.if-eq.true)) c.find_again-shown.ensures.finds)
+
+pub returns-then-shown-wts-clause-halts : goal.returns-then-shown-wts-clause-halts
+returns-then-shown-wts-clause-halts g c =
+    let d = c.read_at-read.result.now in let f = c.find_again-shown.result in let x = c.find_again-shown.new.hand.view in
+    stops_next (λ (y : Read). (y.record_number, y.version)) (FindsAgain c.args.stamp) (StopsSearch c.args.stamp (Overtaken c.rid-then-shown-wts.result c.wts-then-shown-wts.result f.wts)) c.loop-i.i c.args.sets.now.reads d c.args.hand.now.view.seen.loads c.loop-i.hand.view.seen.loads x.seen.loads c.read_at-read.ensures c.loop-i.invariant.again
+    (c.rid-then-shown-wts.ensures, c.wts-then-shown-wts.ensures, finds_final (again d) c.args.stamp d.record_number f.place f.wts (status_word f.status) c.loop-i.hand.view x (word_is_not f.status PendingStatus (sym c.eq.ensures ∙ c.if-eq.false)) c.find_again-shown.ensures.finds)

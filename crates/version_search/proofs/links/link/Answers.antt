@@ -16,7 +16,7 @@ loop-above-preserved-then-wts-stamp g c =
     let core = c.args.core.now in let before = c.args.hand.now in let u = write_of c.args.rid (front_fill before.view.places.fills) in
     subst (λ (p : ℕ). Between core c.layout-layout.result before c.load_next-next.new.hand u (Some c.loop-above.below) p) (sym c.link_place-below-then-wts-stamp.ensures.place)
     (goes_down core c.layout-layout.result c.layout-layout.ensures before u c.loop-above.above c.loop-above.below c.load_stamp-wts.result c.loop-above.hand c.load_stamp-wts.new.hand c.loop-above.invariant c.load_stamp-wts.ensures
-    c.load_next-next.result c.load_next-next.new.hand c.load_next-next.ensures)
+    (omega arith) c.load_next-next.result c.load_next-next.new.hand c.load_next-next.ensures)
 
 pub loop-above-preserved : goal.loop-above-preserved
 loop-above-preserved g c =
@@ -24,11 +24,11 @@ loop-above-preserved g c =
     let ne : c.join_between-found.result ≢ suc c.loop-above.below = λ e. absurd (omega arith) in
     subst (λ (p : ℕ). Between core c.layout-layout.result before c.join_between-found.new.hand u c.loop-above.above p) (sym c.link_place-below-else-wts-stamp.ensures.place)
     (loses core c.layout-layout.result c.layout-layout.ensures before u c.loop-above.above c.loop-above.below c.load_stamp-wts.result c.loop-above.hand c.load_stamp-wts.new.hand c.loop-above.invariant c.load_stamp-wts.ensures
-    c.join_between-found.result c.point.new.hand c.join_between-found.new.hand c.point.ensures c.join_between-found.ensures.stays c.join_between-found.ensures.view c.join_between-found.ensures.loads c.join_between-found.ensures.no_place c.join_between-found.ensures.link ne)
+    c.join_between-found.result c.point.new.hand c.join_between-found.new.hand c.point.ensures c.join_between-found.ensures.stays c.join_between-found.ensures.view c.join_between-found.ensures.loads c.join_between-found.ensures.lost (omega arith) c.join_between-found.ensures.link ne)
 
 pub returns-then-found-from-clause-linked : goal.returns-then-found-from-clause-linked
 returns-then-found-from-clause-linked g c =
     let core = c.args.core.now in let before = c.args.hand.now in let u = write_of c.args.rid (front_fill before.view.places.fills) in
     let is : c.join_between-found.result ≡ suc c.loop-above.below = omega arith in
     wins core c.layout-layout.result c.layout-layout.ensures before u c.loop-above.above c.loop-above.below c.load_stamp-wts.result c.loop-above.hand c.load_stamp-wts.new.hand c.loop-above.invariant c.load_stamp-wts.ensures
-    c.join_between-found.result c.point.new.hand c.join_between-found.new.hand c.point.ensures c.join_between-found.ensures.view c.join_between-found.ensures.loads c.join_between-found.ensures.no_place is
+    c.join_between-found.result c.point.new.hand c.join_between-found.new.hand c.point.ensures c.join_between-found.ensures.view c.join_between-found.ensures.loads c.join_between-found.ensures.lost (omega arith) is

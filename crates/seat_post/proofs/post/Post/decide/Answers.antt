@@ -1,14 +1,16 @@
-use Rattle.std.proofs.Common.{ℕ, refl, ap, sym, subst, ◌∙◌}
+use Rattle.std.proofs.Common.{ℕ, List, refl, ap, sym, subst, ◌∙◌}
 use Rattle.core_rule.specs.View.{View, writing}
 use Rattle.core_rule.specs.Deciding.{commit_of}
 use Rattle.core_rule.specs.Hands.{Shared}
-use Rattle.validate_core.specs.Sets.{IsInside}
+use Rattle.validate_core.specs.Checked.{Validates}
+use Rattle.validate_core.specs.Halting.{Halts}
+use Rattle.validate_core.specs.Sets.{IsInside, versions_read, records_written}
 use Rattle.validate_core.specs.Validating as validating
 use Rattle.seat_post.specs.Ends.{Stood}
 use Rattle.seat_post.specs.Conflicts.{Touches, IsLoaded, WereFound}
-use Rattle.seat_post.specs.Post.{PostView, post_of, closed, entered, entry_at, observing, observed_in, IsShownAt}
-use Rattle.seat_post.proofs.EndMore.{at_known, entry_same, fits_same, stood_same, decided_view, post_decided, shown_at, touches_at}
-use Rattle.seat_post.proofs.Observed.{post_grows, shown_loaded, were_found}
+use Rattle.seat_post.specs.Post.{PostView, post_of, closed, entered, entry_at, observing, observed_in, rids_written, IsShownAt}
+use Rattle.seat_post.proofs.EndMore.{at_known, records_of, entry_same, fits_same, stood_same, decided_view, post_decided, shown_at, touches_at}
+use Rattle.seat_post.proofs.Observed.{shown_loaded, were_found}
 use Rattle.seat_post.proofs.Over.{view_over_all, post_over}
 use Rattle.seat_post.proofs.post.Post.decide.Goals as goal
 
@@ -75,11 +77,27 @@ returns-in-Err-clause-loaded g c =
     subst (λ (q : PostView). IsLoaded q.stamp c.in-Err.conflict q.observed (observed_in c.decide.new.hand)) c.self.view_is
     (subst (λ (n : ℕ). IsLoaded n c.in-Err.conflict (observed_in i.hand) (observed_in c.decide.new.hand)) same (shown_loaded c.args.installed.stamp i.sets i.hand.view c.decide.new.hand.view c.in-Err.conflict found c.in-Err.ensures.conflict))
 
-pub returns-in-Ok-clause-grows : goal.returns-in-Ok-clause-grows
-returns-in-Ok-clause-grows g c = let i = c.self.inside in post_grows i.hand c.decide.new.hand i.phase i.stamp i.sets c.args.self.now c.self.view_is c.decide.ensures.stands.grows
+pub returns-in-Ok-clause-validates : goal.returns-in-Ok-clause-validates
+returns-in-Ok-clause-validates g c =
+    let i = c.self.inside in
+    let after' = c.decide.new.hand.view.seen.loads in
+    let at = subst (λ (n : ℕ). Validates n i.hand.view.number (versions_read i.sets.reads) (records_written i.sets.writes) i.hand.view.seen.loads after') c.requires.stamp c.in-Ok.ensures.validates in
+    let written = subst (λ (rids : List ℕ). Validates c.args.self.now.stamp i.hand.view.number (versions_read i.sets.reads) rids i.hand.view.seen.loads after') (records_of i.sets.writes) at in
+    subst (λ (p : PostView). Validates c.args.self.now.stamp p.seat p.versions (rids_written p) p.observed.loads after') c.self.view_is written
 
-pub returns-in-Err-clause-grows : goal.returns-in-Err-clause-grows
-returns-in-Err-clause-grows g c = let i = c.self.inside in post_grows i.hand c.decide.new.hand i.phase i.stamp i.sets c.args.self.now c.self.view_is c.decide.ensures.stands.grows
+pub returns-in-Ok-clause-lost : goal.returns-in-Ok-clause-lost
+returns-in-Ok-clause-lost g c = c.in-Ok.ensures.ok.lost ∙ ap (λ (p : PostView). p.observed.lost) c.self.view_is
+
+pub returns-in-Err-clause-lost : goal.returns-in-Err-clause-lost
+returns-in-Err-clause-lost g c = c.in-Err.ensures.as_before.lost ∙ ap (λ (p : PostView). p.observed.lost) c.self.view_is
+
+pub returns-in-Err-clause-halts : goal.returns-in-Err-clause-halts
+returns-in-Err-clause-halts g c =
+    let i = c.self.inside in let conflict = c.in-Err.conflict in
+    let before = i.hand.view.seen.loads in let after' = c.decide.new.hand.view.seen.loads in
+    let at = subst (λ (n : ℕ). Halts n (versions_read i.sets.reads) (records_written i.sets.writes) before after' conflict) c.requires.stamp c.in-Err.ensures.halts in
+    let written = subst (λ (rids : List ℕ). Halts c.args.self.now.stamp (versions_read i.sets.reads) rids before after' conflict) (records_of i.sets.writes) at in
+    subst (λ (p : PostView). Halts c.args.self.now.stamp p.versions (rids_written p) p.observed.loads after' conflict) c.self.view_is written
 
 pub invariant_of-self-in-Err : goal.invariant_of-self-in-Err
 invariant_of-self-in-Err g c =

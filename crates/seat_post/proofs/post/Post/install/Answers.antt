@@ -7,18 +7,16 @@ use Rattle.seat_post.specs.Post.{PostView, in_phase, closed, with_bounds, placin
 use Rattle.seat_post.specs.declared.phase.Phase.TheVariants.{Installed}
 use Rattle.seat_post.proofs.EndMore.{at_known, post_installed, turned_written, same_values}
 use Rattle.seat_post.proofs.Over.{view_over, view_installed, post_over}
-use Rattle.seat_post.specs.Seats.{IsAloneAt, placed_of}
-use Rattle.seat_post.specs.Placing.{HavePlaces, AreInlineFirst}
+use Rattle.seat_post.specs.Seats.{IsAloneAt, placed_of, observed_of}
+use Rattle.seat_post.specs.Placing.{HavePlaces, FindsNone}
 use Rattle.seat_post.specs.Lists.{bounds_before, IsFullAt}
 use Rattle.validate_core.proofs.Writes.{same_once}
 use Rattle.seat_post.proofs.ReadMore.{open_left, open_above}
 use Rattle.seat_post.proofs.AloneSeats.{alone_told}
 use Rattle.spare_numbers.proofs.Written.{length-written}
-use Rattle.seat_post.proofs.Placed.{each_before, each_fits, have_places, inline_first}
+use Rattle.seat_post.proofs.Placed.{each_before, each_fits, each_puts, puts_told, have_places}
 use Rattle.seat_post.proofs.Linked.{written_values-take, post_linked, post_stuck, post_full}
-use Rattle.seat_post.proofs.Observed.{post_grows}
-use Rattle.seat_post.proofs.Stuck.{none_taken, meets_none, next_written}
-use Rattle.version_search.proofs.Grown.{grows_none}
+use Rattle.seat_post.proofs.Stuck.{finds_none, meets_none, next_written}
 use Rattle.seat_post.proofs.post.Post.install.Goals as goal
 
 pub install-requires-clause-begun : goal.install-requires-clause-begun
@@ -68,12 +66,6 @@ returns-in-Err-clause-err g c =
     view_over i.hand c.install.new.hand i.phase i.stamp _ _ i.sets c.clear.new.self n.stays.seat.same_table n.stands is.at.begun.in_flight n.log c.make-self-inside.ensures.number e.reads e.writes
     ∙ ap (λ (p : PostView). observing (placing (closed (with_bounds p record { counts = c.install.new.hand.view.counts; tops = c.install.new.hand.view.tops })) (placed_of c.install.new.hand.view.work.linked)) (observed_in c.install.new.hand)) c.self.view_is
 
-pub returns-in-Ok-clause-grows : goal.returns-in-Ok-clause-grows
-returns-in-Ok-clause-grows g c = let i = c.self.inside in post_grows i.hand c.install.new.hand i.phase i.stamp i.sets c.args.self.now c.self.view_is c.install.ensures.stands.grows
-
-pub returns-in-Err-clause-grows : goal.returns-in-Err-clause-grows
-returns-in-Err-clause-grows g c = let i = c.self.inside in post_grows i.hand c.install.new.hand i.phase i.stamp i.sets c.args.self.now c.self.view_is c.install.ensures.stands.grows
-
 pub returns-in-Ok-clause-linked : goal.returns-in-Ok-clause-linked
 returns-in-Ok-clause-linked g c =
     let is = at_known _ _ _ _ _ (ap (λ (p : PostView). p.phase) c.self.view_is ∙ c.requires.open) c.self.invariant in
@@ -102,6 +94,10 @@ returns-in-Err-clause-wants g c =
       next = next_written f.number us p.writes f.write f.turn values;
       linked = post_stuck z c.install.new.sets i.hand.view w p.writes p.stamp p.bounds once values (sym is.at.at ∙ ap (λ (q : PostView). q.stamp) c.self.view_is) (ap (λ (q : PostView). q.bounds) c.self.view_is) f;
       have = subst (λ (x : Shared). HavePlaces x.size few (placed_of w.work.linked)) (sym c.requires.core) (subst (λ ws. HavePlaces z few (placed_of ws)) (sym f.linked) have);
+      between = observed_of f.installed;
+      puts = puts_told (each_puts z i.hand.view.published.write (take f.number us) i.hand.view f.installed f.each)
+          (sym (ap (λ (x : Shared). x.size) c.requires.core)) (sym is.at.at ∙ ap (λ (q : PostView). q.stamp) c.self.view_is) (ap placed_of (sym f.linked)) (ap (λ (q : PostView). q.observed) c.self.view_is);
+      none = subst (λ (x : Shared). FindsNone x.size f.write.record_number (observed_of f.installed) (observed_in c.install.new.hand)) (sym c.requires.core) (finds_none z c.install.new.sets i.hand.view w f);
       no_place = subst (λ (q : PostView). MeetsNoPlace q.shared.size f.write.record_number q.observed (observed_in c.install.new.hand)) c.self.view_is
           (subst (λ (x : Shared). MeetsNoPlace x.size f.write.record_number (observed_in i.hand) (observed_in c.install.new.hand)) (sym (ap (λ (q : PostView). q.shared) c.self.view_is ∙ c.requires.core)) no_place);
     }
@@ -144,18 +140,11 @@ returns-in-Ok-clause-places g c =
     subst (λ (x : Shared). HavePlaces x.size c.args.self.now.writes (placed_of c.install.new.hand.view.work.linked)) (sym c.requires.core)
     (subst (λ ws. HavePlaces z c.args.self.now.writes (placed_of ws)) (sym o.installed.linked) have)
 
-pub returns-in-Ok-clause-inline_first : goal.returns-in-Ok-clause-inline_first
-returns-in-Ok-clause-inline_first g c =
-    let h = c.self.inside.hand in
+pub returns-in-Ok-clause-puts : goal.returns-in-Ok-clause-puts
+returns-in-Ok-clause-puts g c =
+    let i = c.self.inside in
+    let is = at_known _ _ _ _ _ (ap (λ (p : PostView). p.phase) c.self.view_is ∙ c.requires.open) c.self.invariant in
     let k = c.install.new.hand in
     let o = c.in-Ok.ensures.ok in
-    let first = inline_first c.args.core.now.size h.view.published.write c.install.new.sets.writes h.view k.view k.view o.each (grows_none k.view.seen) o.installed.linked in
-    subst (λ (p : PostView). AreInlineFirst p.observed (observed_in k) (placed_of k.view.work.linked)) c.self.view_is first
-
-pub returns-in-Err-clause-inline_first : goal.returns-in-Err-clause-inline_first
-returns-in-Err-clause-inline_first g c =
-    let h = c.self.inside.hand in
-    let k = c.install.new.hand in
-    let f = c.in-Err.ensures.err in
-    let first = inline_first c.args.core.now.size h.view.published.write _ h.view f.installed k.view f.each (none_taken c.args.core.now.size c.install.new.sets h.view k.view f) f.linked in
-    subst (λ (p : PostView). AreInlineFirst p.observed (observed_in k) (placed_of k.view.work.linked)) c.self.view_is first
+    puts_told (each_puts c.args.core.now.size i.hand.view.published.write c.install.new.sets.writes i.hand.view k.view o.each)
+    (sym (ap (λ (x : Shared). x.size) c.requires.core)) (sym is.at.at ∙ ap (λ (p : PostView). p.stamp) c.self.view_is) (ap placed_of (sym o.installed.linked)) (ap (λ (p : PostView). p.observed) c.self.view_is)

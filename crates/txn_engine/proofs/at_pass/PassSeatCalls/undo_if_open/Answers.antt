@@ -5,7 +5,7 @@ use Rattle.txn_engine.specs.Pass.{PassView}
 use Rattle.seat_post.specs.Post.{PostView}
 use Rattle.spare_numbers.specs.Spare.{NumbersView}
 use Rattle.txn_engine.proofs.Passes.{pass_noted}
-use Rattle.txn_engine.proofs.Growing.{grows_none, grows_same}
+use Rattle.seat_post.proofs.Growing.{grows_none, grows_same}
 use Rattle.txn_engine.proofs.at_pass.PassSeatCalls.undo_if_open.Goals as goal
 
 pub invariant_of-self : goal.invariant_of-self

@@ -2,7 +2,7 @@
 use Rattle.std.proofs.Common.{◌≡◌, ℕ, ◌+◌, suc, true, false, Bool, cond, not, List, [], ◌∷◌, ◌++◌, Option, None, Some, refl, sym, ap, ◌∙◌, subst, inl, inr, append_assoc, append-nil, arith, length, length-append, lt-ltb, le-ltb, eqb, eq-eqb, ne_eqb, ◌<◌, map}
 use Rattle.std.specs.Prelude.{IsSome, nat_lt}
 use Rattle.word_layout.specs.Size.{Size}
-use Rattle.core_rule.specs.View.{View, Write, Load, Bound, Counted, Reserved}
+use Rattle.core_rule.specs.View.{View, Write, Bound, Counted, Reserved}
 use Rattle.core_rule.specs.Paths.{load}
 use Rattle.core_rule.specs.Views.{Among}
 use Rattle.word_layout.specs.Name.{wts}
@@ -15,14 +15,12 @@ use Rattle.validate_core.specs.Sets.{Once, count_below}
 use Rattle.validate_core.specs.Installing.{IsFor, LinksOne, LinksEach}
 use Rattle.validate_core.specs.OneByOne.{OneByOne, none_yet, one_more as one_more_linked}
 use Rattle.validate_core.proofs.Placing.{one_view}
-use Rattle.version_pool.specs.Takes.{IsLostOn, AreLostOn, first_in_turn}
+use Rattle.version_pool.specs.Takes.{first_in_turn}
 use Rattle.version_search.specs.Links.{DescendsTo}
-use Rattle.seat_post.specs.Observing.{WasLost}
 use Rattle.seat_post.specs.Observing as observing
 use Rattle.seat_post.specs.Seats.{Bounds, Observed, Placed as PlacedAt, observed_of, placed_of, at_of}
-use Rattle.seat_post.specs.Placing.{is_inline, count_inline, HavePlaces, AreInlineFirst, Puts, FindsNone, WantsPlaceAt}
+use Rattle.seat_post.specs.Placing.{is_inline, count_inline, HavePlaces, Puts, FindsNone, WantsPlaceAt}
 use Rattle.seat_post.proofs.Growing.{grows_none, grows_both}
-use Rattle.seat_post.proofs.Observed.{lost_earlier, lost_later}
 use Rattle.seat_post.specs.Lists.{bounds_before, AreBounded, is_raised, count_raised}
 use Rattle.seat_post.specs.Post.{PostView, bounds_in, ArePlaced}
 use Rattle.spare_numbers.proofs.Written.{length-written}
@@ -146,17 +144,7 @@ of_writes (u ∷ us) = ap (λ (rids : List ℕ). u.record_number ∷ rids) (of_w
 pub have_places : (z : Size) (us : List Write) (writes : List (ℕ × Option (List ℕ))) → ((u : Write) → Among u us → IsFor z u.record_number u.place) → written_values us ≡ writes → HavePlaces z writes (placed_of us)
 have_places z us writes each values = subst (λ (ws : List (ℕ × Option (List ℕ))). HavePlaces z ws (placed_of us)) values (record { of_each = of_writes us; each = placed_fit z us each })
 
--- ---- where it is not the inline place, that was met not free
-
--- of places that were tried in turn the first one was met not free, where another was taken
-first_lost : (rid place : ℕ) (others earlier later : List ℕ) (a lost : List Load) → rid ∷ others ≡ earlier ++ place ∷ later → AreLostOn earlier lost → eqb place rid ≡ false → WasLost rid a (a ++ lost)
-first_lost rid place others [] later a lost turn on apart = absurd (let same : place ≡ rid = cc in let equal = eq-eqb place rid same in cc)
-first_lost rid place others (e ∷ es) later a [] turn on apart = absurd on
-first_lost rid place others (e ∷ es) later a (l ∷ ls) turn on apart = record { earlier = []; exchange = l; later = ls; not_free = let same : e ≡ rid = cc in subst (λ (p : ℕ). IsLostOn p l) same on.0; lost = refl }
-
--- it stays so where more was come upon
-pub inline_first_later : (a b c : Observed) (placed : List PlacedAt) → observing.Grows b c → AreInlineFirst a b placed → AreInlineFirst a c placed
-inline_first_later a b c placed g first at among apart = lost_later at.rid a.lost b.lost c.lost g.missed g.lost (first at among apart)
+-- ---- what was come upon
 
 -- each was put so
 put_one : (z : Size) (stamp : ℕ) (u : Write) (v w : View) → LinksOne z stamp u v w → Puts z stamp (at_of u) (observed_of v) (observed_of w)
@@ -198,28 +186,12 @@ pub puts_grow : (z : Size) (stamp : ℕ) (ps : List PlacedAt) (a b : Observed) �
 puts_grow z stamp _ _ _ (none_yet a) = grows_none a
 puts_grow z stamp _ _ _ (one_more_linked ps p a b c each put) = grows_both a b c (puts_grow z stamp ps a b each) (put_grows z stamp p b c put)
 
-pub puts_first : (z : Size) (stamp : ℕ) (ps : List PlacedAt) (a b : Observed) → OneByOne (Puts z stamp) ps a b → AreInlineFirst a b ps
-puts_first z stamp _ _ _ (none_yet a) at among = absurd among
-puts_first z stamp _ _ _ (one_more_linked ps p a b c each put) at among =
-    let g = puts_grow z stamp ps a b each in
-    let h = put_grows z stamp p b c put in
-    let d = put.descends in
-    elim (Among-split at ps (p ∷ []) among) as (λ _. is_inline at ≡ false → WasLost at.rid a.lost c.lost) [
-      | inl old ↦ λ apart. lost_later at.rid a.lost b.lost c.lost h.missed h.lost (puts_first z stamp ps a b each at old apart)
-      | inr (inl same) ↦ subst (λ (q : PlacedAt). is_inline q ≡ false → WasLost q.rid a.lost c.lost) same
-          (λ apart. lost_earlier p.rid a.lost b.lost c.lost g.missed g.lost (lost_later p.rid b.lost (b.lost ++ put.met) c.lost d.missed d.lost (first_lost p.rid p.place _ put.tried put.later b.lost put.met put.turn put.not_free apart)))
-      | inr (inr none) ↦ absurd none
-    ]
-
 -- and where there was no place for the next one
 none_grows : (z : Size) (rid : ℕ) (a b : Observed) → FindsNone z rid a b → observing.Grows a b
 none_grows z rid a b f = record { loaded = []; missed = f.met; loads = ap (λ (o : Observed). o.loads) f.after ∙ sym (append-nil a.loads); lost = ap (λ (o : Observed). o.lost) f.after }
 
 pub wants_grows : (p q : PostView) → WantsPlaceAt p q → observing.Grows p.observed q.observed
 wants_grows p q w = grows_both p.observed w.between q.observed (puts_grow p.shared.size p.stamp q.placed p.observed w.between w.puts) (none_grows p.shared.size w.write.0 w.between q.observed w.none)
-
-pub wants_first : (p q : PostView) → WantsPlaceAt p q → AreInlineFirst p.observed q.observed q.placed
-wants_first p q w = inline_first_later p.observed w.between q.observed q.placed (none_grows p.shared.size w.write.0 w.between q.observed w.none) (puts_first p.shared.size p.stamp q.placed p.observed w.between w.puts)
 
 -- nothing of it has changed
 pub placed_kept : (hand hand' : Seated) (us : List Write) → hand'.view.size ≡ hand.view.size → hand'.view.counts ≡ hand.view.counts → ArePlaced hand us → ArePlaced hand' us

@@ -8,7 +8,7 @@ use Rattle.version_search.specs.Links.{DescendsTo}
 use Rattle.validate_core.specs.OneByOne.{OneByOne}
 use Rattle.validate_core.specs.Installing.{IsFor}
 use Rattle.seat_post.specs.Lists.{AreLinked}
-use Rattle.seat_post.specs.Observing.{MeetsNoPlace, WasLost}
+use Rattle.seat_post.specs.Observing.{MeetsNoPlace}
 use Rattle.seat_post.specs.Post.{PostView}
 use Rattle.seat_post.specs.Seats.{Observed, Placed}
 
@@ -24,17 +24,13 @@ pub record HavePlaces (size : Size) (writes : List (ℕ × Option (List ℕ))) (
   pub of_each : map (λ (at : Placed). at.rid) placed ≡ map (λ (write : ℕ × Option (List ℕ)). write.0) writes
   pub each : (at : Placed) → Among at placed → IsFor size at.rid at.place
 
--- a version was put into a pool place only where the inline place of its record was met not free
-abbrev pub AreInlineFirst : (before after' : Observed) → List Placed → Type 0
-AreInlineFirst before after' placed = (at : Placed) → Among at placed → is_inline at ≡ false → WasLost at.rid before.lost after'.lost
-
 -- so many of the writes took inline places, and the others usable pool places
 pub record CountsPlaces (size : Size) (writes : List (ℕ × Option (List ℕ))) (placed : List Placed) (inlined : ℕ) : Type 0 where
   pub have : HavePlaces size writes placed
   pub count : inlined ≡ count_inline placed
 
--- One of these versions was linked: its places were tried in turn, the inline one first and the usable ones from one on, and met not
--- free before the one that was taken; then it was linked below the place to which loads and lost exchanges led, and nothing else was
+-- One of these versions was linked: its places were tried in turn, the inline one of its record first and the usable ones from one on,
+-- and each before the one that was taken was met not free; then it was linked where loads and lost exchanges led, and nothing else was
 -- loaded or lost.
 pub record Puts (size : Size) (stamp : ℕ) (at : Placed) (before after' : Observed) : Type 0 where
   pub first : ℕ

@@ -12,7 +12,7 @@ use Rattle.seat_post.specs.Leaves.{AreLeft}
 use Rattle.seat_post.specs.Lists.{AreLinked, AreSomeLinked, bounds_before, AreBounded, count_raised}
 use Rattle.seat_post.specs.Logs.{IsAbove}
 use Rattle.seat_post.specs.Observing.{Grows}
-use Rattle.seat_post.specs.Placing.{HavePlaces, AreInlineFirst, Puts, CountsPlaces}
+use Rattle.seat_post.specs.Placing.{HavePlaces, Puts, CountsPlaces}
 use Rattle.seat_post.specs.Post.{rids_written}
 use Rattle.seat_post.specs.Seats.{Bounds}
 use Rattle.engine_answers.specs.declared.faults.CommitFault.{CommitFault}
@@ -50,7 +50,6 @@ pub record RefusesInstall (before after' : PassView) (why : CommitFault) : Type 
   pub after : after' ≡ observing (placing (refused (with_bounds before after'.bounds)) after'.placed) after'.observed
   pub grows : Grows before.observed after'.observed
   pub still : IfSome before.dead (λ conflict. after' ≡ refused before)
-  pub inline_first : before.dead ≡ None → AreInlineFirst before.observed after'.observed after'.placed
   pub some_linked : AreSomeLinked before.writes before.stamp before.bounds after'.bounds
   pub places : why ≡ fault.PlacesOut → WantsPlace before after'
 

@@ -2,8 +2,8 @@ use Rattle.std.proofs.Common.{rules, ◌≡◌, List, Result, Ok, Err, refl, sym
 use Rattle.std.specs.Result.{IsErrAnd}
 use Rattle.plain_data.specs.State.{Fits}
 use Rattle.seat_post.specs.Observing.{Grows}
-use Rattle.seat_post.specs.Placing.{HavePlaces, AreInlineFirst, Puts, CountsPlaces}
-use Rattle.seat_post.proofs.Placed.{inline_first_later, puts_grow, puts_first}
+use Rattle.seat_post.specs.Placing.{HavePlaces, Puts, CountsPlaces}
+use Rattle.seat_post.proofs.Placed.{puts_grow}
 use Rattle.validate_core.specs.OneByOne.{OneByOne}
 use Rattle.seat_post.specs.Seats.{Bounds, Observed, Placed}
 use Rattle.seat_post.specs.Lists.{AreBounded, count_raised, AreSomeLinked}
@@ -42,7 +42,6 @@ returns-in_err-entered-clause-commits g c =
     let told = told_too c.from_residual-in_err-entered.result _ c.from_residual-in_err-entered.ensures.1 in
     let stopped = refused.after ∙ ap (λ (q : PassView). observing (refused_at q) c.check.new.self.observed) linked.after in
     let grown = puts_grow p.shared.size p.stamp c.install.new.self.placed p.observed c.install.new.self.observed linked.puts in
-    let first = puts_first p.shared.size p.stamp c.install.new.self.placed p.observed c.install.new.self.observed linked.puts in
     let halted = halted_grows c.install.new.self c.check.new.self conflict refused.halts refused.lost in
     let some = all_linked p.writes p.stamp p.bounds c.install.new.self.bounds linked.linked in
     record {
@@ -68,7 +67,6 @@ returns-in_err-entered-clause-commits g c =
           (loaded_earlier p.stamp p.observed c.install.new.self.observed c.check.new.self.observed conflict grown (subst (λ n. IsLoaded n conflict c.install.new.self.observed c.check.new.self.observed) (ap (λ (q : PassView). q.stamp) linked.after) refused.loaded));
       places = search rules;
       still = search rules;
-      inline_first = λ alive. subst (λ (x : List Placed). AreInlineFirst p.observed c.check.new.self.observed x) (sym placed) (inline_first_later p.observed c.install.new.self.observed c.check.new.self.observed c.install.new.self.placed halted first);
       placed = λ alive. err_told _ (fault.Conflict conflict) (λ f. MatchStopped f (λ x. HavePlaces p.shared.size p.writes c.check.new.self.placed) ⊤) told
           (subst (λ (x : List Placed). HavePlaces p.shared.size p.writes x) (sym placed) linked.have);
       read_left = search rules;
@@ -93,7 +91,6 @@ returns-clause-commits g c =
     let placed = c.install.new.self.placed in
     let between = c.install.new.self.observed in
     let grown = puts_grow p.shared.size p.stamp placed p.observed between linked.puts in
-    let first = puts_first p.shared.size p.stamp placed p.observed between linked.puts in
     let validated = validated_grows c.install.new.self c.check.new.self entered.validated entered.lost in
     let told = subst (λ (q : PassView). AreBounded (bounds_first q) q.writes → c.publish.result.pooled ≡ count_raised (bounds_first q) q.bounds q.writes) same publishes.pooled in
     let then' = subst (λ (k : Bounds). AreBounded k p.writes → c.publish.result.pooled ≡ count_raised k known p.writes) linked.first told in
@@ -119,7 +116,6 @@ returns-clause-commits g c =
       loaded = search rules;
       places = search rules;
       still = search rules;
-      inline_first = λ alive. subst (λ (q : PassView). AreInlineFirst p.observed q.observed q.placed) (sym after) (inline_first_later p.observed c.install.new.self.observed o c.install.new.self.placed validated first);
       placed = search rules;
       read_left = search rules;
       linked = search rules;

@@ -7,7 +7,7 @@ pub const READ: u32 = 0;
 
 pub const WRITE: u32 = 1;
 
-pub const GLANCE: u32 = 2;
+pub const SNAPSHOT: u32 = 2;
 
 /// The stamp, what it is, the record, and the number of the value, where 0 is none.
 pub type Touch = (u64, u32, u32, u64);

@@ -2,7 +2,7 @@
 ghost use Rattle.std.specs.Prelude.{◌≡◌, false, All};
 ghost use Rattle.txn_engine.specs.Pass.{IsIdleOf};
 
-use crate::checker::{GLANCE, READ, Touch, lawful};
+use crate::checker::{READ, SNAPSHOT, Touch, lawful};
 use crate::coming::{meet, shared, take_one};
 use crate::due::hold;
 use crate::noting::{Draws, note_all, touch};
@@ -58,7 +58,7 @@ fn read_snapshot(engine: &Engine<AnyState>, pass: &mut Pass<AnyState>, touches: 
 {
     let mut snapshot = pass.snapshot(engine);
     let stamp = snapshot.stamp();
-    note_all(&mut snapshot, stamp, GLANCE, RECORDS, touches);
+    note_all(&mut snapshot, stamp, SNAPSHOT, RECORDS, touches);
     snapshot.finish();
 }
 

@@ -42,7 +42,7 @@ became_adds reached i Locked v w h = record { loads = ([], h.1.loads ∙ sym (ap
 became_adds reached i Dropped v w h = adds_loads v.seen w.seen _ h.1.loads h.1.lost
 became_adds reached i CutBelow v w h =
     let u = h.1.under_lock in
-    adds_both v.seen u.seen w.seen (adds_loads v.seen u.seen _ h.1.loads h.1.lost) (adds_loads u.seen w.seen _ h.1.cuts.loads h.1.cuts.lost)
+    adds_both v.seen u.seen w.seen (adds_loads v.seen u.seen _ h.1.loads h.1.lost) (adds_loads u.seen w.seen _ (h.1.cuts.loads ∙ ap (λ (ls : List Load). ls ++ h.1.cuts.links) h.1.cuts.finds.loads ∙ append_assoc u.seen.loads _ h.1.cuts.links) h.1.cuts.lost)
 
 pub goes_adds : (reached : ℕ) (es : List Ended) (v w : View) → Goes reached es v w → Adds v.seen w.seen
 goes_adds reached _ _ _ (not_begun v) = adds_same v.seen v.seen refl

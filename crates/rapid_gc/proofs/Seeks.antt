@@ -9,6 +9,7 @@ use Rattle.core_rule.specs.Paths.{load}
 use Rattle.core_rule.specs.Collecting.{record_in, version_in, number_in}
 use Rattle.core_rule.specs.Hands.{Shared, Seated, IsReady, StaysReady, Steps}
 use Rattle.core_rule.specs.Kinds.{seek_head, seek_stamp, seek_next}
+use Rattle.rapid_gc.specs.Chains.{Seeks, from_head, past_other, FindsVersion}
 use Rattle.rapid_gc.specs.Views.{Comes}
 use Rattle.rapid_gc.proofs.Steps.{comes, comes-on, item_of, starts-ready, ready-on}
 
@@ -20,6 +21,7 @@ pub record Seeking (core : Shared) (layout : Size) (before now : Seated) (rid st
   pub view : Comes before.view (collects rid stamp (seeks place under)) now.view
   pub inside : place < places core.size
   pub sought : List Load
+  pub leads : Seeks rid stamp sought place
   pub loads : now.view.seen.loads ≡ before.view.seen.loads ++ sought
   pub lost : now.view.seen.lost ≡ before.view.seen.lost
   pub gone : now.view.gone ≡ before.view.gone
@@ -57,6 +59,7 @@ module _ (core : Shared) (layout : Size) (layout_is : layout ≡ core.size) (bef
         view = view;
         inside = omega arith;
         sought = load (head rid) n ∷ [];
+        leads = from_head n;
         loads = ap (λ (v : View). v.seen.loads) s.view;
         lost = ap (λ (v : View). v.seen.lost) s.view;
         gone = ap (λ (v : View). v.gone) s.view;
@@ -82,10 +85,10 @@ module _ (core : Shared) (layout : Size) (layout_is : layout ≡ core.size) (bef
     pub mid_gone : mid.view.gone ≡ before.view.gone
     mid_gone = ap (λ (v : View). v.gone) looks.view ∙ going.gone
 
-    pub mid_loads : (sought : List Load) × (mid.view.seen.loads ≡ before.view.seen.loads ++ sought)
-    mid_loads = (going.sought ++ load (wts place) w ∷ [], loads_at)
-
     -- it is found
+    pub found_there : w ≡ stamp → FindsVersion rid stamp place before.view.seen.loads mid.view.seen.loads
+    found_there e = record { sought = going.sought; leads = going.leads; loads = loads_at ∙ ap (λ (c : ℕ). before.view.seen.loads ++ (going.sought ++ load (wts place) c ∷ [])) e }
+
     pub finds : w ≡ stamp → Comes before.view (collects rid stamp (found place)) mid.view
     finds e = comes-on before.view now.view mid.view _ _ going.view (subst (λ (x : Stage). Comes now.view (collects rid stamp x) mid.view) (here_at place w stamp e) seen_at)
 
@@ -107,8 +110,11 @@ module _ (core : Shared) (layout : Size) (layout_is : layout ≡ core.size) (bef
             under = w;
             view = comes-on before.view mid.view after'.view _ _ (comes-on before.view now.view mid.view _ _ going.view seen_at) view;
             inside = omega arith;
-            sought = (going.sought ++ load (wts place) w ∷ []) ++ load (next_word place) n ∷ [];
-            loads = ap (λ (v : View). v.seen.loads) s.view ∙ ap (λ (ls : List Load). ls ++ load (next_word place) n ∷ []) loads_at ∙ append_assoc before.view.seen.loads (going.sought ++ load (wts place) w ∷ []) _;
+            sought = going.sought ++ load (wts place) w ∷ load (next_word place) n ∷ [];
+            leads = past_other going.sought place w n going.leads ne;
+            loads =
+                ap (λ (v : View). v.seen.loads) s.view ∙ ap (λ (ls : List Load). ls ++ load (next_word place) n ∷ []) loads_at ∙ append_assoc before.view.seen.loads (going.sought ++ load (wts place) w ∷ []) _
+                ∙ ap (λ (ls : List Load). before.view.seen.loads ++ ls) (append_assoc going.sought (load (wts place) w ∷ []) (load (next_word place) n ∷ []));
             lost = ap (λ (v : View). v.seen.lost) s.view ∙ mid_lost;
             gone = ap (λ (v : View). v.gone) s.view ∙ mid_gone;
           },

@@ -1,8 +1,9 @@
 //! The search for the version to collect below, under the lock of its record.
-ghost use Rattle.std.specs.Prelude.{◌≡◌, ◌<◌, List, ◌++◌};
+ghost use Rattle.std.specs.Prelude.{◌≡◌, ◌<◌};
 ghost use Rattle.word_layout.specs.Size.{places};
-ghost use Rattle.core_rule.specs.View.{Load, above_floor, found, collects};
+ghost use Rattle.core_rule.specs.View.{above_floor, found, collects};
 ghost use Rattle.core_rule.specs.Hands.{IsReady, StaysReady};
+ghost use Rattle.rapid_gc.specs.Chains.{FindsVersion};
 ghost use Rattle.rapid_gc.specs.Views.{Comes};
 
 use core_rule::{Core, Hand, Keeps, link_place};
@@ -14,7 +15,7 @@ pub(crate) fn seek<J: Keeps>(core: &Core<J>, hand: &mut Hand<J>, rid: u32, stamp
     requires at { hand.old.view.work.item ≡ collects rid stamp above_floor }
     ensures in_range { result < places core.now.size }
     ensures view { Comes hand.old.view (collects rid stamp (found result)) hand.new.view }
-    ensures loads { (sought : List Load) × (hand.new.view.seen.loads ≡ hand.old.view.seen.loads ++ sought) }
+    ensures finds { FindsVersion rid stamp result hand.old.view.seen.loads hand.new.view.seen.loads }
     ensures lost { hand.new.view.seen.lost ≡ hand.old.view.seen.lost }
     ensures gone { hand.new.view.gone ≡ hand.old.view.gone }
     ensures stays { StaysReady core.now hand.old hand.new }

@@ -9,7 +9,7 @@ use Rattle.rapid_gc.specs.declared.queue.Queued.{Queued}
 use Rattle.rapid_gc.specs.declared.fate.Fate.{Fate}
 use Rattle.rapid_gc.specs.declared.fate.Fate.TheVariants.{Late, Locked, Dropped, Cut as CutBelow}
 use Rattle.rapid_gc.specs.declared.collecting.Collected.{Collected}
-use Rattle.rapid_gc.specs.Chains.{Follows, counted}
+use Rattle.rapid_gc.specs.Chains.{Follows, FindsVersion, counted}
 use Rattle.rapid_gc.specs.Ends.{Ended, items_of, remaining, how_many, late_one, locked_one, dropped_one, cut_one}
 use Rattle.plain_data.specs.declared.entry.Entry.{Entry}
 use Rattle.record_store.specs.Meaning.{value_at}
@@ -76,11 +76,12 @@ pub record IsLastNow (i : Queued) (before after' : Trail) : Type 0 where
   pub not_under : floor_read ≤ i.stamp
   pub place : ℕ
   pub to : ℕ
-  pub sought : List Load
+  pub found : List Load
+  pub finds : FindsVersion i.rid i.stamp place (before.observed.loads ++ load (floor i.rid) floor_read ∷ []) found
   pub freed : List ℕ
   pub links : List Load
   pub follows : Follows to freed links 0
-  pub loads : after'.observed.loads ≡ before.observed.loads ++ (load (floor i.rid) floor_read ∷ (sought ++ links))
+  pub loads : after'.observed.loads ≡ found ++ links
   pub lost : after'.observed.lost ≡ before.observed.lost
   pub cuts : after'.gone.cuts ≡ before.gone.cuts ++ record { record_number = i.rid; stamp = i.stamp; place = place; to = to } ∷ []
   pub gone : after'.gone.freed ≡ before.gone.freed ++ freed

@@ -15,10 +15,10 @@ use Rattle.seat_post.specs.Post.{PostView, observing}
 use Rattle.seat_post.specs.Promoting.{rewritten_at, PromotesPost, FailsPost}
 use Rattle.seat_post.specs.Rewriting.{rewriting}
 use Rattle.seat_post.specs.Seats.{Bounds, Observed, Placed}
-use Rattle.seat_post.specs.declared.promoting.Promotion.{Promotion}
-use Rattle.seat_post.specs.declared.promoting.Promotion.TheVariants.{Promoted, Inline, Absent, Occupied}
-use Rattle.seat_post.specs.declared.promoting.PromoteFault.{PromoteFault}
-use Rattle.seat_post.specs.declared.promoting.PromoteFault.TheVariants as fault
+use Rattle.engine_answers.specs.declared.promotion.Promotion.{Promotion}
+use Rattle.engine_answers.specs.declared.promotion.Promotion.TheVariants.{Promoted, Inline, Absent, Occupied}
+use Rattle.engine_answers.specs.declared.promotion.PromoteFault.{PromoteFault}
+use Rattle.engine_answers.specs.declared.promotion.PromoteFault.TheVariants as fault
 use Rattle.stored_tables.specs.Tables.{StandsFor}
 use Rattle.stored_tables.specs.Weight.{weight, all_add}
 use Rattle.lane_runner.specs.Rows.{stands}

@@ -114,7 +114,7 @@ announced_view hand hand' phase stamp sets table is = rw (table, is.only) refl
 pub post_ended : (core : Shared) (phase : Phase) (hand hand' : Seated) (stamp : ℕ) (sets : SetsView) → phase ≡ Idle → IsPost hand phase stamp sets → IsReady core hand' → hand'.view.size ≡ hand.view.size → hand'.view.places.held ≡ hand.view.places.held → hand'.view.counts.in_reserved ≡ hand.view.counts.in_reserved → Ends hand'.view.work → (hand'.view.flight ≡ resting → AreAllWhole hand'.view.work.reads) → IsPost hand' phase stamp sets
 post_ended core phase hand hand' stamp sets idle is ready size held kept ends whole =
     let at = subst (λ (p : Phase). IsAt p hand stamp sets) idle is.at in
-    post_idle core phase hand' stamp sets idle ready (rw size is.size) (held ∙ is.holds_none) (kept ∙ is.keeps_none) (record {
+    post_idle core phase hand' stamp sets idle ready (rw size is.size) (held ∙ is.holds_none) (kept ∙ is.none_reserved) (record {
       ends = ends;
       whole = whole;
       no_stamp = at.no_stamp;

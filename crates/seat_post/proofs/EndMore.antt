@@ -54,7 +54,7 @@ post_installed core hand hand' stamp sets sets' is same installs stands kept rea
       ready = own_ready core hand' ready;
       size = rw size is.size;
       holds_none = stands.held ∙ is.holds_none;
-      keeps_none = kept ∙ is.keeps_none;
+      none_reserved = kept ∙ is.none_reserved;
       at = record {
         installed = subst (λ (n : ℕ). validating.IsInstalled n sets' hand'.view) (sym is.at.at) installs.installed;
         inside = rw size installs.inside;
@@ -116,7 +116,7 @@ post_decided core kept records hand hand' stamp sets is ready decides =
       ready = own_ready core hand' ready;
       size = rw size is.size;
       holds_none = held ∙ is.holds_none;
-      keeps_none = ap (λ (v : View). v.counts.in_reserved) decides.only ∙ is.keeps_none;
+      none_reserved = ap (λ (v : View). v.counts.in_reserved) decides.only ∙ is.none_reserved;
       at = record {
         decided = decides.decided;
         inside = rw size is.at.inside;

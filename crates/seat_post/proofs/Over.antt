@@ -72,7 +72,7 @@ pub post_over : (core : Shared) (hand hand' : Seated) (phase : Phase) (stamp sta
 post_over core hand hand' phase stamp stamp' t sets sets' is stands kept flight ready ends none none_read none_written =
     let size : hand'.view.size ≡ hand.view.size = ap (λ (v : View). v.size) stands.others in
     let whole = none_resting hand'.view.flight t hand'.view.work.reads (still_flying hand.view hand'.view t stands flight) in
-    rw none (post_closed hand' sets' (own_ready core hand' ready) (rw size is.size) (stands.held ∙ is.holds_none) (kept ∙ is.keeps_none) ends whole none_read none_written)
+    rw none (post_closed hand' sets' (own_ready core hand' ready) (rw size is.size) (stands.held ∙ is.holds_none) (kept ∙ is.none_reserved) ends whole none_read none_written)
 
 -- the post after a search, whose reads are now these
 view_searched : (hand hand' : Seated) (phase : Phase) (stamp t : ℕ) (sets : SetsView) (search : Search) (found : List Read) → hand'.table ≡ hand.table → hand'.view ≡ record hand.view { work = record hand.view.work { search = search; reads = found }; seen = hand'.view.seen } → hand.view.flight ≡ writing t → post_of hand' phase stamp sets ≡ observing (post_of hand phase stamp sets) (observed_in hand')

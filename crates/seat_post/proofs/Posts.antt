@@ -97,7 +97,7 @@ post_turned core phase hand hand' stamp sets clock seen is ready view grows take
   ready = own_ready core hand' ready;
   size = rw view is.size;
   holds_none = rw view is.holds_none;
-  keeps_none = rw view is.keeps_none;
+  none_reserved = rw view is.none_reserved;
   at = let same : turned_hand hand hand' clock seen ≡ hand' = ap (λ (v : View). record hand' { view = v }) (sym view) in subst (λ (h : Seated). IsAt phase h stamp sets) same (at_turned phase hand hand' stamp sets clock seen (subst (λ (s : Seen). Grows hand.view.seen s) (ap (λ (v : View). v.seen) view) grows) taken is.at);
 }
 
@@ -138,7 +138,7 @@ post_opened core hand hand' stamp t clock sets idle held kept size ready view is
   ready = own_ready core hand' ready;
   size = rw view size;
   holds_none = rw view held;
-  keeps_none = rw view kept;
+  none_reserved = rw view kept;
   at = record {
     begun = rw view (begun_drawn hand.view.size sets hand.view clock idle.none_read idle.none_written (subst (λ (n : ℕ). IsStamp n) at is_stamp));
     at = rw view at;
@@ -164,6 +164,6 @@ post_idle core phase hand' stamp sets same ready size held kept is = record {
   ready = own_ready core hand' ready;
   size = size;
   holds_none = held;
-  keeps_none = kept;
+  none_reserved = kept;
   at = subst (λ (p : Phase). IsAt p hand' stamp sets) (sym same) is;
 }

@@ -23,8 +23,8 @@ use Rattle.seat_post.specs.Searched.{Stops}
 use Rattle.seat_post.specs.Promoting.{IsDrawn, MeetsPending, IsStoppedWriting, FindsElsewhere, LoadsElsewhere, FindsOccupied, WritesInline, PromotesAt, FailsAt, MeetsElsewhere, LosesOnly, CameUpon, IsStoppedPost}
 use Rattle.seat_post.specs.Rewriting.{HasFound, Rewrites, IsStopped, LinksOne, IsLoadedIn, others_in}
 use Rattle.seat_post.specs.Seats.{placed_of}
-use Rattle.seat_post.specs.declared.promoting.Promotion.{Promotion}
-use Rattle.seat_post.specs.declared.promoting.Promotion.TheVariants.{Promoted, Inline, Absent, Occupied}
+use Rattle.engine_answers.specs.declared.promotion.Promotion.{Promotion}
+use Rattle.engine_answers.specs.declared.promotion.Promotion.TheVariants.{Promoted, Inline, Absent, Occupied}
 use Rattle.seat_post.specs.Conflicts.{ShowsOf, WasFound}
 use Rattle.seat_post.specs.Post.{IsPost, post_of}
 use Rattle.stamp_base.specs.Stamp.{stamp_of, IsStamp}
@@ -246,7 +246,7 @@ post_rested core phase hand hand' v clock drew rid stamp sets same is within vie
     let rested = rests apart (is_drawn drew clock hand.view v is.holds_none view published) in
     let idle = at_phase phase Idle hand stamp sets is same in
     let size : hand'.view.size ≡ hand.view.size = ap (λ (y : View). y.size) rested.only ∙ ap (λ (y : View). y.size) view in
-    post_idle core phase hand' stamp sets same ready (rw size is.size) rested.held (rested.in_reserved ∙ ap (λ (y : View). y.counts.in_reserved) view ∙ is.keeps_none) (record {
+    post_idle core phase hand' stamp sets same ready (rw size is.size) rested.held (rested.in_reserved ∙ ap (λ (y : View). y.counts.in_reserved) view ∙ is.none_reserved) (record {
       ends = rested.ends;
       whole = none_resting hand'.view.flight (stamp_of clock hand.view.number) hand'.view.work.reads (ap (λ (y : View). y.flight) rested.only ∙ ap (λ (y : View). y.flight) view);
       no_stamp = idle.no_stamp;

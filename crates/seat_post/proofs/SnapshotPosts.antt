@@ -38,7 +38,7 @@ in_snapshot_of hand stamp sets idle some =
 -- an idle post at another hand that reads for a snapshot
 pub post_in_snapshot : (core : Shared) (phase : Phase) (hand hand' : Seated) (stamp : ℕ) (sets : SetsView) → IsPost hand phase stamp sets → IsIdleAt hand stamp sets → phase ≡ Idle → IsReady core hand' → hand'.view.size ≡ hand.view.size → hand'.view.places.held ≡ hand.view.places.held → hand'.view.counts.in_reserved ≡ hand.view.counts.in_reserved → IsInSnapshot hand'.view → IsPost hand' phase stamp sets
 post_in_snapshot core phase hand hand' stamp sets is idle same ready size held kept in_snapshot =
-    post_idle core phase hand' stamp sets same ready (rw size is.size) (held ∙ is.holds_none) (kept ∙ is.keeps_none) (record {
+    post_idle core phase hand' stamp sets same ready (rw size is.size) (held ∙ is.holds_none) (kept ∙ is.none_reserved) (record {
       ends = in_snapshot.ends;
       whole = λ at. in_snapshot.whole;
       no_stamp = idle.no_stamp;
@@ -50,7 +50,7 @@ post_in_snapshot core phase hand hand' stamp sets is idle same ready size held k
 pub post_ended : (core : Shared) (phase : Phase) (hand hand' : Seated) (stamp word : ℕ) (sets : SetsView) → IsPost hand phase stamp sets → IsIdleAt hand stamp sets → phase ≡ Idle → IsReady core hand' → hand'.view ≡ snapshot_ended hand.view word → IsPost hand' phase stamp sets
 post_ended core phase hand hand' stamp word sets is idle same ready view =
     let work : hand'.view.work ≡ no_work = ap (λ (v : View). v.work) view in
-    post_idle core phase hand' stamp sets same ready (rw view is.size) (ap (λ (v : View). v.places.held) view ∙ is.holds_none) (ap (λ (v : View). v.counts.in_reserved) view ∙ is.keeps_none) (record {
+    post_idle core phase hand' stamp sets same ready (rw view is.size) (ap (λ (v : View). v.places.held) view ∙ is.holds_none) (ap (λ (v : View). v.counts.in_reserved) view ∙ is.none_reserved) (record {
       ends = rw work (record { rests = tt; settled = λ u among. absurd among; collected = refl });
       whole = λ at. rw work (λ d among. absurd among);
       no_stamp = idle.no_stamp;

@@ -52,7 +52,7 @@ post_closed hand sets ready size held kept ends whole none_read none_written = r
   ready = ready;
   size = size;
   holds_none = held;
-  keeps_none = kept;
+  none_reserved = kept;
   at = record { ends = ends; whole = whole; no_stamp = refl; none_read = none_read; none_written = none_written };
 }
 

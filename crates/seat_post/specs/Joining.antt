@@ -15,7 +15,7 @@ pub record IsDone (hand : Seated) : Type 0 where
   pub retired : IsRetired hand.view
   pub ends : Ends hand.view.work
   pub holds_none : hand.view.places.held ≡ []
-  pub keeps_none : hand.view.counts.in_reserved ≡ nothing_reserved
+  pub none_reserved : hand.view.counts.in_reserved ≡ nothing_reserved
 
 -- the hand is taken in: the greater of the clocks and of the minima met, and one log behind the other; what is known of lists is
 -- forgotten

@@ -146,7 +146,7 @@ pub record IsPost (hand : Seated) (phase : Phase) (stamp : ℕ) (sets : SetsView
   pub ready : IsReady (shared_of hand) hand
   pub size : IsSize hand.view.size
   pub holds_none : hand.view.places.held ≡ []
-  pub keeps_none : hand.view.counts.in_reserved ≡ nothing_reserved
+  pub none_reserved : hand.view.counts.in_reserved ≡ nothing_reserved
   pub at : IsAt phase hand stamp sets
 
 -- ---- what its calls make of it

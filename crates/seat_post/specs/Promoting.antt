@@ -10,10 +10,10 @@ use Rattle.version_search.specs.Finding.{Reads}
 use Rattle.version_search.specs.Loading.{with_value}
 use Rattle.validate_core.specs.Validating.{worked, Met, no_more}
 use Rattle.validate_core.specs.declared.conflict.Conflict.{Conflict}
-use Rattle.seat_post.specs.declared.promoting.Promotion.{Promotion}
-use Rattle.seat_post.specs.declared.promoting.Promotion.TheVariants.{Promoted, Inline, Absent, Occupied}
-use Rattle.seat_post.specs.declared.promoting.PromoteFault.{PromoteFault}
-use Rattle.seat_post.specs.declared.promoting.PromoteFault.TheVariants as fault
+use Rattle.engine_answers.specs.declared.promotion.Promotion.{Promotion}
+use Rattle.engine_answers.specs.declared.promotion.Promotion.TheVariants.{Promoted, Inline, Absent, Occupied}
+use Rattle.engine_answers.specs.declared.promotion.PromoteFault.{PromoteFault}
+use Rattle.engine_answers.specs.declared.promotion.PromoteFault.TheVariants as fault
 use Rattle.seat_post.specs.Seats.{Bounds, Observed}
 use Rattle.seat_post.specs.Conflicts.{ShowsOf, IsLoaded}
 use Rattle.seat_post.specs.Ends.{Stood}

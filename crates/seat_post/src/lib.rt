@@ -23,7 +23,6 @@ mod writing;
 
 pub use phase::Phase;
 pub use post::Post;
-pub use promoting::{PromoteFault, Promotion};
 pub use reading::ReadFault;
 pub use rewriting::Room;
 pub use settled::Settled;

@@ -56,7 +56,7 @@ impl<J> Post<J> {
     pub fn new(alloc: Global, hand: Hand<J>, room: Room) -> Self
         requires ready { IsReady (shared_of hand) hand }
         requires holds_none { hand.view.places.held ≡ [] }
-        requires keeps_none { hand.view.counts.in_reserved ≡ nothing_reserved }
+        requires none_reserved { hand.view.counts.in_reserved ≡ nothing_reserved }
         requires ends { Ends hand.view.work }
         requires whole { hand.view.flight ≡ resting → AreAllWhole hand.view.work.reads }
         ensures { result ≡ post_view hand Phase.Idle 0 [] [] [] }

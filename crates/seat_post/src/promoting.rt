@@ -15,57 +15,14 @@ use crate::phase::Phase;
 use crate::post::Post;
 use crate::rewriting::Room;
 use crate::search::Read;
-use clock_stamps::{ClockOut, draw};
+use clock_stamps::draw;
 use core_rule::{Core, Hand, Keeps};
+use engine_answers::{PromoteFault, Promotion};
 use plain_data::Cells;
 use stamp_base::Stamp;
 use validate_core::Conflict;
 use version_pool::take_inline;
 use version_search::{Found, find, load_value};
-
-/// What became of a promotion.
-#[derive(Clone, Copy, PartialEq, Eq, Debug)]
-pub enum Promotion {
-    /// What is visible was written again into the inline place, at this stamp.
-    Promoted(Stamp),
-    /// What is visible stands in the inline place.
-    Inline,
-    /// The record is absent.
-    Absent,
-    /// The inline place is not free.
-    Occupied,
-}
-
-/// Why a record is not promoted.
-#[derive(Clone, Copy, PartialEq, Eq, Debug)]
-pub enum PromoteFault {
-    /// The clock of the pass has come to its end.
-    ClockOut,
-    /// Another transaction is in the way.
-    Conflict(Conflict),
-}
-
-impl From<ClockOut> for PromoteFault {
-    ghost use Rattle.std.specs.Prelude.{◌≡◌};
-    ghost use Rattle.seat_post.specs.declared.promoting.PromoteFault.TheVariants as fault;
-
-    ghost from_gives = { λ _ answer. answer ≡ fault.ClockOut };
-
-    fn from(_error: ClockOut) -> Self {
-        PromoteFault::ClockOut
-    }
-}
-
-impl From<Conflict> for PromoteFault {
-    ghost use Rattle.std.specs.Prelude.{◌≡◌};
-    ghost use Rattle.seat_post.specs.declared.promoting.PromoteFault.TheVariants as fault;
-
-    ghost from_gives = { λ conflict answer. answer ≡ fault.Conflict conflict };
-
-    fn from(conflict: Conflict) -> Self {
-        PromoteFault::Conflict(conflict)
-    }
-}
 
 impl<J: Keeps> Post<J> {
     /// Draws a stamp, and promotes a record at it.

@@ -59,9 +59,9 @@ fn settle_all<J: Keeps>(
 ) -> Result<Settled, ClockOut>
     requires ready { IsReady core.now hand.old }
     requires settling { IsSettling hand.old.view }
-    requires keeps_none { hand.old.view.counts.in_reserved ≡ nothing_reserved }
+    requires none_reserved { hand.old.view.counts.in_reserved ≡ nothing_reserved }
     ensures settling { IsSettling hand.new.view }
-    ensures keeps_none { hand.new.view.counts.in_reserved ≡ nothing_reserved }
+    ensures none_reserved { hand.new.view.counts.in_reserved ≡ nothing_reserved }
     ensures settles { Settles J.kept hand.old.view hand.new.view }
     ensures settled { OnOk result (AreSettled core.now.size.records hand.new.view.counts) }
     ensures draws { IfOk result (λ all. hand.new.view.clock.clock ≡ hand.old.view.clock.clock + all.rewritten) }
@@ -90,9 +90,9 @@ fn settle_record<J: Keeps>(
     requires ready { IsReady core.now hand.old }
     requires rid { rid < core.now.size.records }
     requires settling { IsSettling hand.old.view }
-    requires keeps_none { hand.old.view.counts.in_reserved ≡ nothing_reserved }
+    requires none_reserved { hand.old.view.counts.in_reserved ≡ nothing_reserved }
     ensures settling { IsSettling hand.new.view }
-    ensures keeps_none { hand.new.view.counts.in_reserved ≡ nothing_reserved }
+    ensures none_reserved { hand.new.view.counts.in_reserved ≡ nothing_reserved }
     ensures settles { Settles J.kept hand.old.view hand.new.view }
     ensures others { KeepsOthers rid hand.old.view hand.new.view }
     ensures one { OnOk result (IsSingle (known_of hand.new.view.counts rid)) }

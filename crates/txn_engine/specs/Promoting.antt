@@ -3,10 +3,10 @@ use Rattle.std.specs.Prelude.{◌≡◌, ◌+◌, ◌↔◌, ℕ, Result, Ok, Er
 use Rattle.plain_data.specs.State.{State}
 use Rattle.stamp_base.specs.Limits.{greatest_clock}
 use Rattle.stamp_base.specs.Stamp.{stamp_of}
-use Rattle.seat_post.specs.declared.promoting.Promotion.{Promotion}
-use Rattle.seat_post.specs.declared.promoting.Promotion.TheVariants.{Promoted, Inline, Absent, Occupied}
-use Rattle.seat_post.specs.declared.promoting.PromoteFault.{PromoteFault}
-use Rattle.seat_post.specs.declared.promoting.PromoteFault.TheVariants as fault
+use Rattle.engine_answers.specs.declared.promotion.Promotion.{Promotion}
+use Rattle.engine_answers.specs.declared.promotion.Promotion.TheVariants.{Promoted, Inline, Absent, Occupied}
+use Rattle.engine_answers.specs.declared.promotion.PromoteFault.{PromoteFault}
+use Rattle.engine_answers.specs.declared.promotion.PromoteFault.TheVariants as fault
 use Rattle.seat_post.specs.Logs.{IsAbove}
 use Rattle.seat_post.specs.Observing.{Grows}
 use Rattle.seat_post.specs.Promoting.{PromotesPost, FailsPost, CameUpon}

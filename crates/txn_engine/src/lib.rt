@@ -26,13 +26,14 @@ pub use alone::Alone;
 pub use clock_stamps::ClockOut;
 pub use engine::{Engine, Lent};
 pub use engine_answers::{
-    AloneFault, BeginFault, CommitFault, Committed, NoFault, StartFault, TxnFault,
+    AloneFault, BeginFault, CommitFault, Committed, NoFault, PromoteFault, Promotion, StartFault,
+    TxnFault,
 };
 pub use pass::Pass;
 pub use rapid_gc::Collected;
 pub use retired::Retired;
 pub use seat::Seat;
-pub use seat_post::{PromoteFault, Promotion, Settled};
+pub use seat_post::Settled;
 pub use snapshot::{AloneSnapshot, Snapshot, SnapshotOver};
 pub use staged::{DecidedOver, DecidedTxn, InstalledOver, InstalledTxn};
 pub use txn::{AloneTxn, Txn, TxnOver};

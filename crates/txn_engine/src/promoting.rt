@@ -8,7 +8,7 @@ use crate::pass::Pass;
 use crate::transacting::BOOST;
 use clock_stamps::ClockOut;
 use core_rule::Keeps;
-use seat_post::{PromoteFault, Promotion};
+use engine_answers::{PromoteFault, Promotion};
 use validate_core::Conflict;
 
 impl<J: Keeps> Pass<J> {

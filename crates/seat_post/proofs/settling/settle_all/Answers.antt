@@ -16,7 +16,7 @@ loop-rid-init g c =
       stays = record { seat = record { same_table = refl; same_id = refl }; ready = c.requires.ready };
       settling = c.requires.settling;
       settles = steady_settles g.J.Keeps.kept v v (steady_same v v refl c.requires.settling.ends);
-      keeps_none = c.requires.keeps_none;
+      none_reserved = c.requires.none_reserved;
       settled = λ r below. absurd (omega arith);
       draws = omega arith;
       freed = freed_none c.none-all.result.places v v c.none-all.ensures.places refl;
@@ -54,7 +54,7 @@ loop-rid-preserved g c =
       stays = stays_both c.args.core.now c.args.hand.now c.loop-rid.hand s.new.hand i.stays s.ensures.stays;
       settling = s.ensures.settling;
       settles = settles_both g.J.Keeps.kept v c.loop-rid.hand.view s.new.hand.view i.settles s.ensures.settles;
-      keeps_none = s.ensures.keeps_none;
+      none_reserved = s.ensures.none_reserved;
       settled = settled_more c.loop-rid.rid c.loop-rid.hand.view s.new.hand.view i.settled s.ensures.others e.one;
       draws = let h = i.draws in let k = e.draws in omega arith;
       freed = freed;

@@ -11,7 +11,7 @@ invariant-loop-rid g l = record {
   stays : StaysReady l.core l.fn.hand l.hand;
   settling : IsSettling l.hand.view;
   settles : Settles g.J.Keeps.kept l.fn.hand.view l.hand.view;
-  keeps_none : l.hand.view.counts.in_reserved ≡ nothing_reserved;
+  none_reserved : l.hand.view.counts.in_reserved ≡ nothing_reserved;
   settled : AreSettled l.rid l.hand.view.counts;
   draws : l.hand.view.clock.clock ≡ l.fn.hand.view.clock.clock + l.all.rewritten;
   freed : FreesCounted l.all.places l.fn.hand.view l.hand.view;

@@ -77,8 +77,8 @@ unreachable-requires g c =
     let clock = cut.ensures.cut.clock in
     c.in_default.ensures.inline (stands_reserved c.args.rid once.stamp cut.new.hand.view.counts kept cut.ensures.cut.one) (omega arith)
 
-pub returns-clause-keeps_none : goal.returns-clause-keeps_none
-returns-clause-keeps_none g c =
+pub returns-clause-none_reserved : goal.returns-clause-none_reserved
+returns-clause-none_reserved g c =
     let once = c.in_ok-once.once in
     let twice = c.in-Ok.twice in
     let e = c.in_ok-once.ensures in

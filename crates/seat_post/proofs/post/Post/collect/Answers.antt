@@ -33,7 +33,7 @@ invariant_of-self g c =
     let e = c.collect.ensures in
     let size : c.collect.new.hand.view.size ≡ c.self.inside.hand.view.size = ap (λ (v : View). v.size) e.view in
     let held : c.collect.new.hand.view.places.held ≡ c.self.inside.hand.view.places.held = ap (λ (v : View). v.places.held) e.view in
-    post_idle c.args.core.now _ _ _ _ phase e.stays.ready (rw size c.self.invariant.size) (held ∙ c.self.invariant.holds_none) (nothing_left _ _ _ e.in_reserved c.self.invariant.keeps_none) (record {
+    post_idle c.args.core.now _ _ _ _ phase e.stays.ready (rw size c.self.invariant.size) (held ∙ c.self.invariant.holds_none) (nothing_left _ _ _ e.in_reserved c.self.invariant.none_reserved) (record {
       ends = e.ends;
       whole = λ at. λ d among. absurd (subst (λ (ds : List Read). Among d ds) (ap (λ (v : View). v.work.reads) e.view) among);
       no_stamp = idle.no_stamp;

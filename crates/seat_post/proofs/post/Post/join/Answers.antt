@@ -15,4 +15,4 @@ invariant_of-self g c =
     let phase = ap (λ (p : PostView). p.phase) c.self.view_is ∙ c.requires.idle in
     let view = c.join.ensures.view in
     let ready = ready_same (shared_of i.hand) i.hand c.join.new.hand c.self.invariant.ready c.join.ensures.seat.same_table (ap (λ (v : View). v.size) view) (ap (λ (v : View). v.number) view) (ap (λ (v : View). v.published) view) in
-    post_ended (shared_of i.hand) i.phase i.hand c.join.new.hand i.stamp i.sets phase c.self.invariant ready (ap (λ (v : View). v.size) view) (ap (λ (v : View). v.places.held) view) (ap (λ (v : View). v.counts.in_reserved) view ∙ nothing_joined _ _ c.self.invariant.keeps_none c.requires.done.keeps_none) (ended _ (ap (λ (v : View). v.work) view)) (λ at. none_read _ (ap (λ (v : View). v.work) view))
+    post_ended (shared_of i.hand) i.phase i.hand c.join.new.hand i.stamp i.sets phase c.self.invariant ready (ap (λ (v : View). v.size) view) (ap (λ (v : View). v.places.held) view) (ap (λ (v : View). v.counts.in_reserved) view ∙ nothing_joined _ _ c.self.invariant.none_reserved c.requires.done.none_reserved) (ended _ (ap (λ (v : View). v.work) view)) (λ at. none_read _ (ap (λ (v : View). v.work) view))

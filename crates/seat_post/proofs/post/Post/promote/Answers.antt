@@ -6,7 +6,7 @@ use Rattle.clock_stamps.specs.Clocks.{drawn_clock}
 use Rattle.core_rule.specs.View.{View, Seen}
 use Rattle.seat_post.specs.Post.{PostView, post_of, observed_in}
 use Rattle.seat_post.specs.Promoting.{CameUpon, IsStoppedPost}
-use Rattle.seat_post.specs.declared.promoting.PromoteFault.TheVariants as fault
+use Rattle.engine_answers.specs.declared.promotion.PromoteFault.TheVariants as fault
 use Rattle.seat_post.specs.declared.phase.Phase.TheVariants.{Idle}
 use Rattle.seat_post.proofs.Posts.{at_phase}
 use Rattle.seat_post.proofs.Promotions.{promotes_rested, fails_rested, post_rested, promotes_grow, fails_grow, came_upon, fails_post}

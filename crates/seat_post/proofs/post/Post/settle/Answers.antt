@@ -34,7 +34,7 @@ invariant_of-self g c =
     let b = c.publish_read.ensures in
     let work : c.publish_read.new.hand.view.work ≡ no_work = ap (λ (v : View). v.work) b.view in
     let size : c.publish_read.new.hand.view.size ≡ i.hand.view.size = ap (λ (v : View). v.size) b.view ∙ s.settles.size in
-    let kept : c.publish_read.new.hand.view.counts.in_reserved ≡ nothing_reserved = ap (λ (v : View). v.counts.in_reserved) b.view ∙ s.keeps_none in
+    let kept : c.publish_read.new.hand.view.counts.in_reserved ≡ nothing_reserved = ap (λ (v : View). v.counts.in_reserved) b.view ∙ s.none_reserved in
     let held : c.publish_read.new.hand.view.places.held ≡ [] = ap (λ (v : View). v.places.held) b.view ∙ s.settling.holds_none in
     post_idle c.args.core.now i.phase c.publish_read.new.hand i.stamp i.sets phase b.ready.ready (rw size c.self.invariant.size) held kept (record {
       ends = rw work (record { rests = tt; settled = λ u among. absurd among; collected = refl });

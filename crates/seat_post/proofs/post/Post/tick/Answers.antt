@@ -12,4 +12,4 @@ invariant_of-self-2 g c =
     let phase = ap (λ (p : PostView). p.phase) c.self.view_is ∙ c.requires.idle in
     let idle = at_phase c.self.inside.phase Idle c.self.inside.hand c.self.inside.stamp c.self.inside.sets c.self.invariant phase in
     let after = post_ticked c.self.inside.hand c.draw.new.hand c.self.inside.stamp _ c.self.inside.sets idle c.in_ok-stamp.ensures.view in
-    post_idle c.args.core.now c.self.inside.phase c.draw.new.hand c.self.inside.stamp c.self.inside.sets phase c.draw.ensures.ready.ready (rw c.in_ok-stamp.ensures.view c.self.invariant.size) (rw c.in_ok-stamp.ensures.view c.self.invariant.holds_none) (rw c.in_ok-stamp.ensures.view c.self.invariant.keeps_none) after
+    post_idle c.args.core.now c.self.inside.phase c.draw.new.hand c.self.inside.stamp c.self.inside.sets phase c.draw.ensures.ready.ready (rw c.in_ok-stamp.ensures.view c.self.invariant.size) (rw c.in_ok-stamp.ensures.view c.self.invariant.holds_none) (rw c.in_ok-stamp.ensures.view c.self.invariant.none_reserved) after

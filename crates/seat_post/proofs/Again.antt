@@ -7,7 +7,7 @@ use Rattle.std.proofs.lemmas.List.Elements.{All-head}
 use Rattle.plain_data.specs.declared.entry.Entry.{Entry}
 use Rattle.plain_data.specs.State.{State, Fits, overlay}
 use Rattle.word_layout.specs.Size.{Size}
-use Rattle.core_rule.specs.View.{View, Read, Write, Load, Logged, writing}
+use Rattle.core_rule.specs.View.{View, Read, Write, Load, Seen, Logged, writing}
 use Rattle.core_rule.specs.Views.{Among}
 use Rattle.core_rule.specs.Searching.{Ends, counted_more}
 use Rattle.core_rule.specs.Collecting.{HasEntry}
@@ -15,14 +15,14 @@ use Rattle.core_rule.specs.Versions.{read_version, written_version}
 use Rattle.core_rule.specs.Deciding.{entry_of, read_values, written_values, commit_of, StoodAt, IsFitting}
 use Rattle.validate_core.specs.declared.conflict.Conflict.{Conflict}
 use Rattle.validate_core.specs.declared.conflict.Conflict.TheVariants.{Pending, ReadLater, Overtaken}
-use Rattle.validate_core.specs.Sets.{SetsView, SameWrites, Turn}
+use Rattle.validate_core.specs.Sets.{SetsView, SameWrites, Turn, versions_read, records_written}
 use Rattle.validate_core.specs.Installing.{SameSets, InstallsHeld}
 use Rattle.validate_core.specs.Validating as validating
-use Rattle.version_search.specs.Growing.{Grows, LosesNoPlace}
-use Rattle.version_search.proofs.Grown.{grows_both, linked_grows, linked_no_place}
+use Rattle.version_search.specs.Growing.{Grows}
+use Rattle.version_search.proofs.Grown.{grows_both, linked_grows}
 use Rattle.seat_post.specs.Conflicts.{ShowsOf, WasFound, WereFound}
-use Rattle.seat_post.specs.Seats.{Placed, placed_of}
-use Rattle.seat_post.specs.Rewriting.{rewriting, LinksOne, Rewrites, IsStopped, IsLoadedIn, others_in}
+use Rattle.seat_post.specs.Seats.{Placed, observed_of, placed_of}
+use Rattle.seat_post.specs.Rewriting.{rewriting, LinksOne, LinksOneThen, Rewrites, IsStopped, IsLoadedIn, others_in}
 use Rattle.seat_post.proofs.EndMore.{same_values, stood_same, another_of}
 use Rattle.seat_post.proofs.Listed.{read_value-version, value_of-cells}
 use Rattle.seat_post.proofs.Observed.{shown_loaded, loaded_before, found_after}
@@ -75,23 +75,35 @@ module _ (z : Size) (before after' : SetsView) (rid place : ℕ) (value : Option
   pub linked_log : x.log ≡ v.log
   linked_log = ap (λ (y : View). y.log) installs.only
 
+  -- it alone was written
+  writes_one : after'.writes ≡ record installs.puts.write { place = place; stamp = v.published.write } ∷ []
+  writes_one = installs.puts.writes ∙ ap (λ (us : List Write). slice_set us 0 (record installs.puts.write { place = place; stamp = v.published.write })) written
+
   -- it stands in that place
   placed_one : placed_of after'.writes ≡ record { rid = rid; place = place } ∷ []
-  placed_one =
-      let at : List Write → List Placed = λ us. placed_of (slice_set us 0 (record installs.puts.write { place = place; stamp = v.published.write })) in
-      let alone : ℕ → List Placed = λ r. record { rid = r; place = place } ∷ [] in
-      ap (λ (us : List Write). placed_of us) installs.puts.writes ∙ ap at written ∙ ap alone record_is
+  placed_one = let alone : ℕ → List Placed = λ r. record { rid = r; place = place } ∷ [] in ap (λ (us : List Write). placed_of us) writes_one ∙ ap alone record_is
 
-  pub links_then : (w : View) → w ≡ record (validating.worked x w.work w.seen) { log = w.log } → w.work.linked ≡ after'.writes → Grows x.seen w.seen → w.seen.lost ≡ x.seen.lost → Ends w.work → LinksOne rid place v.published.write v w
-  links_then w then linked grows lost ends = record {
+  pub links_then : (w : View) → w ≡ record (validating.worked x w.work w.seen) { log = w.log } → w.work.linked ≡ after'.writes → Grows x.seen w.seen → Ends w.work → LinksOne rid place v.published.write v w
+  links_then w then linked grows ends = record {
     placed = ap (λ (us : List Write). placed_of us) linked ∙ placed_one;
     only = subst (λ (y : View). y ≡ record v { places = y.places; work = y.work; counts = counted_more v.size rid v.published.write place v.counts; tops = record { record_number = rid; stamp = v.published.write } ∷ v.tops; front = y.front; log = y.log; seen = y.seen })
         (sym (then ∙ ap (λ (y : View). record (validating.worked y w.work w.seen) { log = w.log }) linked_only)) refl;
     held = ap (λ (y : View). y.places.held) then ∙ installs.held;
     grows = grows_both v.seen x.seen w.seen (linked_grows _ _ _ installs.puts.linked) grows;
-    no_place = subst (λ (ls : List Load). LosesNoPlace v.seen.lost ls) (sym lost) (linked_no_place _ _ _ installs.puts.linked);
     ends = ends;
   }
+
+  -- where loads were made so of the one read and the one write
+  pub linked_then : (such : (stamp seat : ℕ) → List (ℕ × ℕ) → List ℕ → (before after' : List Load) → Type 0) (from wts t : ℕ) (s : Seen) → before.reads ≡ read_version rid from wts value ∷ [] → SameSets before after' → t ≡ v.published.write → s.lost ≡ x.seen.lost → such t x.number (versions_read after'.reads) (records_written after'.writes) x.seen.loads s.loads → LinksOneThen v.published.write rid (such v.published.write v.number ((rid, wts) ∷ []) (rid ∷ [])) (observed_of v) (record { loads = s.loads; lost = s.lost })
+  linked_then such from wts t s read same at lost then =
+      let number = ap (λ (y : View). y.number) installs.only in
+      let reads = ap versions_read (same.reads ∙ read) in
+      let rids = ap records_written writes_one ∙ ap (λ (r : ℕ). r ∷ []) record_is in
+      record {
+        linked = x.seen.loads;
+        descends = rw (lost, ← record_is) installs.puts.linked.descends;
+        then = rw (at, number, reads, rids) at then;
+      }
 
 -- ---- what it leaves
 
@@ -124,7 +136,7 @@ rewrites_at kept records rid from wts place value z s s' v x y w whole read writ
     let then : w ≡ record (validating.worked x w.work w.seen) { log = w.log } =
     works.only ∙ ap (λ (u : View). validating.worked u w.work w.seen) decides.only ∙ ap (λ es. record (validating.worked x w.work w.seen) { log = es }) (sym log) in
     subst (λ (n : ℕ). Rewrites kept records rid place n value v w) at (record {
-      links = subst (λ (n : ℕ). LinksOne rid place n v w) (sym at) (links_then z s s' rid place value v x installs written w then linked (grows_both x.seen y.seen w.seen decides.grows works.grows) (works.lost ∙ decides.lost) ends);
+      links = subst (λ (n : ℕ). LinksOne rid place n v w) (sym at) (links_then z s s' rid place value v x installs written w then linked (grows_both x.seen y.seen w.seen decides.grows works.grows) ends);
       log = ap (λ es. map entry_of es) more ∙ map_push entry_of v.log (commit_of (writing t) s'.reads s'.writes) ∙ ap (λ e. map entry_of v.log ++ e ∷ []) entry;
       stood = stood_same kept records v.log (commit_of (writing t) s'.reads s'.writes) (rewriting t rid value) entry (subst (λ es. StoodAt kept records es (commit_of (writing t) s'.reads s'.writes)) before decides.stood);
       entered = has_entry t rid value s s' v.log w.log same written more;
@@ -178,7 +190,7 @@ stopped_at rid from wts place value z s s' v x w t conflict read written same in
     let within : x.number < x.size.seats = rw (number, size) inside in
     let were = read_found rid from wts value s s' t v w read same (grows_both v.seen x.seen w.seen (linked_grows _ _ _ installs.puts.linked) works.grows) (subst (λ (n : ℕ). WasFound n rid wts v.seen.loads) (sym at) found) in
     record {
-      links = links_then z s s' rid place value v x installs written w then linked works.grows works.lost ends;
+      links = links_then z s s' rid place value v x installs written w then linked works.grows ends;
       log = log ∙ before;
       shown = subst (λ (n : ℕ). ShowsOf rid v.size v.number (others_in v) n conflict) at
           (subst (λ (y : View). ShowsOf rid y.size y.number (others_in y) t conflict) installs.only (shows_of rid from wts value s s' x w t conflict read written same stands within shown));

@@ -7,7 +7,7 @@ use Rattle.core_rule.specs.View.{View, Load, Read, Seen}
 use Rattle.core_rule.specs.Searching.{IsFinal}
 use Rattle.core_rule.specs.Paths.{EndsAt, load}
 use Rattle.core_rule.specs.Hands.{Seated}
-use Rattle.clock_stamps.specs.Clocks.{rests, drawn}
+use Rattle.clock_stamps.specs.Clocks.{rests}
 use Rattle.clock_stamps.specs.Minima.{Raises, loads_from, bounded}
 use Rattle.version_pool.specs.Takes.{WasMet}
 use Rattle.version_search.specs.Growing as growing
@@ -21,7 +21,9 @@ use Rattle.seat_post.specs.declared.phase.Phase.{Phase}
 use Rattle.seat_post.specs.Conflicts.{WasFound, WereFound}
 use Rattle.seat_post.specs.Observing.{Grows, WasLost}
 use Rattle.seat_post.specs.Rewriting.{IsLoadedIn}
+use Rattle.seat_post.specs.Reading.{FindsValue}
 use Rattle.seat_post.specs.Searched.{Finds, Stops}
+use Rattle.seat_post.specs.Seats.{observed_of}
 use Rattle.seat_post.specs.Post.{PostView, post_of, observed_in}
 
 -- ---- what was added
@@ -50,17 +52,17 @@ raises_grow family minimum own v result w r =
 pub bounded_grows : (v w : View) (bound : ℕ) → w ≡ bounded v bound → growing.Grows v.seen w.seen
 bounded_grows v w bound is = grows_loads v.seen w.seen _ (ap (λ (y : View). y.seen.loads) is) (ap (λ (y : View). y.seen.lost) is)
 
-pub drawn_grows : (v w : View) (clock : ℕ) → w ≡ drawn v clock → growing.Grows v.seen w.seen
-drawn_grows v w clock is = seen_grows v.seen w.seen (ap (λ (y : View). y.seen) is)
-
 -- by a search
 pub reads_grow : (limit rid place wts status : ℕ) (v w : View) → Reads limit rid place wts status v w → growing.Grows v.seen w.seen
 reads_grow limit rid place wts status v w found = grows_loads v.seen w.seen _ found.path.loads found.lost
 
-pub finds_grow : (rid place wts : ℕ) (value : Option (List ℕ)) (v w : View) → Finds rid place wts value v w → growing.Grows v.seen w.seen
-finds_grow rid place wts value v w found =
+pub value_grows : (stamp rid : ℕ) (value : Option (List ℕ)) (v w : View) → FindsValue stamp rid (observed_of v) (observed_of w) value → growing.Grows v.seen w.seen
+value_grows stamp rid value v w found =
     let there = record v.seen { loads = found.leads.there } in
     grows_both v.seen there w.seen (grows_loads v.seen there _ found.leads.path.loads refl) (grows_loads there w.seen _ found.leads.loads found.lost)
+
+pub finds_grow : (rid place wts : ℕ) (value : Option (List ℕ)) (v w : View) → Finds rid place wts value v w → growing.Grows v.seen w.seen
+finds_grow rid place wts value v w found = value_grows _ rid value v w (record { place = place; wts = wts; leads = found.leads; lost = found.lost })
 
 pub stops_grow : (stamp rid wts : ℕ) (v w : View) → Stops stamp rid wts v w → growing.Grows v.seen w.seen
 stops_grow stamp rid wts v w stops = grows_loads v.seen w.seen _ stops.at.path.loads stops.at.lost
@@ -106,11 +108,6 @@ met_found limit rid place wts status v w found = record {
 -- of those loads nothing said
 pub met_alone : (limit rid wts status : ℕ) (more : ℕ → List Load) (a b : List Load) → Met limit rid wts status more a b → Met limit rid wts status no_more a b
 met_alone limit rid wts status more a b m = record { place = m.place; earlier = m.earlier; met = m.met; later = more m.place ++ m.later; path = m.path; loads = m.loads }
-
--- where more was loaded afterwards, with its place
-pub met_then : (limit rid place wts status : ℕ) (v w x : View) → Reads limit rid place wts status v w → growing.Grows w.seen x.seen → (m : Met limit rid wts status no_more v.seen.loads x.seen.loads) × (m.place ≡ place)
-unfolding met_after met_found
-met_then limit rid place wts status v w x found g = (met_after limit rid wts status no_more v.seen.loads w.seen.loads x.seen.loads g.loaded g.loads (met_found limit rid place wts status v w found), refl)
 
 -- a version that was found, where more was loaded afterwards
 pub found_after : (stamp rid wts : ℕ) (a b ls : List Load) → b ≡ a ++ ls → WasFound stamp rid wts a → WasFound stamp rid wts b

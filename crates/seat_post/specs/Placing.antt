@@ -1,5 +1,5 @@
 -- Which places the installed writes of a transaction took, and which of them found none.
-use Rattle.std.specs.Prelude.{◌≡◌, ℕ, suc, ◌==◌, Bool, false, List, [], ◌∷◌, ◌++◌, Option, map, take, count_by}
+use Rattle.std.specs.Prelude.{◌≡◌, ℕ, suc, ◌==◌, Bool, List, [], ◌∷◌, ◌++◌, Option, map, take, count_by}
 use Rattle.word_layout.specs.Size.{Size}
 use Rattle.core_rule.specs.View.{Load}
 use Rattle.core_rule.specs.Views.{Among}

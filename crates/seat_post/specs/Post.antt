@@ -5,7 +5,7 @@ use Rattle.plain_data.specs.declared.entry.Entry.{Entry}
 use Rattle.stamp_base.specs.Stamp.{stamp_of, bound_of_clock}
 use Rattle.word_layout.specs.Size.{IsSize}
 use Rattle.core_rule.specs.Hands.{Shared, Seated, IsReady}
-use Rattle.core_rule.specs.View.{Read, Write, resting, nothing_reserved}
+use Rattle.core_rule.specs.View.{Write, resting, nothing_reserved}
 use Rattle.core_rule.specs.Views.{IsAlone, Among}
 use Rattle.core_rule.specs.Searching.{Ends}
 use Rattle.core_rule.specs.Deciding.{read_values, written_values}

@@ -1,40 +1,32 @@
 -- What a promotion makes of a post, and what it came upon.
-use Rattle.std.specs.Prelude.{◌≡◌, ◌≢◌, ◌⊎◌, ℕ, List, [], ◌∷◌, ◌++◌, Option, Some}
+use Rattle.std.specs.Prelude.{◌≡◌, ◌≢◌, ◌⊎◌, ℕ, List, [], ◌∷◌, ◌++◌, Option, None, Some}
 use Rattle.plain_data.specs.State.{State}
 use Rattle.stamp_base.specs.Stamp.{stamp_of}
 use Rattle.core_rule.specs.View.{View, writing, no_work, Load}
 use Rattle.core_rule.specs.Searching.{Ends}
-use Rattle.version_pool.specs.Takes.{TakesFree, FindsNone, IsLostOn}
-use Rattle.version_search.specs.Growing as growing
+use Rattle.core_rule.specs.Paths.{EndsAt}
+use Rattle.version_pool.specs.Takes.{FindsNone, IsLostOn}
 use Rattle.version_search.specs.Finding.{Reads}
-use Rattle.version_search.specs.Loading.{with_value}
-use Rattle.validate_core.specs.Validating.{worked, Met, no_more}
+use Rattle.validate_core.specs.Validating.{worked}
 use Rattle.validate_core.specs.declared.conflict.Conflict.{Conflict}
+use Rattle.validate_core.specs.declared.conflict.Conflict.TheVariants.{Pending}
 use Rattle.engine_answers.specs.declared.promotion.Promotion.{Promotion}
 use Rattle.engine_answers.specs.declared.promotion.Promotion.TheVariants.{Promoted, Inline, Absent, Occupied}
 use Rattle.engine_answers.specs.declared.promotion.PromoteFault.{PromoteFault}
 use Rattle.engine_answers.specs.declared.promotion.PromoteFault.TheVariants as fault
-use Rattle.seat_post.specs.Seats.{Bounds, Observed}
+use Rattle.seat_post.specs.Reading.{FindsValue, StopsAt}
+use Rattle.seat_post.specs.Seats.{Bounds, Observed, observed_of}
 use Rattle.seat_post.specs.Conflicts.{ShowsOf, IsLoaded}
 use Rattle.seat_post.specs.Ends.{Stood}
 use Rattle.seat_post.specs.Post.{PostView, drawn_at, observing, placing}
-use Rattle.seat_post.specs.Rewriting.{rewriting, linked_in, Rewrites, IsStopped, others_in, IsLoadedIn}
+use Rattle.seat_post.specs.Rewriting.{rewriting, linked_in, LinksOneThen, ValidatesOne, HaltsOne, Rewrites, IsStopped, others_in, IsLoadedIn}
 
 -- ---- what was come upon
 
--- the visible version below the stamp was loaded, with this status
-pub record MeetsAt (stamp rid status : ℕ) (before after' : Observed) : Type 0 where
+-- a search ended at the visible version in this place, which is present, and nothing else was loaded
+pub record MeetsAt (stamp rid place : ℕ) (before after' : List Load) : Type 0 where
   pub wts : ℕ
-  pub met : Met stamp rid wts status no_more before.loads after'.loads
-
--- in the inline place, present; elsewhere, present
-pub record MeetsInline (stamp rid : ℕ) (before after' : Observed) : Type 0 where
-  pub visible : MeetsAt stamp rid 3 before after'
-  pub inline : visible.met.place ≡ rid
-
-pub record MeetsElsewhere (stamp rid : ℕ) (before after' : Observed) : Type 0 where
-  pub visible : MeetsAt stamp rid 3 before after'
-  pub elsewhere : visible.met.place ≢ rid
+  pub path : EndsAt stamp rid place wts 3 before after'
 
 -- one exchange alone was lost, on this place: it was met not free
 pub record LosesOnly (place : ℕ) (before after' : List Load) : Type 0 where
@@ -42,13 +34,28 @@ pub record LosesOnly (place : ℕ) (before after' : List Load) : Type 0 where
   pub not_free : IsLostOn place exchange
   pub lost : after' ≡ before ++ exchange ∷ []
 
--- what each answer of a promotion was come upon by: the version was met elsewhere, and no exchange on a place was lost; in the inline
--- place, or deleted, and none was lost at all; elsewhere, and one exchange alone was lost, on the inline place
-abbrev pub CameUpon : (stamp rid : ℕ) (before after' : Observed) → Promotion → Type 0
-CameUpon stamp rid before after' (Promoted at) = MeetsElsewhere stamp rid before after' × growing.LosesNoPlace before.lost after'.lost
-CameUpon stamp rid before after' Inline = MeetsInline stamp rid before after' × (after'.lost ≡ before.lost)
-CameUpon stamp rid before after' Absent = MeetsAt stamp rid 4 before after' × (after'.lost ≡ before.lost)
-CameUpon stamp rid before after' Occupied = MeetsElsewhere stamp rid before after' × LosesOnly rid before.lost after'.lost
+-- A search found these words elsewhere than in the inline place, the version there was linked, then loads were made so, and nothing else
+-- was loaded or lost.
+pub record WritesThen (stamp rid : ℕ) (words : List ℕ) (such : (wts : ℕ) → (before after' : List Load) → Type 0) (before after' : Observed) : Type 0 where
+  pub loaded : Observed
+  pub finds : FindsValue stamp rid before loaded (Some words)
+  pub elsewhere : finds.place ≢ rid
+  pub links : LinksOneThen stamp rid (such finds.wts) loaded after'
+
+-- the words of the entry were found so, and the loads behind the linking validate it
+pub record WritesAgain (stamp rid : ℕ) (before after' : PostView) : Type 0 where
+  pub words : List ℕ
+  pub entry : after'.log ≡ before.log ++ rewriting stamp rid (Some words) ∷ []
+  pub validates : WritesThen stamp rid words (ValidatesOne stamp before.seat rid) before.observed after'.observed
+
+-- What each answer of a promotion was come upon by, where nothing else was loaded or lost: the version was found elsewhere, and written
+-- again; in the inline place; deleted; elsewhere, and then one exchange was lost, on the inline place.
+abbrev pub CameUpon : (stamp rid : ℕ) (before after' : PostView) → Promotion → Type 0
+CameUpon stamp rid before after' (Promoted at) = WritesAgain stamp rid before after'
+CameUpon stamp rid before after' Inline = MeetsAt stamp rid rid before.observed.loads after'.observed.loads × (after'.observed.lost ≡ before.observed.lost)
+CameUpon stamp rid before after' Absent = FindsValue stamp rid before.observed after'.observed None
+CameUpon stamp rid before after' Occupied =
+    (place : ℕ) × (place ≢ rid) × MeetsAt stamp rid place before.observed.loads after'.observed.loads × LosesOnly rid before.observed.lost after'.observed.lost
 
 -- ---- the same of a post
 
@@ -68,22 +75,26 @@ pub record IsRewritten (kept : State → Type 0) (rid place clock : ℕ) (before
   pub after : after' ≡ observing (rewritten_at before clock rid place (Some words)) after'.observed
   pub stood : Stood kept before.shared.size.records before.log (rewriting stamp rid (Some words))
 
--- no version was linked; one was, in the inline place of the record
-pub record LinksNone (before after' : PostView) : Type 0 where
+-- the search stopped at this pending version, and no version was linked
+pub record LinksNone (stamp rid : ℕ) (before after' : PostView) (conflict : Conflict) : Type 0 where
   pub bounds : after'.bounds ≡ before.bounds
   pub placed : after'.placed ≡ []
+  pub wts : ℕ
+  pub pending : conflict ≡ Pending rid wts
+  pub stops : StopsAt stamp rid wts before.observed after'.observed
 
-pub record LinksInline (rid stamp : ℕ) (before after' : PostView) : Type 0 where
+-- one was, in the inline place of the record, and the validation stopped
+pub record LinksInline (stamp rid : ℕ) (before after' : PostView) (conflict : Conflict) : Type 0 where
   pub bounds : after'.bounds ≡ linked_in before.shared.size rid rid stamp before.bounds
   pub placed : after'.placed ≡ record { rid = rid; place = rid } ∷ []
+  pub words : List ℕ
+  pub halts : WritesThen stamp rid words (HaltsOne stamp rid conflict) before.observed after'.observed
 
 pub record IsStoppedPost (rid clock : ℕ) (before after' : PostView) (conflict : Conflict) : Type 0 where
   pub after : after' ≡ observing (placing (stopped_at before clock after'.bounds) after'.placed) after'.observed
-  pub linked : LinksNone before after' ⊎ LinksInline rid (stamp_of clock before.seat) before after'
+  pub linked : LinksNone (stamp_of clock before.seat) rid before after' conflict ⊎ LinksInline (stamp_of clock before.seat) rid before after' conflict
   pub shown : ShowsOf rid before.shared.size before.seat before.others (stamp_of clock before.seat) conflict
   pub loaded : IsLoaded (stamp_of clock before.seat) conflict before.observed after'.observed
-  -- no exchange on a place was lost
-  pub no_place : growing.LosesNoPlace before.observed.lost after'.observed.lost
 
 abbrev pub PromotesPost : (kept : State → Type 0) (rid clock : ℕ) (before after' : PostView) → Promotion → Type 0
 PromotesPost kept rid clock before after' (Promoted stamp) = IsRewritten kept rid rid clock before after' stamp
@@ -114,28 +125,21 @@ pub record FindsAbsent (stamp rid : ℕ) (v w : View) : Type 0 where
   pub wts : ℕ
   pub found : Reads stamp rid place wts 4 v w
 
--- it was found elsewhere
-pub record FindsElsewhere (stamp rid : ℕ) (v w : View) : Type 0 where
+-- it was found elsewhere, and then the exchange on the inline place found that not free
+pub record FindsOccupied (stamp rid : ℕ) (v w : View) : Type 0 where
+  pub between : View
   pub place : ℕ
   pub elsewhere : place ≢ rid
   pub wts : ℕ
-  pub found : Reads stamp rid place wts 3 v w
-
--- then the exchange on the inline place found that not free
-pub record FindsOccupied (stamp rid : ℕ) (v w : View) : Type 0 where
-  pub between : View
-  pub finds : FindsElsewhere stamp rid v between
+  pub found : Reads stamp rid place wts 3 v between
   pub lost : FindsNone (rid ∷ []) between w
 
--- or took it, and the value was loaded
+-- or took it, and the value was loaded: the hand holds that place, and places, loads and what is in flight differ alone
 pub record LoadsElsewhere (stamp rid : ℕ) (words : List ℕ) (v w : View) : Type 0 where
-  pub between : View
-  pub finds : FindsElsewhere stamp rid v between
-  pub taken : View
-  pub takes : TakesFree rid between taken
-  pub loads : w ≡ with_value taken words w.seen
-  pub grows : growing.Grows taken.seen w.seen
-  pub lost : w.seen.lost ≡ taken.seen.lost
+  pub only : w ≡ record v { places = w.places; work = w.work; seen = w.seen }
+  pub held : w.places.held ≡ rid ∷ v.places.held
+  pub finds : FindsValue stamp rid (observed_of v) (observed_of w) (Some words)
+  pub elsewhere : finds.place ≢ rid
 
 -- and was written there again
 pub record WritesInline (kept : State → Type 0) (records stamp rid : ℕ) (v w : View) : Type 0 where
@@ -143,6 +147,7 @@ pub record WritesInline (kept : State → Type 0) (records stamp rid : ℕ) (v w
   pub loaded : View
   pub loads : LoadsElsewhere stamp rid words v loaded
   pub rewrites : Rewrites kept records rid rid stamp (Some words) loaded w
+  pub validates : LinksOneThen stamp rid (ValidatesOne stamp v.number rid loads.finds.wts) (observed_of loaded) (observed_of w)
 
 -- exactly what was come upon at each answer
 abbrev pub PromotesAt : (kept : State → Type 0) (records stamp rid : ℕ) (v w : View) → Promotion → Type 0
@@ -156,8 +161,9 @@ pub record MeetsPending (stamp rid : ℕ) (v w : View) (conflict : Conflict) : T
   pub only : w ≡ worked v w.work w.seen
   pub none_linked : w.work.linked ≡ []
   pub ends : Ends w.work
-  pub grows : growing.Grows v.seen w.seen
-  pub lost : w.seen.lost ≡ v.seen.lost
+  pub wts : ℕ
+  pub pending : conflict ≡ Pending rid wts
+  pub stops : StopsAt stamp rid wts (observed_of v) (observed_of w)
   pub shown : ShowsOf rid v.size v.number (others_in v) stamp conflict
   pub loaded : IsLoadedIn stamp conflict v w
 
@@ -167,6 +173,7 @@ pub record IsStoppedWriting (stamp rid : ℕ) (v w : View) (conflict : Conflict)
   pub loaded : View
   pub loads : LoadsElsewhere stamp rid words v loaded
   pub stops : IsStopped rid rid stamp loaded w conflict
+  pub halts : LinksOneThen stamp rid (HaltsOne stamp rid conflict loads.finds.wts) (observed_of loaded) (observed_of w)
 
 abbrev pub FailsAt : (stamp rid : ℕ) (v w : View) → Conflict → Type 0
 FailsAt stamp rid v w conflict = MeetsPending stamp rid v w conflict ⊎ IsStoppedWriting stamp rid v w conflict

@@ -1,5 +1,5 @@
 -- What a read answers, and why it has no answer.
-use Rattle.std.specs.Prelude.{◌≡◌, ℕ, ⊤, List, [], ◌∷◌, ◌++◌, Option, None, Some}
+use Rattle.std.specs.Prelude.{◌≡◌, ℕ, ⊤, List, [], ◌++◌, Option, None, Some}
 use Rattle.word_layout.specs.Name.{min_read}
 use Rattle.core_rule.specs.View.{Load}
 use Rattle.core_rule.specs.Paths.{EndsAt, load}

@@ -4,18 +4,21 @@ use Rattle.plain_data.specs.declared.entry.Entry.{Entry}
 use Rattle.plain_data.specs.State.{State}
 use Rattle.stamp_base.specs.Stamp.{IsStamp}
 use Rattle.word_layout.specs.Size.{Size}
-use Rattle.core_rule.specs.View.{View, writing, Read, no_work}
+use Rattle.core_rule.specs.View.{View, writing, Read, Load, no_work}
 use Rattle.core_rule.specs.Searching.{Ends, counted_more}
 use Rattle.core_rule.specs.Holding.{without}
 use Rattle.core_rule.specs.Collecting.{HasEntry}
 use Rattle.core_rule.specs.Deciding as deciding
 use Rattle.validate_core.specs.Sets.{SetsView}
+use Rattle.validate_core.specs.Checked.{Validates}
+use Rattle.validate_core.specs.Halting.{Halts}
 use Rattle.validate_core.specs.declared.conflict.Conflict.{Conflict}
-use Rattle.version_search.specs.Growing.{Grows, LosesNoPlace}
+use Rattle.version_search.specs.Growing.{Grows}
+use Rattle.version_search.specs.Links.{DescendsTo}
 use Rattle.rapid_gc.specs.Queues.{Waiting}
 use Rattle.seat_post.specs.Leaves.{LeavesValue}
 use Rattle.seat_post.specs.Logs.{IsAbove}
-use Rattle.seat_post.specs.Seats.{Others, Bounds, observed_of, placed_of}
+use Rattle.seat_post.specs.Seats.{Others, Bounds, Observed, observed_of, placed_of}
 use Rattle.seat_post.specs.Conflicts.{ShowsOf, IsLoaded, WasFound}
 use Rattle.seat_post.specs.Ends.{Stood}
 
@@ -72,8 +75,20 @@ pub record LinksOne (rid place stamp : ℕ) (v w : View) : Type 0 where
   pub held : w.places.held ≡ without place v.places.held
   pub placed : placed_of w.work.linked ≡ record { rid = rid; place = place } ∷ []
   pub grows : Grows v.seen w.seen
-  pub no_place : LosesNoPlace v.seen.lost w.seen.lost
   pub ends : Ends w.work
+
+-- it was linked where loads and lost exchanges led, then loads were made so, and nothing else was loaded or lost
+pub record LinksOneThen (stamp rid : ℕ) (such : (before after' : List Load) → Type 0) (before after' : Observed) : Type 0 where
+  pub linked : List Load
+  pub descends : DescendsTo stamp rid before.loads before.lost linked after'.lost
+  pub then : such linked after'.loads
+
+-- the loads by which a transaction is validated that read this version of the record and writes it again; and by which a conflict stops it
+abbrev pub ValidatesOne : (stamp seat rid wts : ℕ) → (before after' : List Load) → Type 0
+ValidatesOne stamp seat rid wts before after' = Validates stamp seat ((rid, wts) ∷ []) (rid ∷ []) before after'
+
+abbrev pub HaltsOne : (stamp rid : ℕ) → Conflict → (wts : ℕ) → (before after' : List Load) → Type 0
+HaltsOne stamp rid conflict wts before after' = Halts stamp ((rid, wts) ∷ []) (rid ∷ []) before after' conflict
 
 -- the record's value was written again: the log has one more entry
 pub record Rewrites (kept : State → Type 0) (records rid place stamp : ℕ) (value : Option (List ℕ)) (v w : View) : Type 0 where

@@ -1,14 +1,12 @@
 //! Promoting a version at a post: what is visible of a record is written again into its inline place.
-ghost use Rattle.std.specs.Prelude.{◌≡◌, ◌≢◌, ◌+◌, ◌<◌, ◌↔◌, None, Err, IfOk, IfErr, IfSome, length};
+ghost use Rattle.std.specs.Prelude.{◌≡◌, ◌≢◌, ◌+◌, ◌<◌, ◌↔◌, ◌++◌, None, Err, IfOk, IfErr, IfSome, length};
 ghost use Rattle.stamp_base.specs.Limits.{greatest_clock};
 ghost use Rattle.word_layout.specs.Size.{places};
 ghost use Rattle.core_rule.specs.Hands.{IsReady, StaysReady};
 ghost use Rattle.core_rule.specs.Searching.{IsLoading, read_place, read_cells};
-ghost use Rattle.version_search.specs.Loading.{with_value};
+ghost use Rattle.version_search.specs.Loading.{with_value, cells_loaded};
 ghost use Rattle.clock_stamps.specs.Clocks.{drawn_clock};
 ghost use Rattle.stamp_base.specs.Stamp.{stamp_of};
-ghost use Rattle.version_search.specs.Growing as growing;
-ghost use Rattle.seat_post.specs.Observing.{Grows};
 ghost use Rattle.seat_post.specs.Promoting.{PromotesPost, FailsPost, CameUpon, IsDrawn, PromotesAt, FailsAt};
 
 use crate::phase::Phase;
@@ -37,8 +35,7 @@ impl<J: Keeps> Post<J> {
         requires rid { rid < self.old.shared.size.records }
         ensures ok { IfOk result (PromotesPost J.kept rid (drawn_clock self.old.clock reading) self.old self.new) }
         ensures err { IfErr result (FailsPost rid (drawn_clock self.old.clock reading) self.old self.new) }
-        ensures grows { Grows self.old.observed self.new.observed }
-        ensures met { IfOk result (CameUpon (stamp_of (drawn_clock self.old.clock reading) self.old.seat) rid self.old.observed self.new.observed) }
+        ensures met { IfOk result (CameUpon (stamp_of (drawn_clock self.old.clock reading) self.old.seat) rid self.old self.new) }
         ensures clock_out { (result ≡ Err PromoteFault.ClockOut) ↔ (drawn_clock self.old.clock reading ≡ greatest_clock + 1) }
     {
         let stamp = draw(core, &mut self.hand, reading)?;
@@ -94,9 +91,8 @@ fn load<J: Keeps>(core: &Core<J>, hand: &mut Hand<J>, place: u32, wts: u64) -> R
     requires begins { read_cells hand.old.view.work.reads ≡ 0 }
     ensures place { result.place ≡ place }
     ensures wts { result.wts ≡ wts }
-    ensures value { IfSome result.value (λ words. (length words ≡ 32) × (hand.new.view ≡ with_value hand.old.view words hand.new.view.seen)) }
+    ensures value { IfSome result.value (λ words. (length words ≡ 32) × (hand.new.view ≡ with_value hand.old.view words hand.new.view.seen) × (hand.new.view.seen.loads ≡ hand.old.view.seen.loads ++ cells_loaded place 0 words)) }
     ensures present { result.value ≢ None }
-    ensures grows { growing.Grows hand.old.view.seen hand.new.view.seen }
     ensures lost { hand.new.view.seen.lost ≡ hand.old.view.seen.lost }
     ensures stays { StaysReady core.now hand.old hand.new }
 {

@@ -13,7 +13,8 @@ ghost use Rattle.core_rule.specs.Versions.{read_version, written_version};
 ghost use Rattle.core_rule.specs.Hands.{IsReady, StaysReady};
 ghost use Rattle.version_search.specs.Growing.{Grows};
 ghost use Rattle.seat_post.specs.Settling.{CutsOf};
-ghost use Rattle.seat_post.specs.Rewriting.{IsRoom, HasFound, Rewrites, IsStopped};
+ghost use Rattle.seat_post.specs.Rewriting.{IsRoom, HasFound, LinksOneThen, ValidatesOne, HaltsOne, Rewrites, IsStopped};
+ghost use Rattle.seat_post.specs.Seats.{observed_of};
 
 use crate::search::Read;
 use core_rule::{Core, Hand, Keeps};
@@ -110,7 +111,9 @@ impl Room {
         requires inside { place < places core.now.size }
         requires fits { FitsPlace core.now.size rid place }
         ensures ok { OnOk result (Rewrites J.kept core.now.size.records rid place hand.old.view.published.write read.now.value hand.old.view hand.new.view) }
+        ensures validates { OnOk result (LinksOneThen hand.old.view.published.write rid (ValidatesOne hand.old.view.published.write hand.old.view.number rid read.now.wts) (observed_of hand.old.view) (observed_of hand.new.view)) }
         ensures err { IfErr result (IsStopped rid place hand.old.view.published.write hand.old.view hand.new.view) }
+        ensures halts { IfErr result (λ conflict. LinksOneThen hand.old.view.published.write rid (HaltsOne hand.old.view.published.write rid conflict read.now.wts) (observed_of hand.old.view) (observed_of hand.new.view)) }
         ensures stays { StaysReady core.now hand.old hand.new }
     {
         stage(&mut self.sets, rid, read);

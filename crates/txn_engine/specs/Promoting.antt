@@ -8,7 +8,6 @@ use Rattle.engine_answers.specs.declared.promotion.Promotion.TheVariants.{Promot
 use Rattle.engine_answers.specs.declared.promotion.PromoteFault.{PromoteFault}
 use Rattle.engine_answers.specs.declared.promotion.PromoteFault.TheVariants as fault
 use Rattle.seat_post.specs.Logs.{IsAbove}
-use Rattle.seat_post.specs.Observing.{Grows}
 use Rattle.seat_post.specs.Promoting.{PromotesPost, FailsPost, CameUpon}
 use Rattle.txn_engine.specs.Leaves.{HoldsAbsent}
 use Rattle.txn_engine.specs.Lists.{IsRoomy}
@@ -28,8 +27,7 @@ boost_after (Err (fault.Conflict conflict)) boost = 1024
 pub record Promotes (kept : State → Type 0) (rid clock : ℕ) (before after' : PassView) (answer : Result Promotion PromoteFault) : Type 0 where
   pub ok : IfOk answer (PromotesPost kept rid clock before.post after'.post)
   pub err : IfErr answer (FailsPost rid clock before.post after'.post)
-  pub met : IfOk answer (CameUpon (stamp_of clock before.seat) rid before.observed after'.observed)
-  pub grows : Grows before.observed after'.observed
+  pub met : IfOk answer (CameUpon (stamp_of clock before.seat) rid before.post after'.post)
   pub clock_out : (answer ≡ Err fault.ClockOut) ↔ (clock ≡ greatest_clock + 1)
   pub beside : after' ≡ record before { post = after'.post; boost = boost_after answer before.boost }
   pub above : OnOk answer (IsAbove before.log (stamp_of clock before.seat))

@@ -1,5 +1,5 @@
 -- What installing the writes of a transaction comes to.
-use Rattle.std.specs.Prelude.{◌≡◌, ◌⊎◌, ℕ, ◌+◌, ◌<◌, false, List, [], ◌∷◌, ◌++◌, length, take, slice_set, Option}
+use Rattle.std.specs.Prelude.{◌≡◌, ◌⊎◌, ℕ, ◌+◌, ◌<◌, false, List, [], ◌∷◌, length, take, slice_set, Option}
 use Rattle.stamp_base.specs.Stamp.{IsStamp}
 use Rattle.word_layout.specs.Size.{Size, places, IsUsable, usable_places}
 use Rattle.core_rule.specs.View.{View, writing, Write, no_item}

@@ -16,7 +16,7 @@ rewrite-requires-clause-read g c =
     let r = c.load-read in
     let v = c.args.hand.now.view in
     let found : Reads c.args.stamp c.args.rid m.place m.wts 3 v c.find.new.hand.view = rw m.absent-test at (rw c.number.ensures.value at m.ensures.version) in
-    rw (r.ensures.place, r.ensures.wts) (has_found r.result.value c.args.stamp c.args.rid m.place m.wts v c.find.new.hand.view c.take_inline.new.hand.view r.new.hand.view (subst IsStamp c.number.ensures.value c.number.ensures.stamp) c.requires.drawn r.ensures.present r.ensures.value r.ensures.grows found c.if-not-take_inline.ensures.taken)
+    rw (r.ensures.place, r.ensures.wts) (has_found r.result.value c.args.stamp c.args.rid m.place m.wts v c.find.new.hand.view c.take_inline.new.hand.view r.new.hand.view (subst IsStamp c.number.ensures.value c.number.ensures.stamp) c.requires.drawn r.ensures.present r.ensures.value found c.if-not-take_inline.ensures.taken)
 
 pub returns-in-Ok-clause-ok : goal.returns-in-Ok-clause-ok
 returns-in-Ok-clause-ok g c =
@@ -24,7 +24,7 @@ returns-in-Ok-clause-ok g c =
     let r = c.load-read in
     let v = c.args.hand.now.view in
     let found : Reads c.args.stamp c.args.rid m.place m.wts 3 v c.find.new.hand.view = rw m.absent-test at (rw c.number.ensures.value at m.ensures.version) in
-    (refl, writes_inline g.J.Keeps.kept c.args.core.now.size.records r.result.value c.args.stamp c.args.rid m.place m.wts v c.find.new.hand.view c.take_inline.new.hand.view r.new.hand.view c.rewrite.new.hand.view c.requires.drawn r.ensures.present r.ensures.value r.ensures.grows r.ensures.lost c.if-place-rid.false found c.if-not-take_inline.ensures.taken c.in-Ok.ensures.ok)
+    (refl, writes_inline g.J.Keeps.kept c.args.core.now.size.records r.result.value c.args.stamp c.args.rid m.place m.wts v c.find.new.hand.view c.take_inline.new.hand.view r.new.hand.view c.rewrite.new.hand.view c.requires.drawn r.ensures.present r.ensures.value r.ensures.lost c.if-place-rid.false found c.if-not-take_inline.ensures.taken c.in-Ok.ensures.ok (rw r.ensures.wts at c.in-Ok.ensures.validates))
 
 pub returns-in-Err-clause-err : goal.returns-in-Err-clause-err
 returns-in-Err-clause-err g c =
@@ -32,4 +32,4 @@ returns-in-Err-clause-err g c =
     let r = c.load-read in
     let v = c.args.hand.now.view in
     let found : Reads c.args.stamp c.args.rid m.place m.wts 3 v c.find.new.hand.view = rw m.absent-test at (rw c.number.ensures.value at m.ensures.version) in
-    inr (stopped_writing r.result.value c.args.stamp c.args.rid m.place m.wts v c.find.new.hand.view c.take_inline.new.hand.view r.new.hand.view c.rewrite.new.hand.view c.in-Err.conflict c.requires.drawn r.ensures.present r.ensures.value r.ensures.grows r.ensures.lost c.if-place-rid.false found c.if-not-take_inline.ensures.taken c.in-Err.ensures.err)
+    inr (stopped_writing r.result.value c.args.stamp c.args.rid m.place m.wts v c.find.new.hand.view c.take_inline.new.hand.view r.new.hand.view c.rewrite.new.hand.view c.in-Err.conflict c.requires.drawn r.ensures.present r.ensures.value r.ensures.lost c.if-place-rid.false found c.if-not-take_inline.ensures.taken c.in-Err.ensures.err (rw r.ensures.wts at c.in-Err.ensures.halts))

@@ -30,7 +30,6 @@ returns g c =
       ok = e.ok;
       err = e.err;
       met = e.met;
-      grows = e.grows;
       clock_out = e.clock_out;
       beside = refl;
       above = on_ok_of told above;

@@ -19,7 +19,7 @@ use Rattle.version_pool.specs.Takes.{first_in_turn}
 use Rattle.version_search.specs.Links.{DescendsTo}
 use Rattle.seat_post.specs.Observing as observing
 use Rattle.seat_post.specs.Seats.{Bounds, Observed, Placed as PlacedAt, observed_of, placed_of, at_of}
-use Rattle.seat_post.specs.Placing.{is_inline, count_inline, HavePlaces, Puts, FindsNone, WantsPlaceAt}
+use Rattle.seat_post.specs.Placing.{is_inline, count_inline, HavePlaces, Puts, TriesAll, WantsPlaceAt}
 use Rattle.seat_post.proofs.Growing.{grows_none, grows_both}
 use Rattle.seat_post.specs.Lists.{bounds_before, AreBounded, is_raised, count_raised}
 use Rattle.seat_post.specs.Post.{PostView, bounds_in, ArePlaced}
@@ -187,7 +187,7 @@ puts_grow z stamp _ _ _ (none_yet a) = grows_none a
 puts_grow z stamp _ _ _ (one_more_linked ps p a b c each put) = grows_both a b c (puts_grow z stamp ps a b each) (put_grows z stamp p b c put)
 
 -- and where there was no place for the next one
-none_grows : (z : Size) (rid : ℕ) (a b : Observed) → FindsNone z rid a b → observing.Grows a b
+none_grows : (z : Size) (rid : ℕ) (a b : Observed) → TriesAll z rid a b → observing.Grows a b
 none_grows z rid a b f = record { loaded = []; missed = f.met; loads = ap (λ (o : Observed). o.loads) f.after ∙ sym (append-nil a.loads); lost = ap (λ (o : Observed). o.lost) f.after }
 
 pub wants_grows : (p q : PostView) → WantsPlaceAt p q → observing.Grows p.observed q.observed

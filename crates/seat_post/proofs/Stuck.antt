@@ -8,7 +8,7 @@ use Rattle.validate_core.specs.Installing.{FindsNoPlace}
 use Rattle.validate_core.proofs.Placing.{each_grows}
 use Rattle.version_pool.specs.Takes.{first_in_turn}
 use Rattle.seat_post.specs.Observing.{MeetsNoPlace}
-use Rattle.seat_post.specs.Placing.{FindsNone}
+use Rattle.seat_post.specs.Placing.{TriesAll}
 use Rattle.seat_post.specs.Seats.{observed_of}
 use Rattle.seat_post.proofs.Linked.{written_values-take}
 use Rattle.seat_post.proofs.Listed.{written_values-append}
@@ -21,7 +21,7 @@ next_written n us writes u turn values =
     ∙ ap (λ ws. ws ++ (u.record_number, value_of u.cells) ∷ []) (written_values-take n us ∙ ap (take n) values)
 
 -- exchanges were lost behind those before it, and nothing else was come upon
-pub finds_none : (z : Size) (s : SetsView) (v w : View) (f : FindsNoPlace z s v w) → FindsNone z f.write.record_number (observed_of f.installed) (observed_of w)
+pub finds_none : (z : Size) (s : SetsView) (v w : View) (f : FindsNoPlace z s v w) → TriesAll z f.write.record_number (observed_of f.installed) (observed_of w)
 finds_none z s v w f = record {
   first = first_in_turn z f.installed.places.last_pool;
   met = f.none.lost;

@@ -42,7 +42,7 @@ pub record Puts (size : Size) (stamp : ℕ) (at : Placed) (before after' : Obser
   pub descends : DescendsTo stamp at.rid before.loads (before.lost ++ met) after'.loads after'.lost
 
 -- the inline place of the record was met not free, and each usable one from one on, and nothing else was loaded or lost
-pub record FindsNone (size : Size) (rid : ℕ) (before after' : Observed) : Type 0 where
+pub record TriesAll (size : Size) (rid : ℕ) (before after' : Observed) : Type 0 where
   pub first : ℕ
   pub met : List Load
   pub not_free : AreLostOn (rid ∷ usable_from size first) met
@@ -58,5 +58,5 @@ pub record WantsPlaceAt (before after' : PostView) : Type 0 where
   pub have : HavePlaces before.shared.size (take count before.writes) after'.placed
   pub between : Observed
   pub puts : OneByOne (Puts before.shared.size before.stamp) after'.placed before.observed between
-  pub none : FindsNone before.shared.size write.0 between after'.observed
+  pub none : TriesAll before.shared.size write.0 between after'.observed
   pub no_place : MeetsNoPlace before.shared.size write.0 before.observed after'.observed

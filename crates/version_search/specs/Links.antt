@@ -26,15 +26,16 @@ link_word rid (Some p) = next p
 abbrev pub missed_at : (rid : ℕ) → (above : Option ℕ) → (below n : ℕ) → List Load
 missed_at rid above below n = if n == suc below then [] else load (link_word rid above) n ∷ []
 
--- These loads and lost exchanges lead from the head of record r's list to place p, below this one: each place is the one that the link
--- before it named, or that a lost exchange on that link found; each place above was loaded as too late, and each other one before p as early.
+-- These loads and lost exchanges lead from the head of record r's list to place p, right behind the head or the link of this place above:
+-- each place is the one that the link before it named, or that a lost exchange on that link found. Each place above was loaded as too late,
+-- and each other one before p as early.
 pub data Descends (stamp r : ℕ) : (loads lost : List Load) → (above : Option ℕ) → (p : ℕ) → Type 0 where
   from_head : (n : ℕ) → Descends stamp r (load (head r) n ∷ []) [] None (n - 1)
   past_late : (ls ms : List Load) (above : Option ℕ) (p w n : ℕ) → Descends stamp r ls ms above p → stamp ≤ w → Descends stamp r (ls ++ load (wts p) w ∷ load (next p) n ∷ []) ms (Some p) (n - 1)
   past_lost : (ls ms : List Load) (above : Option ℕ) (p w n : ℕ) → Descends stamp r ls ms above p → w < stamp → n ≢ suc p
       → Descends stamp r (ls ++ load (wts p) w ∷ []) (ms ++ load (link_word r above) n ∷ []) above (n - 1)
 
--- what was loaded and lost beyond the first two lists led to the place below which a version at the stamp belongs, which was loaded as
+-- what was loaded and lost beyond the first two lists led to the place that stands right below a version at the stamp, which was loaded as
 -- early
 pub record DescendsTo (stamp r : ℕ) (before before_lost after' after_lost : List Load) : Type 0 where
   pub loaded : List Load

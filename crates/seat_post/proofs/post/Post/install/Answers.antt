@@ -8,7 +8,7 @@ use Rattle.seat_post.specs.declared.phase.Phase.TheVariants.{Installed}
 use Rattle.seat_post.proofs.EndMore.{at_known, post_installed, turned_written, same_values}
 use Rattle.seat_post.proofs.Over.{view_over, view_installed, post_over}
 use Rattle.seat_post.specs.Seats.{IsAloneAt, placed_of, observed_of}
-use Rattle.seat_post.specs.Placing.{HavePlaces, FindsNone}
+use Rattle.seat_post.specs.Placing.{HavePlaces, TriesAll}
 use Rattle.seat_post.specs.Lists.{bounds_before, IsFullAt}
 use Rattle.validate_core.proofs.Writes.{same_once}
 use Rattle.seat_post.proofs.ReadMore.{open_left, open_above}
@@ -97,7 +97,7 @@ returns-in-Err-clause-wants g c =
       between = observed_of f.installed;
       puts = puts_told (each_puts z i.hand.view.published.write (take f.number us) i.hand.view f.installed f.each)
           (sym (ap (λ (x : Shared). x.size) c.requires.core)) (sym is.at.at ∙ ap (λ (q : PostView). q.stamp) c.self.view_is) (ap placed_of (sym f.linked)) (ap (λ (q : PostView). q.observed) c.self.view_is);
-      none = subst (λ (x : Shared). FindsNone x.size f.write.record_number (observed_of f.installed) (observed_in c.install.new.hand)) (sym c.requires.core) (finds_none z c.install.new.sets i.hand.view w f);
+      none = subst (λ (x : Shared). TriesAll x.size f.write.record_number (observed_of f.installed) (observed_in c.install.new.hand)) (sym c.requires.core) (finds_none z c.install.new.sets i.hand.view w f);
       no_place = subst (λ (q : PostView). MeetsNoPlace q.shared.size f.write.record_number q.observed (observed_in c.install.new.hand)) c.self.view_is
           (subst (λ (x : Shared). MeetsNoPlace x.size f.write.record_number (observed_in i.hand) (observed_in c.install.new.hand)) (sym (ap (λ (q : PostView). q.shared) c.self.view_is ∙ c.requires.core)) no_place);
     }

@@ -3,14 +3,13 @@ ghost use Rattle.std.specs.Prelude.{◌≡◌, ◌<◌, [], IfOk};
 ghost use Rattle.core_rule.specs.Hands.{IsHandOf, IsReady, IsRetired};
 ghost use Rattle.core_rule.specs.Searching.{Ends};
 
-use crate::due::{hold, same};
+use crate::due::{hold, is_shown, same};
 use crate::tables::{first_seat, two_seats};
 use clock_stamps::{
     ClockOut, draw, hear, idle, publish_read, raise_min_read, raise_min_write, retire, sync,
 };
 use core_rule::{AnyState, Core, Hand};
 use stamp_base::{GREATEST_CLOCK, Stamp};
-use std::alloc::{AllocError, Global};
 use std::test::*;
 use std::thread::{Threads, join};
 
@@ -121,15 +120,9 @@ fn two_seats_raise_the_minima(rt: HostRuntime) -> Result<(), Fail> {
     Ok(())
 }
 
-// Whether a clock that is out is shown by these words.
-fn is_shown(alloc: Global, words: &str) -> Result<bool, AllocError> {
-    let text = format!(in alloc; "{ClockOut}")?;
-    Ok(text.as_str() == words)
-}
-
 #[test]
 fn a_clock_at_its_end_draws_no_stamp(rt: HostRuntime) -> Result<(), Fail> {
-    hold(&rt, is_shown(rt.alloc(), "clock out")?, 0);
+    hold(&rt, is_shown(rt.alloc(), &ClockOut, "clock out")?, 0);
     let (core, mut hand) = first_seat(rt.alloc(), 1, 1, 1)?;
     let steps = [
         Hears(Stamp::make(GREATEST_CLOCK, 0)),

@@ -2,7 +2,7 @@
 ghost use Rattle.std.specs.Prelude.{◌<◌};
 ghost use Rattle.word_layout.specs.Size.{places};
 
-use crate::due::{hold, same};
+use crate::due::{hold, is_shown, same};
 use std::alloc::{AllocError, Global};
 use std::test::*;
 use word_layout::{CELLS, Layout, Limit};
@@ -110,15 +110,9 @@ fn each_number_names_one_word(rt: HostRuntime) -> Result<(), Fail> {
     Ok(())
 }
 
-// Whether a limit is shown by these words.
-fn is_shown(alloc: Global, words: &str) -> Result<bool, AllocError> {
-    let text = format!(in alloc; "{Limit}")?;
-    Ok(text.as_str() == words)
-}
-
 #[test]
 fn splitting_a_seat_steps_on_word_0(rt: HostRuntime) -> Result<(), Fail> {
     same(&rt, Layout::new(2, 6, 4)?.published_write(0), 0, 0);
-    hold(&rt, is_shown(rt.alloc(), "limit")?, 1);
+    hold(&rt, is_shown(rt.alloc(), &Limit, "limit")?, 1);
     Ok(())
 }

@@ -1,5 +1,5 @@
 -- The sizes of a run are enough for its rows and all its blocks.
-use Rattle.std.proofs.Common.{◌≡◌, ℕ, ◌+◌, ◌*◌, ◌≤◌, ◌<◌, Bool, true, false, cond, not, if◌then◌else◌, List, [], ◌∷◌, length, get_or, Option, None, Some, refl, ap, inl, inr, arith}
+use Rattle.std.proofs.Common.{min, ◌-◌, ◌≡◌, ℕ, ◌+◌, ◌*◌, ◌≤◌, ◌<◌, Bool, true, false, cond, not, if◌then◌else◌, List, [], ◌∷◌, length, get_or, Option, None, Some, refl, ap, inl, inr, arith}
 use Rattle.std.specs.FinMap.{get-empty}
 use Rattle.std.specs.Ordering.{nat_cmp}
 use Rattle.std.specs.List.{count_by, sum_by}
@@ -79,15 +79,15 @@ blocks_lightest tables blocks none =
 -- ---- an input
 
 -- records for so many commands that bring a row, and that bring or change one: with an index somewhere, and with none
-abbrev records_at : Bool → (brought changed : ℕ) → ℕ
-records_at indexed brought changed = 6 * brought + (if indexed then 3 * changed else 0)
+abbrev records_at : Bool → (seats brought changed : ℕ) → ℕ
+records_at indexed seats brought changed = 4 * brought + min (2 * brought) (32768 * (seats - 1)) + (if indexed then 3 * changed else 0)
 
-record AreLight (indexed : Bool) (rows : List (ℕ × ℕ × Row)) (indexes : List (ℕ × ℕ)) (lanes : List (List Block)) : Type 0 where
+record AreLight (indexed : Bool) (seats : ℕ) (rows : List (ℕ × ℕ × Row)) (indexes : List (ℕ × ℕ)) (lanes : List (List Block)) : Type 0 where
   few_rows : length rows ≤ 16384
   few_brought : count_by (counts false) (commands_in lanes) ≤ 16384
   few_changed : indexed ≡ true → count_by (counts true) (commands_in lanes) ≤ 16384
-  few : 2 * length rows + 4 + records_at indexed (count_by (counts false) (commands_in lanes)) (count_by (counts true) (commands_in lanes)) ≤ 180228
-  light : blocks_add (blocks_in lanes) (loaded rows indexes) ≤ records_at indexed (count_by (counts false) (commands_in lanes)) (count_by (counts true) (commands_in lanes))
+  few : 2 * length rows + 4 + records_at indexed seats (count_by (counts false) (commands_in lanes)) (count_by (counts true) (commands_in lanes)) ≤ 180228
+  light : blocks_add (blocks_in lanes) (loaded rows indexes) ≤ records_at indexed seats (count_by (counts false) (commands_in lanes)) (count_by (counts true) (commands_in lanes))
 
 -- an index is there
 indexed_more : (index : ℕ × ℕ) (indexes : List (ℕ × ℕ)) → is_indexed (index ∷ indexes) ≡ true
@@ -97,10 +97,10 @@ none_there : (indexes : List (ℕ × ℕ)) → is_indexed indexes ≡ false → 
 none_there [] none t = get-empty nat_cmp t
 none_there (index ∷ indexes) none t = absurd (let some = indexed_more index indexes in cc)
 
-are_light : (rows : List (ℕ × ℕ × Row)) (indexes : List (ℕ × ℕ)) (lanes : List (List Block)) → length rows + count_by (counts (is_indexed indexes)) (commands_in lanes) ≤ 16384
-    → AreLight (is_indexed indexes) rows indexes lanes
-are_light rows indexes lanes = by (is_indexed indexes) (none_there indexes) where
-  by : (b : Bool) → (b ≡ false → (t : ℕ) → index_of t (loaded [] indexes) ≡ None) → length rows + count_by (counts b) (commands_in lanes) ≤ 16384 → AreLight b rows indexes lanes
+are_light : (seats : ℕ) (rows : List (ℕ × ℕ × Row)) (indexes : List (ℕ × ℕ)) (lanes : List (List Block)) → length rows + count_by (counts (is_indexed indexes)) (commands_in lanes) ≤ 16384
+    → AreLight (is_indexed indexes) seats rows indexes lanes
+are_light seats rows indexes lanes = by (is_indexed indexes) (none_there indexes) where
+  by : (b : Bool) → (b ≡ false → (t : ℕ) → index_of t (loaded [] indexes) ≡ None) → length rows + count_by (counts b) (commands_in lanes) ≤ 16384 → AreLight b seats rows indexes lanes
   by true none few =
       let below = brings_below true (commands_in lanes) in
       let blocks_are = blocks_light (loaded rows indexes) (blocks_in lanes) in
@@ -113,15 +113,15 @@ are_light rows indexes lanes = by (is_indexed indexes) (none_there indexes) wher
       record { few_rows = omega arith; few_brought = omega arith; few_changed = λ indexed. absurd (let not_true : false ≡ true = indexed in cc); few = omega arith; light = omega (arith, blocks_are, brought) }
 
 -- what follows of the limits of an input for the sizes of its run
-pub record AreFew (input : Input) : Type 0 where
+pub record AreFew (input : Input) (seats : ℕ) : Type 0 where
   pub rows : length input.rows ≤ 16384
   pub brought : count_by (counts false) (commands_in input.lanes) ≤ 16384
   pub changed : 0 < length input.indexes → count_by (counts true) (commands_in input.lanes) ≤ 16384
-  pub records : records_for_rows input + records_for_commands input ≤ 180228
+  pub records : records_for_rows input + records_for_commands input seats ≤ 180228
 
-pub few_of_run : (input : Input) → IsWithinLimits input → AreFew input
-few_of_run input within =
-    let is = are_light input.rows input.indexes input.lanes within.rows_and_changes in
+pub few_of_run : (input : Input) (seats : ℕ) → IsWithinLimits input → AreFew input seats
+few_of_run input seats within =
+    let is = are_light seats input.rows input.indexes input.lanes within.rows_and_changes in
     record { rows = is.few_rows; brought = is.few_brought; changed = λ some. is.few_changed (there input.indexes some); records = is.few }
   where
     there : (indexes : List (ℕ × ℕ)) → 0 < length indexes → is_indexed indexes ≡ true
@@ -139,9 +139,9 @@ if_not_indexed (index ∷ indexes) some none empty = absurd (omega (arith, empty
 
 pub sizes_are_enough : SizesAreEnough
 sizes_are_enough input seats well_formed within some most =
-    let is = are_light input.rows input.indexes input.lanes within.rows_and_changes in
-    let few : records_for_rows input + records_for_commands input ≤ 180228 = is.few in
-    let light : blocks_add (blocks_in input.lanes) (loaded input.rows input.indexes) ≤ records_for_commands input = is.light in
+    let is = are_light seats input.rows input.indexes input.lanes within.rows_and_changes in
+    let few : records_for_rows input + records_for_commands input seats ≤ 180228 = is.few in
+    let light : blocks_add (blocks_in input.lanes) (loaded input.rows input.indexes) ≤ records_for_commands input seats = is.light in
     record {
       size = record {
         has_seat = some;

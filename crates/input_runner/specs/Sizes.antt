@@ -23,17 +23,17 @@ count_in_all changes lanes = sum_by (count_in changes) lanes
 abbrev pub records_for_rows : Input → ℕ
 records_for_rows input = 2 * length input.rows + 4
 
--- records for the commands of all blocks: half as much again as one that brings a row adds at most, and where there is an index as one that
--- brings or changes a row adds there, since each seat has a share of them
-abbrev pub records_for_commands : Input → ℕ
-records_for_commands input = 6 * count_by (counts false) (commands_in input.lanes) + (if is_indexed input.indexes then 3 * count_by (counts true) (commands_in input.lanes) else 0)
+-- records for the commands of all blocks: as many as one that brings a row adds at most, and half as much again where several seats have a
+-- share of them each; and where there is an index half as much again as one that brings or changes a row adds there
+abbrev pub records_for_commands : Input → (seats : ℕ) → ℕ
+records_for_commands input seats = 4 * count_by (counts false) (commands_in input.lanes) + min (2 * count_by (counts false) (commands_in input.lanes)) (32768 * (seats - 1)) + (if is_indexed input.indexes then 3 * count_by (counts true) (commands_in input.lanes) else 0)
 
 -- records that are never given out: those of the tables' chains, of their trees' roots and of their indexes
 abbrev pub fixed_of_run : ℕ
 fixed_of_run = fixed_records
 
-abbrev pub records_of_run : Input → ℕ
-records_of_run input = fixed_of_run + (records_for_rows input + records_for_commands input)
+abbrev pub records_of_run : Input → (seats : ℕ) → ℕ
+records_of_run input seats = fixed_of_run + (records_for_rows input + records_for_commands input seats)
 
 -- places for versions that wait for the slowest of several seats: 1,024 for each seat but one, and 16 for each row at most
 abbrev pub places_for_seats : Input → (seats : ℕ) → ℕ
@@ -41,13 +41,13 @@ places_for_seats input seats = min (1024 * (seats - 1)) (16 * length input.rows)
 
 -- places for versions beside one for each record: one for each record again, what a block may write, the one that is kept, and these
 abbrev pub spare_of_run : Input → (seats : ℕ) → ℕ
-spare_of_run input seats = records_of_run input + (block_places + places_for_seats input seats)
+spare_of_run input seats = records_of_run input seats + (block_places + places_for_seats input seats)
 
 -- they are enough: an engine of so many has its size, and the rows and all blocks find records
 pub record AreEnough (input : Input) (seats : ℕ) : Type 0 where
-  pub size : IsSize (size_of seats (records_of_run input) (spare_of_run input seats))
-  pub rows : FindRecords input.rows input.indexes fixed_of_run (records_of_run input)
-  pub records : fixed_of_run + (rows_weigh input.rows + blocks_add (blocks_of input.lanes) (loaded input.rows input.indexes)) ≤ records_of_run input
+  pub size : IsSize (size_of seats (records_of_run input seats) (spare_of_run input seats))
+  pub rows : FindRecords input.rows input.indexes fixed_of_run (records_of_run input seats)
+  pub records : fixed_of_run + (rows_weigh input.rows + blocks_add (blocks_of input.lanes) (loaded input.rows input.indexes)) ≤ records_of_run input seats
 
 abbrev pub SizesAreEnough : Type 0
 SizesAreEnough = (input : Input) (seats : ℕ) → IsWellFormed input → IsWithinLimits input → 1 ≤ seats → seats ≤ 64 → AreEnough input seats

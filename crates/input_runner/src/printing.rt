@@ -12,7 +12,7 @@ ghost use Rattle.typed_tables.specs.Listing.{AreRows};
 ghost use Rattle.input_runner.specs.Printing.{results_text, listed_text};
 
 use load_gen::summary_of_rows;
-use replay_model::{Input, Names, NoMemory, Outcome, Pairs, Placed, text_of_block, text_of_table};
+use replay_model::{Input, Names, NoMemory, Outcome, Pairs, Placed, push_block, text_of_table};
 use std::alloc::Global;
 
 /// The text of results and of rows: each block with its answers, then every table, then the last line.
@@ -30,7 +30,7 @@ pub fn report_of(
         → text.items ≡ blocks_text input.now (map (λ result. result.0) results.now) (map (λ result. result.1) results.now) ++ tables_text 0 input.now.tables tables ++ line (codes "done")) }
 {
     let mut text = Vec::new(alloc);
-    push_results(alloc, &mut text, input, results)?;
+    push_results(&mut text, input, results)?;
     push_tables(alloc, &mut text, &input.tables, rows)?;
     text.extend_from_slice(b"done\n")?;
     Ok(text)
@@ -38,7 +38,6 @@ pub fn report_of(
 
 /// Appends the lines of each block.
 fn push_results(
-    alloc: Global,
     text: &mut Vec<u8>,
     input: &Input,
     results: &[(Placed, Outcome)],
@@ -49,8 +48,7 @@ fn push_results(
     ensures { OnOk result (text.new.items ≡ text.old.items ++ results_text input.now results.now) }
 {
     for result in results {
-        let block = text_of_block(alloc, input, &result.0, &result.1)?;
-        text.extend_from_slice(block.as_slice())?;
+        push_block(text, input, &result.0, &result.1)?;
     }
     Ok(())
 }

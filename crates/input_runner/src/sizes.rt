@@ -24,10 +24,10 @@ pub(crate) fn sizes_of(input: &Input, seats: u32) -> Sizes
     requires within { IsWithinLimits input.now }
     requires some { 1 ≤ seats }
     requires most { seats ≤ 64 }
-    ensures records { result.records ≡ records_of_run input.now }
+    ensures records { result.records ≡ records_of_run input.now seats }
     ensures spare { result.spare ≡ spare_of_run input.now seats }
 {
-    let records = FIXED + (for_rows(input) + for_commands(input));
+    let records = FIXED + (for_rows(input) + for_commands(input, seats));
     Sizes {
         records,
         spare: records + (BLOCK_PLACES + for_seats(input, seats)),
@@ -42,13 +42,16 @@ fn for_rows(input: &Input) -> u32
     2 * input.rows.len() as u32 + 4
 }
 
-/// Records for the commands: six for each that may bring a row, and, where there is an index, three for each that may bring or
-/// change one.
-fn for_commands(input: &Input) -> u32
+/// Records for the commands: four for each that may bring a row, and two more where several seats share them; and, where there is
+/// an index, three for each that may bring or change one.
+fn for_commands(input: &Input, seats: u32) -> u32
     requires within { IsWithinLimits input.now }
-    ensures value { result ≡ records_for_commands input.now }
+    requires some { 1 ≤ seats }
+    requires most { seats ≤ 64 }
+    ensures value { result ≡ records_for_commands input.now seats }
 {
-    let rows = 6 * count_in_lanes(&input.lanes, false);
+    let brought = count_in_lanes(&input.lanes, false);
+    let rows = 4 * brought + (2 * brought).min(32768 * (seats - 1));
     if input.indexes.len() == 0 {
         rows
     } else {

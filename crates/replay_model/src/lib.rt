@@ -30,5 +30,5 @@ pub use replaying::{Replayed, are_named, block_at, is_named, replay};
 pub use reporting::report;
 pub use running::run_one;
 pub use tables::Tables;
-pub use texts::{text_of_block, text_of_table};
+pub use texts::{push_block, text_of_block, text_of_table};
 pub use well_formed::is_well_formed;

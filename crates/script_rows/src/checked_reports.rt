@@ -5,6 +5,7 @@
 
 ghost use Rattle.replay_model.specs.Input.{IsWellFormed};
 
+use crate::due::{hold, same};
 use crate::reports::report_in;
 use crate::texts::{
     append, append_number, append_times, bytes_of, input_from, input_of, order_from, plain_order,
@@ -47,7 +48,7 @@ const FINDS: &str =
 /// An input, a report, and the verdict on it.
 type Case = (&'static str, &'static str, Verdict);
 
-const REPORTS: [Case; 26] = [
+const REPORTS: &[Case] = &[
     (
         ONE_BLOCK,
         "512 1.1 ok/= 100/= 70/table a/1 70/done/",
@@ -168,24 +169,18 @@ const REPORTS: [Case; 26] = [
     ),
 ];
 
-/// Judges a report, and compares the verdict.
-fn try_case<R: Abort + AllocGlobal>(rt: &R, case: &Case) -> Result<(), Fail> {
-    let (text, report, due) = case;
-    assert_eq!(rt; verdict(rt.alloc(), text, report)?, *due, "{text} {report}");
-    Ok(())
+/// The reports, of which no proof knows more than that they are reports.
+fn reports() -> &'static [Case] {
+    REPORTS
 }
 
-/// The same of each report.
-fn try_cases<R: Abort + AllocGlobal>(rt: &R, cases: &[Case]) -> Result<(), Fail> {
-    for case in cases {
-        try_case(rt, case)?;
-    }
-    Ok(())
-}
-
+/// Judges each report, and compares the verdicts.
 #[test]
 fn reports_are_judged(rt: HostRuntime) -> Result<(), Fail> {
-    try_cases(&rt, &REPORTS)
+    for (i, (text, report, due)) in reports().iter().enumerate() {
+        same(&rt, verdict(rt.alloc(), text, report)?, *due, i);
+    }
+    Ok(())
 }
 
 /// The order that these lines of a report print, where the input is the one that a text spells.
@@ -199,7 +194,7 @@ fn order_printed(alloc: Global, text: &str, lines: &str) -> Result<Vec<Placed>, 
 /// Compares the order that these lines print with the one due.
 fn try_printed<R: Abort + AllocGlobal>(rt: &R, lines: &str, due: &[Placed]) -> Result<(), Fail> {
     let order = order_printed(rt.alloc(), FINDS, lines)?;
-    assert_eq!(rt; order.as_slice(), due);
+    same(rt, order.as_slice(), due, 0);
     Ok(())
 }
 
@@ -296,16 +291,11 @@ fn largest_verdicts(alloc: Global) -> Result<(usize, Verdict, Verdict), Fail> {
     verdicts_of(alloc, &text)
 }
 
-/// Compares a verdict with the one due.
-fn try_verdict<R: Abort>(rt: &R, verdict: Verdict, due: Verdict) {
-    assert_eq!(rt; verdict, due);
-}
-
 #[test]
 fn largest_report_is_judged(rt: HostRuntime) -> Result<(), Fail> {
     let (length, whole, longer) = largest_verdicts(rt.alloc())?;
-    assert!(rt; length > 70_000_000);
-    try_verdict(&rt, whole, Verdict::Yes);
-    try_verdict(&rt, longer, Verdict::NoLine(2_637_987));
+    hold(&rt, length > 70_000_000, 0);
+    same(&rt, whole, Verdict::Yes, 1);
+    same(&rt, longer, Verdict::NoLine(2_637_987), 2);
     Ok(())
 }

@@ -2,6 +2,7 @@
 
 ghost use Rattle.replay_model.specs.Input.{IsWellFormed};
 
+use crate::due::{hold, same};
 use crate::texts::{bytes_of, input_from, plain_order};
 use generated_input::generated;
 use load_gen::{generate, summary};
@@ -39,7 +40,7 @@ fn begins(alloc: Global, text: &[u8], start: &str, skipped: usize) -> Result<boo
 #[test]
 fn generated_text_begins_so(rt: HostRuntime) -> Result<(), Fail> {
     let text = generate(rt.alloc(), 1)?;
-    assert_eq!(rt; count_lines(&text), 16_075);
+    same(&rt, count_lines(&text), 16_075, 0);
     let cases = [
         (
             "cicada 1/table accounts/row accounts 1 1000000/row accounts 2 1000000/",
@@ -49,7 +50,7 @@ fn generated_text_begins_so(rt: HostRuntime) -> Result<(), Fail> {
         ("done/", 16_074),
     ];
     for (start, skipped) in cases {
-        assert!(rt; begins(rt.alloc(), &text, start, skipped)?, "{skipped}");
+        hold(&rt, begins(rt.alloc(), &text, start, skipped)?, skipped);
     }
     Ok(())
 }
@@ -86,8 +87,8 @@ fn generated_summary(alloc: Global, seed: u64) -> Result<Vec<u8>, Fail> {
 #[test]
 fn generated_load_keeps_its_sum(rt: HostRuntime) -> Result<(), Fail> {
     let due = bytes_of(rt.alloc(), "transactions 4000/sum 64000000/done/")?;
-    for seed in [0, 1, 2, u64::MAX] {
-        assert!(rt; generated_summary(rt.alloc(), seed)? == due, "{seed}");
+    for (i, seed) in [0, 1, 2, u64::MAX].iter().enumerate() {
+        hold(&rt, generated_summary(rt.alloc(), *seed)? == due, i);
     }
     Ok(())
 }
@@ -126,9 +127,9 @@ fn sums_have_128_bits(rt: HostRuntime) -> Result<(), Fail> {
             "transactions 2/sum 12/done/",
         ),
     ];
-    for (text, due) in cases {
+    for (i, (text, due)) in cases.iter().enumerate() {
         let due = bytes_of(rt.alloc(), due)?;
-        assert!(rt; loaded_summary(rt.alloc(), text)? == due);
+        hold(&rt, loaded_summary(rt.alloc(), text)? == due, i);
     }
     Ok(())
 }

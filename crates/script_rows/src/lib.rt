@@ -7,6 +7,8 @@
 #[cfg(test)]
 mod checked_reports;
 #[cfg(test)]
+mod due;
+#[cfg(test)]
 mod generated_loads;
 #[cfg(test)]
 mod orders;

@@ -1,5 +1,6 @@
 //! Orders of a worked input, and which of the six tests a wrong one fails first.
 
+use crate::due::same;
 use crate::texts::{input_from, order_from};
 use replay_model::{
     Input, NoMemory, Placed, are_complete, are_named, is_order, lanes_are_kept, snaps_are_placed,
@@ -16,7 +17,7 @@ const MIXED: &str = "cicada 1/lane/txn/end/txn/end/snap/end/lane/txn/end/snap/en
 /// way.
 type Case = (&'static str, u32, &'static str);
 
-const ORDERS: [Case; 15] = [
+const ORDERS: &[Case] = &[
     (
         "the right order",
         0,
@@ -115,19 +116,23 @@ pub fn try_order<R: Abort + AllocGlobal>(
     input: &Input,
     order: &[Placed],
     first: u32,
-    name: &str,
+    step: usize,
 ) -> Result<(), Fail> {
     let failed = first_failed(rt.alloc(), input, order)?;
-    assert_eq!(rt; failed, first, "{name}");
     let is = is_order(rt.alloc(), input, order)?;
-    assert_eq!(rt; is, first == 0, "{name}");
+    same(rt, (failed, is), (first, first == 0), step);
     Ok(())
 }
 
-fn try_orders<R: Abort + AllocGlobal>(rt: &R, input: &Input, cases: &[Case]) -> Result<(), Fail> {
-    for (name, first, heads) in cases {
+/// The orders, of which no proof knows more than that they are orders.
+fn orders() -> &'static [Case] {
+    ORDERS
+}
+
+fn try_orders<R: Abort + AllocGlobal>(rt: &R, input: &Input) -> Result<(), Fail> {
+    for (i, (_, first, heads)) in orders().iter().enumerate() {
         let order = order_from(rt.alloc(), input, heads)?;
-        try_order(rt, input, &order, *first, name)?;
+        try_order(rt, input, &order, *first, i)?;
     }
     Ok(())
 }
@@ -135,7 +140,7 @@ fn try_orders<R: Abort + AllocGlobal>(rt: &R, input: &Input, cases: &[Case]) -> 
 #[test]
 fn wrong_orders_fail_at_their_tests(rt: HostRuntime) -> Result<(), Fail> {
     let input = input_from(rt.alloc(), MIXED)?;
-    let tried = try_orders(&rt, &input, &ORDERS);
+    let tried = try_orders(&rt, &input);
     drop(input);
     tried
 }

@@ -4,6 +4,7 @@ ghost use Rattle.std.specs.Prelude.{IsTrue};
 ghost use Rattle.replay_model.specs.Answered.{HasAnswers};
 ghost use Rattle.replay_model.specs.Input.{IsWellFormed};
 
+use crate::due::same;
 use crate::texts::{bytes_of, input_from};
 use replay_model::{
     Answer, Answers, Block, Cause, Columns, Input, NoMemory, Outcome, Placed, block_at, is_named,
@@ -27,7 +28,7 @@ fn a_table_is_appended_with_its_columns(rt: HostRuntime) -> Result<(), Fail> {
         (18_446_744_073_709_551_615, Columns::new([0, 5, 9, 0, 0, 0])),
     ];
     let due = bytes_of(rt.alloc(), "done/table a/1 100 7/18446744073709551615 0 5/")?;
-    assert_eq!(rt; table_lines(rt.alloc(), &pairs)?, due);
+    same(&rt, table_lines(rt.alloc(), &pairs)?, due, 0);
     Ok(())
 }
 
@@ -87,12 +88,13 @@ fn try_block<R: Abort + AllocGlobal>(
     input: &Input,
     outcome: Outcome,
     due: &str,
+    step: usize,
 ) -> Result<(), Fail>
     requires { IsWellFormed input.now }
 {
     let lines = lines_of(rt.alloc(), input, &outcome);
     drop(outcome);
-    assert_eq!(rt; lines?, bytes_of(rt.alloc(), due)?, "{due}");
+    same(rt, lines?, bytes_of(rt.alloc(), due)?, step);
     Ok(())
 }
 
@@ -100,12 +102,12 @@ fn try_blocks<R: Abort + AllocGlobal>(rt: &R, input: &Input) -> Result<(), Fail>
     requires { IsWellFormed input.now }
 {
     let done = answered(rt.alloc())?;
-    try_block(rt, input, done, "done/512 1.1 ok/= 7/= none/")?;
+    try_block(rt, input, done, "done/512 1.1 ok/= 7/= none/", 0)?;
     let refused = Outcome::Refused {
         command: 2,
         cause: Cause::Short,
     };
-    try_block(rt, input, refused, "done/512 1.1 no 2 short/")
+    try_block(rt, input, refused, "done/512 1.1 no 2 short/", 1)
 }
 
 #[test]

@@ -2,6 +2,7 @@
 
 ghost use Rattle.replay_model.specs.Input.{IsWellFormed};
 
+use crate::due::{hold, same};
 use crate::texts::{append, append_number, bytes_of, input_of, repeated};
 use replay_model::{Input, Placed, are_named, is_order, is_well_formed, report};
 use report_check::printed;
@@ -38,14 +39,14 @@ pub fn try_text<R: Abort + AllocGlobal>(
     due: &[u8],
 ) -> Result<(), Fail> {
     let text = report_of(rt.alloc(), input, order)?;
-    assert_eq!(rt; text.as_slice(), due);
+    same(rt, text.as_slice(), due, 0);
     Ok(())
 }
 
 /// Compares the report of an input, in the order that the one due prints, with it.
 fn try_input<R: Abort + AllocGlobal>(rt: &R, input: &Input, due: &[u8]) -> Result<(), Fail> {
     let order = printed(rt.alloc(), input, due)?;
-    assert!(rt; is_order(rt.alloc(), input, &order)?);
+    hold(rt, is_order(rt.alloc(), input, &order)?, 0);
     try_text(rt, input, &order, due)
 }
 
@@ -57,16 +58,8 @@ pub fn try_report<R: Abort + AllocGlobal>(rt: &R, bytes: &[u8], due: &[u8]) -> R
     tried
 }
 
-fn try_cases<R: Abort + AllocGlobal>(rt: &R, cases: &[Case]) -> Result<(), Fail> {
-    for (text, due) in cases {
-        let bytes = bytes_of(rt.alloc(), text)?;
-        let report = bytes_of(rt.alloc(), due)?;
-        try_report(rt, &bytes, &report)?;
-    }
-    Ok(())
-}
-
-const ONE_COLUMN: [Case; 9] = [
+/// Texts of tables with one column, and with more.
+const CASES: &[Case] = &[
     ("cicada 1/done/", "done/"),
     (
         "cicada 1/table a/row a 1 100/lane/txn/get a 1/sub a 1 30/get a 1/end/done/",
@@ -100,14 +93,6 @@ const ONE_COLUMN: [Case; 9] = [
         "cicada 1/table a/row a 1 100/lane/txn/add a 1 1/end/lane/txn/get a 1/end/done/",
         "512 1.1 ok/768 2.1 ok/= 101/table a/1 101/done/",
     ),
-];
-
-#[test]
-fn blocks_over_one_column_are_reported(rt: HostRuntime) -> Result<(), Fail> {
-    try_cases(&rt, &ONE_COLUMN)
-}
-
-const COLUMNS: [Case; 2] = [
     (
         "cicada 2/table a 2/row a 1 100 7/lane/txn/get a 1 2/add a 1 2 3/get a 1 2/scan a 0 9 5/end/done/",
         "512 1.1 ok/= 7/= 10/: 1 100 10/table a/1 100 10/done/",
@@ -118,9 +103,19 @@ const COLUMNS: [Case; 2] = [
     ),
 ];
 
+/// The texts, of which no proof knows more than that they are texts.
+fn cases() -> &'static [Case] {
+    CASES
+}
+
 #[test]
-fn rows_of_columns_are_reported_and_found(rt: HostRuntime) -> Result<(), Fail> {
-    try_cases(&rt, &COLUMNS)
+fn worked_texts_are_reported(rt: HostRuntime) -> Result<(), Fail> {
+    for (text, due) in cases() {
+        let bytes = bytes_of(rt.alloc(), text)?;
+        let report = bytes_of(rt.alloc(), due)?;
+        try_report(&rt, &bytes, &report)?;
+    }
+    Ok(())
 }
 
 /// Appends lines of the keys from `from` to `last`, each with ten times its key.

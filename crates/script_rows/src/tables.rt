@@ -4,6 +4,7 @@
 
 ghost use Rattle.replay_model.specs.Input.{IsWellFormed};
 
+use crate::due::{hold, same};
 use crate::texts::input_from;
 use replay_model::{Cells, Columns, Input, NoMemory, Pairs, Tables, is_well_formed};
 use std::alloc::Global;
@@ -34,10 +35,10 @@ fn has_first(input: &Input, row: (u32, u64, Columns), index: (u32, u32)) -> bool
 }
 
 fn try_declared<R: Abort>(rt: &R, input: &Input) {
-    assert_eq!(rt; counts(input), [2, 1, 1, 0]);
-    assert!(rt; has_second_table(input, b"two", 3));
+    same(rt, counts(input), [2, 1, 1, 0], 0);
+    hold(rt, has_second_table(input, b"two", 3), 1);
     let row = Columns::new([1, 2, 3, 0, 0, 0]);
-    assert!(rt; has_first(input, (1, 4, row), (1, 3)));
+    hold(rt, has_first(input, (1, 4, row), (1, 3)), 2);
 }
 
 #[test]
@@ -100,16 +101,16 @@ fn found(alloc: Global, tables: &Tables) -> Result<Vec<u64>, NoMemory> {
 #[test]
 fn tables_have_their_indexes(rt: HostRuntime) -> Result<(), Fail> {
     let tables = loaded(rt.alloc())?;
-    assert_eq!(rt; tables.index_of(1), Some(2));
-    assert_eq!(rt; tables.index_of(0), None);
+    let indexes = (tables.index_of(1), tables.index_of(0));
     drop(tables);
+    same(&rt, indexes, (Some(2), None), 0);
     Ok(())
 }
 
 /// The tables, once changed.
 fn changed<R: Abort + AllocGlobal>(rt: &R) -> Result<Tables, Fail> {
     let mut tables = loaded(rt.alloc())?;
-    assert!(rt; change(&mut tables), "a row is not where it should be");
+    hold(rt, change(&mut tables), 0);
     Ok(tables)
 }
 
@@ -127,8 +128,8 @@ fn tables_are_changed(rt: HostRuntime) -> Result<(), Fail> {
     let row = tables.get(1, 5);
     let count = count(rt.alloc(), &tables);
     drop(tables);
-    assert_eq!(rt; row, Some(Columns::new([5, 9, 0, 0, 0, 0])));
-    assert_eq!(rt; count?, 4);
+    same(&rt, row, Some(Columns::new([5, 9, 0, 0, 0, 0])), 1);
+    same(&rt, count?, 4, 2);
     Ok(())
 }
 
@@ -138,18 +139,17 @@ fn tables_are_scanned_and_searched(rt: HostRuntime) -> Result<(), Fail> {
     let scanned = scanned(rt.alloc(), &tables);
     let found = found(rt.alloc(), &tables);
     drop(tables);
-    assert_eq!(rt; scanned?.as_slice(), [4, 5].as_slice());
-    assert_eq!(rt; found?.as_slice(), [4, 3, 5].as_slice());
+    same(&rt, scanned?.as_slice(), [4, 5].as_slice(), 1);
+    same(&rt, found?.as_slice(), [4, 3, 5].as_slice(), 2);
     Ok(())
 }
 
 #[test]
 fn values_keep_their_words(rt: HostRuntime) {
     let row = Columns::new([1, 2, 3, 4, 5, 6]);
-    assert_eq!(rt; row.with(6, 9).column(6), 9);
-    assert_eq!(rt; row.first(2), [1, 2].as_slice());
-    assert_eq!(rt; row.values(), [1, 2, 3, 4, 5, 6]);
+    same(&rt, row.with(6, 9).column(6), 9, 0);
+    same(&rt, row.first(2), [1, 2].as_slice(), 1);
+    same(&rt, row.values(), [1, 2, 3, 4, 5, 6], 2);
     let cells = Cells::new([7; 32]);
-    assert_eq!(rt; cells.word(31), 7);
-    assert_eq!(rt; cells.words()[0], 7);
+    same(&rt, (cells.word(31), cells.words()[0]), (7, 7), 3);
 }

@@ -2,6 +2,7 @@
 use Rattle.std.proofs.Common.{◌≡◌, ◌≢◌, ℕ, ◌+◌, ◌<◌, ◌⊎◌, ◌&&◌, Bool, true, false, cond, eqb, eqb-true, eq-eqb, rules, List, [], ◌∷◌, ◌++◌, append_assoc, append-nil, length-append, max, refl, sym, ap, ◌∙◌, subst, inl, inr, ⊎_elim, arith}
 use Rattle.std.specs.Prelude.{nat_lt, sum_by}
 use Rattle.std.proofs.lemmas.List.Sums.{sum_by-append, sum_by-cons}
+use Rattle.plain_data.specs.declared.entry.Entry.{Entry}
 use Rattle.word_layout.specs.Name.{min_write}
 use Rattle.word_layout.specs.Size.{Size}
 use Rattle.core_rule.specs.View.{View, Cut, Gone, Load, Seen}
@@ -21,6 +22,7 @@ use Rattle.rapid_gc.specs.declared.queue.Queued.{Queued}
 use Rattle.rapid_gc.specs.declared.fate.Fate.{Fate}
 use Rattle.rapid_gc.specs.declared.fate.Fate.TheVariants.{Late, Locked, Dropped, Cut as CutBelow}
 use Rattle.seat_post.specs.declared.settled.Settled.{Settled}
+use Rattle.seat_post.specs.Logs.{IsAbove}
 use Rattle.seat_post.specs.Seats.{observed_of}
 use Rattle.seat_post.specs.Observing.{WasLost, MeetsNoPlace}
 use Rattle.seat_post.specs.Collecting.{trail_in}
@@ -40,13 +42,14 @@ apart_or_zero found wts false some first second off = inl (λ e. let equal = eq-
 apart_or_zero found wts true false first second off = inr (search rules)
 apart_or_zero found wts true true first second off = absurd (let never : true ≡ false = off in cc)
 
-pub found_other : (v r b w : View) (bound rid place found status wts : ℕ) → growing.Grows v.seen r.seen → b ≡ bounded r bound → Reads (bound + 1) rid place found status b w → (found ≢ wts) ⊎ (wts ≡ 0) → FindsOther rid wts v.seen.loads w.seen.loads
-found_other v r b w bound rid place found status wts g is reads other =
+pub found_other : (log : List Entry) (v r b w : View) (bound rid place found status wts : ℕ) → IsAbove log (bound + 1) → growing.Grows v.seen r.seen → b ≡ bounded r bound → Reads (bound + 1) rid place found status b w → (found ≢ wts) ⊎ (wts ≡ 0) → FindsOther log rid wts v.seen.loads w.seen.loads
+found_other log v r b w bound rid place found status wts above g is reads other =
     let l = load min_write (bound + 1) in
     let before : b.seen.loads ≡ v.seen.loads ++ (g.loaded ++ l ∷ []) =
     ap (λ (y : View). y.seen.loads) is ∙ ap (λ (ls : List Load). ls ++ l ∷ []) g.loads ∙ append_assoc v.seen.loads g.loaded (l ∷ []) in
     record {
       limit = bound + 1;
+      above = above;
       place = place;
       found = found;
       status = status;
@@ -58,14 +61,14 @@ found_other v r b w bound rid place found status wts g is reads other =
 pub looks_first : (rid : ℕ) (first : First) (before looked : List Load) (f w : Seen) → Looked rid first.place first.wts first.decided first.single before looked → looked ≡ f.loads → growing.Grows f w → LooksFirst rid first before looked w.loads
 looks_first rid first before looked f w look same g = record { look = look; later = g.loaded; loads = g.loads ∙ ap (λ (ls : List Load). ls ++ g.loaded) (sym same) }
 
-pub due_at : (rid : ℕ) (first : First) (v f s w : View) → Looked rid first.place first.wts first.decided first.single v.seen.loads f.seen.loads → first.single ≡ false → IsHidden rid first f.seen.loads s.seen.loads → growing.Grows f.seen s.seen → growing.Grows s.seen w.seen → IsDue rid v.seen.loads w.seen.loads
-due_at rid first v f s w look more hidden g h = record {
+pub due_at : (rid : ℕ) (first : First) (v f s w : View) → entries_of f ≡ entries_of v → Looked rid first.place first.wts first.decided first.single v.seen.loads f.seen.loads → first.single ≡ false → IsHidden (entries_of f) rid first f.seen.loads s.seen.loads → growing.Grows f.seen s.seen → growing.Grows s.seen w.seen → IsDue (entries_of v) rid v.seen.loads w.seen.loads
+due_at rid first v f s w same look more hidden g h = record {
   first = first;
   looked = f.seen.loads;
   looks = looks_first rid first v.seen.loads f.seen.loads f.seen w.seen look refl (grows_both f.seen s.seen w.seen g h);
   more = more;
   searched = s.seen.loads;
-  hidden = hidden;
+  hidden = subst (λ (log : List Entry). IsHidden log rid first f.seen.loads s.seen.loads) same hidden;
   later = h.loaded;
   loads = h.loads;
 }
@@ -148,7 +151,7 @@ pub cut_some : (single : Bool) (n cut : ℕ) → single ≡ false → cut ≡ ma
 cut_some true n cut off is = cc
 cut_some false n cut off is = is
 
-pub settles_one : (z : Size) (rid : ℕ) (done : Settled) (first : First) (v f w : View) → Looked rid first.place first.wts first.decided first.single v.seen.loads f.seen.loads → f.seen.lost ≡ v.seen.lost → growing.Grows f.seen w.seen → done.cut ≡ cond first.single 0 (max done.rewritten 1) → EntersOf rid done.rewritten (entries_of v) (entries_of w) → CutsOf rid done.cut v.gone.cuts w.gone.cuts → FreesCounted done.places v w → (0 < done.rewritten → IsDue rid v.seen.loads w.seen.loads) → (1 < done.rewritten → MeetsNoPlace z rid (observed_of v) (observed_of w)) → SettlesOne z rid done (trail_in v) (trail_in w)
+pub settles_one : (z : Size) (rid : ℕ) (done : Settled) (first : First) (v f w : View) → Looked rid first.place first.wts first.decided first.single v.seen.loads f.seen.loads → f.seen.lost ≡ v.seen.lost → growing.Grows f.seen w.seen → done.cut ≡ cond first.single 0 (max done.rewritten 1) → EntersOf rid done.rewritten (entries_of v) (entries_of w) → CutsOf rid done.cut v.gone.cuts w.gone.cuts → FreesCounted done.places v w → (0 < done.rewritten → IsDue (entries_of v) rid v.seen.loads w.seen.loads) → (1 < done.rewritten → MeetsNoPlace z rid (observed_of v) (observed_of w)) → SettlesOne z rid done (trail_in v) (trail_in w)
 settles_one z rid done first v f w look same g cut entries cuts freed due twice = record {
   grows = let all = grows_both v.seen f.seen w.seen (grows_loads v.seen f.seen _ look.loads same) g in record { loaded = all.loaded; missed = all.missed; loads = all.loads; lost = all.lost };
   as_due = record { first = first; looked = f.seen.loads; looks = looks_first rid first v.seen.loads f.seen.loads f.seen w.seen look refl g; cut = cut };

@@ -101,10 +101,11 @@ pub record OnlySearches (v w : View) : Type 0 where
   pub log : w.log ≡ v.log
   pub gone : w.gone ≡ v.gone
 
--- `min_wts` was loaded between the two, and then loads up to it led to a version of the record that is another than this one, or this is
--- version 0
-pub record FindsOther (rid wts : ℕ) (before after' : List Load) : Type 0 where
+-- `min_wts` was loaded between the two, above each commit entry of the log, and then loads up to it led to a version of the record that is
+-- another than this one, or this is version 0
+pub record FindsOther (log : List Entry) (rid wts : ℕ) (before after' : List Load) : Type 0 where
   pub limit : ℕ
+  pub above : IsAbove log limit
   pub place : ℕ
   pub found : ℕ
   pub status : ℕ
@@ -113,8 +114,8 @@ pub record FindsOther (rid wts : ℕ) (before after' : List Load) : Type 0 where
   pub other : (found ≢ wts) ⊎ (wts ≡ 0)
 
 -- the first version is neither committed nor deleted, or such a search did not end there
-abbrev pub IsHidden : (rid : ℕ) → First → (before after' : List Load) → Type 0
-IsHidden rid first before after' = (first.decided ≡ false) ⊎ FindsOther rid first.wts before after'
+abbrev pub IsHidden : (log : List Entry) (rid : ℕ) → First → (before after' : List Load) → Type 0
+IsHidden log rid first before after' = (first.decided ≡ false) ⊎ FindsOther log rid first.wts before after'
 
 -- the first loads were a look at the first version of the record's list, which showed this
 pub record LooksFirst (rid : ℕ) (first : First) (before looked after' : List Load) : Type 0 where
@@ -125,13 +126,13 @@ pub record LooksFirst (rid : ℕ) (first : First) (before looked after' : List L
 -- ---- a record
 
 -- a writing again is due: the look at the first version showed that it is not the only one, and then it was found to be hidden
-pub record IsDue (rid : ℕ) (before after' : List Load) : Type 0 where
+pub record IsDue (log : List Entry) (rid : ℕ) (before after' : List Load) : Type 0 where
   pub first : First
   pub looked : List Load
   pub looks : LooksFirst rid first before looked after'
   pub more : first.single ≡ false
   pub searched : List Load
-  pub hidden : IsHidden rid first looked searched
+  pub hidden : IsHidden log rid first looked searched
   pub later : List Load
   pub loads : after' ≡ searched ++ later
 
@@ -165,7 +166,7 @@ pub record SettlesOne (size : Size) (rid : ℕ) (done : Settled) (before after' 
   pub entries : EntersOf rid done.rewritten before.log after'.log
   pub cuts : CutsOf rid done.cut before.gone.cuts after'.gone.cuts
   pub places : Frees done.places before.gone after'.gone
-  pub due : 0 < done.rewritten → IsDue rid before.observed.loads after'.observed.loads
+  pub due : 0 < done.rewritten → IsDue before.log rid before.observed.loads after'.observed.loads
   pub twice : 1 < done.rewritten → MeetsNoPlace size rid before.observed after'.observed
 
 -- this was done for the records from the first one on, for each before the next one
@@ -231,7 +232,7 @@ pub record StopsSome (size : Size) (v w : View) : Type 0 where
   pub settled : AreSettled rid w.counts
   pub between : View
   pub first : SettlesFirst size rid all (trail_in v) (trail_in between)
-  pub due : IsDue rid between.seen.loads w.seen.loads
+  pub due : IsDue (entries_of between) rid between.seen.loads w.seen.loads
   pub drawn : between.clock.clock ≡ v.clock.clock + all.rewritten
   pub runs_out : RunsOut size rid between.clock.clock w.clock.clock (observed_of between) (observed_of w)
   pub gone : w.gone ≡ between.gone
@@ -259,7 +260,7 @@ pub record StopsPost (before after' : PostView) : Type 0 where
   pub between : Trail
   pub first : SettlesFirst before.shared.size rid all (trail_of before) between
   pub reached : Trail
-  pub due : IsDue rid between.observed.loads reached.observed.loads
+  pub due : IsDue between.log rid between.observed.loads reached.observed.loads
   pub runs_out : RunsOut before.shared.size rid (before.clock + all.rewritten) after'.clock between.observed reached.observed
   pub gone : reached.gone ≡ between.gone
   pub log : reached.log ≡ between.log

@@ -11,7 +11,7 @@ ghost use Rattle.rapid_gc.specs.Ends.{FreesCounted};
 ghost use Rattle.rapid_gc.specs.InReserved.{IsBelow, Remains};
 ghost use Rattle.seat_post.specs.Logs.{IsAbove};
 ghost use Rattle.seat_post.specs.Seats.{IsAloneAt, observed_of};
-ghost use Rattle.seat_post.specs.Settling.{AreSettled, SettlesPost, IsSettling, Settles, KeepsOthers, OnlySearches, IsHidden, IsDue, IsCut, RunsOut, SettlesOne, SettlesFirst, SettlesAll, StopsSome, StopsPost};
+ghost use Rattle.seat_post.specs.Settling.{entries_of, AreSettled, SettlesPost, IsSettling, Settles, KeepsOthers, OnlySearches, IsHidden, IsDue, IsCut, RunsOut, SettlesOne, SettlesFirst, SettlesAll, StopsSome, StopsPost};
 ghost use Rattle.seat_post.specs.Collecting.{trail_in};
 
 use crate::phase::Phase;
@@ -100,7 +100,7 @@ fn settle_record<J: Keeps>(
     ensures counts { IfOk result (λ done. (done.rewritten ≤ done.cut) × (done.cut ≤ 2)) }
     ensures freed { IfOk result (λ done. FreesCounted done.places hand.old.view hand.new.view) }
     ensures done { IfOk result (λ done. SettlesOne core.now.size rid done (trail_in hand.old.view) (trail_in hand.new.view)) }
-    ensures due { OnErr result (IsDue rid hand.old.view.seen.loads hand.new.view.seen.loads) }
+    ensures due { OnErr result (IsDue (entries_of hand.old.view) rid hand.old.view.seen.loads hand.new.view.seen.loads) }
     ensures runs_out { OnErr result (RunsOut core.now.size rid hand.old.view.clock.clock hand.new.view.clock.clock (observed_of hand.old.view) (observed_of hand.new.view)) }
     ensures gone { OnErr result (hand.new.view.gone ≡ hand.old.view.gone) }
     ensures log { OnErr result (hand.new.view.log ≡ hand.old.view.log) }
@@ -149,7 +149,7 @@ fn is_visible<J: Keeps>(core: &Core<J>, hand: &mut Hand<J>, rid: u32, first: Fir
     ensures settles { Settles J.kept hand.old.view hand.new.view }
     ensures searches { OnlySearches hand.old.view hand.new.view }
     ensures entered { result ≡ true → HasEntry rid first.wts hand.new.view.log }
-    ensures hidden { result ≡ false → IsHidden rid first hand.old.view.seen.loads hand.new.view.seen.loads }
+    ensures hidden { result ≡ false → IsHidden (entries_of hand.old.view) rid first hand.old.view.seen.loads hand.new.view.seen.loads }
     ensures stays { StaysReady core.now hand.old hand.new }
 {
     if !first.decided {

@@ -25,7 +25,7 @@ use crate::post::Post;
 use clock_stamps::{publish_read, raise_min_write};
 use core_rule::{Core, Hand, Keeps};
 use plain_data::Cells;
-use version_search::{Found, find, load_value};
+use version_search::{Found, find, load_words};
 
 /// Begins a snapshot: raises `min_wts`, publishes one less than it as the read stamp, and gives that. What was in flight has ended.
 pub(crate) fn begin_snapshot<J: Keeps>(core: &Core<J>, hand: &mut Hand<J>) -> u64
@@ -73,8 +73,9 @@ fn load_visible<J: Keeps>(
             wts,
             absent: false,
         } => {
-            let cells = load_value(core, hand, place);
-            *into = Cells::new(cells.words());
+            let mut words = [0; 32];
+            load_words(core, hand, place, &mut words);
+            *into = Cells::new(words);
             (place, wts, true)
         }
     }

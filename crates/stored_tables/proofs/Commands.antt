@@ -6,7 +6,7 @@ use Rattle.plain_data.specs.State.{State}
 use Rattle.record_store.specs.Meaning.{Meaning}
 use Rattle.record_store.specs.declared.walk.Walk.{Walk}
 use Rattle.replay_model.specs.declared.command.Command.{Command}
-use Rattle.replay_model.specs.declared.command.Command.TheVariants.{Ins, Del, Add, Sub, Find}
+use Rattle.replay_model.specs.declared.command.Command.TheVariants.{Ins, Del, Find}
 use Rattle.replay_model.specs.declared.outcome.Answer.TheVariants.{Nothing, Pairs}
 use Rattle.replay_model.specs.declared.outcome.Cause.{Cause}
 use Rattle.replay_model.specs.declared.outcome.Cause.TheVariants.{Exists, Missing, Over, Short, Unindexed}
@@ -14,7 +14,10 @@ use Rattle.replay_model.specs.Effect.{effect, change_at, store_at, sum_of, diffe
 use Rattle.replay_model.specs.TableMap.{TableMap, Row, column_in, with_column, value_at, index_of, with_value, without}
 use Rattle.stored_tables.specs.Answers.{Held, Stands, IsIndexed, IsFound, IsSearched, Becomes, Does, DueBy, enter_moves, leave_moves}
 use Rattle.stored_tables.specs.declared.reading.Found.{Found}
-use Rattle.stored_tables.specs.Plan.{Move, MayAsk, plan, moves_at, moves_entry}
+use Rattle.stored_tables.specs.Change.{changed, command_with}
+use Rattle.stored_tables.specs.declared.command.Change.{Change}
+use Rattle.stored_tables.specs.declared.command.Change.TheVariants.{Plus, Minus}
+use Rattle.stored_tables.specs.Plan.{Move, MayAsk, plan, moves_to, moves_at, moves_entry}
 use Rattle.stored_tables.specs.Runs.{Looks, Runs}
 use Rattle.stored_tables.proofs.Finding.{stands_on}
 use Rattle.stored_tables.proofs.Maps.{with_value_rows, without_rows}
@@ -66,16 +69,16 @@ del_leaves tables table key old there = rw there refl
 pub del_missing : (tables : TableMap) (table key : ℕ) → value_at tables table key ≡ None → effect (Del table key) tables ≡ Err Missing
 del_missing tables table key none = rw none refl
 
-sum_there : (by value sum : ℕ) → sum ≡ value + by → sum < 2 ^ 64 → sum_of by value ≡ Ok sum
+pub sum_there : (by value sum : ℕ) → sum ≡ value + by → sum < 2 ^ 64 → sum_of by value ≡ Ok sum
 sum_there by value sum is below = grind (arith, nat_tests)
 
-sum_over : (by value : ℕ) → 2 ^ 64 ≤ value + by → sum_of by value ≡ Err Over
+pub sum_over : (by value : ℕ) → 2 ^ 64 ≤ value + by → sum_of by value ≡ Err Over
 sum_over by value above = grind (arith, nat_tests)
 
-difference_there : (by value rest : ℕ) → by ≤ value → rest ≡ value - by → difference_of by value ≡ Ok rest
+pub difference_there : (by value rest : ℕ) → by ≤ value → rest ≡ value - by → difference_of by value ≡ Ok rest
 difference_there by value rest fits is = grind (arith, nat_tests)
 
-difference_short : (by value : ℕ) → value < by → difference_of by value ≡ Err Short
+pub difference_short : (by value : ℕ) → value < by → difference_of by value ≡ Err Short
 difference_short by value below = grind (arith, nat_tests)
 
 change_is : (tables : TableMap) (table key column : ℕ) (change : ℕ → Result ℕ Cause) (row : Row) (value : ℕ)
@@ -90,35 +93,31 @@ change_not : (tables : TableMap) (table key column : ℕ) (change : ℕ → Resu
 change_not tables table key column change row cause there is = ap (change_at tables table key column change) there
     ∙ ap (store_at tables table key column row) is
 
-pub add_changes : (tables : TableMap) (table key column by sum : ℕ) (row : Row) → value_at tables table key ≡ Some row
-    → sum ≡ column_in column row + by → sum < 2 ^ 64 → effect (Add table key column by) tables ≡ Ok
-    (Nothing, with_value tables table key (with_column column sum row))
-add_changes tables table key column by sum row there is below = change_is tables table key column (sum_of by) row sum there
-    (sum_there by (column_in column row) sum is below)
+effect_with : (tables : TableMap) (table key column : ℕ) (change : Change) → effect (command_with table key column change) tables
+    ≡ change_at tables table key column (changed change) (value_at tables table key)
+effect_with tables table key column (Plus by) = refl
+effect_with tables table key column (Minus by) = refl
 
-pub add_over : (tables : TableMap) (table key column by : ℕ) (row : Row) → value_at tables table key ≡ Some row
-    → 2 ^ 64 ≤ column_in column row + by → effect (Add table key column by) tables ≡ Err Over
-add_over tables table key column by row there above = change_not tables table key column (sum_of by) row Over there
-    (sum_over by (column_in column row) above)
+pub plan_with : (tables : TableMap) (table key column : ℕ) (change : Change) → plan (command_with table key column change) tables
+    ≡ moves_to tables table key (effect (command_with table key column change) tables)
+plan_with tables table key column (Plus by) = refl
+plan_with tables table key column (Minus by) = refl
 
-pub add_missing : (tables : TableMap) (table key column by : ℕ) → value_at tables table key ≡ None
-    → effect (Add table key column by) tables ≡ Err Missing
-add_missing tables table key column by none = rw none refl
+pub column_changes : (tables : TableMap) (table key column value : ℕ) (change : Change) (row : Row) → value_at tables table key ≡ Some row
+    → changed change (column_in column row) ≡ Ok value → effect (command_with table key column change) tables ≡ Ok
+    (Nothing, with_value tables table key (with_column column value row))
+column_changes tables table key column value change row there is = effect_with tables table key column change
+    ∙ change_is tables table key column (changed change) row value there is
 
-pub sub_changes : (tables : TableMap) (table key column by rest : ℕ) (row : Row) → value_at tables table key ≡ Some row
-    → by ≤ column_in column row → rest ≡ column_in column row - by → effect (Sub table key column by) tables ≡ Ok
-    (Nothing, with_value tables table key (with_column column rest row))
-sub_changes tables table key column by rest row there fits is = change_is tables table key column (difference_of by) row rest there
-    (difference_there by (column_in column row) rest fits is)
+pub column_refused : (tables : TableMap) (table key column : ℕ) (cause : Cause) (change : Change) (row : Row) → value_at tables table key ≡ Some row
+    → changed change (column_in column row) ≡ Err cause → effect (command_with table key column change) tables ≡ Err cause
+column_refused tables table key column cause change row there is = effect_with tables table key column change
+    ∙ change_not tables table key column (changed change) row cause there is
 
-pub sub_short : (tables : TableMap) (table key column by : ℕ) (row : Row) → value_at tables table key ≡ Some row
-    → column_in column row < by → effect (Sub table key column by) tables ≡ Err Short
-sub_short tables table key column by row there below = change_not tables table key column (difference_of by) row Short there
-    (difference_short by (column_in column row) below)
-
-pub sub_missing : (tables : TableMap) (table key column by : ℕ) → value_at tables table key ≡ None
-    → effect (Sub table key column by) tables ≡ Err Missing
-sub_missing tables table key column by none = rw none refl
+pub column_missing : (tables : TableMap) (table key column : ℕ) (change : Change) → value_at tables table key ≡ None
+    → effect (command_with table key column change) tables ≡ Err Missing
+column_missing tables table key column change none = effect_with tables table key column change
+    ∙ ap (change_at tables table key column (changed change)) none
 
 -- ---- what was looked up
 

@@ -7,7 +7,7 @@ use Rattle.record_store.specs.Meaning.{Meaning, after_undo}
 use Rattle.record_store.specs.Walks.{IfTorn, IfStore, ReadsGrow}
 use Rattle.record_store.specs.Writes.{GivesFewer}
 use Rattle.record_store.specs.declared.walk.Walk.{Walk}
-use Rattle.record_store.proofs.Refusals.{IfTorn-map, IfStore-map, fault_moved}
+use Rattle.record_store.proofs.Refusals.{IfTorn-map, fault_moved}
 use Rattle.replay_model.specs.declared.command.Command.{Command}
 use Rattle.replay_model.specs.declared.outcome.Answer.{Answer}
 use Rattle.replay_model.specs.declared.outcome.Cause.{Cause}

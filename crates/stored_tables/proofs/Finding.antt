@@ -4,7 +4,7 @@ use Rattle.std.specs.Prelude.{IfOk}
 use Rattle.plain_data.specs.State.{State, overlay}
 use Rattle.record_store.specs.Goes.{GoesByReads}
 use Rattle.record_store.specs.Meaning.{Meaning}
-use Rattle.record_store.specs.Walks.{IfTorn, IfStore, OnlyReads}
+use Rattle.record_store.specs.Walks.{IfTorn, OnlyReads}
 use Rattle.record_store.specs.declared.walk.Walk.{Walk}
 use Rattle.record_store.proofs.Agreement.{writes_same, size_same}
 use Rattle.record_store.proofs.Refusals.{IfTorn-map}

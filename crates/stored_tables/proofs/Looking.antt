@@ -1,17 +1,15 @@
 -- One read of a record, and what is torn by it.
-use Rattle.std.proofs.Common.{◌≡◌, ℕ, Bool, List, [], Option, Some, Result, Ok, Err, refl, sym, subst}
+use Rattle.std.proofs.Common.{◌≡◌, ℕ, Bool, List, [], Option, Some, Result, Ok, Err, refl}
 use Rattle.std.specs.Prelude.{IsErrAnd}
 use Rattle.std.proofs.lemmas.List.{append_cancel_right}
 use lib.ListN.{replicate}
 use Rattle.plain_data.specs.State.{State, Agrees, overlay}
-use Rattle.record_store.specs.Calls.Reads.{none, read}
 use Rattle.record_store.specs.Into.{value_if}
 use Rattle.record_store.specs.Meaning.{Meaning, known, after_read}
-use Rattle.record_store.specs.Walks.{OnlyReads, IfTorn}
+use Rattle.record_store.specs.Walks.{IfTorn}
 use Rattle.record_store.specs.declared.walk.Walk.{Walk}
 use Rattle.record_store.specs.declared.walk.Walk.TheVariants.{Store, Torn}
-use Rattle.record_store.proofs.Agreement.{answered, OnlyReads-after_read, OnlyReads-refl}
-use Rattle.record_store.proofs.Refusals.{store_fault}
+use Rattle.record_store.proofs.Agreement.{answered}
 use Rattle.replay_model.specs.TableMap.{Row}
 use Rattle.record_store.proofs.Going.{by_read_refused, by_read_done, by_reads_quiet}
 use Rattle.stored_tables.specs.Runs.{Looks}

@@ -2,11 +2,10 @@
 use Rattle.std.proofs.Common.{◌≡◌, ℕ, ◌+◌, ◌<◌, true, cond, ◌==◌, ◌&&◌, List, [], ◌∷◌, ◌++◌, Option, None, Some, Result, Ok, refl, sym, ap, subst, ◌∙◌, arith, eq-eqb}
 use Rattle.std.proofs.lemmas.Option.{none-some}
 use Rattle.plain_data.specs.State.{State, overlay}
-use Rattle.record_store.specs.Calls.Calls.{none as no_calls}
 use Rattle.record_store.specs.Meaning.{Meaning}
 use Rattle.record_store.specs.declared.walk.Walk.{Walk}
-use Rattle.record_store.proofs.Agreement.{extends-refl, OnlyReads-refl}
-use Rattle.record_store.proofs.Known.{gives-none, known-reads}
+use Rattle.record_store.proofs.Agreement.{OnlyReads-refl}
+use Rattle.record_store.proofs.Known.{known-reads}
 use Rattle.record_store.proofs.Writes.{writes-none}
 use Rattle.ordered_index.specs.Keys.{is_same}
 use Rattle.stored_tables.specs.Answers.{Held, AddsRow, HasRow, DropsRow, DueBy}

@@ -2,17 +2,13 @@
 use Rattle.std.proofs.Common.{◌≡◌, ℕ, ◌+◌, ◌<◌, ◌≤◌, Bool, true, false, List, Option, Result, Ok, Err, refl, zero, suc, subst, arith}
 use Rattle.std.specs.Prelude.{IsErrAnd, IfOk}
 use Rattle.plain_data.specs.State.{State, Agrees}
-use Rattle.record_store.specs.Calls.{CallFault}
-use Rattle.record_store.specs.Calls.Calls.{none as no_calls}
-use Rattle.record_store.specs.Calls.Reads.{none as no_reads}
 use Rattle.record_store.specs.Meaning.{Meaning}
 use Rattle.record_store.specs.declared.walk.Walk.{Walk}
 use Rattle.record_store.specs.declared.walk.Walk.TheVariants.{Torn, NoMemory}
-use Rattle.record_store.proofs.Agreement.{agrees-extends, OnlyReads-refl, OnlyReads-trans, ReadsGrow-only, ReadsGrow-trans}
+use Rattle.record_store.proofs.Agreement.{agrees-extends}
 use Rattle.record_store.proofs.Going.{by_reads_none, by_reads_moved, by_reads_quiet, by_reads_then, by_calls_reads, by_calls_map, by_calls_moved, by_calls_quiet, by_calls_then}
-use Rattle.record_store.proofs.Known.{few-reads, gives-reads, gives-trans, fewer-behind, known-reads}
-use Rattle.record_store.proofs.Paths.{Reads-trans, ReadFault-behind, Calls-reads, Calls-trans, CallFault-read, CallFault-behind}
-use Rattle.record_store.proofs.Refusals.{fault_moved, torn_moved, IfStore-map, IfTorn-map}
+use Rattle.record_store.proofs.Known.{few-reads, known-reads}
+use Rattle.record_store.proofs.Refusals.{torn_moved, IfTorn-map}
 use Rattle.record_store.proofs.Writes.{writes-trans, writes-weaken}
 use Rattle.stored_tables.specs.Runs.{Looks, Runs}
 use Rattle.record_store.specs.States.{Each}

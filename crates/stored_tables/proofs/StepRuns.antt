@@ -5,10 +5,10 @@ use Rattle.std.proofs.lemmas.List.{length-append}
 use Rattle.plain_data.specs.State.{State, Agrees, overlay}
 use Rattle.record_store.specs.Goes.{GoesByCalls, WalksCounting}
 use Rattle.record_store.specs.Meaning.{Meaning}
-use Rattle.record_store.specs.Walks.{IfTorn, IfStore, ReadsGrow}
-use Rattle.record_store.specs.Writes.{WritesAtMost, EachWritesKnown, GivesAtMost, GivesFewer}
+use Rattle.record_store.specs.Walks.{IfTorn, ReadsGrow}
+use Rattle.record_store.specs.Writes.{WritesAtMost, EachWritesKnown}
 use Rattle.record_store.specs.declared.walk.Walk.{Walk}
-use Rattle.record_store.proofs.Refusals.{IfTorn-map, IfStore-map}
+use Rattle.record_store.proofs.Refusals.{IfTorn-map}
 use Rattle.record_store.proofs.Writes.{writes-weaken}
 use Rattle.hash_index.specs.Answers.{IsTornChain, PutMayAsk, PutAsks, PutsPair, RemovesPair}
 use Rattle.hash_index.specs.Changes.{IsPut, IsRemoved}

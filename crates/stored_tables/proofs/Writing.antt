@@ -2,15 +2,13 @@
 use Rattle.std.proofs.Common.{◌≡◌, ℕ, List, Option, None, Result, Ok, Err, refl, ap, subst, arith}
 use Rattle.std.specs.Prelude.{IsErrAnd}
 use Rattle.plain_data.specs.State.{State, Agrees, overlay}
-use Rattle.record_store.specs.Calls.Calls.{none, write, fresh}
-use Rattle.record_store.specs.Calls.CallFault.{by_write, by_fresh}
 use Rattle.record_store.specs.Meaning.{Meaning, after_write, after_fresh, after_read}
 use Rattle.record_store.specs.Store.{IsFresh}
 use Rattle.record_store.specs.declared.walk.Walk.{Walk}
 use Rattle.record_store.specs.declared.walk.Walk.TheVariants.{Store}
-use Rattle.record_store.proofs.Agreement.{known-overlay, ReadsGrow-refl, ReadsGrow-same, ReadsGrow-fresh, ReadsGrow-write}
+use Rattle.record_store.proofs.Agreement.{known-overlay}
 use Rattle.record_store.specs.Writes.{IsKnown}
-use Rattle.record_store.proofs.Known.{few-same, gives-none, gives-weaken, fewer-refused, goes-same, goes-fresh}
+use Rattle.record_store.proofs.Known.{few-same, goes-same, goes-fresh}
 use Rattle.record_store.proofs.Going.{by_write_refused, by_write_done, by_fresh_refused, by_fresh_done}
 use Rattle.record_store.proofs.Steps.{known_unwritten}
 use Rattle.record_store.proofs.Writes.{writes-none, writes-one}

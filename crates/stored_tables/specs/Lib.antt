@@ -17,3 +17,4 @@ pub mod Lists
 pub mod Weights
 pub mod OneRow
 pub mod Packed
+pub mod Change

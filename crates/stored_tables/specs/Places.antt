@@ -5,7 +5,7 @@ use Rattle.ordered_index.specs.Node.{Content}
 use Rattle.ordered_index.specs.Tree.{tree_records, In}
 
 -- eight tables, each with a chain of 511 buckets and a tree by keys; the tree of number t is that of table t. Each table may have an
--- index, whose head names a column, and whose tree has the number t + 8. The records below these are new ones.
+-- index, whose head names a column, and whose tree has the number t + 8. The records from 4112 on are new ones.
 abbrev pub table_limit : ℕ
 table_limit = 8
 

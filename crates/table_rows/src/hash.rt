@@ -145,7 +145,9 @@ fn get_torn(alloc: Global) -> Result<Result<Option<u32>, Walk<MapFault>>, MapFau
 
 #[test]
 fn a_node_at_a_wrong_place_is_torn(rt: HostRuntime) -> Result<(), Fail> {
-    assert_eq!(rt; get_torn(rt.alloc())?, Err(Walk::Torn(5)));
+    if get_torn(rt.alloc())? != Err(Walk::Torn(5)) {
+        return Err("a walk past a wrong key answered another thing".into());
+    }
     Ok(())
 }
 

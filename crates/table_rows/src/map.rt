@@ -145,13 +145,17 @@ fn write_all(store: &mut MapStore) -> Result<(), MapFault>
 #[test]
 fn every_record_is_given(rt: HostRuntime) -> Result<(), Fail> {
     let steps = [Gives(Err(MapFault::RecordsOut)), Undoes, Gives(Ok(0))];
-    assert!(rt; try_given(rt.alloc(), &steps)?);
+    if !try_given(rt.alloc(), &steps)? {
+        return Err("a call answered another thing".into());
+    }
     Ok(())
 }
 
 #[test]
 fn every_record_is_written(rt: HostRuntime) -> Result<(), Fail> {
     let steps = [Gives(Err(MapFault::RecordsOut))];
-    assert!(rt; try_written(rt.alloc(), &steps)?);
+    if !try_written(rt.alloc(), &steps)? {
+        return Err("a call answered another thing".into());
+    }
     Ok(())
 }

@@ -496,8 +496,10 @@ fn scan_torn(
 fn a_leaf_that_names_itself_is_torn(rt: HostRuntime) -> Result<(), Fail> {
     let mut out = Vec::new(rt.alloc());
     out.push((key(7), 7))?;
-    assert_eq!(rt; scan_torn(rt.alloc(), &mut out)?, Err(Walk::Torn(511)));
-    assert_eq!(rt; out.as_slice(), [(key(7), 7)].as_slice());
+    let answer = scan_torn(rt.alloc(), &mut out)?;
+    if answer != Err(Walk::Torn(511)) || out.as_slice() != [(key(7), 7)].as_slice() {
+        return Err("a scan past such a leaf answered another thing".into());
+    }
     Ok(())
 }
 
@@ -512,9 +514,8 @@ fn insert_tenth(alloc: Global) -> Result<Result<bool, Walk<MapFault>>, Fail> {
 
 #[test]
 fn no_new_record_is_left(rt: HostRuntime) -> Result<(), Fail> {
-    assert_eq!(rt;
-        insert_tenth(rt.alloc())?,
-        Err(Walk::Store(MapFault::RecordsOut))
-    );
+    if insert_tenth(rt.alloc())? != Err(Walk::Store(MapFault::RecordsOut)) {
+        return Err("an insertion answered another thing".into());
+    }
     Ok(())
 }

@@ -35,6 +35,13 @@ impl<S: SeatCalls> SnapshotOver<'_, S> {
         pass.post.snapshot_stamp()
     }
 
+    /// Leaves the snapshot open at its seat, which is free then: `resume` takes it up again.
+    pub fn leave(self)
+        ensures { self.exit.0.now ≡ self.entry.seat.now }
+    {
+        let SnapshotOver { seat: _, engine: _ } = self;
+    }
+
     /// Ends the snapshot, and gives its stamp. One entry with all that was read stands at the end of the log, and a kept state of
     /// the history at that stamp agrees with it.
     pub fn finish(self) -> u64
@@ -43,6 +50,19 @@ impl<S: SeatCalls> SnapshotOver<'_, S> {
     {
         let SnapshotOver { seat, engine } = self;
         seat.end_snapshot(engine)
+    }
+}
+
+impl<'a, S: SeatCalls> SnapshotOver<'a, S> {
+    /// Takes up the snapshot that was left open at a seat.
+    pub fn resume(seat: &'a mut S, engine: &'a Engine<S::Kept>) -> Self
+        requires engine { engine_of (S.pass seat.old) ≡ engine.now }
+        requires snapshot { HasSnapshot (S.pass seat.old) }
+        ensures same_reference { result.seat.ghost_name ≡ seat.entry.ghost_name }
+        ensures seat { result.seat.now ≡ seat.old }
+        ensures engine { result.engine.now ≡ engine.now }
+    {
+        SnapshotOver { seat, engine }
     }
 }
 

@@ -16,5 +16,5 @@ pub use finding::{Found, find, find_again, find_to_check};
 pub use firsts::first;
 pub use fronts::First;
 pub use links::link;
-pub use loading::{load_into, load_value};
+pub use loading::{load_into, load_value, load_words};
 pub use walking::Shown;

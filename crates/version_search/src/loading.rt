@@ -62,3 +62,28 @@ pub fn load_into<J: Keeps>(core: &Core<J>, hand: &mut Hand<J>, place: u32, read:
         }
     }
 }
+
+/// The same, into words of the caller's.
+pub fn load_words<J: Keeps>(core: &Core<J>, hand: &mut Hand<J>, place: u32, words: &mut [u64; 32])
+    requires ready { IsReady core.now hand.old }
+    requires loading { IsLoading hand.old.view.work.reads }
+    requires place { place ≡ read_place hand.old.view.work.reads }
+    requires inside { place < places core.now.size }
+    requires begins { read_cells hand.old.view.work.reads ≡ 0 }
+    requires whole { length words.old ≡ 32 }
+    ensures whole { length words.new ≡ 32 }
+    ensures view { hand.new.view ≡ with_value hand.old.view words.new hand.new.view.seen }
+    ensures left { IsLeftIn hand.new.view words.new }
+    ensures lost { hand.new.view.seen.lost ≡ hand.old.view.seen.lost }
+    ensures loads { hand.new.view.seen.loads ≡ hand.old.view.seen.loads ++ cells_loaded place 0 words.new }
+    ensures stays { StaysReady core.now hand.old hand.new }
+{
+    let first = core.layout().cell(place, 0);
+    for row in 0..CELLS / ROW {
+        for column in 0..ROW {
+            let index = row * ROW + column;
+            let word = core.load_cell(hand, first, index);
+            words[index as usize] = word;
+        }
+    }
+}

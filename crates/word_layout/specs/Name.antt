@@ -38,22 +38,27 @@ IsNamed z (rts p) = p < places z
 IsNamed z (next p) = p < places z
 IsNamed z (cell p i) = (p < places z) × (i < cells_of_value)
 
--- the first word of a record, and that of a place: the records stand behind the words of the seats, and the places behind the records
-abbrev pub first_of_record : Size → ℕ → ℕ
-first_of_record z r = 2 * z.seats + 2 + 3 * r
+-- the head of a record, the first of its two other words, and the first word of a place: the heads stand behind the words of the
+-- seats, the locks and floors behind the heads, and the places behind these
+abbrev pub head_of_record : Size → ℕ → ℕ
+head_of_record z r = 2 * z.seats + 2 + r
+
+abbrev pub lock_of_record : Size → ℕ → ℕ
+lock_of_record z r = 2 * z.seats + 2 + z.records + 2 * r
 
 abbrev pub first_of_place : Size → ℕ → ℕ
 first_of_place z p = 2 * z.seats + 2 + 3 * z.records + 36 * p
 
--- the number of a word: the three words of a record lie side by side, and so do the 36 of a place, the last 32 of which are its cells
+-- the number of a word: the heads of all records lie side by side, so do the lock and the floor of a record, and the 36 words of a
+-- place, the last 32 of which are its cells
 abbrev pub word_of : Size → Name → ℕ
 word_of z (published_write s) = s
 word_of z (published_read s) = z.seats + s
 word_of z min_write = 2 * z.seats
 word_of z min_read = 2 * z.seats + 1
-word_of z (head r) = first_of_record z r
-word_of z (lock r) = first_of_record z r + 1
-word_of z (floor r) = first_of_record z r + 2
+word_of z (head r) = head_of_record z r
+word_of z (lock r) = lock_of_record z r
+word_of z (floor r) = lock_of_record z r + 1
 word_of z (status p) = first_of_place z p
 word_of z (wts p) = first_of_place z p + 1
 word_of z (rts p) = first_of_place z p + 2

@@ -1,14 +1,15 @@
-//! Where the words of the records begin in the table, and those of the places.
+//! Where the heads of the records begin in the table, their locks and floors, and the words of the places.
 ghost use Rattle.std.specs.Prelude.{◌≡◌};
 ghost use Rattle.word_layout.specs.Size.{IsSize, size_of};
 ghost use Rattle.word_layout.specs.First.{first_words};
 
 use crate::RECORD_WORDS;
 
-/// The first word of record 0, and that of place 0.
+/// The head of record 0, its lock, and the first word of place 0.
 #[derive(Clone, Copy, Debug, PartialEq, Eq, Hash)]
 pub(crate) struct FirstWords {
-    pub(crate) records: u32,
+    pub(crate) heads: u32,
+    pub(crate) locks: u32,
     pub(crate) places: u32,
 }
 
@@ -20,7 +21,8 @@ impl FirstWords {
     {
         let first = 2 * seats + 2;
         FirstWords {
-            records: first,
+            heads: first,
+            locks: first + records,
             places: first + RECORD_WORDS * records,
         }
     }

@@ -4,7 +4,7 @@
 mod first;
 
 ghost use Rattle.std.specs.Prelude.{◌≡◌, ◌<◌, ◌↔◌, IsOk, IsErr, IfOk};
-ghost use Rattle.word_layout.specs.Name.{published_write, published_read, min_write, min_read, head, lock, floor, status, wts, rts, next, cell, word_of, first_of_record, first_of_place, LiesWithin, AreApart};
+ghost use Rattle.word_layout.specs.Name.{published_write, published_read, min_write, min_read, head, lock, floor, status, wts, rts, next, cell, word_of, head_of_record, lock_of_record, first_of_place, LiesWithin, AreApart};
 ghost use Rattle.word_layout.specs.Limits.{cells_of_value};
 ghost use Rattle.word_layout.specs.Size.{size_of, IsSize, places, words};
 
@@ -28,6 +28,9 @@ pub const CELLS: u32 = 32;
 /// How many words a record has beside those of its inline place, and how many a place has: four, and the cells of a value.
 pub(crate) const RECORD_WORDS: u32 = 3;
 
+/// How many of them stand apart from the heads.
+const GUARD_WORDS: u32 = 2;
+
 const PLACE_WORDS: u32 = 4 + CELLS;
 
 /// The error of [`Layout::new`]: a number is out of its range.
@@ -49,8 +52,8 @@ impl Error for Limit {}
 /// Where each word of a table with so many seats, records and places stands in it.
 ///
 /// Seats, records and places are numbered from 0. Place r, below `records`, is the inline place of
-/// record r; the other places are the pool's. The words of a record stand side by side, and so do those of a place, since a step that
-/// asks for one of them is mostly followed by steps that ask for the others. Where they begin is computed once.
+/// record r; the other places are the pool's. The heads of all records stand side by side, so do the lock and the
+/// floor of a record, and the words of a place. Where they begin is computed once.
 #[derive(Clone, Copy, Debug, PartialEq, Eq, Hash)]
 pub struct Layout {
     seats: u32,
@@ -172,7 +175,7 @@ impl Layout {
         requires { r < self.now.records }
         ensures { result ≡ word_of self.now (head r) }
     {
-        self.record(r)
+        self.first.heads + r
     }
 
     /// The word of the collectors' lock of record `r`.
@@ -180,7 +183,7 @@ impl Layout {
         requires { r < self.now.records }
         ensures { result ≡ word_of self.now (lock r) }
     {
-        self.record(r) + 1
+        self.guard(r)
     }
 
     /// The word of the stamp below which versions of record `r` may be gone.
@@ -188,7 +191,7 @@ impl Layout {
         requires { r < self.now.records }
         ensures { result ≡ word_of self.now (floor r) }
     {
-        self.record(r) + 2
+        self.guard(r) + 1
     }
 
     /// The word of the status of place `p`.
@@ -232,13 +235,13 @@ impl Layout {
         self.place(p) + 4 + i
     }
 
-    /// The first word of record `r`.
-    fn record(&self, r: u32) -> u32
+    /// The word of the lock of record `r`, with its floor behind it.
+    fn guard(&self, r: u32) -> u32
         requires { r < self.now.records }
-        ensures word { result ≡ first_of_record self.now r }
+        ensures word { result ≡ lock_of_record self.now r }
         ensures in_range { IsSize self.now }
     {
-        self.first.records + RECORD_WORDS * r
+        self.first.locks + GUARD_WORDS * r
     }
 
     /// The first word of place `p`.

@@ -1,4 +1,7 @@
-use Rattle.std.proofs.Common.{refl, inr}
+use Rattle.std.proofs.Common.{◌+◌, ◌≤◌, refl, ap, arith, inr}
+use Rattle.stamp_base.specs.Stamp.{bound_of_clock}
+use Rattle.core_rule.specs.View.{View}
+use Rattle.seat_post.specs.Settling.{entries_of}
 use Rattle.seat_post.proofs.Steady.{steady_same, steady_idle, steady_raised, steady_looked, steady_settling, steady_settles}
 use Rattle.seat_post.proofs.Searching.{only_looked}
 use Rattle.version_search.proofs.Grown.{grows_both}
@@ -53,7 +56,14 @@ returns-clause-hidden g c = λ off.
     let r = c.raise_min_write in
     let b = c.publish_read-bound in
     let before = grows_both v.seen c.idle.new.hand.view.seen r.new.hand.view.seen (idle_grows c.args.hand.now c.idle.new.hand c.idle.ensures.rises c.idle.ensures.unchanged) (raises_grow _ _ _ c.idle.new.hand.view r.result r.new.hand.view r.ensures.raises) in
-    inr (found_other v r.new.hand.view b.new.hand.view c.find.new.hand.view b.result c.args.rid c.in-Version.place c.in-Version.found _ c.args.first.wts before b.ensures.view c.in-Version.ensures.version (apart_or_zero c.in-Version.found c.args.first.wts _ _ refl refl off))
+    let idled = steady_idle c.args.hand.now c.idle.new.hand c.requires.settling.ends c.idle.ensures.rises c.idle.ensures.unchanged in
+    let own = r.ensures.raises.alone (steady_settling v c.idle.new.hand.view c.requires.settling idled).alone in
+    let reached = r.ensures.raises.value in
+    let published = c.idle.ensures.published in
+    let raised = ap (λ (x : View). x.clock.met) r.ensures.view in
+    let met = b.ensures.met in
+    let high : bound_of_clock v.clock.clock ≤ b.result + 1 = omega arith in
+    inr (found_other (entries_of v) v r.new.hand.view b.new.hand.view c.find.new.hand.view b.result c.args.rid c.in-Version.place c.in-Version.found _ c.args.first.wts (λ e among commit. let low = c.requires.settling.above e among commit in omega arith) before b.ensures.view c.in-Version.ensures.version (apart_or_zero c.in-Version.found c.args.first.wts _ _ refl refl off))
 
 pub returns-then-not-first-clause-settles : goal.returns-then-not-first-clause-settles
 returns-then-not-first-clause-settles g c = steady_settles g.J.Keeps.kept c.args.hand.now.view c.args.hand.now.view (steady_same c.args.hand.now.view c.args.hand.now.view refl c.requires.settling.ends)

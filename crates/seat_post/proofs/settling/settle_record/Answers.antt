@@ -136,7 +136,7 @@ returns-then-not-once-clause-done g c =
     let gone : once.gone ≡ v.gone = c.renew.ensures.gone ∙ s.ensures.searches.gone ∙ ap (λ (x : View). x.gone) f.ensures.view in
     let rest = grows_both s.new.hand.view.seen once.seen w.seen c.renew.ensures.settles.grows k.ensures.settles.grows in
     let behind = grows_both f.new.hand.view.seen s.new.hand.view.seen w.seen s.ensures.settles.grows rest in
-    let due = due_at rid f.result v f.new.hand.view s.new.hand.view w f.ensures.looked c.if-found.false (s.ensures.hidden c.if-is_visible.false) s.ensures.settles.grows rest in
+    let due = due_at rid f.result v f.new.hand.view s.new.hand.view w (ap entries_of f.ensures.view) f.ensures.looked c.if-found.false (s.ensures.hidden c.if-is_visible.false) s.ensures.settles.grows rest in
     settles_one c.args.core.now.size rid (record { rewritten = 1; cut = 1; places = k.result }) f.result v f.new.hand.view w f.ensures.looked f.ensures.lost behind (cut_some f.result.single 1 1 c.if-found.false refl)
     (appends_same (ap entered s.ensures.searches.log ∙ ap entries_of f.ensures.view) (ap entered k.ensures.cut.log) c.in_ok-once.ensures.ok.entry) (appends_same (ap (λ (x : Gone). x.cuts) gone) refl k.ensures.cut.once) (freed_from k.result v once w gone k.ensures.freed) (λ some. due) (λ some. absurd (omega arith))
 
@@ -156,7 +156,7 @@ returns-clause-done g c =
     let after = grows_both once.seen k.new.hand.view.seen w.seen k.ensures.settles.grows last in
     let rest = grows_both s.new.hand.view.seen once.seen w.seen c.renew.ensures.settles.grows after in
     let behind = grows_both f.new.hand.view.seen s.new.hand.view.seen w.seen s.ensures.settles.grows rest in
-    let due = due_at rid f.result v f.new.hand.view s.new.hand.view w f.ensures.looked c.if-found.false (s.ensures.hidden c.if-is_visible.false) s.ensures.settles.grows rest in
+    let due = due_at rid f.result v f.new.hand.view s.new.hand.view w (ap entries_of f.ensures.view) f.ensures.looked c.if-found.false (s.ensures.hidden c.if-is_visible.false) s.ensures.settles.grows rest in
     let before = grows_both v.seen f.new.hand.view.seen s.new.hand.view.seen (grows_loads v.seen f.new.hand.view.seen _ f.ensures.looked.loads f.ensures.lost) s.ensures.settles.grows in
     let kept = no_place_from c.args.core.now.size rid v s.new.hand.view once w before (c.in_ok-once.ensures.wants (not_off c.in_ok-once.once.reserved c.if-not-once.false)) after in
     let first = appends_same (ap entered s.ensures.searches.log ∙ ap entries_of f.ensures.view) (ap entered k.ensures.cut.log) c.in_ok-once.ensures.ok.entry in
@@ -171,7 +171,7 @@ pub returns-in_err-once-clause-due : goal.returns-in_err-once-clause-due
 returns-in_err-once-clause-due g c =
     let f = c.first-found in
     let s = c.is_visible in
-    on_err c.from_residual.result (due_at c.args.rid f.result c.args.hand.now.view f.new.hand.view s.new.hand.view c.renew.new.hand.view f.ensures.looked c.if-found.false (s.ensures.hidden c.if-is_visible.false) s.ensures.settles.grows c.renew.ensures.settles.grows)
+    on_err c.from_residual.result (due_at c.args.rid f.result c.args.hand.now.view f.new.hand.view s.new.hand.view c.renew.new.hand.view (ap entries_of f.ensures.view) f.ensures.looked c.if-found.false (s.ensures.hidden c.if-is_visible.false) s.ensures.settles.grows c.renew.ensures.settles.grows)
 
 pub returns-in_err-once-clause-runs_out : goal.returns-in_err-once-clause-runs_out
 returns-in_err-once-clause-runs_out g c =

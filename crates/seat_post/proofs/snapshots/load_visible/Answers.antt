@@ -22,7 +22,7 @@ returns-in-Version-default-default-false-clause-finds g c =
     let inside = subst (λ (z : Size). a.place < places z) (sym c.requires.ready.hand_of.same_size) a.ensures.place in
     let limit = limit_rests v stamp c.requires.resting c.published_read-stamp.ensures in
     let found = subst (λ (b : Bool). Reads (stamp + 1) c.args.rid a.place a.wts (status_of b) v c.find.new.hand.view) a.absent-test a.ensures.version in
-    let same : c.new.result ≡ c.load_value-cells.result = c.new.ensures ∙ c.words.ensures in
-    let long : length c.load_value-cells.result ≡ 32 = search rules in
-    subst (λ (cells : List ℕ). Finds c.args.rid a.place a.wts (Some cells) v c.load_value-cells.new.hand.view) (sym same)
-    (finds_present (stamp + 1) c.args.rid a.place a.wts c.load_value-cells.result v c.find.new.hand.view c.load_value-cells.new.hand.view found c.load_value-cells.ensures.view c.load_value-cells.ensures.left c.load_value-cells.ensures.lost c.load_value-cells.ensures.loads long inside limit)
+    let same : c.new.result ≡ c.load_words.new.words = c.new.ensures in
+    let long : length c.load_words.new.words ≡ 32 = c.load_words.ensures.whole in
+    subst (λ (cells : List ℕ). Finds c.args.rid a.place a.wts (Some cells) v c.load_words.new.hand.view) (sym same)
+    (finds_present (stamp + 1) c.args.rid a.place a.wts c.load_words.new.words v c.find.new.hand.view c.load_words.new.hand.view found c.load_words.ensures.view c.load_words.ensures.left c.load_words.ensures.lost c.load_words.ensures.loads long inside limit)

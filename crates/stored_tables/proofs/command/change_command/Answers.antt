@@ -10,7 +10,7 @@ pub returns-in-Del-clause-runs : goal.returns-in-Del-clause-runs
 returns-in-Del-clause-runs g c = rw c.in-Del.is c.delete_row.ensures.runs
 
 pub returns-in-Add-clause-runs : goal.returns-in-Add-clause-runs
-returns-in-Add-clause-runs g c = rw c.in-Add.is c.add_to_row.ensures.runs
+returns-in-Add-clause-runs g c = rw c.in-Add.is c.change_column.ensures.runs
 
 pub returns-in-Sub-clause-runs : goal.returns-in-Sub-clause-runs
-returns-in-Sub-clause-runs g c = rw c.in-Sub.is c.subtract_from_row.ensures.runs
+returns-in-Sub-clause-runs g c = rw c.in-Sub.is c.change_column-in-Sub.ensures.runs

@@ -1,5 +1,5 @@
 use Rattle.stored_tables.proofs.RowLeaves.{left_none, left_index}
-use Rattle.record_store.proofs.Going.{by_reads_none, by_calls_reads, by_calls_moved, by_calls_quiet, by_calls_never, by_write_refused, by_write_done}
+use Rattle.record_store.proofs.Going.{by_reads_none, by_calls_reads}
 use Rattle.stored_tables.proofs.leaving.leave_index.Goals as goal
 
 pub returns-in_default-clause-runs : goal.returns-in_default-clause-runs

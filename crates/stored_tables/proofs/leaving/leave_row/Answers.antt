@@ -1,7 +1,7 @@
 use Rattle.std.proofs.Common.{◌∙◌, arith}
 use Rattle.stored_tables.proofs.RowLeaves.{left_pair, left_tree, left_row}
 use Rattle.stored_tables.proofs.Runs.{runs_moved}
-use Rattle.record_store.proofs.Going.{by_reads_none, by_calls_reads, by_calls_moved, by_calls_quiet, by_calls_never, by_write_refused, by_write_done}
+use Rattle.record_store.proofs.Going.{by_calls_moved, by_calls_never}
 use Rattle.stored_tables.proofs.leaving.leave_row.Goals as goal
 
 pub remove_pair-requires-clause-fixed : goal.remove_pair-requires-clause-fixed

@@ -8,7 +8,7 @@ use Rattle.stored_tables.proofs.OneRow.{row_taken_by}
 use Rattle.stored_tables.specs.Answers.{IsFound, Stands}
 use Rattle.stored_tables.specs.Plan.{moves_to}
 use Rattle.stored_tables.proofs.Runs.{looks_runs, runs_moved, runs_value}
-use Rattle.record_store.proofs.Going.{by_reads_none, by_calls_reads, by_calls_moved, by_calls_quiet, by_calls_never, by_write_refused, by_write_done}
+use Rattle.record_store.proofs.Going.{by_calls_reads, by_calls_moved, by_calls_quiet, by_calls_never}
 use Rattle.stored_tables.proofs.leaving.take_row.Goals as goal
 
 pub index_of-requires-clause-size : goal.index_of-requires-clause-size

@@ -3,7 +3,7 @@ use Rattle.record_store.specs.Meaning.{Meaning}
 use Rattle.stored_tables.proofs.Knowing.{row_may}
 use Rattle.stored_tables.proofs.Writing.{write_refused, write_done}
 use Rattle.stored_tables.proofs.RowSteps.{drops_row}
-use Rattle.record_store.proofs.Going.{by_reads_none, by_calls_reads, by_calls_moved, by_calls_quiet, by_calls_never, by_write_refused, by_write_done}
+use Rattle.record_store.proofs.Going.{by_write_refused, by_write_done}
 use Rattle.stored_tables.proofs.steps.drop_row.Goals as goal
 
 pub returns-in_err-write-clause-runs : goal.returns-in_err-write-clause-runs

@@ -1,7 +1,7 @@
 use Rattle.std.proofs.Common.{arith}
 use Rattle.stored_tables.proofs.Runs.{runs_moved, runs_value, runs_torn, unlike}
 use Rattle.stored_tables.proofs.StepRuns.{taken_runs}
-use Rattle.record_store.proofs.Going.{by_reads_none, by_calls_reads, by_calls_moved, by_calls_quiet, by_calls_never, by_write_refused, by_write_done}
+use Rattle.record_store.proofs.Going.{by_calls_moved, by_calls_quiet}
 use Rattle.stored_tables.proofs.steps.remove_entry.Goals as goal
 
 pub returns-in_err-remove-clause-runs : goal.returns-in_err-remove-clause-runs

@@ -2,7 +2,7 @@ use Rattle.std.proofs.Common.{length, ap, sym, ◌∙◌}
 use Rattle.std.specs.Option.{option_copied}
 use Rattle.replay_model.specs.Input.{AreCommands}
 use Rattle.replay_model.proofs.AnswerLaws.{block_is}
-use Rattle.replay_model.proofs.texts.text_of_block.Goals as goal
+use Rattle.replay_model.proofs.texts.push_block.Goals as goal
 
 pub push_answers-requires-clause-commands : goal.push_answers-requires-clause-commands
 push_answers-requires-clause-commands c =

@@ -3,7 +3,7 @@ use Rattle.std.specs.Prelude.{◌≡◌, ◌≢◌, ℕ, suc, ◌<◌, ◌≤◌
 use Rattle.word_layout.specs.Size.{places}
 use Rattle.word_layout.specs.Limits.{cells_of_value}
 use Rattle.stamp_base.specs.Limits.{end_of_stamps}
-use Rattle.stamp_base.specs.Stamp.{stamp_of, clock_of, seat_of}
+use Rattle.stamp_base.specs.Stamp.{stamp_of, clock_of, seat_of, IsStamp}
 use Rattle.plain_data.specs.State.{State}
 use Rattle.core_rule.specs.Status.{status_word, IsStatusWord}
 use Rattle.core_rule.specs.declared.status.Status.TheVariants.{Pending}
@@ -26,8 +26,9 @@ least_of _ = 0
 abbrev pub IsLink : ℕ → ℕ → Type 0
 IsLink count n = (0 < n) × (n ≤ count)
 
--- a version of another seat
+-- a stamp of another seat
 pub record IsOfAnother (v : View) (w : ℕ) : Type 0 where
+  pub stamp : IsStamp w
   pub another : seat_of w ≢ v.number
   pub within : seat_of w < v.size.seats
   pub not_alone : IsAlone v → ⊥
@@ -75,7 +76,7 @@ Learnt kept (load_stamp s) v n = (least_of s.aim ≤ n) × (n < s.under)
 -- above it, and another seat's. A seat that is alone finds what its log leaves
 Learnt kept (load_status s w) v n =
     IsStatusWord n
-    × (n ≡ status_word Pending → (seat_of w ≢ v.number) × (seat_of w < v.size.seats) × (v.flight ≢ resting) × (IsAlone v → ⊥))
+    × (n ≡ status_word Pending → IsOfAnother v w × (v.flight ≢ resting))
     × IsOvertaken v s.aim w n
     × (IsAlone v → IsFinal n → IsLeft v.log s.record_number (limit_of v.flight v.published.read) w n)
 -- with the last cell a seat that is alone has loaded the value that its log leaves

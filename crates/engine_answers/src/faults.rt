@@ -31,7 +31,7 @@ pub enum BeginFault {
 #[derive(Clone, Copy, PartialEq, Eq, Debug, thiserror::Error)]
 pub enum TxnFault {
     /// Another transaction is in the way. From then on every call answers the same.
-    #[error("conflict")]
+    #[error("conflict: {0}")]
     Conflict(Conflict),
     /// No spare record number is left for a new record.
     #[error("records out")]
@@ -56,7 +56,7 @@ pub enum AloneFault {
 #[derive(Clone, Copy, PartialEq, Eq, Debug, thiserror::Error)]
 pub enum CommitFault {
     /// Another transaction is in the way.
-    #[error("conflict")]
+    #[error("conflict: {0}")]
     Conflict(Conflict),
     /// There is no place for one of its versions.
     #[error("places out")]

@@ -24,7 +24,7 @@ pub enum PromoteFault {
     #[error("clock out")]
     ClockOut,
     /// Another transaction is in the way.
-    #[error("conflict")]
+    #[error("conflict: {0}")]
     Conflict(Conflict),
 }
 

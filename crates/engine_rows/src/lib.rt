@@ -12,6 +12,8 @@ mod deletion;
 #[cfg(test)]
 mod due;
 #[cfg(test)]
+mod faults;
+#[cfg(test)]
 mod lists;
 #[cfg(test)]
 mod places;

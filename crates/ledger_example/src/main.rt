@@ -16,15 +16,13 @@ use std::io::{self, Print};
 use std::thread::Threads;
 use transfers::{fill, run_all, sum};
 use txn_engine::{Alone, Engine, StartFault};
+use typed_tables::FIXED_RECORDS;
 
 /// How many accounts there are.
 pub const ACCOUNTS: u32 = 8;
 
 /// What each account has at first.
 pub const FIRST: u64 = 100;
-
-// How many records tables have at places of their own; the rows stand behind them.
-const TABLE_RECORDS: u32 = 4_112;
 
 fn main(rt: HostRuntime) -> io::Result<()> {
     match begin(rt.alloc()) {
@@ -40,7 +38,7 @@ fn begin(alloc: Global) -> Result<(Engine<AnyState>, Alone<AnyState>), StartFaul
     ensures not_shared { IfOk result (λ made. made.1.shared ≡ false) }
     ensures tables { IfOk result (λ made. HoldsTables made.0) }
 {
-    Engine::start(alloc, 4, TABLE_RECORDS + ACCOUNTS, TABLE_RECORDS, 64)
+    Engine::start(alloc, 4, FIXED_RECORDS + ACCOUNTS, FIXED_RECORDS, 64)
 }
 
 // Opens the accounts, makes all transfers, and prints the sum.

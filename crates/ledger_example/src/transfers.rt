@@ -6,9 +6,11 @@ ghost use Rattle.txn_engine.specs.Pass.{IsIdleOf};
 use crate::accounts::{Transfer, add_up, make_transfer, open_all};
 use crate::{ACCOUNTS, FIRST};
 use histories::AnyState;
+use record_store::Walk;
 use std::alloc::Global;
 use std::thread::{Threads, for_each_mut};
-use txn_engine::{Alone, Engine, Pass, Seat};
+use txn_engine::{Alone, CommitFault, Conflict, Engine, Pass, Seat, TxnFault};
+use typed_tables::TypedFault;
 
 // How many transfers a thread makes, and how often it tries each at most.
 const TRANSFERS: u32 = 200;
@@ -32,29 +34,49 @@ pub fn fill(engine: &Engine<AnyState>, alone: &mut Alone<AnyState>) -> bool
     txn.commit().is_ok()
 }
 
-// Makes a transfer in one transaction; whether it committed.
+// How a try of a transfer ends.
+enum Tried {
+    // It committed.
+    Done,
+    // Another transaction is in the way.
+    Stopped(Conflict),
+    // An account is not there, what was read is no lawful table, or it wanted for a clock, a place or memory.
+    Refused,
+}
+
+// Makes a transfer in one transaction.
 fn try_once(
     engine: &Engine<AnyState>,
     pass: &mut Pass<AnyState>,
     moved: Transfer,
     reading: u64,
-) -> bool
+) -> Tried
     requires seat { IsIdleOf engine.now pass.old }
     requires tables { HoldsTables engine.now }
     ensures { IsIdleOf engine.now pass.new }
 {
     let Ok(mut txn) = pass.begin(engine, reading) else {
-        return false;
+        return Tried::Refused;
     };
-    if let Ok(true) = make_transfer(&mut txn, moved) {
-        return txn.commit().is_ok();
+    match make_transfer(&mut txn, moved) {
+        Ok(true) => match txn.commit() {
+            Ok(_) => Tried::Done,
+            Err(CommitFault::Conflict(conflict)) => Tried::Stopped(conflict),
+            Err(CommitFault::PlacesOut) => Tried::Refused,
+        },
+        Err(TypedFault::Walk(Walk::Store(TxnFault::Conflict(conflict)))) => {
+            txn.abort();
+            Tried::Stopped(conflict)
+        }
+        _ => {
+            txn.abort();
+            Tried::Refused
+        }
     }
-    txn.abort();
-    false
 }
 
-// Tries a transfer again until it commits, so often at most: after a conflict, and where no place is left, nothing has changed. Whether
-// it committed.
+// Tries a transfer again until it commits, so often at most: after a conflict, and where no place is left, nothing has changed. The next
+// try is at a stamp above that in the way. Whether it committed.
 fn try_until(
     engine: &Engine<AnyState>,
     pass: &mut Pass<AnyState>,
@@ -66,8 +88,10 @@ fn try_until(
     ensures { IsIdleOf engine.now pass.new }
 {
     for _ in 0..MOST_TRIES {
-        if try_once(engine, pass, moved, reading) {
-            return true;
+        match try_once(engine, pass, moved, reading) {
+            Tried::Done => return true,
+            Tried::Stopped(conflict) => pass.hear(engine, conflict.stamp()),
+            Tried::Refused => {}
         }
         pass.collect(engine);
     }

@@ -165,13 +165,13 @@ touched_is rid from wts value s s' at read written same (inr w) = write_is rid v
 shows_of : (rid from wts : ℕ) (value : Option (List ℕ)) (s s' : SetsView) (x y : View) (t : ℕ) (conflict : Conflict) → s.reads ≡ read_version rid from wts value ∷ [] → s.writes ≡ written_version rid 0 0 value ∷ [] → SameSets s s' → validating.Stands x y → x.number < x.size.seats → validating.IsShown t s' x y conflict → ShowsOf rid x.size x.number (others_in x) t conflict
 shows_of rid from wts value s s' x y t (Pending at seen) read written same stands inside shown =
     let other = another_of x y seen stands inside shown.1 in
-    (touched_is rid from wts value s s' at read written same shown.2, shown.0, other)
+    ((touched_is rid from wts value s s' at read written same shown.2, shown.0), other)
 shows_of rid from wts value s s' x y t (ReadLater at seen rts) read written same stands inside shown =
     let other = another_of x y rts stands inside shown.1 in
-    (write_is rid value s s' at written same shown.2, shown.3.met.path.early, shown.0, other)
+    ((write_is rid value s s' at written same shown.2, shown.3.met.path.early, shown.0), other)
 shows_of rid from wts value s s' x y t (Overtaken at seen now) read written same stands inside shown =
     let other = another_of x y now stands inside shown.2 in
-    (read_is rid from wts value s s' at seen read same shown.3, shown.0, shown.1, other)
+    ((read_is rid from wts value s s' at seen read same shown.3, shown.0, shown.1), other)
 
 -- the one version that was read was found
 read_found : (rid from wts : ℕ) (value : Option (List ℕ)) (s s' : SetsView) (t : ℕ) (v w : View) → s.reads ≡ read_version rid from wts value ∷ [] → SameSets s s' → Grows v.seen w.seen → WasFound t rid wts v.seen.loads → WereFound t s'.reads w.seen.loads

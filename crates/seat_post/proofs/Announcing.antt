@@ -70,7 +70,7 @@ told v flight work raises seen = record (idled v flight work) { clock = record v
 
 pub record Announces (v x : View) : Type 0 where
   pub only : x ≡ told v x.flight x.work x.raises x.seen
-  pub raised : RaisesTo published_write min_write v.size.seats (word v) (observed_of v) (observed_of x)
+  pub raised : RaisesTo published_write min_write v.size.seats v.number (word v) (word v) (observed_of v) (observed_of x)
   pub ends : Ends x.work
   pub whole : x.flight ≡ resting → AreAllWhole x.work.reads
 
@@ -89,13 +89,14 @@ announces_of : (v w x : View) (result : ℕ) → Idles v w → result ≡ word v
 announces_of v w x result is met raises raised =
     let flight : x.flight ≡ w.flight = ap (λ (y : View). y.flight) raised in
     let work : x.work ≡ w.work = ap (λ (y : View). y.work) raised in
+    let own : w.published.write ≡ word v = ap (λ (y : View). y.published.write) is.only in
     record {
       only = raised ∙ ap (λ (y : View). raised_write y result x.seen) is.only ∙ ap (λ (n : ℕ). raised_write (idled v w.flight w.work) n x.seen) met
           ∙ ap (λ (f : Flight). told v f w.work (record v.raises { writes = no_scan }) x.seen) (sym flight)
           ∙ ap (λ (y : Work). told v x.flight y (record v.raises { writes = no_scan }) x.seen) (sym work)
           ∙ ap (λ (r : Raised). told v x.flight x.work r x.seen) (sym ((ap (λ (y : View). y.raises) raised) ∙ ap (λ (y : View). record y.raises { writes = no_scan }) is.only));
-      raised = subst (λ (y : View). RaisesTo published_write min_write y.size.seats (word v) (observed_of y) (observed_of x)) is.only
-          (subst (λ (n : ℕ). RaisesTo published_write min_write w.size.seats n (observed_of w) (observed_of x)) met (raises_to published_write min_write w.published.write w result x raises));
+      raised = subst (λ (y : View). RaisesTo published_write min_write y.size.seats y.number (word v) (word v) (observed_of y) (observed_of x)) is.only
+          (subst (λ (n : ℕ × ℕ). RaisesTo published_write min_write w.size.seats w.number n.0 n.1 (observed_of w) (observed_of x)) (λ i. (own i, met i)) (raises_to published_write min_write w.published.write w result x raises));
       ends = subst Ends (sym work) is.ends;
       whole = λ at. subst (λ (y : Work). AreAllWhole y.reads) (sym work) (is.whole (sym flight ∙ at));
     }

@@ -149,7 +149,7 @@ another_of v w n stands inside is =
     let number : w.number ≡ v.number = ap (λ (x : View). x.number) stands.others in
     let within : seat_of n < v.size.seats = subst (λ (z : Size). seat_of n < z.seats) size is.within in
     let apart : seat_of n ≢ v.number = λ e. is.another (e ∙ sym number) in
-    record { another = apart; within = within; more = omega arith; not_alone = λ alone. is.not_alone (still_alone v w stands (alone_told v alone)) }
+    record { is_stamp = is.stamp; another = apart; within = within; more = omega arith; not_alone = λ alone. is.not_alone (still_alone v w stands (alone_told v alone)) }
 
 -- what stands in the sets was read, or is written
 read_some : (sets : SetsView) (rid version : ℕ) → validating.HasRead rid version sets → IsSome (value_at (read_values sets.reads) rid)
@@ -177,13 +177,13 @@ written_some sets rid w = subst (λ (n : ℕ). IsSome (value_at (written_values 
 pub shown_at : (hand hand' : Seated) (phase : Phase) (stamp t : ℕ) (sets : SetsView) (conflict : Conflict) → IsInside hand.view.size sets → hand.view.number < hand.view.size.seats → t ≡ stamp → validating.Stands hand.view hand'.view → validating.IsShown t sets hand.view hand'.view conflict → IsShownAt (post_of hand phase stamp sets) conflict
 shown_at hand hand' phase stamp t sets (Pending rid wts) within inside same stands shown =
     let other = another_of hand.view hand'.view wts stands inside shown.1 in
-    (touched hand.view.size sets rid within shown.2, subst (λ (n : ℕ). wts < n) same shown.0, other)
+    ((touched hand.view.size sets rid within shown.2, subst (λ (n : ℕ). wts < n) same shown.0), other)
 shown_at hand hand' phase stamp t sets (ReadLater rid wts rts) within inside same stands shown =
     let other = another_of hand.view hand'.view rts stands inside shown.1 in
-    (written_some sets rid shown.2, subst (λ (n : ℕ). wts < n) same shown.3.met.path.early, subst (λ (n : ℕ). n < rts) same shown.0, other)
+    ((written_some sets rid shown.2, subst (λ (n : ℕ). wts < n) same shown.3.met.path.early, subst (λ (n : ℕ). n < rts) same shown.0), other)
 shown_at hand hand' phase stamp t sets (Overtaken rid seen now) within inside same stands shown =
     let other = another_of hand.view hand'.view now stands inside shown.2 in
-    (read_some sets rid seen shown.3, shown.0, subst (λ (n : ℕ). now < n) same shown.1, other, version_read sets rid seen shown.3)
+    ((read_some sets rid seen shown.3, shown.0, subst (λ (n : ℕ). now < n) same shown.1, version_read sets rid seen shown.3), other)
 
 -- it is of a record that was read or is written
 pub touches_at : (t : ℕ) (v w : View) (sets : SetsView) (conflict : Conflict) → validating.IsShown t sets v w conflict → Touches (read_values sets.reads) (written_values sets.writes) conflict

@@ -28,3 +28,4 @@ pub mod Stopped
 pub mod Stuck
 pub mod WriteMore
 pub mod Dues
+pub mod SettledOne

@@ -44,6 +44,10 @@ idle_grows h k rises unchanged =
     seen_grows h.view.seen k.view.seen
     (⊎_elim (λ less. ap (λ (v : View). v.seen) (rises less)) (λ most. ap (λ (x : Seated). x.view.seen) (unchanged most)) (cases_lt h.view.published.write (bound_of_clock h.view.clock.clock)))
 
+pub idle_seen : (h k : Seated) → (h.view.published.write < bound_of_clock h.view.clock.clock → k.view ≡ rests h.view) → (bound_of_clock h.view.clock.clock ≤ h.view.published.write → k ≡ h) → observed_of k.view ≡ observed_of h.view
+idle_seen h k rises unchanged =
+    ⊎_elim (λ less. ap observed_of (rises less)) (λ most. ap (λ (x : Seated). observed_of x.view) (unchanged most)) (cases_lt h.view.published.write (bound_of_clock h.view.clock.clock))
+
 pub raises_grow : (family : ℕ → Name) (minimum : Name) (own : ℕ) (v : View) (result : ℕ) (w : View) → Raises family minimum own v result w → growing.Grows v.seen w.seen
 raises_grow family minimum own v result w r =
     grows_loads v.seen w.seen (loads_from family 0 r.words ++ load minimum r.found ∷ [])

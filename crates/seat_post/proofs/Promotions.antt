@@ -55,7 +55,7 @@ pending_at hand hand' stamp rid wts stops inside drawn =
       wts = wts;
       pending = refl;
       stops = stops.at;
-      shown = (refl, met.0, met.1);
+      shown = ((refl, met.0), met.1);
       loaded = met_now stamp rid stops.at.place wts 2 hand.view hand'.view stops.at.path;
     }
 

@@ -155,17 +155,21 @@ stops_at stamp rid place wts v w found =
       rests = tt;
       at = record { place = place; path = found.path; lost = r.lost };
       before = r.early;
-      another = λ e. met.another (rw view e);
-      within = rw view at met.within;
-      not_alone = λ alone. met.not_alone (rw view alone);
+      another = let a = met.another in record {
+        stamp = a.stamp;
+        another = λ e. a.another (rw view e);
+        within = rw view at a.within;
+        not_alone = λ alone. a.not_alone (rw view alone);
+      };
     }
 
 -- what it says of the transaction of a post
 pub met_at : (hand hand' : Seated) (stamp rid wts : ℕ) → Stops stamp rid wts hand.view hand'.view → hand.view.number < hand.view.size.seats → (wts < stamp) × IsOfAnother hand.view.size hand.view.number (others_of hand.view) wts
 met_at hand hand' stamp rid wts stops inside =
-    let within = stops.within in
-    let apart = stops.another in
-    (stops.before, record { another = apart; within = within; more = omega arith; not_alone = λ alone. stops.not_alone (alone_told hand.view alone) })
+    let other = stops.another in
+    let within = other.within in
+    let apart = other.another in
+    (stops.before, record { is_stamp = other.stamp; another = apart; within = within; more = omega arith; not_alone = λ alone. other.not_alone (alone_told hand.view alone) })
 
 -- the version that was found is committed or deleted
 final_state : (value : Option (List ℕ)) → IsFinal (state_of value)

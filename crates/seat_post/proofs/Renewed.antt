@@ -14,21 +14,24 @@ use Rattle.core_rule.specs.Spares.{KnowsFree, IsSpare}
 use Rattle.core_rule.specs.Deciding as deciding
 use Rattle.core_rule.proofs.Among.{Among-split}
 use Rattle.clock_stamps.specs.Clocks.{drawn}
-use Rattle.version_pool.specs.Takes.{TakesFree, WasMet, after_losing}
+use Rattle.version_pool.specs.Takes.{first_in_turn, usable_in_turn, TakesFree, TakesFirst, FindsNone, after_losing}
 use Rattle.version_search.specs.Growing.{Grows}
 use Rattle.version_search.proofs.Grown.{grows_both, grows_lost}
 use Rattle.validate_core.specs.declared.conflict.Conflict.{Conflict}
-use Rattle.validate_core.specs.declared.conflict.Conflict.TheVariants.{Pending, ReadLater, Overtaken}
 use Rattle.seat_post.specs.Conflicts.{WasFound}
 use Rattle.seat_post.specs.Ends.{Stood}
 use Rattle.seat_post.specs.Leaves.{LeavesValue}
 use Rattle.seat_post.specs.Logs.{IsAbove}
-use Rattle.seat_post.specs.Rewriting.{rewriting, Rewritings, none_yet, one_more, LinksOne, Rewrites, IsStopped}
+use Rattle.seat_post.specs.Collecting.{trail_in}
+use Rattle.seat_post.specs.Placing.{TriesAll}
+use Rattle.seat_post.specs.Reading.{LeadsTo, FindsValue}
+use Rattle.seat_post.specs.Rewriting.{rewriting, Rewritings, none_yet, one_more, LinksOne, LinksOneThen, ValidatesOne, Rewrites, IsStopped}
+use Rattle.seat_post.specs.Seats.{Observed, observed_of, removed_of}
 use Rattle.seat_post.specs.Searched.{Finds}
 use Rattle.seat_post.specs.Settling.{entries_of, IsSettling, Settles, IsRewrittenAt, HasSpare, TakesAfter, LosesAll}
+use Rattle.seat_post.specs.SettlingOne.{TriesSome, TakesFor, RewritesOne}
 use Rattle.seat_post.proofs.AloneSeats.{alone_shown}
 use Rattle.seat_post.proofs.Bounds.{above_later, above_more}
-use Rattle.seat_post.proofs.Dues.{appends_one}
 use Rattle.seat_post.proofs.Promotions.{without_only}
 use Rattle.seat_post.proofs.Observed.{finds_grow}
 use Rattle.seat_post.proofs.ReadMore.{found_at}
@@ -102,6 +105,15 @@ alone_drawn u v clock drew alone = alone_same u v (ap (λ (y : View). y.number) 
 left_drawn : (u v w : View) (clock rid from wts : ℕ) (value : Option (List ℕ)) → v ≡ drawn u clock → Finds rid from wts value v w → IsAlone u → LeavesValue (entries_of u) rid (stamp_of clock u.number) value
 left_drawn u v w clock rid from wts value drew found alone =
     subst (λ (y : View). LeavesValue (entries_of y) rid (limit_of y.flight y.published.read) value) drew (found.left (alone_drawn u v clock drew alone))
+
+-- and its search loaded nothing else
+abbrev pub value_found : (u v w : View) (clock rid from wts : ℕ) (value : Option (List ℕ)) → v ≡ drawn u clock → Finds rid from wts value v w → FindsValue (stamp_of clock u.number) rid (observed_of u) (observed_of w) value
+value_found u v w clock rid from wts value drew found = record {
+  place = from;
+  wts = wts;
+  leads = subst (λ (y : View). LeadsTo (limit_of y.flight y.published.read) rid from wts value y.seen.loads w.seen.loads) drew found.leads;
+  lost = found.lost ∙ ap (λ (y : View). y.seen.lost) drew;
+}
 
 -- a place was taken then, the record was written again in it, and the version linked has its last status
 module _ (u v w t : View) (clock rid from wts place : ℕ) (value : Option (List ℕ)) (drew : v ≡ drawn u clock) (found : Finds rid from wts value v w) (takes : TakesAfter place w t) where
@@ -191,9 +203,22 @@ module _ (u v w t : View) (clock rid from wts place : ℕ) (value : Option (List
     rewritten_at next = record {
       at = ap (λ (n : ℕ). stamp_of n u.number) next;
       drawn = clock_is ∙ next;
-      entry = appends_one entry log_is (value, refl);
       entered = subst (λ (n : ℕ). HasEntry rid n x.log) at_taken.published rewrites.entered;
       newest = newest_is;
+    }
+
+    -- its value was found by the search, and its place was found so
+    pub rewrites_one : (z : Size) (reserved : Bool) → TakesFor z rid reserved (observed_of w) (observed_of t) → LinksOneThen t.published.write rid (ValidatesOne t.published.write t.number rid wts) (observed_of t) (observed_of x)
+        → RewritesOne z u.number rid (stamp_of clock u.number) reserved (trail_in u) (trail_in x)
+    rewrites_one z reserved tries links_then = record {
+      value = value;
+      found = observed_of w;
+      finds = value_found u v w clock rid from wts value drew found;
+      taken = observed_of t;
+      takes = tries;
+      links = subst (λ (y : ℕ × ℕ). LinksOneThen y.0 rid (ValidatesOne y.0 y.1 rid wts) (observed_of t) (observed_of x)) (λ i. (at_taken.published i, at_taken.number i)) links_then;
+      entry = log_is;
+      gone = ap (λ (y : View). removed_of y) links.only ∙ ap (λ (y : View). removed_of y) takes.takes.view ∙ ap (λ (y : View). removed_of y) found.view ∙ ap (λ (y : View). removed_of y) drew;
     }
 
     pub written_again : clock ≡ u.clock.clock + 1 → IsSettling x × Settles kept u x × IsRewrittenAt rid (stamp_of clock u.number) u x
@@ -201,11 +226,35 @@ module _ (u v w t : View) (clock rid from wts place : ℕ) (value : Option (List
 
 -- no conflict comes where no other seat is open
 pub none_stops : (rid place stamp : ℕ) (v w : View) (conflict : Conflict) → IsAlone v → IsStopped rid place stamp v w conflict → ⊥
-none_stops rid place stamp v w (Pending at wts) alone stops = stops.shown.2.not_alone (alone_shown v alone)
-none_stops rid place stamp v w (ReadLater at wts rts) alone stops = stops.shown.3.not_alone (alone_shown v alone)
-none_stops rid place stamp v w (Overtaken at seen now) alone stops = stops.shown.3.not_alone (alone_shown v alone)
+none_stops rid place stamp v w conflict alone stops = stops.shown.1.not_alone (alone_shown v alone)
 
 -- ---- places
+
+-- those for a version were tried up to one that was met free
+pub tries_some : (z : Size) (rid place : ℕ) (v w : View) → TakesFirst (rid ∷ usable_in_turn z v.places.last_pool) v place w → TriesSome z rid (observed_of v) (observed_of w)
+tries_some z rid place v w takes = record {
+  first = first_in_turn z v.places.last_pool;
+  tried = takes.earlier;
+  place = place;
+  later = takes.later;
+  turn = takes.turn;
+  met = takes.lost;
+  not_free = takes.not_free;
+  after = ap observed_of takes.takes.view;
+}
+
+-- each was met not free
+pub tries_all : (z : Size) (rid : ℕ) (v w : View) → FindsNone (rid ∷ usable_in_turn z v.places.last_pool) v w → TriesAll z rid (observed_of v) (observed_of w)
+tries_all z rid v w none = record {
+  first = first_in_turn z v.places.last_pool;
+  met = none.lost;
+  not_free = none.not_free;
+  after = ap observed_of none.view;
+}
+
+-- and then another one was taken
+pub tries_taking : (z : Size) (rid place : ℕ) (v w x : View) → FindsNone (rid ∷ usable_in_turn z v.places.last_pool) v w → TakesFree place w x → TriesAll z rid (observed_of v) (observed_of x)
+tries_taking z rid place v w x none takes = subst (λ (o : Observed). TriesAll z rid (observed_of v) o) (sym (ap observed_of takes.view)) (tries_all z rid v w none)
 
 -- what is known to be free is so after the version was found
 pub free_found : (u v w : View) (clock rid place wts p : ℕ) (value : Option (List ℕ)) → v ≡ drawn u clock → Finds rid place wts value v w → IsSettling u → IsSpare u.size p u.counts → KnowsFree w p
@@ -219,10 +268,6 @@ spare_found u v w z clock rid place wts value drew found is size within spare =
       | inl none ↦ inl (free_found u v w clock rid place wts (reserved_place z) value drew found is (inl (ap reserved_place size, none)))
       | inr stands ↦ inr (free_found u v w clock rid place wts rid value drew found is (inr (within, stands)))
     ]
-
--- what was met of a place before another was taken
-pub met_taking : (p place : ℕ) (v w x : View) → WasMet p v w → TakesFree place w x → WasMet p v x
-met_taking p place v w x met takes = record { earlier = met.earlier; exchange = met.exchange; later = met.later; not_free = met.not_free; seen = ap (λ (y : View). y.seen.lost) takes.view ∙ met.seen }
 
 pub still_free : (p : ℕ) (v w : View) (lost : List Load) → w ≡ after_losing v lost → KnowsFree v p → KnowsFree w p
 still_free p v w lost is free = subst (λ (y : View). KnowsFree y p) (sym is) (record { alone = free.alone; rests = free.rests; collected = free.collected; not_held = free.not_held; spare = free.spare })

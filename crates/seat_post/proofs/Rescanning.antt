@@ -6,7 +6,7 @@ use Rattle.std.specs.List.Sorted.{IsStrictlyIncreasing}
 use Rattle.std.proofs.lemmas.Bool.{or_cases, or_right}
 use Rattle.std.proofs.lemmas.Bool.Decides.{eqb_tells}
 use Rattle.plain_data.specs.declared.entry.Entry.{Entry}
-use Rattle.word_layout.specs.Name.{min_write}
+use Rattle.word_layout.specs.Name.{published_write, min_write}
 use Rattle.clock_stamps.specs.Minima.{bounded}
 use Rattle.core_rule.specs.View.{View, Work, Read, Load, Logged, Seen, still, resting, no_work, Raises as Raised}
 use Rattle.core_rule.specs.Deciding.{entry_of}
@@ -18,7 +18,7 @@ use Rattle.version_search.specs.Finding.{Reads, new_read}
 use Rattle.validate_core.specs.OneByOne.{OneByOne, none_yet, one_more}
 use Rattle.validate_core.specs.Sets.{SetsView}
 use Rattle.seat_post.specs.Leaves.{LeavesAs, AreAbsent}
-use Rattle.seat_post.specs.Observing.{with_load}
+use Rattle.seat_post.specs.Observing.{with_load, RaisesTo}
 use Rattle.seat_post.specs.Rescan.{Looks, Searches, LooksAt, LooksOver, looked_over}
 use Rattle.seat_post.specs.Seats.{observed_of}
 use Rattle.seat_post.specs.declared.phase.Phase.{Phase}
@@ -201,12 +201,12 @@ absent_below v y z w stamp fixed records rids is over log absent =
     subst (λ (n : ℕ). AreAbsent (map entry_of v.log) n fixed records rids) (is.reached ∙ sym (ap (λ (x : View). x.published.write) over.only)) (subst (λ (es : List Logged). AreAbsent (map entry_of es) (stamp + 1) fixed records rids) log absent)
 
 pub looks_over : (v x y z w : View) (stamp last fixed records : ℕ) (rids : List ℕ) → Announces v x → y ≡ bounded x stamp → Overlooks v z stamp → Looks y z → OneByOne (LooksAt (stamp + 1)) (range_with_len fixed (records - fixed)) (y.seen.loads, []) (z.seen.loads, rids)
-    → w ≡ bounded z last → Overlooked v w → LooksOver v.size.seats w.clock.met w.published.write fixed records rids (observed_of v) (observed_of w)
+    → w ≡ bounded z last → Overlooked v w → LooksOver v.size.seats v.number w.clock.met w.published.write fixed records rids (observed_of v) (observed_of w)
 looks_over v x y z w stamp last fixed records rids is told over looks each ended end =
     let met = ap (λ (u : View). u.clock.met) end.only in
     record {
       raised = observed_of y;
-      minimum = record { raised = word v; between = observed_of x; raises = is.raised; not_less = omega arith; loads = ap observed_of told ∙ ap (λ (n : ℕ). with_load (observed_of x) (load min_write n)) (over.reached ∙ sym met) };
+      minimum = record { raised = word v; between = observed_of x; raises = subst (λ (n : ℕ). RaisesTo published_write min_write v.size.seats v.number n (word v) (observed_of v) (observed_of x)) (sym (ap (λ (u : View). u.published.write) end.only)) is.raised; not_less = omega arith; loads = ap observed_of told ∙ ap (λ (n : ℕ). with_load (observed_of x) (load min_write n)) (over.reached ∙ sym met) };
       searched = observed_of z;
       each = subst (λ (n : ℕ). OneByOne (LooksAt n) (range_with_len fixed (records - fixed)) (y.seen.loads, []) (z.seen.loads, rids)) (over.reached ∙ sym (ap (λ (u : View). u.published.write) end.only)) each;
       lost = looks.lost;

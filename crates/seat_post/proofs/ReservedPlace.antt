@@ -9,6 +9,10 @@ use Rattle.rapid_gc.specs.Bounds.{IsSingle}
 use Rattle.rapid_gc.specs.InReserved.{IsBelow, Remains}
 use Rattle.rapid_gc.specs.declared.queue.Queued.{Queued}
 
+pub not_on : (b : Bool) → not b ≡ true → b ≡ false
+not_on true on = cc
+not_on false on = refl
+
 pub not_off : (b : Bool) → not b ≡ false → b ≡ true
 not_off true off = refl
 not_off false off = cc

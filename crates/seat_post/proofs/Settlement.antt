@@ -4,7 +4,7 @@ use Rattle.std.specs.Prelude.{nat_lt}
 use Rattle.std.proofs.lemmas.Bool.{cases_lt}
 use Rattle.plain_data.specs.State.{State}
 use Rattle.stamp_base.specs.Stamp.{bound_of_clock}
-use Rattle.core_rule.specs.View.{View, Logged, Bound, Counted, Gone}
+use Rattle.core_rule.specs.View.{View, Logged, Bound, Counted}
 use Rattle.core_rule.specs.Views.{Among, IsAlone}
 use Rattle.core_rule.specs.Searching.{known_of}
 use Rattle.core_rule.specs.Left.{IsLeft}
@@ -21,9 +21,10 @@ use Rattle.seat_post.specs.Snapshot.{first_snapshot}
 use Rattle.seat_post.specs.Post.{post_of}
 use Rattle.seat_post.specs.Rewriting.{Rewritings}
 use Rattle.seat_post.specs.declared.settled.Settled.{Settled}
-use Rattle.seat_post.specs.Seats.{Removed, observed_of}
-use Rattle.seat_post.specs.Collecting.{trail_in}
-use Rattle.seat_post.specs.Settling.{entries_of, IsSettling, Settles, AreSettled, AreLater, KeepsOthers, RunsOut, SettlesPost, SettlesFirst, SettlesAll, StopsSome, StopsPost, with_met}
+use Rattle.seat_post.specs.Seats.{observed_of}
+use Rattle.seat_post.specs.Collecting.{Trail, trail_in}
+use Rattle.seat_post.specs.Settling.{entries_of, IsSettling, Settles, AreSettled, AreLater, KeepsOthers, SettlesPost, SettlesAll, StopsSome, StopsPost, with_met}
+use Rattle.seat_post.specs.SettlingOne.{IsDue, RunsOut, SettlesFirst}
 use Rattle.seat_post.proofs.Observed.{observed_grows, bounded_grows}
 
 -- ---- a record
@@ -104,7 +105,7 @@ module _ (hand hand' last : Seated) (phase : Phase) (stamp bound : ℕ) (sets : 
       let met : last.view.clock.met ≡ bound + 1 = ap (λ (v : View). v.clock.met) view in
       ap (λ (v : View). trail_in v) view ∙ ap (λ (n : ℕ). with_met (trail_in hand'.view) n) (sym met)
 
-  pub settles_all : (all : Settled) → SettlesFirst hand.view.size hand.view.size.records all (trail_in hand.view) (trail_in hand'.view) → SettlesAll (post_of hand phase stamp sets) (post_of last phase stamp sets) all
+  pub settles_all : (all : Settled) → SettlesFirst hand.view.size hand.view.number hand.view.size.records all (trail_in hand.view) (trail_in hand'.view) → SettlesAll (post_of hand phase stamp sets) (post_of last phase stamp sets) all
   settles_all all first = record { reached = trail_in hand'.view; first = first; last = last_trail }
 
   pub stops_post : StopsSome hand.view.size hand.view hand'.view → StopsPost (post_of hand phase stamp sets) (post_of last phase stamp sets)
@@ -112,7 +113,7 @@ module _ (hand hand' last : Seated) (phase : Phase) (stamp bound : ℕ) (sets : 
       let z = hand.view.size in
       let b = s.between in let w = hand'.view in
       let counts : last.view.counts ≡ w.counts = ap (λ (v : View). v.counts) view in
-      let clock : last.view.clock.clock ≡ w.clock.clock = ap (λ (v : View). v.clock.clock) view in
+      let here : w.clock.clock ≡ last.view.clock.clock = sym (ap (λ (v : View). v.clock.clock) view) in
       record {
         rid = s.rid;
         within = s.within;
@@ -120,13 +121,9 @@ module _ (hand hand' last : Seated) (phase : Phase) (stamp bound : ℕ) (sets : 
         all = s.all;
         between = trail_in b;
         first = s.first;
-        reached = trail_in w;
-        due = s.due;
-        runs_out = subst (λ (n : ℕ). RunsOut z s.rid (hand.view.clock.clock + s.all.rewritten) n (observed_of b) (observed_of w)) (sym clock)
-            (subst (λ (n : ℕ). RunsOut z s.rid n w.clock.clock (observed_of b) (observed_of w)) s.drawn s.runs_out);
-        gone = ap (λ (g : Gone). removed_in g) s.gone;
-        log = ap (λ (es : List Logged). map deciding.entry_of es) s.log;
-        last = last_trail;
-      } where
-        removed_in : Gone → Removed
-        removed_in g = record { cuts = g.cuts; freed = g.freed }
+        searched = s.stops.searched;
+        due = subst (λ (n : ℕ). IsDue z.seats n s.rid (entries_of b) (observed_of b) s.stops.searched) s.number s.stops.due;
+        reached = observed_of w;
+        runs_out = subst (λ (y : ℕ × ℕ × ℕ). RunsOut z y.0 s.rid y.1 y.2 s.stops.searched (observed_of w)) (λ i. (s.number i, s.drawn i, here i)) s.stops.runs_out;
+        last = last_trail ∙ ap (λ (t : Trail). with_met t last.view.clock.met) s.stops.rest;
+      }

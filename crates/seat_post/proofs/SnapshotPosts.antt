@@ -108,5 +108,5 @@ found_snapshot v w rid value rests f = rw rests (record {
 })
 
 -- the published write words of all seats were loaded for the minimum
-pub opened_minimum : (stamp : ℕ) (hand hand' : Seated) → Opens stamp hand.view hand'.view → MeetsMinimum hand.view.size.seats (stamp + 1) (observed_in hand) (observed_in hand')
+pub opened_minimum : (stamp : ℕ) (hand hand' : Seated) → Opens stamp hand.view hand'.view → MeetsMinimum hand.view.size.seats hand.view.number hand.view.published.write (stamp + 1) (observed_in hand) (observed_in hand')
 opened_minimum stamp hand hand' opens = meets_minimum hand.view.published.write hand.view opens.between hand'.view opens.met stamp opens.raises opens.reached opens.bound

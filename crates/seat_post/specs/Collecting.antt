@@ -1,6 +1,6 @@
 -- A queue of versions to be collected below: what it has, what becomes of its items, and what shows it.
 use Rattle.std.specs.Prelude.{◌≡◌, ◌≢◌, ◌↔◌, ℕ, suc, ◌<◌, ◌≤◌, List, [], ◌∷◌, ◌++◌, length, map, false, IsSome}
-use Rattle.word_layout.specs.Name.{published_read, min_read, lock, floor}
+use Rattle.word_layout.specs.Name.{lock, floor}
 use Rattle.core_rule.specs.View.{View, Load}
 use Rattle.core_rule.specs.Paths.{load}
 use Rattle.core_rule.specs.Views.{Among}
@@ -14,7 +14,7 @@ use Rattle.rapid_gc.specs.Ends.{Ended, items_of, remaining, how_many, late_one, 
 use Rattle.plain_data.specs.declared.entry.Entry.{Entry}
 use Rattle.record_store.specs.Meaning.{value_at}
 use Rattle.seat_post.specs.Seats.{Observed, Removed, observed_of, removed_of}
-use Rattle.seat_post.specs.Observing.{with_load, RaisesTo, MeetsMinimum}
+use Rattle.seat_post.specs.Observing.{with_load, RaisesBoth}
 use Rattle.seat_post.specs.Post.{PostView}
 
 -- a commit entry of the log writes the record at the stamp
@@ -55,6 +55,10 @@ trail_of p = record { observed = p.observed; gone = p.gone; log = p.log }
 
 abbrev pub trail_in : View → Trail
 trail_in v = record { observed = observed_of v; gone = removed_of v; log = map entry_of v.log }
+
+-- its steps came upon this instead
+abbrev pub seeing : Trail → Observed → Trail
+seeing t observed = record t { observed = observed }
 
 -- the lock of its record was met held by another seat
 pub record MeetsHeld (seat : ℕ) (i : Queued) (before after' : Trail) : Type 0 where
@@ -105,13 +109,11 @@ pub record Frees (places : ℕ) (before after' : Removed) : Type 0 where
   pub gone : after'.freed ≡ before.freed ++ freed
   pub count : places ≡ counted (length freed)
 
--- The published write words were loaded to raise `min_wts`, and the published read words to raise `min_rts`, which came to the minimum
--- that was reached. Then this became of the items, and nothing else was cut off or freed.
+-- The published write words were loaded to raise `min_wts`, where the own one was published before, and the published read words to raise
+-- `min_rts`, which came to the minimum that was reached. Then this became of the items, and nothing else was cut off or freed.
 pub record CollectsPost (before after' : PostView) (items items' : List Queued) (tally : Collected) : Type 0 where
   pub queue : Collects items items' tally
-  pub bounded : Observed
-  pub minimum : MeetsMinimum before.shared.size.seats after'.met before.observed bounded
   pub prepared : Observed
-  pub raises : RaisesTo published_read min_read before.shared.size.seats queue.reached bounded prepared
+  pub raises : RaisesBoth before.shared.size.seats before.seat after'.published after'.met queue.reached before.observed prepared
   pub goes : AreShown before.seat queue.reached queue.ended (record { observed = prepared; gone = before.gone; log = before.log }) (trail_of after')
   pub places : Frees tally.places before.gone after'.gone

@@ -18,4 +18,5 @@ pub mod Promoting
 pub mod Sharing
 pub mod Joining
 pub mod Rescan
+pub mod SettlingOne
 pub mod Settling

@@ -32,14 +32,14 @@ pub record LooksAt (limit rid : ℕ) (before after' : List Load × List ℕ) : T
   pub searches : Searches limit rid absent before.0 after'.0
   pub listed : after'.1 ≡ (if absent then before.1 ++ rid ∷ [] else before.1)
 
--- `min_wts` was raised by the published write words, and then loaded, when it was this; it was this again when it was loaded at the end.
--- Between, the records of this range were searched below this stamp, once each and by rising number, the absent ones were listed, and
--- nothing else was loaded or lost.
-pub record LooksOver (seats met limit fixed records : ℕ) (spare : List ℕ) (before after' : Observed) : Type 0 where
+-- `min_wts` was raised by the published write words, the own one among them as it was published, and then loaded, when it was this; it was
+-- this again when it was loaded at the end. Between, the records of this range were searched below what was published, once each and by
+-- rising number, the absent ones were listed, and nothing else was loaded or lost.
+pub record LooksOver (seats seat met published fixed records : ℕ) (spare : List ℕ) (before after' : Observed) : Type 0 where
   pub raised : Observed
-  pub minimum : MeetsMinimum seats met before raised
+  pub minimum : MeetsMinimum seats seat published met before raised
   pub searched : Observed
-  pub each : OneByOne (LooksAt limit) (range_with_len fixed (records - fixed)) (raised.loads, []) (searched.loads, spare)
+  pub each : OneByOne (LooksAt published) (range_with_len fixed (records - fixed)) (raised.loads, []) (searched.loads, spare)
   pub lost : searched.lost ≡ raised.lost
   pub last : after' ≡ with_load searched (load min_write met)
 

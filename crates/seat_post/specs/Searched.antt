@@ -6,7 +6,7 @@ use Rattle.core_rule.specs.Views.{IsAlone}
 use Rattle.core_rule.specs.Searching.{Rests, IsWhole, limit_of}
 use Rattle.core_rule.specs.Deciding.{entry_of}
 use Rattle.core_rule.specs.Versions.{read_version}
-use Rattle.stamp_base.specs.Stamp.{seat_of}
+use Rattle.core_rule.specs.Learnt.{IsOfAnother}
 use Rattle.seat_post.specs.Reading.{LeadsTo, StopsAt}
 use Rattle.seat_post.specs.Leaves.{LeavesValue}
 use Rattle.seat_post.specs.Seats.{observed_of}
@@ -37,6 +37,4 @@ pub record Stops (stamp rid wts : ℕ) (v w : View) : Type 0 where
   pub rests : Rests search
   pub at : StopsAt stamp rid wts (observed_of v) (observed_of w)
   pub before : wts < stamp
-  pub another : seat_of wts ≡ v.number → ⊥
-  pub within : seat_of wts < v.size.seats
-  pub not_alone : IsAlone v → ⊥
+  pub another : IsOfAnother v wts

@@ -17,8 +17,20 @@ use crate::phase::Phase;
 use crate::post::Post;
 use core_rule::{Core, Keeps};
 use stamp_base::Stamp;
-use validate_core::{Conflict, Decided, Installed, install};
+use validate_core::{Conflict, Decided, Installed, Sets, install};
 use version_pool::PlacesOut;
+
+/// No transaction is in flight any more: its stamp is let go, and what it has read and written.
+pub(crate) fn let_go(phase: &mut Phase, stamp: &mut Stamp, sets: &mut Sets)
+    ensures phase { phase.new ≡ Phase.Idle }
+    ensures stamp { stamp.new ≡ 0 }
+    ensures reads { sets.new.reads ≡ [] }
+    ensures writes { sets.new.writes ≡ [] }
+{
+    sets.clear();
+    *phase = Phase::Idle;
+    *stamp = Stamp::make(0, 0);
+}
 
 impl<J: Keeps> Post<J> {
     /// Links what is written as pending versions. Where there is no place for one of them, the transaction has ended.
@@ -44,9 +56,7 @@ impl<J: Keeps> Post<J> {
                 Ok(installed)
             }
             Err(places_out) => {
-                self.sets.clear();
-                self.phase = Phase::Idle;
-                self.stamp = Stamp::make(0, 0);
+                let_go(&mut self.phase, &mut self.stamp, &mut self.sets);
                 Err(places_out)
             }
         }
@@ -60,9 +70,7 @@ impl<J: Keeps> Post<J> {
         ensures { self.new ≡ closed self.old }
     {
         installed.abort(core, &mut self.hand, &self.sets);
-        self.sets.clear();
-        self.phase = Phase::Idle;
-        self.stamp = Stamp::make(0, 0);
+        let_go(&mut self.phase, &mut self.stamp, &mut self.sets);
     }
 
     /// Validates the transaction. Where it is decided its entry stands in the log; else its versions are aborted.
@@ -88,9 +96,7 @@ impl<J: Keeps> Post<J> {
                 Ok(decided)
             }
             Err(conflict) => {
-                self.sets.clear();
-                self.phase = Phase::Idle;
-                self.stamp = Stamp::make(0, 0);
+                let_go(&mut self.phase, &mut self.stamp, &mut self.sets);
                 Err(conflict)
             }
         }
@@ -108,9 +114,7 @@ impl<J: Keeps> Post<J> {
     {
         let inlined = self.sets.count_below(core.layout().records());
         decided.publish(core, &mut self.hand, &self.sets);
-        self.sets.clear();
-        self.phase = Phase::Idle;
-        self.stamp = Stamp::make(0, 0);
+        let_go(&mut self.phase, &mut self.stamp, &mut self.sets);
         inlined
     }
 }

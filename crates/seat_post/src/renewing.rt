@@ -6,9 +6,11 @@ ghost use Rattle.core_rule.specs.View.{version_reserved};
 ghost use Rattle.core_rule.specs.Hands.{IsReady, StaysReady};
 ghost use Rattle.core_rule.specs.Searching.{FitsPlace};
 ghost use Rattle.core_rule.specs.Spares.{KnowsFree, StandsReserved};
-ghost use Rattle.seat_post.specs.Observing.{MeetsNoPlace};
+ghost use Rattle.seat_post.specs.Collecting.{trail_in};
 ghost use Rattle.seat_post.specs.Seats.{observed_of};
-ghost use Rattle.seat_post.specs.Settling.{IsSettling, Settles, KeepsOthers, IsRewrittenAt, HasSpare, TakesAfter, LosesAll, WantsReserved, RunsOut};
+ghost use Rattle.seat_post.specs.Placing.{TriesAll};
+ghost use Rattle.seat_post.specs.Settling.{IsSettling, Settles, KeepsOthers, IsRewrittenAt, HasSpare, TakesAfter, LosesAll};
+ghost use Rattle.seat_post.specs.SettlingOne.{TakesFor, RewritesOne, RunsOut};
 
 use crate::rewriting::Room;
 use crate::search::search;
@@ -51,11 +53,10 @@ pub(crate) fn renew<J: Keeps>(
     ensures clock { IfOk result (λ renewed. renewed.reserved ≡ true → hand.new.view.clock.clock < greatest_clock) }
     // Where the only version stands in the reserved place, the inline place is free.
     ensures inline { StandsReserved rid hand.old.view.counts → hand.old.view.clock.clock < greatest_clock → IsOkAnd result (λ renewed. renewed.reserved ≡ false) }
+    ensures rewrites { IfOk result (λ renewed. RewritesOne core.now.size hand.old.view.number rid renewed.stamp renewed.reserved (trail_in hand.old.view) (trail_in hand.new.view)) }
     ensures gone { hand.new.view.gone ≡ hand.old.view.gone }
     ensures log { OnErr result (hand.new.view.log ≡ hand.old.view.log) }
-    ensures clock_out { OnErr result (hand.new.view.clock.clock ≡ greatest_clock) }
-    ensures wants { IfOk result (λ renewed. renewed.reserved ≡ true → MeetsNoPlace core.now.size rid (observed_of hand.old.view) (observed_of hand.new.view)) }
-    ensures runs_out { OnErr result (RunsOut core.now.size rid hand.old.view.clock.clock hand.new.view.clock.clock (observed_of hand.old.view) (observed_of hand.new.view)) }
+    ensures runs_out { OnErr result (RunsOut core.now.size hand.old.view.number rid hand.old.view.clock.clock hand.new.view.clock.clock (observed_of hand.old.view) (observed_of hand.new.view)) }
     ensures none { OnErr result (hand.new.view.counts ≡ hand.old.view.counts) }
     ensures stays { StaysReady core.now hand.old hand.new }
 {
@@ -86,11 +87,12 @@ fn take_place<J: Keeps>(core: &Core<J>, hand: &mut Hand<J>, rid: u32) -> Result<
     ensures fits { IfOk result (λ taken. FitsPlace core.now.size rid taken.place × (taken.place < places core.now.size)) }
     ensures others { IfOk result (λ taken. taken.reserved ≡ false → (taken.place ≡ rid) ⊎ IsUsable core.now.size taken.place) }
     ensures apart { IfOk result (λ taken. taken.reserved ≡ false → taken.place ≢ reserved_place core.now.size) }
-    ensures reserved { IfOk result (λ taken. taken.reserved ≡ true → (taken.place ≡ reserved_place core.now.size) × WantsReserved core.now.size rid hand.old.view hand.new.view) }
+    ensures reserved { IfOk result (λ taken. taken.reserved ≡ true → taken.place ≡ reserved_place core.now.size) }
+    ensures tries { IfOk result (λ taken. TakesFor core.now.size rid taken.reserved (observed_of hand.old.view) (observed_of hand.new.view)) }
     ensures clock { IfOk result (λ taken. taken.reserved ≡ true → hand.old.view.clock.clock < greatest_clock) }
     ensures inline { KnowsFree hand.old.view rid → IsOkAnd result (λ taken. taken.reserved ≡ false) }
     ensures none { OnErr result (LosesAll hand.old.view hand.new.view) }
-    ensures wanted { OnErr result (WantsReserved core.now.size rid hand.old.view hand.new.view) }
+    ensures tries_all { OnErr result (TriesAll core.now.size rid (observed_of hand.old.view) (observed_of hand.new.view)) }
     ensures clock_out { OnErr result (hand.old.view.clock.clock ≡ greatest_clock) }
     ensures stays { StaysReady core.now hand.old hand.new }
 {

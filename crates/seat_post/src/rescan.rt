@@ -77,7 +77,7 @@ impl<J: Keeps> Post<J> {
         requires none { numbers.old.spare ≡ [] }
         requires none_given { numbers.old.given ≡ [] }
         ensures value { self.new ≡ observing (looked_over self.old) self.new.observed }
-        ensures loads { LooksOver self.old.shared.size.seats self.new.met self.new.published numbers.old.fixed numbers.old.records numbers.new.spare self.old.observed self.new.observed }
+        ensures loads { LooksOver self.old.shared.size.seats self.old.seat self.new.met self.new.published numbers.old.fixed numbers.old.records numbers.new.spare self.old.observed self.new.observed }
         ensures not_back { self.old.met ≤ self.new.met }
         ensures numbers { numbers.new ≡ record numbers.old { spare = numbers.new.spare } }
         ensures absent { AreAbsent self.old.log self.new.published numbers.old.fixed numbers.old.records numbers.new.spare }

@@ -12,7 +12,10 @@ ghost use Rattle.rapid_gc.specs.InReserved.{Remains, CutsOff};
 ghost use Rattle.core_rule.specs.Versions.{read_version, written_version};
 ghost use Rattle.core_rule.specs.Hands.{IsReady, StaysReady};
 ghost use Rattle.version_search.specs.Growing.{Grows};
-ghost use Rattle.seat_post.specs.Settling.{CutsOf};
+ghost use Rattle.seat_post.specs.Collecting.{trail_in};
+ghost use Rattle.seat_post.specs.Logs.{IsAbove};
+ghost use Rattle.seat_post.specs.Settling.{entries_of};
+ghost use Rattle.seat_post.specs.SettlingOne.{CollectsOne};
 ghost use Rattle.seat_post.specs.Rewriting.{IsRoom, HasFound, LinksOneThen, ValidatesOne, HaltsOne, Rewrites, IsStopped};
 ghost use Rattle.seat_post.specs.Seats.{observed_of};
 
@@ -33,7 +36,6 @@ pub struct Room {
 
 impl Model for Room {
     ghost use Rattle.validate_core.specs.Sets.{SetsView};
-    ghost use Rattle.seat_post.specs.Settling.{CutsOf};
     ghost use Rattle.seat_post.specs.Rewriting.{IsRoom, IsFree};
 
     ghost Value = { SetsView };
@@ -76,6 +78,7 @@ impl Room {
         requires alone { IsAlone hand.old.view }
         requires entered { HasEntry rid stamp hand.old.view.log }
         requires below { stamp < bound_of_clock hand.old.view.clock.clock }
+        requires above { IsAbove (entries_of hand.old.view) (bound_of_clock hand.old.view.clock.clock) }
         ensures view { hand.new.view ≡ after_collecting hand.old.view hand.new.view.published.read hand.new.view.reached hand.new.view.counts hand.new.view.gone hand.new.view.seen }
         ensures met { hand.old.view.clock.met ≤ hand.new.view.clock.met }
         ensures grows { Grows hand.old.view.seen hand.new.view.seen }
@@ -85,7 +88,7 @@ impl Room {
         ensures in_reserved { Remains (record { rid = rid; stamp = stamp } ∷ []) hand.old.view.counts.in_reserved hand.new.view.counts.in_reserved }
         ensures cut_off { CutsOff (record { rid = rid; stamp = stamp } ∷ []) hand.old.view.tops hand.old.view.counts.in_reserved hand.new.view.counts.in_reserved }
         ensures one { IsNewest hand.old.view.tops (record { rid = rid; stamp = stamp }) → IsSingle (known_of hand.new.view.counts rid) }
-        ensures once { IsNewest hand.old.view.tops (record { rid = rid; stamp = stamp }) → CutsOf rid 1 hand.old.view.gone.cuts hand.new.view.gone.cuts }
+        ensures collects { IsNewest hand.old.view.tops (record { rid = rid; stamp = stamp }) → CollectsOne core.now.size.seats hand.old.view.number rid stamp result (trail_in hand.old.view) (trail_in hand.new.view) }
         ensures stays { StaysReady core.now hand.old hand.new }
     {
         self.queue.add(rid, stamp);

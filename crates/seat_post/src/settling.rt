@@ -1,6 +1,5 @@
 //! Settling: each record's list is brought to one version, by a seat that is alone.
 ghost use Rattle.std.specs.Prelude.{◌≡◌, ◌+◌, ◌*◌, ◌<◌, ◌≤◌, true, false, Some, [], ◌∷◌, IfOk, OnOk, OnErr};
-ghost use Rattle.stamp_base.specs.Limits.{greatest_clock};
 ghost use Rattle.stamp_base.specs.Stamp.{bound_of_clock};
 ghost use Rattle.core_rule.specs.View.{nothing_reserved};
 ghost use Rattle.core_rule.specs.Hands.{IsReady, StaysReady};
@@ -11,7 +10,8 @@ ghost use Rattle.rapid_gc.specs.Ends.{FreesCounted};
 ghost use Rattle.rapid_gc.specs.InReserved.{IsBelow, Remains};
 ghost use Rattle.seat_post.specs.Logs.{IsAbove};
 ghost use Rattle.seat_post.specs.Seats.{IsAloneAt, observed_of};
-ghost use Rattle.seat_post.specs.Settling.{entries_of, AreSettled, SettlesPost, IsSettling, Settles, KeepsOthers, OnlySearches, IsHidden, IsDue, IsCut, RunsOut, SettlesOne, SettlesFirst, SettlesAll, StopsSome, StopsPost};
+ghost use Rattle.seat_post.specs.Settling.{entries_of, AreSettled, SettlesPost, IsSettling, Settles, KeepsOthers, OnlySearches, IsCut, SettlesAll, StopsOne, StopsSome, StopsPost};
+ghost use Rattle.seat_post.specs.SettlingOne.{IsVisible, IsHidden, CollectsOne, SettlesOne, SettlesFirst};
 ghost use Rattle.seat_post.specs.Collecting.{trail_in};
 
 use crate::phase::Phase;
@@ -38,10 +38,7 @@ impl<J: Keeps> Post<J> {
         ensures settles { SettlesPost J.kept self.old self.new }
         ensures settled { OnOk result (AreSettled self.old.shared.size.records self.new.bounds.counts) }
         ensures draws { IfOk result (λ all. self.new.clock ≡ self.old.clock + all.rewritten) }
-        ensures counts { IfOk result (λ all. (all.rewritten ≤ all.cut) × (all.cut ≤ 2 * self.old.shared.size.records)) }
         ensures done { IfOk result (SettlesAll self.old self.new) }
-        ensures clock_out { OnErr result (self.new.clock ≡ greatest_clock) }
-        ensures within { OnErr result (self.new.clock < self.old.clock + 2 * self.old.shared.size.records) }
         ensures stops { OnErr result (StopsPost self.old self.new) }
     {
         let told = settle_all(core, &mut self.hand, &mut self.room);
@@ -65,10 +62,7 @@ fn settle_all<J: Keeps>(
     ensures settles { Settles J.kept hand.old.view hand.new.view }
     ensures settled { OnOk result (AreSettled core.now.size.records hand.new.view.counts) }
     ensures draws { IfOk result (λ all. hand.new.view.clock.clock ≡ hand.old.view.clock.clock + all.rewritten) }
-    ensures counts { IfOk result (λ all. (all.rewritten ≤ all.cut) × (all.cut ≤ 2 * core.now.size.records)) }
-    ensures done { IfOk result (λ all. SettlesFirst core.now.size core.now.size.records all (trail_in hand.old.view) (trail_in hand.new.view)) }
-    ensures clock_out { OnErr result (hand.new.view.clock.clock ≡ greatest_clock) }
-    ensures within { OnErr result (hand.new.view.clock.clock < hand.old.view.clock.clock + 2 * core.now.size.records) }
+    ensures done { IfOk result (λ all. SettlesFirst core.now.size hand.old.view.number core.now.size.records all (trail_in hand.old.view) (trail_in hand.new.view)) }
     ensures stops { OnErr result (StopsSome core.now.size hand.old.view hand.new.view) }
     ensures stays { StaysReady core.now hand.old hand.new }
 {
@@ -97,15 +91,10 @@ fn settle_record<J: Keeps>(
     ensures others { KeepsOthers rid hand.old.view hand.new.view }
     ensures one { OnOk result (IsSingle (known_of hand.new.view.counts rid)) }
     ensures draws { IfOk result (λ done. hand.new.view.clock.clock ≡ hand.old.view.clock.clock + done.rewritten) }
-    ensures counts { IfOk result (λ done. (done.rewritten ≤ done.cut) × (done.cut ≤ 2)) }
+    ensures counts { IfOk result (λ done. (done.rewritten ≤ 2) × (done.cut ≤ 2)) }
     ensures freed { IfOk result (λ done. FreesCounted done.places hand.old.view hand.new.view) }
-    ensures done { IfOk result (λ done. SettlesOne core.now.size rid done (trail_in hand.old.view) (trail_in hand.new.view)) }
-    ensures due { OnErr result (IsDue (entries_of hand.old.view) rid hand.old.view.seen.loads hand.new.view.seen.loads) }
-    ensures runs_out { OnErr result (RunsOut core.now.size rid hand.old.view.clock.clock hand.new.view.clock.clock (observed_of hand.old.view) (observed_of hand.new.view)) }
-    ensures gone { OnErr result (hand.new.view.gone ≡ hand.old.view.gone) }
-    ensures log { OnErr result (hand.new.view.log ≡ hand.old.view.log) }
-    ensures clock_out { OnErr result (hand.new.view.clock.clock ≡ greatest_clock) }
-    ensures within { OnErr result (hand.new.view.clock.clock ≤ hand.old.view.clock.clock + 1) }
+    ensures done { IfOk result (λ done. SettlesOne core.now.size hand.old.view.number rid done (trail_in hand.old.view) (trail_in hand.new.view)) }
+    ensures stops { OnErr result (StopsOne core.now.size rid hand.old.view hand.new.view) }
     ensures stays { StaysReady core.now hand.old hand.new }
 {
     let found = first(core, hand, rid);
@@ -149,7 +138,8 @@ fn is_visible<J: Keeps>(core: &Core<J>, hand: &mut Hand<J>, rid: u32, first: Fir
     ensures settles { Settles J.kept hand.old.view hand.new.view }
     ensures searches { OnlySearches hand.old.view hand.new.view }
     ensures entered { result ≡ true → HasEntry rid first.wts hand.new.view.log }
-    ensures hidden { result ≡ false → IsHidden (entries_of hand.old.view) rid first hand.old.view.seen.loads hand.new.view.seen.loads }
+    ensures visible { result ≡ true → IsVisible core.now.size.seats hand.old.view.number rid first (entries_of hand.old.view) (observed_of hand.old.view) (observed_of hand.new.view) }
+    ensures hidden { result ≡ false → IsHidden core.now.size.seats hand.old.view.number rid first (entries_of hand.old.view) (observed_of hand.old.view) (observed_of hand.new.view) }
     ensures stays { StaysReady core.now hand.old hand.new }
 {
     if !first.decided {
@@ -183,6 +173,7 @@ fn cut_below<J: Keeps>(
     ensures cut { IsCut rid hand.old.view hand.new.view }
     ensures in_reserved { Remains (record { rid = rid; stamp = stamp } ∷ []) hand.old.view.counts.in_reserved hand.new.view.counts.in_reserved }
     ensures cut_off { IsBelow (record { rid = rid; stamp = stamp }) hand.old.view.counts.in_reserved → hand.new.view.counts.in_reserved ≡ nothing_reserved }
+    ensures collects { CollectsOne core.now.size.seats hand.old.view.number rid stamp result (trail_in hand.old.view) (trail_in hand.new.view) }
     ensures freed { FreesCounted result hand.old.view hand.new.view }
     ensures stays { StaysReady core.now hand.old hand.new }
 {

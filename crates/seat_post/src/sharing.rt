@@ -20,7 +20,7 @@ impl<J: Keeps> Post<J> {
         requires idle { self.old.phase ≡ Phase.Idle }
         requires alone { IsAloneAt self.old.shared.size self.old.seat self.old.others }
         ensures value { self.new ≡ record (announced_at self.old) { placed = self.new.placed; snapshot = self.new.snapshot; observed = self.new.observed } }
-        ensures raised { RaisesTo published_write min_write self.old.shared.size.seats self.new.met self.old.observed self.new.observed }
+        ensures raised { RaisesTo published_write min_write self.old.shared.size.seats self.old.seat self.new.published self.new.met self.old.observed self.new.observed }
         ensures not_back { self.old.met ≤ self.new.met }
     {
         idle(core, &mut self.hand);

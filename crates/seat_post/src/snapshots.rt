@@ -127,7 +127,7 @@ impl<J: Keeps> Post<J> {
         requires idle { self.old.phase ≡ Phase.Idle }
         ensures after { self.new ≡ observing (snapshot_begun_at self.old result) self.new.observed }
         // The stamp is at least one less than the least published write word that was loaded.
-        ensures minimum { MeetsMinimum self.old.shared.size.seats (result + 1) self.old.observed self.new.observed }
+        ensures minimum { MeetsMinimum self.old.shared.size.seats self.old.seat self.old.published (result + 1) self.old.observed self.new.observed }
         ensures met { self.old.met ≤ result + 1 }
         ensures snapshots { AreBelow self.old.log (result + 1) }
         ensures below { result < self.old.published }

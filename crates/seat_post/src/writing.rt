@@ -7,10 +7,10 @@ ghost use Rattle.seat_post.specs.Leaves.{AreLeft};
 ghost use Rattle.seat_post.specs.Seats.{IsAloneAt};
 ghost use Rattle.seat_post.specs.Post.{written, unwritten, closed};
 
+use crate::ending::let_go;
 use crate::phase::Phase;
 use crate::post::Post;
 use plain_data::{Cells, NoMemory};
-use stamp_base::Stamp;
 
 impl<J> Post<J> {
     /// Writes a value, or deletes the record. Room is taken first, for its version too.
@@ -39,8 +39,6 @@ impl<J> Post<J> {
         ensures closed { self.new ≡ closed self.old }
         ensures read_left { IsAloneAt self.old.shared.size self.old.seat self.old.others → AreLeft self.old.log self.old.stamp self.old.reads }
     {
-        self.sets.clear();
-        self.phase = Phase::Idle;
-        self.stamp = Stamp::make(0, 0);
+        let_go(&mut self.phase, &mut self.stamp, &mut self.sets);
     }
 }

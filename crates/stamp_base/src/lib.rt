@@ -33,6 +33,13 @@ pub fn is_clock(clock: u64) -> bool
     clock <= GREATEST_CLOCK
 }
 
+/// Whether a stamp has this number.
+pub fn is_stamp(number: u64) -> bool
+    ensures { IsTrue result ↔ IsStamp number }
+{
+    is_clock(number / 256) && is_seat((number % 256) as u32)
+}
+
 /// What a seat adopts of a clock that it reads, or that another seat shows.
 pub fn adopted_clock(clock: u64) -> u64
     ensures { result ≡ min clock greatest_adopted_clock }

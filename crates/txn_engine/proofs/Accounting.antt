@@ -16,13 +16,15 @@ use Rattle.record_store.specs.Meaning.{value_at}
 use Rattle.seat_post.specs.Seats.{Bounds, is_alone_at}
 use Rattle.spare_numbers.specs.Spare.{is_on, holds, is_deletion, unused, added, with_deleted, spare_after}
 use Rattle.txn_engine.specs.Fresh.{AreWritten}
-use Rattle.txn_engine.specs.Pass.{PassView, IsAlone, first_pass, with_log, frame, with_bounds, entry_of, decided, published, committed, EngineView, engine_of}
+use Rattle.txn_engine.specs.Rescan.{rescanned}
+use Rattle.stamp_base.specs.Stamp.{bound_of_clock}
+use Rattle.txn_engine.specs.Pass.{PassView, IsAlone, first_pass, with_log, observing, frame, with_bounds, entry_of, decided, published, committed, EngineView, engine_of}
 use Rattle.seat_post.specs.Logs.{IsAbove}
-use Rattle.seat_post.specs.Leaves.{IsPresent}
+use Rattle.seat_post.specs.Leaves.{IsPresent, LeavesAs, AreAbsent}
 use Rattle.txn_engine.specs.Leaves.{HoldsAbsent, NoneRemains}
-use Rattle.txn_engine.specs.Accounts.{writes_at, gives_at, is_present, accounted}
+use Rattle.txn_engine.specs.Accounts.{writes_at, gives_at, is_present, accounted, KeepsAbsent}
 use Rattle.seat_post.proofs.Listed.{known_head, known_tail}
-use Rattle.seat_post.proofs.Leaving.{among_of, leaves_one}
+use Rattle.seat_post.proofs.Leaving.{among_of, leaves_one, present_all}
 
 -- ---- the log, as it is computed and as it stands
 
@@ -163,6 +165,9 @@ absent_stays p q same_frame same_accounts alone absent r from within =
       | inl here ↦ inl here
       | inr present ↦ inr (present_told q.log r present)
     ]
+
+pub keeps_absent : (begun : PassView) → KeepsAbsent begun
+keeps_absent begun alone absent q same_frame same_accounts = absent_stays begun q same_frame same_accounts alone absent
 
 -- a number of the list has its place there
 on_at : (xs : List ℕ) (r : ℕ) → is_on xs r ≡ true → (k : ℕ) × (k < length xs) × (slice_get xs k ≡ Some r)
@@ -324,21 +329,20 @@ absent_published p before log above absent r from within = by_write (value_at p.
 pub absent_committed : (p : PassView) (known : Bounds) → IsAbove p.log p.stamp → HoldsAbsent p → HoldsAbsent (committed (with_bounds p known))
 absent_committed p known above absent = absent_published (decided (with_bounds p known)) p.log refl above absent
 
+-- numbers that are those of the absent records
+listed : (b : Bool) (log : List Entry) (r limit : ℕ) (spare : List ℕ) → is_on spare r ≡ b → IsAbove log limit → LeavesAs log r limit b → (is_on spare r ≡ true) ⊎ IsPresent log r
+listed true log r limit spare is above left = inl is
+listed false log r limit spare is above left = inr (present_all log r limit above left)
+
+pub absent_rescanned : (p q : PassView) → q ≡ observing (rescanned p q.spare) q.observed → IsAbove p.log (bound_of_clock p.clock) → AreAbsent p.log q.published p.fixed p.shared.size.records q.spare → HoldsAbsent q
+absent_rescanned p q is above absent = subst (λ (x : PassView). HoldsAbsent x) (sym is) (λ r from within. listed (is_on q.spare r) p.log r q.published q.spare refl published (absent.each r from within)) where
+  published : IsAbove p.log q.published
+  published e among commit = let low = above e among commit in let at = ap (λ (x : PassView). x.published) is in omega arith
+
 -- where the log stands in a lawful history, a record of which it leaves no value is a spare one or given out
 pub absent_on : (kept : State → Type 0) (records : ℕ) (history : List Entry) (p : PassView) → Lawful kept records history → ((e : Entry) → Contains p.log e → Contains history e) → HoldsAbsent p
     → (r : ℕ) → p.fixed ≤ r → r < p.shared.size.records → IsValue (Contains p.log) r None → is_on (p.given ++ p.spare) r ≡ true
 absent_on kept records history p lawful own absent r from within none = elim (absent r from within) as (λ _. is_on (p.given ++ p.spare) r ≡ true) [
   | inl on ↦ on
   | inr present ↦ absurd (let same : Some present.0 ≡ None = leaves_one kept records history p.log r (Some present.0) None lawful own present.1 none in cc)
-]
-
--- where none is left, each record that is absent in the state that such a log leaves is given out or written
-pub absent_taken : (kept : State → Type 0) (records : ℕ) (history : List Entry) (state : State) (p : PassView) → Lawful kept records history → ((e : Entry) → Contains p.log e → Contains history e) → Leaves (Contains p.log) state → NoneRemains p
-    → (r : ℕ) → p.fixed ≤ r → r < p.shared.size.records → state r ≡ None → (is_on p.given r ≡ true) ⊎ IsSome (value_at p.writes r)
-absent_taken kept records history state p lawful own leaves none r from within absent = elim (none r from within) as (λ _. (is_on p.given r ≡ true) ⊎ IsSome (value_at p.writes r)) [
-  | inl given ↦ inl given
-  | inr more ↦ elim more as (λ _. (is_on p.given r ≡ true) ⊎ IsSome (value_at p.writes r)) [
-    | inl written ↦ inr written
-    | inr present ↦ absurd (let same : Some present.0 ≡ state r = leaves_one kept records history p.log r (Some present.0) (state r) lawful own present.1 (leaves r) in let bad : Some present.0 ≡ None = same ∙ absent in cc)
-  ]
 ]

@@ -42,7 +42,7 @@ absent_grows p rid versions o t (inr found) = found_grows p.stamp rid None o t f
 
 pub present_grows : (p : PassView) (rid : ℕ) (o t : Observed) → IsMetPresent p rid o t → Grows o t
 present_grows p rid o t (words, inl known) = grows_same o t known.1
-present_grows p rid o t (words, inr found) = found_grows p.stamp rid (Some words) o t found
+present_grows p rid o t (words, inr found) = found_grows p.stamp rid (Some words) o t found.1
 
 -- by what validates a transaction, or stops at a conflict
 pub validated_grows : (p q : PassView) → IsValidated p p.observed.loads q.observed.loads → q.observed.lost ≡ p.observed.lost → Grows p.observed q.observed

@@ -46,23 +46,31 @@ pushed_share p passes passes' seat made some are is more =
     ∙ sym (map-range_with_len_more (share_at p) 1 (seat - 1) seat last)
     ∙ ap (λ n. map (share_at p) (range_with_len 1 n)) count
 
-met_of : (p : PassView) (xs : List ℕ) (q : PassView) → Among q (map (share_at p) xs) → q.met ≡ p.met
-met_of p [] q among = absurd among
-met_of p (x ∷ xs) q (inl same) = ap (λ (y : PassView). y.met) (sym same)
-met_of p (x ∷ xs) q (inr more) = met_of p xs q more
-
--- each pass has met what seat 0 has met
-met_among : (p q : PassView) → Among q (shares_of p) → q.met ≡ p.met
-met_among p q (inl same) = ap (λ (y : PassView). y.met) (sym same)
-met_among p q (inr more) = met_of p (range_with_len 1 (p.shared.size.seats - 1)) q more
-
 among_bare : (passes : List PassView) (q : PassView) → Among q passes → Among (bare q) (map bare passes)
 among_bare [] q among = absurd among
 among_bare (x ∷ xs) q (inl same) = inl (ap bare same)
 among_bare (x ∷ xs) q (inr more) = inr (among_bare xs q more)
 
+-- a number of each pass that is the one of seat 0
+module _ (f : PassView → ℕ) (p : PassView) (each : (seat : ℕ) → f (share_at p seat) ≡ f p) (first : f (first_share p) ≡ f p) (unbared : (q : PassView) → f (bare q) ≡ f q) where
+  kept_of : (xs : List ℕ) (q : PassView) → Among q (map (share_at p) xs) → f q ≡ f p
+  kept_of [] q among = absurd among
+  kept_of (x ∷ xs) q (inl same) = ap f (sym same) ∙ each x
+  kept_of (x ∷ xs) q (inr more) = kept_of xs q more
+
+  kept_among : (q : PassView) → Among q (shares_of p) → f q ≡ f p
+  kept_among q (inl same) = ap f (sym same) ∙ first
+  kept_among q (inr more) = kept_of (range_with_len 1 (p.shared.size.seats - 1)) q more
+
+  kept_shared : (q : PassView) (passes : List PassView) → map bare passes ≡ shares_of p → Among q passes → f q ≡ f p
+  kept_shared q passes are among = sym (unbared q) ∙ kept_among (bare q) (subst (λ xs. Among (bare q) xs) are (among_bare passes q among))
+
+-- each pass has met what seat 0 has met, and has published what it has
 pub met_shared : (p q : PassView) (passes : List PassView) → map bare passes ≡ shares_of p → Among q passes → q.met ≡ p.met
-met_shared p q passes are among = met_among p (bare q) (subst (λ xs. Among (bare q) xs) are (among_bare passes q among))
+met_shared p = kept_shared (λ (y : PassView). y.met) p (λ seat. refl) refl (λ q. refl)
+
+pub published_shared : (p q : PassView) (passes : List PassView) → map bare passes ≡ shares_of p → Among q passes → q.published ≡ p.published
+published_shared p = kept_shared (λ (y : PassView). y.published) p (λ seat. refl) refl (λ q. refl)
 
 -- the pass that is made for the next seat
 pub next_share : (p q r : PassView) (made : ℕ) → 1 ≤ made → p.others.splitting ≡ single → q ≡ with_snapshot (with_made made p) q.snapshot → bare r ≡ share_at q (made_of q.others.splitting) → bare r ≡ share_at p made

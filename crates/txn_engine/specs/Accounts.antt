@@ -5,7 +5,8 @@ use Rattle.plain_data.specs.declared.entry.Entry.{Entry}
 use Rattle.seat_post.specs.Observing.{Grows}
 use Rattle.seat_post.specs.Seats.{is_alone_at}
 use Rattle.spare_numbers.specs.Spare.{is_on}
-use Rattle.txn_engine.specs.Pass.{PassView, frame}
+use Rattle.txn_engine.specs.Leaves.{HoldsAbsent}
+use Rattle.txn_engine.specs.Pass.{PassView, IsAlone, frame}
 
 -- a commit entry writes the record; and writes a value there
 abbrev pub writes_at : ℕ → Entry → Bool
@@ -27,3 +28,7 @@ pub record Stays (before after' : PassView) : Type 0 where
   pub same_frame : frame after' ≡ frame before
   pub same_accounts : accounted after' ≡ accounted before
   pub grows : Grows before.observed after'.observed
+
+-- so a seat that is alone holds the absent records after each of them, where it holds them at the begin
+abbrev pub KeepsAbsent : PassView → Type 0
+KeepsAbsent begun = IsAlone begun → HoldsAbsent begun → (after' : PassView) → frame after' ≡ frame begun → accounted after' ≡ accounted begun → HoldsAbsent after'

@@ -34,9 +34,10 @@ IsMetAbsent p rid versions before after' =
     ((known_at p.post rid ≡ Some None) × (versions ≡ p.versions) × (after' ≡ before))
     ⊎ ((known_at p.post rid ≡ None) × NotesFound p rid None versions before after')
 
--- it was known to be present, and nothing was loaded; or a search found it so, and loaded nothing else
+-- it was known to be present, and nothing was loaded; or nothing was known of it, and a search found it so, and loaded nothing else
 abbrev pub IsMetPresent : PassView → ℕ → (before after' : Observed) → Type 0
-IsMetPresent p rid before after' = (words : List ℕ) × (((known_at p.post rid ≡ Some (Some words)) × (after' ≡ before)) ⊎ FindsValue p.stamp rid before after' (Some words))
+IsMetPresent p rid before after' =
+    (words : List ℕ) × (((known_at p.post rid ≡ Some (Some words)) × (after' ≡ before)) ⊎ ((known_at p.post rid ≡ None) × FindsValue p.stamp rid before after' (Some words)))
 
 -- What a call tells of a record that is not written: where it is absent, it was read, if it was not before, and is noted; else nothing is.
 pub record TellsAbsent (before after' : PassView) (rid : ℕ) (absent : Bool) : Type 0 where

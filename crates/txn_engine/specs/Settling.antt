@@ -1,7 +1,6 @@
 -- What settling makes of the pass of a seat that is alone.
-use Rattle.std.specs.Prelude.{◌≡◌, ◌+◌, ◌*◌, ◌<◌, ◌≤◌, Result, OnOk, OnErr, IfOk}
+use Rattle.std.specs.Prelude.{◌≡◌, ◌+◌, Result, OnOk, OnErr, IfOk}
 use Rattle.plain_data.specs.State.{State}
-use Rattle.stamp_base.specs.Limits.{greatest_clock}
 use Rattle.clock_stamps.specs.declared.clocks.ClockOut.{ClockOut}
 use Rattle.seat_post.specs.declared.settled.Settled.{Settled}
 use Rattle.seat_post.specs.Settling.{SettlesPost, SettlesAll, StopsPost}
@@ -20,7 +19,4 @@ pub record SettlesPass (kept : State → Type 0) (before after' : PassView) (ans
   pub absent : HoldsAbsent before → HoldsAbsent after'
   pub done : IfOk answer (SettlesAll before.post after'.post)
   pub draws : IfOk answer (λ all. after'.clock ≡ before.clock + all.rewritten)
-  pub counts : IfOk answer (λ all. (all.rewritten ≤ all.cut) × (all.cut ≤ 2 * before.shared.size.records))
-  pub clock_out : OnErr answer (after'.clock ≡ greatest_clock)
-  pub within : OnErr answer (after'.clock < before.clock + 2 * before.shared.size.records)
   pub stops : OnErr answer (StopsPost before.post after'.post)

@@ -61,7 +61,8 @@ shares p = shares_of (announced p)
 abbrev pub SawNothing : PassView → Type 0
 SawNothing p = p.observed ≡ nothing_observed
 
--- the steps of seat 0 have raised `min_wts` by the published write words, and those of the others came upon nothing
+-- the steps of seat 0 have raised `min_wts` by the published write words, the own one among them as it was published before, and those of the
+-- others came upon nothing
 pub record HaveSeen (p first : PassView) (rest : List PassView) : Type 0 where
-  pub raised : RaisesTo published_write min_write p.shared.size.seats first.met p.observed first.observed
+  pub raised : RaisesTo published_write min_write p.shared.size.seats p.seat first.published first.met p.observed first.observed
   pub others : All SawNothing rest

@@ -15,6 +15,7 @@ use Rattle.seat_post.specs.Observing.{with_load, MeetsMinimum}
 use Rattle.seat_post.specs.Post.{snapshot_begun_at, snapshot_read_at, finished_at}
 use Rattle.seat_post.specs.Reading.{FindsInSnapshot}
 use Rattle.seat_post.specs.Seats.{nothing_observed}
+use Rattle.txn_engine.specs.Leaves.{HoldsAbsent}
 use Rattle.txn_engine.specs.Pass.{PassView, IsAlone, no_store, observing}
 use Rattle.seat_post.specs.Logs.{AreBelow}
 
@@ -27,11 +28,11 @@ finished p g = record p { post = finished_at p.post g }
 
 -- A snapshot begins: its stamp is at least one less than the minimum met before, and no snapshot of the log is above it. It is below
 -- what is published and below the next stamp. Of a seat that is alone it is at least one less than what is published. The published write
--- word of each seat was loaded, and it is at least one less than the least of them.
+-- word of each seat was loaded, the own one as it was published before, and it is at least one less than the least of them.
 pub record Begins (before after' : PassView) : Type 0 where
   pub stamp : ℕ
   pub pass : after' ≡ observing (snapshot_begun before stamp) after'.observed
-  pub minimum : MeetsMinimum before.shared.size.seats (stamp + 1) before.observed after'.observed
+  pub minimum : MeetsMinimum before.shared.size.seats before.seat before.published (stamp + 1) before.observed after'.observed
   pub met : before.met ≤ stamp + 1
   pub snapshots : AreBelow before.log (stamp + 1)
   pub below : stamp < before.published
@@ -39,12 +40,13 @@ pub record Begins (before after' : PassView) : Type 0 where
   pub alone : IsAlone before → before.published ≤ stamp + 1
 
 -- It ends, at a load of the own published read word, and gives its stamp: one entry with all that was read stands at the end of the log,
--- and a kept state of the history at that stamp agrees with it.
+-- and a kept state of the history at that stamp agrees with it. The absent records are held as before.
 pub record Finishes (kept : State → Type 0) (before after' : PassView) (told : ℕ) : Type 0 where
   pub after : IfSome before.snapshot (λ g. after' ≡ observing (finished before g) after'.observed)
   pub loads : (word : ℕ) × (after'.observed ≡ with_load before.observed (load (published_read before.seat) word))
   pub stamp : IfSome before.snapshot (λ g. told ≡ g.stamp)
   pub stood : IfSome before.snapshot (λ g. Stood kept before.shared.size.records before.log (entry_of_snapshot g))
+  pub absent : HoldsAbsent before → HoldsAbsent after'
 
 -- no transaction is in flight, and a snapshot is, at a stamp below the minimum met
 abbrev pub has_snapshot_in : Phase → Option SnapshotView → (met : ℕ) → Bool

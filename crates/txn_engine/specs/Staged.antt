@@ -19,9 +19,8 @@ use Rattle.engine_answers.specs.declared.faults.CommitFault.{CommitFault}
 use Rattle.engine_answers.specs.declared.faults.CommitFault.TheVariants as fault
 use Rattle.engine_answers.specs.declared.committed.Committed.{Committed}
 use Rattle.txn_engine.specs.Faults.{IsShown, IsTouched, MatchStopped, WasLoaded, WantsPlace}
-use Rattle.txn_engine.specs.Leaves.{HoldsAbsent}
-use Rattle.txn_engine.specs.Lists.{IsFull, IsTidyOnceCollected, IsRoomyOnceCollected}
-use Rattle.txn_engine.specs.Pass.{PassView, IsAlone, with_bounds, observing, placing, with_log, entry_of, installed, decided, refused, published}
+use Rattle.txn_engine.specs.Lists.{IsFull}
+use Rattle.txn_engine.specs.Pass.{PassView, IsAlone, with_bounds, observing, placing, entry_of, installed, decided, refused, published}
 
 -- its versions are linked one by one as pending ones, each in a place for its record, the inline one where that was met free, and nothing
 -- else is loaded
@@ -88,10 +87,3 @@ pub record Publishes (before after' : PassView) (told : Committed) : Type 0 wher
   pub counts : told.inlined + told.pooled ≡ length before.writes
   pub inlined : CountsPlaces before.shared.size before.writes before.placed told.inlined
   pub pooled : AreBounded (bounds_first before) before.writes → told.pooled ≡ count_raised (bounds_first before) before.bounds before.writes
-
--- Where each record but those whose newest version is queued had one version, or one at most outside its inline place, before the versions
--- were linked, so it is now; and where each absent record was held before the entry stood in the log, so it is now.
-pub record StillHolds (before after' : PassView) : Type 0 where
-  pub tidy : (first : Bounds) → AreLinked before.writes before.stamp first before.bounds → IsTidyOnceCollected (with_bounds before first) → IsTidyOnceCollected after'
-  pub roomy : (first : Bounds) → AreLinked before.writes before.stamp first before.bounds → IsRoomyOnceCollected (with_bounds before first) → IsRoomyOnceCollected after'
-  pub absent : (log : List Entry) → before.log ≡ log ++ entry_of before ∷ [] → IsAbove log before.stamp → HoldsAbsent (with_log before log) → HoldsAbsent after'

@@ -89,19 +89,16 @@ impl<J: Keeps> SeatCalls for Pass<J> {
     }
 
     fn abort(&mut self) {
-        // The count is below the clock, which fits.
-        self.post.clock();
-        self.refusals += one_if(self.counted);
-        self.boost = boost_after_end(&self.dead, self.boost);
-        self.counted = false;
+        let boost = boost_after_end(&self.dead, self.boost);
+        let more = one_if(self.counted);
         self.dead = None;
-        self.numbers.take_back();
         self.post.close();
+        self.let_go(boost, more);
     }
 
     fn commit(&mut self, engine: &Engine<J>) -> Result<Committed, CommitFault> {
         let linked = self.install(engine)?;
-        let entered = self.check(engine, linked)?;
+        let entered = self.decide(engine, linked)?;
         Ok(self.publish(engine, entered))
     }
 

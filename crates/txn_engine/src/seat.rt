@@ -9,6 +9,7 @@ ghost use Rattle.word_layout.specs.Name.{min_write, published_write};
 ghost use Rattle.core_rule.specs.Paths.{load};
 ghost use Rattle.seat_post.specs.Logs.{IsAbove};
 ghost use Rattle.seat_post.specs.Observing.{with_load};
+ghost use Rattle.txn_engine.specs.Accounts.{KeepsAbsent};
 ghost use Rattle.txn_engine.specs.Collecting.{CollectsPass};
 ghost use Rattle.txn_engine.specs.Leaves.{HoldsAbsent};
 ghost use Rattle.txn_engine.specs.Pass.{IsIdle, IsAlone, next_clock, begun, ticked, heard, observing, with_met, engine_of};
@@ -66,6 +67,7 @@ pub trait Seat: SeatCalls {
         ensures above { IfOk result (λ t. IsAbove (Self.pass self.old).log (Self.pass t.seat.now).stamp) }
         ensures each_once { IfOk result (λ t. IsDistinct nat_eq (Self.pass t.seat.now).spare) }
         ensures absent { HoldsAbsent (Self.pass self.old) → IfOk result (λ t. HoldsAbsent (Self.pass t.seat.now)) }
+        ensures keeps_absent { IfOk result (λ t. KeepsAbsent (Self.pass t.seat.now)) }
         ensures engine { IfOk result (λ t. t.engine.now ≡ engine.now) }
         ensures in_range { OnOk result (next_clock (Self.pass self.old) reading ≤ greatest_clock) }
         ensures clock_out { IfErr result (λ fault. fault ≡ BeginFault.ClockOut → next_clock (Self.pass self.old) reading ≡ greatest_clock + 1) };

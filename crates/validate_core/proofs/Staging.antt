@@ -97,7 +97,7 @@ shown_earlier stamp s u v x (Overtaken rid seen now) a h = (h.0, h.1, h.2, h.3, 
 
 pub another_works : (n : ℕ) (v x : View) → Works v x → IsOfAnother v n → IsOfAnother x n
 another_works n v x a o =
-    subst (λ (y : View). IsOfAnother y n) (sym a.only) record { another = o.another; within = o.within; not_alone = λ alone. o.not_alone alone }
+    subst (λ (y : View). IsOfAnother y n) (sym a.only) record { stamp = o.stamp; another = o.another; within = o.within; not_alone = λ alone. o.not_alone alone }
 
 met_later : (stamp rid w n : ℕ) (more : ℕ → List Load) (u v x : View) → Works v x → Met stamp rid w n more u.seen.loads v.seen.loads → Met stamp rid w n more u.seen.loads x.seen.loads
 met_later stamp rid w n more u v x a m = record {
@@ -149,8 +149,7 @@ found_stops stamp s up done checked aim limit rid place w n v x reading st f =
 
 pub pending_shown : (stamp : ℕ) (s : SetsView) (aim : Aim) (rid place w n : ℕ) (v x : View) → n ≡ 2 → Finds aim stamp rid place w n v x → (w < stamp) × IsOfAnother x w × Met stamp rid w 2 no_more v.seen.loads x.seen.loads
 pending_shown stamp s aim rid place w n v x is f =
-    let m = f.reaches.met is in
-    (f.reaches.early, record { another = m.another; within = m.within; not_alone = m.not_alone }, met_now stamp rid place w 2 v x (subst (λ (k : ℕ). EndsAt stamp rid place w k v.seen.loads x.seen.loads) is f.path))
+    (f.reaches.early, (f.reaches.met is).another, met_now stamp rid place w 2 v x (subst (λ (k : ℕ). EndsAt stamp rid place w k v.seen.loads x.seen.loads) is f.path))
 
 final_of : (n : ℕ) → IsFinal n → is_final n ≡ true
 final_of n h = rw (le-leb 3 n h.0, le-leb n 4 h.1) refl

@@ -5,3 +5,4 @@ pub mod Noted
 pub mod OneByOne
 pub mod Sets
 pub mod Validating
+pub mod Named

@@ -47,11 +47,11 @@ only_trans a b c e f =
 abbrev pub worked : View → Work → Seen → View
 worked v w seen = record v { work = w; seen = seen }
 
-pub met_after : (n : ℕ) (v : View) (w : Work) (seen : Seen) → IsMet v n → IsMet (worked v w seen) n
-met_after n v w seen m = record { another = m.another; within = m.within; in_flight = m.in_flight; not_alone = m.not_alone }
-
 pub another_after : (n : ℕ) (v : View) (w : Work) (seen : Seen) → IsOfAnother v n → IsOfAnother (worked v w seen) n
-another_after n v w seen m = record { another = m.another; within = m.within; not_alone = m.not_alone }
+another_after n v w seen m = record { stamp = m.stamp; another = m.another; within = m.within; not_alone = m.not_alone }
+
+pub met_after : (n : ℕ) (v : View) (w : Work) (seen : Seen) → IsMet v n → IsMet (worked v w seen) n
+met_after n v w seen m = record { another = another_after n v w seen m.another; in_flight = m.in_flight }
 
 pub overtaken_after : (a : Aim) (n s : ℕ) (v : View) (w : Work) (seen : Seen) → IsOvertaken v a n s → IsOvertaken (worked v w seen) a n s
 overtaken_after reads n s v w seen o = tt

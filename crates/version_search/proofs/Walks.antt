@@ -50,7 +50,7 @@ module _ (aim : Aim) (limit rid place under w n : ℕ) (v : View) where
           early = early;
           state = (low, omega arith);
           met = λ is. subst (λ (y : View). IsMet y w) (sym x_of)
-              (let m = told.1 is in met_after w u _ _ record { another = m.0; within = m.1; in_flight = m.2; not_alone = m.3 });
+              (let m = told.1 is in met_after w u _ _ record { another = m.0; in_flight = m.1 });
           overtaken = subst (λ (y : View). IsOvertaken y aim w n) (sym x_of) (overtaken_after aim w n u _ _ told.2);
           left = subst (λ (l : ℕ). IsAlone x → IsFinal n → IsLeft x.log rid l w n) at_limit
               (subst (λ (y : View). IsAlone y → IsFinal n → IsLeft y.log rid (limit_of y.flight y.published.read) w n) (sym x_of) told.3);

@@ -1,13 +1,12 @@
 -- What a search for a visible version has come to, and what it found.
 use Rattle.std.specs.Prelude.{◌≡◌, ◌≢◌, ℕ, ◌<◌, ◌≤◌, Bool, if◌then◌else◌, List, [], ◌∷◌, ◌++◌}
-use Rattle.stamp_base.specs.Stamp.{seat_of}
 use Rattle.core_rule.specs.View.{View, resting, Aim, Stand, Look, blank, shown, Search, still, stands, Work, Read, Load, Seen}
 use Rattle.core_rule.specs.Views.{IsAlone}
 use Rattle.core_rule.specs.Searching.{stand_in, IsPassed, IsFinal, stamp_seen, ends, reads_with, finished_with}
 use Rattle.core_rule.specs.Left.{IsLeft}
 use Rattle.core_rule.specs.Status.{status_word}
 use Rattle.core_rule.specs.declared.status.Status.TheVariants.{Pending as PendingStatus, Committed, Deleted}
-use Rattle.core_rule.specs.Learnt.{IsOvertaken}
+use Rattle.core_rule.specs.Learnt.{IsOfAnother, IsOvertaken}
 use Rattle.core_rule.specs.Paths.{glanced, Way, EndsAt}
 use Rattle.version_search.specs.declared.finding.Found.{Found}
 use Rattle.version_search.specs.declared.finding.Found.TheVariants.{Version, Pending}
@@ -48,10 +47,8 @@ pub record Passes (place limit : ℕ) (v w : View) : Type 0 where
 
 -- a pending version is another seat's, which is open, and a snapshot meets none
 pub record IsMet (v : View) (wts : ℕ) : Type 0 where
-  pub another : seat_of wts ≢ v.number
-  pub within : seat_of wts < v.size.seats
+  pub another : IsOfAnother v wts
   pub in_flight : v.flight ≢ resting
-  pub not_alone : IsAlone v → ⊥
 
 -- what is in flight after a search ended at a version with this write stamp and status
 abbrev pub reached : Stand → (w s : ℕ) → Work → Work

@@ -8,7 +8,7 @@ use Rattle.atomic_table.proofs.Lists.{set_here}
 use Rattle.plain_data.specs.State.{State}
 use Rattle.word_layout.specs.Size.{Size, places}
 use Rattle.word_layout.specs.Name.{head, rts, status, next as next_word}
-use Rattle.stamp_base.specs.Stamp.{stamp_of, clock_of, seat_of}
+use Rattle.stamp_base.specs.Stamp.{stamp_of, clock_of, seat_of, IsStamp}
 use Rattle.stamp_base.specs.Limits.{most_seats}
 use Rattle.core_rule.specs.Memory.{Memory, stored}
 use Rattle.core_rule.specs.World.{World, from_behind}
@@ -115,27 +115,29 @@ module _ (kept : State → Type 0) (z : Size) (g : World) (m : Memory) (vs : Lis
         by_drawn seat was (inr d) lt = let le = d.1 in let is = d.2 in omega arith
 
   -- a pending version that is not too late is that of another transaction
-  met_pending : (p : Stand) (w : ℕ) (s : Step kept z g m vs id v (load_status p w)) → m (status p.place) ≡ 2 → (seat_of w ≢ v.number) × (seat_of w < v.size.seats) × (v.flight ≢ resting) × (IsAlone v → ⊥)
+  met_pending : (p : Stand) (w : ℕ) (s : Step kept z g m vs id v (load_status p w)) → m (status p.place) ≡ 2 → IsOfAnother v w × (v.flight ≢ resting)
   met_pending p w s is =
       let h = stand_of kept z g m vs id v _ s p (stamped w) s.allowed.can.0 in
       let seen : (stored m).stamps p.place ≡ w = h.seen in
       let u = (s.rule.versions.each p.record_number p.place h.kept.on_record h.kept.there).pending is in
       let flight : u.view.flight ≡ writing w = u.holds.in_flight ∙ ap writing seen in
-      let seat = (flight_seat kept z g m vs id v _ s u.index u.view u.here u.is_open w flight).1 in
+      let drawn = flight_seat kept z g m vs id v _ s u.index u.view u.here u.is_open w flight in
+      let seat = drawn.1 in
       let inside = (s.rule.seats.each u.index u.view u.here u.is_open).within in
       let late = late_of kept z g m vs id v _ s u.index u.view u.here u.is_open w flight in
-      let early = s.allowed.can.1 in (
-        (λ same. let here : id ≡ u.index = s.rule.seats.apart id u.index v u.view s.at u.here s.allowed.is_open u.is_open (sym same ∙ seat) in
-            let one : v ≡ u.view = same_view vs u.index id v u.view s.at (sym here) u.here in
-            let own : v.flight ≡ writing w = ap (λ (x : View). x.flight) one ∙ flight in
-            let c : w < w = subst (λ (f : Flight). w < limit_of f v.published.read) own early in omega arith),
-        rw (s.rule.seats.each id v s.at s.allowed.is_open).size (rw seat inside),
+      let early = s.allowed.can.1 in
+      let apart : u.view.number ≢ v.number = λ same. let here : id ≡ u.index = s.rule.seats.apart id u.index v u.view s.at u.here s.allowed.is_open u.is_open (sym same) in
+      let one : v ≡ u.view = same_view vs u.index id v u.view s.at (sym here) u.here in
+      let own : v.flight ≡ writing w = ap (λ (x : View). x.flight) one ∙ flight in
+      let c : w < w = subst (λ (f : Flight). w < limit_of f v.published.read) own early in omega arith in (
+        record {
+          stamp = drawn.3;
+          another = λ same. apart (sym seat ∙ same);
+          within = rw (s.rule.seats.each id v s.at s.allowed.is_open).size (rw seat inside);
+          not_alone = no_other _ s u.index u.view u.here u.is_open apart;
+        },
         (λ rests. let c : w < suc v.published.read = subst (λ (f : Flight). w < limit_of f v.published.read) rests early in
             let settled = (s.rule.minima.each id v s.at s.allowed.is_open).settled h.kept.is_open in omega arith),
-        (λ alone. no_other _ s u.index u.view u.here u.is_open (λ same. let here : id ≡ u.index = s.rule.seats.apart id u.index v u.view s.at u.here s.allowed.is_open u.is_open (sym same) in
-            let one : v ≡ u.view = same_view vs u.index id v u.view s.at (sym here) u.here in
-            let own : v.flight ≡ writing w = ap (λ (x : View). x.flight) one ∙ flight in
-            let c : w < w = subst (λ (f : Flight). w < limit_of f v.published.read) own early in omega arith) alone),
       )
 
   -- what stands above the version read is another seat's
@@ -157,16 +159,18 @@ module _ (kept : State → Type 0) (z : Size) (g : World) (m : Memory) (vs : Lis
       let log = e.wrote.logged in
       let ok = (s.rule.entered log.index log.view log.here log.is_open).commits e.entry log.among e.wrote.commit in
       let at_stamp : e.entry.stamp ≡ w = e.stamp ∙ seen in
+      let within : seat_of w < z.seats = subst (λ (x : ℕ). seat_of x < z.seats) seen (s.rule.versions.each p.record_number p.place o.kept.on_record o.kept.there).within in
       -- it is not in the own log
       let apart : log.index ≢ id = λ here.
       let one : v ≡ log.view = same_view vs log.index id v log.view s.at here log.here in
       let mine = (s.rule.entered id v s.at s.allowed.is_open).commits e.entry (subst (λ (x : View). Among e.entry x.log) (sym one) log.among) e.wrote.commit in
       let under = (mine.own t a.0 (omega arith) e.write e.wrote.among).raised d a.1.0 (sym a.1.1 ∙ sym e.wrote.of_record) in ne (omega arith) in
       let number_apart : log.view.number ≢ v.number = λ same. apart (s.rule.seats.apart log.index id log.view v log.here s.at log.is_open s.allowed.is_open same) in record {
+        stamp = record { clock_in_range = let own = (flight_seat kept z g m vs id v _ s id v s.at s.allowed.is_open t a.0).3.clock_in_range in omega arith; seat_in_range = let size = s.rule.sized.seats_in_range in omega arith };
         another = λ same. ⊎_elim (λ (mine : seat_of e.entry.stamp ≡ log.view.number). number_apart (sym mine ∙ ap seat_of at_stamp ∙ same))
             (λ (has : Has (seat_of e.entry.stamp) log.view.clock.taken_in). AllOf-Has (λ x. v.number ≢ x) (seat_of e.entry.stamp) log.view.clock.taken_in
             (s.rule.seats.taken log.index id log.view v log.here s.at log.is_open s.allowed.is_open) has (sym same ∙ ap seat_of (sym at_stamp))) ok.drawn_by;
-        within = rw (s.rule.seats.each id v s.at s.allowed.is_open).size (subst (λ (x : ℕ). seat_of x < z.seats) seen (s.rule.versions.each p.record_number p.place o.kept.on_record o.kept.there).within);
+        within = rw (s.rule.seats.each id v s.at s.allowed.is_open).size within;
         not_alone = no_other _ s log.index log.view log.here log.is_open number_apart;
       } in (omega arith, above)
 
@@ -177,9 +181,11 @@ module _ (kept : State → Type 0) (z : Size) (g : World) (m : Memory) (vs : Lis
       let f = (aim_of_check kept z g m vs id v k s p u is aim_is).0 in
       let c = s.rule.clocks id v s.at s.allowed.is_open in
       let drawn = (subst (InFlight v.clock v.published) f c.in_flight).0 in let last = c.last in
-      ⊎_elim (λ zero_is. absurd (omega arith)) (λ h. drawn_later f drawn last h.0 h.1) (s.rule.read_stamps p.record_number p.place o.kept.on_record o.kept.there) where
-        drawn_later : v.flight ≡ writing (stamp_in v.flight) → stamp_in v.flight ≡ v.clock.drawn → g.drawn v.number ≡ v.clock.drawn → seat_of (m (rts p.place)) < z.seats → m (rts p.place) ≤ g.drawn (seat_of (m (rts p.place))) → IsOfAnother v (m (rts p.place))
-        drawn_later f drawn last within was = record {
+      ⊎_elim (λ zero_is. absurd (omega arith)) (λ h. drawn_later f drawn last h.0 h.1 h.2) (s.rule.read_stamps p.record_number p.place o.kept.on_record o.kept.there) where
+        drawn_later : v.flight ≡ writing (stamp_in v.flight) → stamp_in v.flight ≡ v.clock.drawn → g.drawn v.number ≡ v.clock.drawn → IsStamp (m (rts p.place)) → seat_of (m (rts p.place)) < z.seats → m (rts p.place) ≤ g.drawn (seat_of (m (rts p.place)))
+            → IsOfAnother v (m (rts p.place))
+        drawn_later f drawn last stamp within was = record {
+          stamp = stamp;
           another = λ same. absurd (let l : m (rts p.place) ≤ g.drawn v.number = subst (λ (x : ℕ). m (rts p.place) ≤ g.drawn x) same was in omega arith);
           within = rw (s.rule.seats.each id v s.at s.allowed.is_open).size within;
           not_alone = λ alone. let low = drawn_low kept z g m vs s.rule id v s.at s.allowed.is_open (stamp_in v.flight) f (taken_as kept z g m vs s.rule id v s.at s.allowed.is_open alone) (seat_of (m (rts p.place))) within in omega arith;

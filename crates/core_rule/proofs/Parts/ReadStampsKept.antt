@@ -29,7 +29,7 @@ use Rattle.core_rule.proofs.Parts.VersionsKept.{flight_seat, draws_later}
 
 IsNotAboveDrawn-later : (seats : ℕ) (drawn drawn' : ℕ → ℕ) (t : ℕ) → ((seat : ℕ) → drawn seat ≤ drawn' seat) → IsNotAboveDrawn seats drawn t → IsNotAboveDrawn seats drawn' t
 IsNotAboveDrawn-later seats drawn drawn' t rises (inl e) = inl e
-IsNotAboveDrawn-later seats drawn drawn' t rises (inr h) = inr (h.0, let up = rises (seat_of t) in let d = h.1 in omega arith)
+IsNotAboveDrawn-later seats drawn drawn' t rises (inr h) = inr (h.0, h.1, let up = rises (seat_of t) in let d = h.2 in omega arith)
 
 -- the greater of two
 IsNotAboveDrawn-max : (seats : ℕ) (drawn : ℕ → ℕ) (a b : ℕ) → IsNotAboveDrawn seats drawn a → IsNotAboveDrawn seats drawn b → IsNotAboveDrawn seats drawn (max a b)
@@ -61,7 +61,7 @@ module _ (kept : State → Type 0) (z : Size) (g : World) (m : Memory) (vs : Lis
       (λ e. IsNotAboveDrawn-max z.seats g.drawn (m (rts d.place)) (stamp_in v.flight) (subst (λ (y : ℕ). IsNotAboveDrawn z.seats g.drawn (m (rts y))) (sym e) (s.rule.read_stamps r q lt has))
       (let f = flight_seat kept z g m vs id v _ s id v s.at s.allowed.is_open (stamp_in v.flight) s.allowed.can.0 in
       let inside = (s.rule.seats.each id v s.at s.allowed.is_open).within in let last = (s.rule.clocks id v s.at s.allowed.is_open).last in let drawn = f.2 in
-      inr (subst (λ (x : ℕ). (x < z.seats) × (stamp_in v.flight ≤ g.drawn x)) (sym f.1) (inside, omega arith))))
+      inr (f.3, subst (λ (x : ℕ). x < z.seats) (sym f.1) inside, subst (λ (x : ℕ). stamp_in v.flight ≤ g.drawn x) (sym f.1) (omega arith))))
       (λ ne. s.rule.read_stamps r q lt has)
   read_stamps_kept (link_head p j w) s r q lt has =
       links_kept _ s p j (at_number g.lists p.record_number (j.write.place ∷ g.lists p.record_number)) (grown_head g.lists p.record_number j.write.place)

@@ -4,8 +4,7 @@ use Rattle.std.specs.Prelude.{nat_lt}
 use Rattle.plain_data.specs.State.{State}
 use Rattle.word_layout.specs.Size.{Size, IsSize, places}
 use Rattle.word_layout.specs.Name.{head, status, wts, next as next_word}
-use Rattle.stamp_base.specs.Limits.{end_of_stamps}
-use Rattle.stamp_base.specs.Stamp.{stamp_of, seat_of}
+use Rattle.stamp_base.specs.Stamp.{stamp_of, seat_of, IsStamp}
 use Rattle.core_rule.specs.Memory.{Memory, Stored, stored, start}
 use Rattle.core_rule.specs.World.{World, Owner, linked, at_number, behind, up_to, first_world, nothing_drawn}
 use Rattle.core_rule.specs.View.{View, Flight, resting, writing, Write, Joint, Stand, stamped, first_view}
@@ -103,7 +102,7 @@ module _ (kept : State → Type 0) (z : Size) (g : World) (m : Memory) (vs : Lis
   rests = record { linked = λ u k. absurd k; once = λ u x k l. absurd k; own = λ t r p is lt has at. absurd cc }
 
   -- a stamp in flight carries the seat's number
-  pub flight_seat : (k : Kind) → Step kept z g m vs id v k → (i : ℕ) (u : View) → At vs i u → u.spent ≡ false → (t : ℕ) → u.flight ≡ writing t → (0 < t) × (seat_of t ≡ u.number) × (t ≡ u.clock.drawn) × (t < end_of_stamps)
+  pub flight_seat : (k : Kind) → Step kept z g m vs id v k → (i : ℕ) (u : View) → At vs i u → u.spent ≡ false → (t : ℕ) → u.flight ≡ writing t → (0 < t) × (seat_of t ≡ u.number) × (t ≡ u.clock.drawn) × IsStamp t
   flight_seat k s i u at live t e =
       let c = s.rule.clocks i u at live in
       let p = subst (InFlight u.clock u.published) e c.in_flight in
@@ -111,9 +110,9 @@ module _ (kept : State → Type 0) (z : Size) (g : World) (m : Memory) (vs : Lis
       let range = c.in_range in let inside = (s.rule.seats.each i u at live).within in let size = s.rule.sized.seats_in_range in
       let positive : 0 < t = omega arith in
       by_drawn positive c.carries drawn range inside size where
-        by_drawn : 0 < t → IsDrawn u.number u.clock.clock u.clock.drawn → t ≡ u.clock.drawn → u.clock.clock ≤ 72057594037927934 → u.number < z.seats → z.seats ≤ 64 → (0 < t) × (seat_of t ≡ u.number) × (t ≡ u.clock.drawn) × (t < end_of_stamps)
+        by_drawn : 0 < t → IsDrawn u.number u.clock.clock u.clock.drawn → t ≡ u.clock.drawn → u.clock.clock ≤ 72057594037927934 → u.number < z.seats → z.seats ≤ 64 → (0 < t) × (seat_of t ≡ u.number) × (t ≡ u.clock.drawn) × IsStamp t
         by_drawn pos (inl zero_is) d range inside size = absurd (omega arith)
-        by_drawn pos (inr h) d range inside size = let le = h.1 in let is = h.2 in (pos, omega arith, d, omega arith)
+        by_drawn pos (inr h) d range inside size = let le = h.1 in let is = h.2 in (pos, omega arith, d, record { clock_in_range = omega arith; seat_in_range = omega arith })
 
   pub stamps_apart : (k : Kind) → Step kept z g m vs id v k → (i : ℕ) (u : View) → i ≢ id → At vs i u → u.spent ≡ false → (t : ℕ) → v.flight ≡ writing t → u.flight ≡ writing t → ⊥
   stamps_apart k s i u ne at live t e f =
@@ -153,7 +152,7 @@ module _ (kept : State → Type 0) (z : Size) (g : World) (m : Memory) (vs : Lis
 
     new_version : (u : View) → u.spent ≡ v.spent → u.flight ≡ v.flight → u.work.linked ≡ v.work.linked ++ j.write ∷ [] → VersionOk z g.drawn S T (set vs id u) p.record_number new
     new_version u spent flight done =
-        let f = flight_seat k s id v s.at s.allowed.is_open t o.mark.in_flight in let st = o.mark.stamp in let pos = f.0 in let early = f.3 in
+        let f = flight_seat k s id v s.at s.allowed.is_open t o.mark.in_flight in let st = o.mark.stamp in let pos = f.0 in let in_range = f.3.clock_in_range in
         let last = (s.rule.clocks id v s.at s.allowed.is_open).last in let drawn = f.2 in record {
           early = omega arith;
           within = subst (λ (x : ℕ). seat_of x < z.seats) (sym st) (subst (λ (x : ℕ). x < z.seats) (sym f.1) (s.rule.seats.each id v s.at s.allowed.is_open).within);

@@ -1,6 +1,6 @@
 use Rattle.std.proofs.Common.{◌≡◌, true, false, inl, inr}
 use Rattle.word_layout.specs.Size.{reserved_place}
-use Rattle.seat_post.proofs.Renewed.{met_taking, still_free}
+use Rattle.seat_post.proofs.Renewed.{still_free, tries_taking}
 use Rattle.seat_post.proofs.renewing.take_place.Goals as goal
 
 -- one of the two places is known to be free
@@ -13,14 +13,5 @@ unreachable-requires g c =
       | inr inline ↦ e.free inline
     ]
 
-pub returns-clause-reserved : goal.returns-clause-reserved
-returns-clause-reserved g c = λ here.
-    let v = c.args.hand.now.view in
-    let e = c.in_default.ensures in
-    let k = c.in-Some.ensures in (
-      k.reserved,
-      record {
-        inline_met = met_taking c.args.rid c.in-Some.place v c.take.new.hand.view c.take_reserved.new.hand.view e.inline_met k.taken;
-        usable_met = λ p usable. met_taking p c.in-Some.place v c.take.new.hand.view c.take_reserved.new.hand.view (e.usable_met p usable) k.taken;
-      },
-    )
+pub returns-clause-tries : goal.returns-clause-tries
+returns-clause-tries g c = tries_taking c.args.core.now.size c.args.rid c.in-Some.place c.args.hand.now.view c.take.new.hand.view c.take_reserved.new.hand.view c.in_default.ensures.places_out c.in-Some.ensures.taken

@@ -1,4 +1,4 @@
-use Rattle.std.proofs.Common.{◌≡◌, ◌<◌, ◌+◌, ◌∙◌, ℕ, Bool, List, Some, length, subst, sym, rules}
+use Rattle.std.proofs.Common.{◌≡◌, ◌<◌, ◌+◌, ℕ, Bool, List, Some, length, subst, sym}
 use Rattle.word_layout.specs.Size.{Size, places}
 use Rattle.version_search.specs.Finding.{Reads, status_of}
 use Rattle.seat_post.specs.Searched.{Finds}

@@ -1,4 +1,4 @@
-use Rattle.std.proofs.Common.{◌≡◌, ℕ, List, ◌+◌, ◌*◌, set, subst, arith}
+use Rattle.std.proofs.Common.{◌≡◌, ℕ, ◌+◌, ◌*◌, set, subst, arith}
 use Rattle.version_search.proofs.Cells.{Loaded, begins, one_more, leaves}
 use Rattle.version_search.proofs.loading.load_words.Goals as goal
 

@@ -22,14 +22,14 @@ pub invariant_of-self : goal.invariant_of-self
 invariant_of-self g c =
     let is = at_known _ _ _ _ _ (ap (λ (p : PostView). p.phase) c.self.view_is ∙ c.requires.phase) c.self.invariant in
     let a = c.abort.ensures in
-    let e = c.clear.ensures in
-    post_over c.args.core.now _ _ _ _ _ _ _ _ is a.stands (ap (λ (v : View). v.counts.in_reserved) a.as_before.only) is.at.installed.in_flight a.stays.ready a.aborted.ends c.make-self-inside.ensures.number e.reads e.writes
+    let e = c.let_go.ensures in
+    rw e.phase (post_over c.args.core.now _ _ _ _ _ _ _ _ is a.stands (ap (λ (v : View). v.counts.in_reserved) a.as_before.only) is.at.installed.in_flight a.stays.ready a.aborted.ends e.stamp e.reads e.writes)
 
 pub returns : goal.returns
 returns g c =
     let i = c.self.inside in
     let is = at_known _ _ _ _ _ (ap (λ (p : PostView). p.phase) c.self.view_is ∙ c.requires.phase) c.self.invariant in
     let a = c.abort.ensures in
-    let e = c.clear.ensures in
-    view_over_same i.hand c.abort.new.hand i.phase i.stamp _ _ i.sets c.clear.new.self a.stays.seat.same_table a.stands a.as_before (a.linked ∙ sym is.at.installed.linked) a.seen is.at.installed.in_flight a.log c.make-self-inside.ensures.number e.reads e.writes
-    ∙ ap closed c.self.view_is
+    let e = c.let_go.ensures in
+    rw e.phase (view_over_same i.hand c.abort.new.hand i.phase i.stamp _ _ i.sets c.let_go.new.sets a.stays.seat.same_table a.stands a.as_before (a.linked ∙ sym is.at.installed.linked) a.seen is.at.installed.in_flight a.log e.stamp e.reads e.writes
+    ∙ ap closed c.self.view_is)

@@ -36,5 +36,8 @@ pub returns-clause-raised : goal.returns-clause-raised
 returns-clause-raised g c =
     let is = raised g c in
     let w = c.raise_min_write.new.hand.view in
-    let at = subst (λ (n : ℕ). RaisesTo published_write min_write c.self.inside.hand.view.size.seats n (observed_of c.self.inside.hand.view) (observed_of w)) (sym (ap (λ (v : View). v.clock.met) is.only)) is.raised in
-    subst (λ (p : PostView). RaisesTo published_write min_write p.shared.size.seats w.clock.met p.observed (observed_of w)) c.self.view_is at
+    let v = c.self.inside.hand.view in
+    let published = sym (ap (λ (x : View). x.published.write) is.only) in
+    let met = sym (ap (λ (x : View). x.clock.met) is.only) in
+    let at = subst (λ (n : ℕ × ℕ). RaisesTo published_write min_write v.size.seats v.number n.0 n.1 (observed_of v) (observed_of w)) (λ i. (published i, met i)) is.raised in
+    subst (λ (p : PostView). RaisesTo published_write min_write p.shared.size.seats p.seat w.published.write w.clock.met p.observed (observed_of w)) c.self.view_is at

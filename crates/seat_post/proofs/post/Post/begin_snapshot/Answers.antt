@@ -28,4 +28,4 @@ returns-clause-alone g c =
 pub returns-clause-minimum : goal.returns-clause-minimum
 returns-clause-minimum g c =
     let hand' = c.begin_snapshot.new.hand in
-    subst (λ (p : PostView). MeetsMinimum p.shared.size.seats (c.begin_snapshot.result + 1) p.observed (observed_in hand')) c.self.view_is (opened_minimum c.begin_snapshot.result c.self.inside.hand hand' c.begin_snapshot.ensures.opens)
+    subst (λ (p : PostView). MeetsMinimum p.shared.size.seats p.seat p.published (c.begin_snapshot.result + 1) p.observed (observed_in hand')) c.self.view_is (opened_minimum c.begin_snapshot.result c.self.inside.hand hand' c.begin_snapshot.ensures.opens)

@@ -103,14 +103,14 @@ pub invariant_of-self-in-Err : goal.invariant_of-self-in-Err
 invariant_of-self-in-Err g c =
     let is = at_known _ _ _ _ _ (ap (λ (p : PostView). p.phase) c.self.view_is ∙ c.requires.phase) c.self.invariant in
     let d = c.decide.ensures in
-    let e = c.clear.ensures in
-    post_over c.args.core.now _ _ _ _ _ _ _ _ is d.stands (ap (λ (v : View). v.counts.in_reserved) c.in-Err.ensures.as_before.only) is.at.installed.in_flight d.stays.ready c.in-Err.ensures.aborted.ends c.make-self-inside.ensures.number e.reads e.writes
+    let e = c.let_go.ensures in
+    rw e.phase (post_over c.args.core.now _ _ _ _ _ _ _ _ is d.stands (ap (λ (v : View). v.counts.in_reserved) c.in-Err.ensures.as_before.only) is.at.installed.in_flight d.stays.ready c.in-Err.ensures.aborted.ends e.stamp e.reads e.writes)
 
 pub returns-in-Err-clause-err : goal.returns-in-Err-clause-err
 returns-in-Err-clause-err g c =
     let i = c.self.inside in
     let is = at_known _ _ _ _ _ (ap (λ (p : PostView). p.phase) c.self.view_is ∙ c.requires.phase) c.self.invariant in
     let d = c.decide.ensures in
-    let e = c.clear.ensures in
-    view_over_all i.hand c.decide.new.hand i.phase i.stamp _ _ i.sets c.clear.new.self d.stays.seat.same_table d.stands c.in-Err.ensures.as_before (d.linked ∙ sym is.at.installed.linked) is.at.installed.in_flight c.in-Err.ensures.log c.make-self-inside.ensures.number e.reads e.writes
-    ∙ ap (λ (p : PostView). observing (closed p) (observed_in c.decide.new.hand)) c.self.view_is
+    let e = c.let_go.ensures in
+    rw e.phase (view_over_all i.hand c.decide.new.hand i.phase i.stamp _ _ i.sets c.let_go.new.sets d.stays.seat.same_table d.stands c.in-Err.ensures.as_before (d.linked ∙ sym is.at.installed.linked) is.at.installed.in_flight c.in-Err.ensures.log e.stamp e.reads e.writes
+    ∙ ap (λ (p : PostView). observing (closed p) (observed_in c.decide.new.hand)) c.self.view_is)

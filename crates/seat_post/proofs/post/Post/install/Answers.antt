@@ -54,17 +54,17 @@ pub invariant_of-self-in-Err : goal.invariant_of-self-in-Err
 invariant_of-self-in-Err g c =
     let is = at_known _ _ _ _ _ (ap (λ (p : PostView). p.phase) c.self.view_is ∙ c.requires.open) c.self.invariant in
     let n = c.install.ensures in
-    let e = c.clear.ensures in
-    post_over c.args.core.now _ _ _ _ _ _ _ _ is n.stands n.in_reserved is.at.begun.in_flight n.stays.ready c.in-Err.ensures.err.ends c.make-self-inside.ensures.number e.reads e.writes
+    let e = c.let_go.ensures in
+    rw e.phase (post_over c.args.core.now _ _ _ _ _ _ _ _ is n.stands n.in_reserved is.at.begun.in_flight n.stays.ready c.in-Err.ensures.err.ends e.stamp e.reads e.writes)
 
 pub returns-in-Err-clause-err : goal.returns-in-Err-clause-err
 returns-in-Err-clause-err g c =
     let i = c.self.inside in
     let is = at_known _ _ _ _ _ (ap (λ (p : PostView). p.phase) c.self.view_is ∙ c.requires.open) c.self.invariant in
     let n = c.install.ensures in
-    let e = c.clear.ensures in
-    view_over i.hand c.install.new.hand i.phase i.stamp _ _ i.sets c.clear.new.self n.stays.seat.same_table n.stands is.at.begun.in_flight n.log c.make-self-inside.ensures.number e.reads e.writes
-    ∙ ap (λ (p : PostView). observing (placing (closed (with_bounds p record { counts = c.install.new.hand.view.counts; tops = c.install.new.hand.view.tops })) (placed_of c.install.new.hand.view.work.linked)) (observed_in c.install.new.hand)) c.self.view_is
+    let e = c.let_go.ensures in
+    rw e.phase (view_over i.hand c.install.new.hand i.phase i.stamp _ _ i.sets c.let_go.new.sets n.stays.seat.same_table n.stands is.at.begun.in_flight n.log e.stamp e.reads e.writes
+    ∙ ap (λ (p : PostView). observing (placing (closed (with_bounds p record { counts = c.install.new.hand.view.counts; tops = c.install.new.hand.view.tops })) (placed_of c.install.new.hand.view.work.linked)) (observed_in c.install.new.hand)) c.self.view_is)
 
 pub returns-in-Ok-clause-linked : goal.returns-in-Ok-clause-linked
 returns-in-Ok-clause-linked g c =

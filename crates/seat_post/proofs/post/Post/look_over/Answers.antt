@@ -69,5 +69,5 @@ pub returns-clause-loads : goal.returns-clause-loads
 returns-clause-loads g c =
     let last = c.publish_read in
     let n = c.args.numbers.now in
-    subst (λ (p : PostView). LooksOver p.shared.size.seats last.new.hand.view.clock.met last.new.hand.view.published.write n.fixed n.records c.list_absent.new.numbers.spare p.observed (observed_in last.new.hand)) c.self.view_is
+    subst (λ (p : PostView). LooksOver p.shared.size.seats p.seat last.new.hand.view.clock.met last.new.hand.view.published.write n.fixed n.records c.list_absent.new.numbers.spare p.observed (observed_in last.new.hand)) c.self.view_is
     (looks_over _ _ _ c.list_absent.new.hand.view last.new.hand.view _ _ n.fixed n.records c.list_absent.new.numbers.spare (raised g c) c.publish_read-stamp.ensures.view (over g c) c.list_absent.ensures.looks c.list_absent.ensures.each last.ensures.view (end g c))

@@ -38,17 +38,17 @@ pub invariant_of-self : goal.invariant_of-self
 invariant_of-self g c =
     let is = at_known _ _ _ _ _ (ap (λ (p : PostView). p.phase) c.self.view_is ∙ c.requires.phase) c.self.invariant in
     let p = c.publish.ensures in
-    let e = c.clear.ensures in
-    post_over c.args.core.now _ _ _ _ _ _ _ _ is p.stands (ap (λ (v : View). v.counts.in_reserved) p.as_before.only) is.at.decided.in_flight p.stays.ready p.published.ends c.make-self-inside.ensures.number e.reads e.writes
+    let e = c.let_go.ensures in
+    rw e.phase (post_over c.args.core.now _ _ _ _ _ _ _ _ is p.stands (ap (λ (v : View). v.counts.in_reserved) p.as_before.only) is.at.decided.in_flight p.stays.ready p.published.ends e.stamp e.reads e.writes)
 
 pub returns-clause-closed : goal.returns-clause-closed
 returns-clause-closed g c =
     let i = c.self.inside in
     let is = at_known _ _ _ _ _ (ap (λ (p : PostView). p.phase) c.self.view_is ∙ c.requires.phase) c.self.invariant in
     let p = c.publish.ensures in
-    let e = c.clear.ensures in
-    view_over_same i.hand c.publish.new.hand i.phase i.stamp _ _ i.sets c.clear.new.self p.stays.seat.same_table p.stands p.as_before (p.linked ∙ sym is.at.decided.linked) p.seen is.at.decided.in_flight p.log c.make-self-inside.ensures.number e.reads e.writes
-    ∙ ap closed c.self.view_is
+    let e = c.let_go.ensures in
+    rw e.phase (view_over_same i.hand c.publish.new.hand i.phase i.stamp _ _ i.sets c.let_go.new.sets p.stays.seat.same_table p.stands p.as_before (p.linked ∙ sym is.at.decided.linked) p.seen is.at.decided.in_flight p.log e.stamp e.reads e.writes
+    ∙ ap closed c.self.view_is)
 
 pub returns-clause-placed : goal.returns-clause-placed
 returns-clause-placed g c =

@@ -3,7 +3,8 @@ use Rattle.core_rule.specs.Hands.{Shared}
 use Rattle.seat_post.proofs.Answered.{if_ok_map, on_err_map}
 use Rattle.seat_post.proofs.Settlement.{settles_post, settles_all, stops_post}
 use Rattle.seat_post.specs.Collecting.{trail_in}
-use Rattle.seat_post.specs.Settling.{SettlesPost, SettlesFirst, SettlesAll, StopsSome, StopsPost}
+use Rattle.seat_post.specs.Settling.{SettlesPost, SettlesAll, StopsSome, StopsPost}
+use Rattle.seat_post.specs.SettlingOne.{SettlesFirst}
 use Rattle.std.proofs.Common.{◌≡◌, [], refl, ap, ◌∙◌, sym, subst}
 use Rattle.stamp_base.specs.Stamp.{bound_of_clock}
 use Rattle.core_rule.specs.View.{View, no_work, nothing_reserved}
@@ -61,7 +62,7 @@ returns-clause-done g c =
     if_ok_map told.result _ (SettlesAll c.args.self.now after)
     (λ all first. subst (λ (p : PostView). SettlesAll p after all) c.self.view_is
     (settles_all i.hand told.new.hand last i.phase i.stamp c.publish_read.result i.sets c.publish_read.ensures.view all
-    (subst (λ (x : Size). SettlesFirst x x.records all (trail_in i.hand.view) (trail_in told.new.hand.view)) (sym size) first)))
+    (subst (λ (x : Size). SettlesFirst x i.hand.view.number x.records all (trail_in i.hand.view) (trail_in told.new.hand.view)) (sym size) first)))
     told.ensures.done
 
 pub returns-clause-stops : goal.returns-clause-stops

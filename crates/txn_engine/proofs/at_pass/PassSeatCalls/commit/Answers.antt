@@ -28,8 +28,8 @@ told_too : {A F : Type 0} (answer : Result A F) (P : F → Type 0) → IsErrAnd 
 told_too (Ok value) P told = told
 told_too (Err f) P told = told
 
-pub check-requires-clause-fits : goal.check-requires-clause-fits
-check-requires-clause-fits g c = subst (λ (p : PassView). Fits g.J.Keeps.kept p.shared.size.records (entry_of p)) (sym c.in_ok-linked.ensures.ok.after) c.requires.fits
+pub decide-requires-clause-fits : goal.decide-requires-clause-fits
+decide-requires-clause-fits g c = subst (λ (p : PassView). Fits g.J.Keeps.kept p.shared.size.records (entry_of p)) (sym c.in_ok-linked.ensures.ok.after) c.requires.fits
 
 pub returns-in_err-entered-clause-commits : goal.returns-in_err-entered-clause-commits
 returns-in_err-entered-clause-commits g c =
@@ -40,9 +40,9 @@ returns-in_err-entered-clause-commits g c =
     let placed = ap (λ (q : PassView). q.placed) refused.after in
     let conflict = c.in_err-entered.field-0.0 in
     let told = told_too c.from_residual-in_err-entered.result _ c.from_residual-in_err-entered.ensures.1 in
-    let stopped = refused.after ∙ ap (λ (q : PassView). observing (refused_at q) c.check.new.self.observed) linked.after in
+    let stopped = refused.after ∙ ap (λ (q : PassView). observing (refused_at q) c.decide.new.self.observed) linked.after in
     let grown = puts_grow p.shared.size p.stamp c.install.new.self.placed p.observed c.install.new.self.observed linked.puts in
-    let halted = halted_grows c.install.new.self c.check.new.self conflict refused.halts refused.lost in
+    let halted = halted_grows c.install.new.self c.decide.new.self conflict refused.halts refused.lost in
     let some = all_linked p.writes p.stamp p.bounds c.install.new.self.bounds linked.linked in
     record {
       ok = search rules;
@@ -57,17 +57,17 @@ returns-in_err-entered-clause-commits g c =
       dead = search rules;
       cause = search rules;
       touched = search rules;
-      halted = λ alive. err_told _ (fault.Conflict conflict) (λ f. MatchStopped f (λ x. LinksThen (IsHaltedBy p x) p c.check.new.self) ⊤) told record {
+      halted = λ alive. err_told _ (fault.Conflict conflict) (λ f. MatchStopped f (λ x. LinksThen (IsHaltedBy p x) p c.decide.new.self) ⊤) told record {
         between = c.install.new.self.observed;
         puts = subst (λ (x : List Placed). OneByOne (Puts p.shared.size p.stamp) x p.observed c.install.new.self.observed) (sym placed) linked.puts;
-        then = subst (λ (q : PassView). IsHaltedBy q conflict c.install.new.self.observed.loads c.check.new.self.observed.loads) linked.after refused.halts;
+        then = subst (λ (q : PassView). IsHaltedBy q conflict c.install.new.self.observed.loads c.decide.new.self.observed.loads) linked.after refused.halts;
         lost = refused.lost;
       };
-      loaded = λ alive. err_told _ (fault.Conflict conflict) (λ f. MatchStopped f (WasLoaded p c.check.new.self) ⊤) told
-          (loaded_earlier p.stamp p.observed c.install.new.self.observed c.check.new.self.observed conflict grown (subst (λ n. IsLoaded n conflict c.install.new.self.observed c.check.new.self.observed) (ap (λ (q : PassView). q.stamp) linked.after) refused.loaded));
+      loaded = λ alive. err_told _ (fault.Conflict conflict) (λ f. MatchStopped f (WasLoaded p c.decide.new.self) ⊤) told
+          (loaded_earlier p.stamp p.observed c.install.new.self.observed c.decide.new.self.observed conflict grown (subst (λ n. IsLoaded n conflict c.install.new.self.observed c.decide.new.self.observed) (ap (λ (q : PassView). q.stamp) linked.after) refused.loaded));
       places = search rules;
       still = search rules;
-      placed = λ alive. err_told _ (fault.Conflict conflict) (λ f. MatchStopped f (λ x. HavePlaces p.shared.size p.writes c.check.new.self.placed) ⊤) told
+      placed = λ alive. err_told _ (fault.Conflict conflict) (λ f. MatchStopped f (λ x. HavePlaces p.shared.size p.writes c.decide.new.self.placed) ⊤) told
           (subst (λ (x : List Placed). HavePlaces p.shared.size p.writes x) (sym placed) linked.have);
       read_left = search rules;
       linked = search rules;
@@ -82,7 +82,7 @@ pub returns-clause-commits : goal.returns-clause-commits
 returns-clause-commits g c =
     let p = c.args.self.now in
     let known = c.install.new.self.bounds in
-    let o = c.check.new.self.observed in
+    let o = c.decide.new.self.observed in
     let linked = c.in_ok-linked.ensures.ok in
     let entered = c.in_ok-entered.ensures.ok in
     let publishes = c.publish.ensures.publishes in
@@ -91,7 +91,7 @@ returns-clause-commits g c =
     let placed = c.install.new.self.placed in
     let between = c.install.new.self.observed in
     let grown = puts_grow p.shared.size p.stamp placed p.observed between linked.puts in
-    let validated = validated_grows c.install.new.self c.check.new.self entered.validated entered.lost in
+    let validated = validated_grows c.install.new.self c.decide.new.self entered.validated entered.lost in
     let told = subst (λ (q : PassView). AreBounded (bounds_first q) q.writes → c.publish.result.pooled ≡ count_raised (bounds_first q) q.bounds q.writes) same publishes.pooled in
     let then' = subst (λ (k : Bounds). AreBounded k p.writes → c.publish.result.pooled ≡ count_raised k known p.writes) linked.first told in
     record {

@@ -52,7 +52,7 @@ returns-in-Ok-clause-ok g c =
     subst (λ (x : PassView). TellsAbsent x (record b { post = q }) c.args.rid c.in-Ok.absent) c.self.view_is (record {
       after = asked_absent b q c.args.rid c.in-Ok.absent unknown c.in-Ok.ensures.absent c.in-Ok.ensures.passed;
       met_absent = λ on. let r = c.in-Ok.ensures.absent on in inr (unknown, (r.found, ap (λ (x : PostView). x.versions) r.after));
-      met_present = λ off. let found = c.in-Ok.ensures.present off in (found.0, inr found.1);
+      met_present = λ off. let found = c.in-Ok.ensures.present off in (found.0, inr (unknown, found.1));
       left = λ alone off.
           let flying = ap (λ (x : PassView). x.phase) c.self.view_is ∙ c.requires.open in
           present_all p.log c.args.rid p.stamp (c.version_read.ensures.above flying) (c.in-Ok.ensures.left alone off);
@@ -69,7 +69,7 @@ returns-in-Err-Pending-clause-err g c =
     let rid : c.args.rid < p.shared.size.records = subst (λ (x : PassView). c.args.rid < x.shared.size.records) (sym c.self.view_is) c.requires.rid in
     subst (λ (x : PassView). Reads x c.doom.new.self c.args.rid (Err c.doom.result)) c.self.view_is
     (met_pending b q c.doom.new.self c.args.rid c.in-Err-Pending.wts c.doom.result (ap (λ (x : PassView). x.dead) c.self.view_is ∙ c.requires.alive) unknown
-    (ap (λ (x : PostView). record b { post = x }) c.in-Err-Pending.ensures.err) (rw c.in-Err-Pending.field-0-is at c.in-Err-Pending.ensures.stops) (rid, met.0, met.1) c.doom.ensures.after c.doom.ensures.fault)
+    (ap (λ (x : PostView). record b { post = x }) c.in-Err-Pending.ensures.err) (rw c.in-Err-Pending.field-0-is at c.in-Err-Pending.ensures.stops) ((rid, met.0), met.1) c.doom.ensures.after c.doom.ensures.fault)
 
 pub returns-in-Err-NoMemory-clause-err : goal.returns-in-Err-NoMemory-clause-err
 returns-in-Err-NoMemory-clause-err g c =

@@ -25,7 +25,7 @@ returns-in-Err-Pending g c =
     let unknown : known_at p c.args.rid ≡ None = ap (λ (x : PassView). known_at x.post c.args.rid) c.self.view_is ∙ c.requires.first in
     let reads =
     met_pending b q c.doom.new.self c.args.rid c.in-Err-Pending.wts c.doom.result (ap (λ (x : PassView). x.dead) c.self.view_is ∙ c.requires.alive) unknown
-    (ap (λ (x : PostView). record b { post = x }) c.in-Err-Pending.ensures.err) (rw c.in-Err-Pending.field-0-is at c.in-Err-Pending.ensures.stops) (rid, met.0, met.1) c.doom.ensures.after c.doom.ensures.fault in
+    (ap (λ (x : PostView). record b { post = x }) c.in-Err-Pending.ensures.err) (rw c.in-Err-Pending.field-0-is at c.in-Err-Pending.ensures.stops) ((rid, met.0), met.1) c.doom.ensures.after c.doom.ensures.fault in
     record {
       notes = record {
         ok = tt;

@@ -24,9 +24,6 @@ returns g c =
         roomy = on_ok c.settle.result (roomy_settled g.J.Keeps.kept i.post c.settle.new.self s.settles) s.settled;
         absent = absent_settled g.J.Keeps.kept i.post c.settle.new.self i.boost i.queue i.numbers i.refusals i.commits i.dead i.counted s.settles;
         draws = s.draws;
-        counts = s.counts;
-        clock_out = s.clock_out;
-        within = s.within;
         done = s.done;
         stops = s.stops;
       });

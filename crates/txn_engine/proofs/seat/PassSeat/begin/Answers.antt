@@ -1,0 +1,6 @@
+use Rattle.std.proofs.Common.{rules}
+use Rattle.txn_engine.proofs.Accounting.{keeps_absent}
+use Rattle.txn_engine.proofs.seat.PassSeat.begin.Goals as goal
+
+pub returns : goal.returns
+returns g c = search (rules, keeps_absent)

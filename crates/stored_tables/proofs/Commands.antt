@@ -6,13 +6,13 @@ use Rattle.plain_data.specs.State.{State}
 use Rattle.record_store.specs.Meaning.{Meaning}
 use Rattle.record_store.specs.declared.walk.Walk.{Walk}
 use Rattle.replay_model.specs.declared.command.Command.{Command}
-use Rattle.replay_model.specs.declared.command.Command.TheVariants.{Ins, Del, Find}
-use Rattle.replay_model.specs.declared.outcome.Answer.TheVariants.{Nothing, Pairs}
+use Rattle.replay_model.specs.declared.command.Command.TheVariants.{Ins, Del}
+use Rattle.replay_model.specs.declared.outcome.Answer.TheVariants.{Nothing}
 use Rattle.replay_model.specs.declared.outcome.Cause.{Cause}
-use Rattle.replay_model.specs.declared.outcome.Cause.TheVariants.{Exists, Missing, Over, Short, Unindexed}
-use Rattle.replay_model.specs.Effect.{effect, change_at, store_at, sum_of, difference_of, found}
+use Rattle.replay_model.specs.declared.outcome.Cause.TheVariants.{Exists, Missing, Over, Short}
+use Rattle.replay_model.specs.Effect.{effect, change_at, store_at, sum_of, difference_of}
 use Rattle.replay_model.specs.TableMap.{TableMap, Row, column_in, with_column, value_at, index_of, with_value, without}
-use Rattle.stored_tables.specs.Answers.{Held, Stands, IsIndexed, IsFound, IsSearched, Becomes, Does, DueBy, enter_moves, leave_moves}
+use Rattle.stored_tables.specs.Answers.{Held, Stands, IsIndexed, IsFound, Becomes, Does, DueBy, enter_moves, leave_moves}
 use Rattle.stored_tables.specs.declared.reading.Found.{Found}
 use Rattle.stored_tables.specs.Change.{changed, command_with}
 use Rattle.stored_tables.specs.declared.command.Change.{Change}
@@ -129,12 +129,6 @@ found_at : (table key : ℕ) (a b : Option Found) (state : State) (held : Held) 
     → IsFound table key b state held
 found_at table key a b state held same is = let P : Option Found → Type 0 = λ f. IsFound table key f state held in subst P same is
 
-find_on : (tables : TableMap) (table column lo hi limit : ℕ) (pairs : List (ℕ × Row)) → index_of table tables ≡ Some column
-    → pairs ≡ found table column lo hi limit tables → effect (Find table column lo hi limit) tables ≡ Ok (Pairs pairs, tables)
-find_on tables table column lo hi limit pairs on is = rw on
-    (ap (λ b. cond b (Ok (Pairs (found table column lo hi limit tables), tables)) (Err Unindexed)) (eq-eqb column column refl)
-    ∙ ap (λ ps. Ok (Pairs ps, tables)) (sym is))
-
 module _ {S F : Type 0} {read_gives : S → ℕ → Result (Option (List ℕ)) F → S → Type 0} {meaning : S → Meaning} where
   pub index_then_row : (table key : ℕ) (index : Option ℕ) (first middle last : S) (early : Result (Option ℕ) (Walk F))
       (result : Result (Option Found) (Walk F)) → Looks read_gives meaning (Stands (meaning first)) (IsIndexed table) first middle early
@@ -147,26 +141,6 @@ module _ {S F : Type 0} {read_gives : S → ℕ → Result (Option (List ℕ)) F
         stands_on (meaning first) (meaning middle) state held a.by.only
             stands,
         λ found is. (indexed, is),
-      ))
-
-  -- a search of an index that is on the column
-  pub searched : (table column indexed lo hi limit : ℕ) (first middle last : S) (early : Result (Option ℕ) (Walk F))
-      (result : Result (List (ℕ × Row)) (Walk F)) → Looks read_gives meaning (Stands (meaning first)) (IsIndexed table) first middle
-      early → early ≡ Ok (Some indexed) → indexed ≡ column
-      → Looks read_gives meaning (λ state held. Stands (meaning middle) state held × IsIndexed table (Some column) state held)
-      (IsSearched table column lo hi limit) middle last result
-      → Looks read_gives meaning (Stands (meaning first)) (λ pairs state held. effect (Find table column lo hi limit) held.1 ≡ Ok
-      (Pairs pairs, held.1)) first last result
-  searched table column indexed lo hi limit first middle last early result a was same b =
-      looks_then (λ pairs state held. effect (Find table column lo hi limit) held.1 ≡ Ok (Pairs pairs, held.1)) first middle last early
-      (Some indexed) result a was b
-      (λ state held agrees stands is. (
-      let on : index_of table held.1 ≡ Some column = is ∙ ap Some same in (
-        held,
-        (stands_on (meaning first) (meaning middle) state held a.by.only stands, on),
-        λ pairs found. find_on held.1 table column lo hi
-            limit pairs on found,
-      )
       ))
 
   pub row_then_index : (table key : ℕ) (found : Option Found) (first middle last : S) (early : Result (Option Found) (Walk F))

@@ -2,6 +2,7 @@ pub mod Knowing
 pub mod Runs
 pub mod Looking
 pub mod SixColumns
+pub mod Tearing
 pub mod Finding
 pub mod Heads
 pub mod Spots
@@ -24,6 +25,7 @@ pub mod BecomesRows
 pub mod BecomesMaps
 pub mod ListsRising
 pub mod ListsEntries
+pub mod Paging
 pub mod Lists
 pub mod Writing
 pub mod RowSteps

@@ -16,11 +16,13 @@ use Rattle.ordered_index.proofs.Order.{not_after_trans}
 use Rattle.ordered_index.specs.Scan.{between, is_between, Appends, ListsNothing, IsTornScan}
 use Rattle.ordered_index.specs.Tree.{EachTree, row_entries}
 use Rattle.replay_model.specs.Effect.{scanned, found}
-use Rattle.replay_model.specs.TableMap.{Row}
+use Rattle.replay_model.specs.TableMap.{Row, index_of}
 use Rattle.stored_tables.specs.Answers.{Held, Stands, IsIndexed, IsScanned, IsSearched}
 use Rattle.stored_tables.specs.Lists.{Lists, KeysUpTo}
 use Rattle.stored_tables.specs.Places.{root_of, index_tree, table_limit, tree_limit}
+use Rattle.stored_tables.specs.RowLists.{IsFoundBy}
 use Rattle.stored_tables.specs.Runs.{Looks}
+use Rattle.stored_tables.proofs.Finding.{stands_on}
 use Rattle.stored_tables.proofs.Lists.{scan_lists, find_lists}
 use Rattle.stored_tables.proofs.Runs.{looks_map, looks_then, unlike}
 
@@ -148,4 +150,18 @@ module _ {S F : Type 0} {read_gives : S → ℕ → Result (Option (List ℕ)) F
       let E : List (Key × ℕ) → Type 0 = λ es. Lists (overlay (meaning first).writes state) (λ key. key.low) es rows in
       let W : List (ℕ × Option (List ℕ)) → Type 0 = λ ws. Lists (overlay ws state) (λ key. key.low) entries rows in
       (rows, subst W (sym (writes_same (meaning first) (meaning middle) acc.by.only)) (subst E (sym is) lists), λ pairs same. same)
+      ))
+
+  -- a search of an index that is on the column
+  pub searched : (table column indexed lo hi limit : ℕ) (first middle last : S) (early : Result (Option ℕ) (Walk F))
+      (result : Result (List (ℕ × Row)) (Walk F)) → Looks read_gives meaning (Stands (meaning first)) (IsIndexed table) first middle
+      early → early ≡ Ok (Some indexed) → indexed ≡ column
+      → Looks read_gives meaning (λ state held. Stands (meaning middle) state held × IsIndexed table (Some column) state held)
+      (IsSearched table column lo hi limit) middle last result
+      → Looks read_gives meaning (Stands (meaning first)) (λ pairs. IsFoundBy table column lo hi limit (Some pairs)) first last result
+  searched table column indexed lo hi limit first middle last early result a was same b =
+      looks_then (λ pairs. IsFoundBy table column lo hi limit (Some pairs)) first middle last early (Some indexed) result a was b
+      (λ state held agrees stands is. (
+      let on : index_of table held.1 ≡ Some column = is ∙ ap Some same in
+      (held, (stands_on (meaning first) (meaning middle) state held a.by.only stands, on), λ pairs found. (on, found))
       ))

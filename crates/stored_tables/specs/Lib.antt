@@ -18,3 +18,5 @@ pub mod Weights
 pub mod OneRow
 pub mod Packed
 pub mod Change
+pub mod RowLists
+pub mod Tears

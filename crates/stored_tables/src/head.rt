@@ -1,10 +1,12 @@
 //! The head of a table's index.
 
 ghost use Rattle.std.specs.Prelude.{◌≡◌, ℕ, ◌<◌, ◌≤◌, IfOk, IfSome, IfNone};
+ghost use Rattle.record_store.specs.Walks.{IfTorn};
 ghost use Rattle.replay_model.specs.Input.{IsColumn};
 ghost use Rattle.stored_tables.specs.Answers.{Stands, IsIndexed};
 ghost use Rattle.stored_tables.specs.Runs.{Looks};
 ghost use Rattle.stored_tables.specs.Shape.{head_words};
+ghost use Rattle.stored_tables.specs.Tears.{NamesTorn};
 
 use crate::places::head_of;
 use plain_data::Cells;
@@ -15,6 +17,7 @@ pub fn index_of<S: RecordRead>(store: &mut S, table: u32) -> Result<Option<u32>,
     requires table { table < 8 }
     requires size { 4112 ≤ (S.meaning store.old).size }
     ensures looks { Looks S.read_gives S.meaning (Stands (S.meaning store.old)) (IsIndexed table) store.old store.new result }
+    ensures tears { IfTorn result (NamesTorn table (S.meaning store.old) (S.meaning store.new)) }
     ensures column { IfOk result (λ column. IfSome column IsColumn) }
     ensures rest { S.rest store.new ≡ S.rest store.old }
 {

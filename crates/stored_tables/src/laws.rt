@@ -1,6 +1,10 @@
-//! Laws of states that stand for tables. Each function does nothing; its contract is a law.
+//! Laws of tables and of states that stand for them. Each function does nothing; its contract is a law.
 
+ghost use Rattle.std.specs.Prelude.{◌≡◌};
 ghost use Rattle.stored_tables.specs.Laws.{EmptyStands, OneTables, FitsRecords, FitsMore};
+ghost use Rattle.stored_tables.specs.Places.{fixed_records};
+
+use crate::places::FIXED_RECORDS;
 
 /// The empty state stands for the tables without rows and indexes.
 pub fn empty_stands()
@@ -20,4 +24,9 @@ pub fn fits_records()
 /// A state that stands for tables at a size does so at each greater size.
 pub fn fits_more()
     ensures { FitsMore }
+{}
+
+/// The constant is the number of the definition.
+pub fn fixed_agrees()
+    ensures { FIXED_RECORDS ≡ fixed_records }
 {}

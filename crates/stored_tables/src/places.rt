@@ -3,6 +3,9 @@
 ghost use Rattle.std.specs.Prelude.{◌≡◌, ◌<◌, ◌≤◌, ◌+◌};
 ghost use Rattle.stored_tables.specs.Places as places;
 
+/// How many records tables have at places of their own, from record 0 on. Rows, and further nodes of chains and trees, have greater numbers.
+pub const FIXED_RECORDS: u32 = 4112;
+
 /// The first bucket of a table's chain.
 pub fn base_of(table: u32) -> u32
     requires { table < 8 }

@@ -1,20 +1,22 @@
 //! Rows of a table by themselves, for callers that run no block: no call takes anything back, so what was written before stays, also
 //! where a call has no answer.
 
-ghost use Rattle.std.specs.Prelude.{◌≡◌, ◌⊎◌, ◌<◌, ◌≤◌, false, IfOk};
+ghost use Rattle.std.specs.Prelude.{◌≡◌, ◌⊎◌, ℕ, ◌-◌, ◌^◌, ◌<◌, ◌≤◌, nat_le, false, IfOk, IfNone, IfSome, Some};
 ghost use Rattle.record_store.specs.Goes.{GoesByCalls};
-ghost use Rattle.record_store.specs.Walks.{IfNoMemory, OnlyReads};
+ghost use Rattle.record_store.specs.Walks.{IfNoMemory, IfTorn, OnlyReads};
 ghost use Rattle.replay_model.specs.declared.command.Command.TheVariants.{Put, Del};
 ghost use Rattle.stored_tables.specs.Answers.{DueBy, IsScanned, Stands};
 ghost use Rattle.stored_tables.specs.OneRow.{IsRowAt, SetsRow, TakesRow};
 ghost use Rattle.stored_tables.specs.Plan.{plan};
+ghost use Rattle.stored_tables.specs.RowLists.{IsPage, comes_behind};
 ghost use Rattle.stored_tables.specs.Runs.{Looks, Runs};
+ghost use Rattle.stored_tables.specs.Tears.{NamesTorn};
 
 use crate::command;
 use crate::leaving::take_row;
 use crate::reading::{find_row, scan_rows};
 use record_store::{RecordRead, RecordStore, Walk};
-use replay_model::{Columns, Pairs};
+use replay_model::{Columns, Pairs, Sequence};
 use std::alloc::Global;
 
 /// The row of a table at a key, if there is one. It never answers `NoMemory`.
@@ -26,6 +28,7 @@ pub fn get_row<S: RecordRead>(
     requires table { table < 8 }
     requires size { 4112 ≤ (S.meaning store.old).size }
     ensures looks { Looks S.read_gives S.meaning (Stands (S.meaning store.old)) (IsRowAt table key) store.old store.new result }
+    ensures tears { IfTorn result (NamesTorn table (S.meaning store.old) (S.meaning store.new)) }
     ensures memory { IfNoMemory result ⊥ }
     ensures rest { S.rest store.new ≡ S.rest store.old }
 {
@@ -47,10 +50,47 @@ pub fn list_rows<S: RecordRead>(
     requires table { table < 8 }
     requires size { 4112 ≤ (S.meaning store.old).size }
     ensures looks { Looks S.read_gives S.meaning (Stands (S.meaning store.old)) (IsScanned table lo hi limit) store.old store.new result }
+    ensures tears { IfTorn result (NamesTorn table (S.meaning store.old) (S.meaning store.new)) }
     ensures nothing { (limit ≡ 0) ⊎ (hi < lo) → store.new ≡ store.old }
     ensures rest { S.rest store.new ≡ S.rest store.old }
 {
     scan_rows(alloc, store, table, lo, hi, limit)
+}
+
+/// The first `limit` rows of a table whose keys come behind this one, by rising key; from the first row on where it is `None`. So the rows of
+/// a table are its pages: the next one comes behind the last key of a page that has `limit` rows.
+pub fn page_rows<S: RecordRead>(
+    alloc: Global,
+    store: &mut S,
+    table: u32,
+    behind: Option<u64>,
+    limit: u32,
+) -> Result<Pairs, Walk<S::Fault>>
+    requires table { table < 8 }
+    requires size { 4112 ≤ (S.meaning store.old).size }
+    ensures looks { Looks S.read_gives S.meaning (Stands (S.meaning store.old)) (IsPage table behind limit) store.old store.new result }
+    ensures tears { IfTorn result (NamesTorn table (S.meaning store.old) (S.meaning store.new)) }
+
+    // a page of no rows reads nothing, nor does one behind the greatest key
+    ensures nothing { (limit ≡ 0) ⊎ (behind ≡ Some (2 ^ 64 - 1)) → store.new ≡ store.old }
+    ensures rest { S.rest store.new ≡ S.rest store.old }
+{
+    match first_behind(behind) {
+        Some(lo) => scan_rows(alloc, store, table, lo, u64::MAX, limit),
+        None => Ok(Sequence::from_vec(Vec::new(alloc))),
+    }
+}
+
+/// The first number that comes behind this one, if there is one of 64 bits.
+fn first_behind(behind: Option<u64>) -> Option<u64>
+    ensures some { IfSome result (λ lo. (n : ℕ) → comes_behind behind n ≡ nat_le lo n) }
+    ensures not_last { IfSome result (λ _. behind ≡ Some (2 ^ 64 - 1) → ⊥) }
+    ensures none { IfNone result (behind ≡ Some (2 ^ 64 - 1)) }
+{
+    match behind {
+        None => Some(0),
+        Some(key) => key.checked_add(1),
+    }
 }
 
 /// Sets the row at a key, whether there is one or not. It asks for new records as the command does.

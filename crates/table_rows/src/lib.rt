@@ -15,6 +15,8 @@ mod generated;
 #[cfg(test)]
 mod hash;
 #[cfg(test)]
+mod indexed;
+#[cfg(test)]
 mod map;
 #[cfg(test)]
 mod outcomes;

@@ -6,14 +6,14 @@ use Rattle.record_store.specs.Meaning.{Meaning}
 use Rattle.record_store.specs.Walks.{IfTorn, IfStore}
 use Rattle.record_store.specs.declared.walk.Walk.{Walk as Walked}
 use Rattle.record_store.proofs.Refusals.{IfTorn-map, IfStore-map, torn_moved}
-use Rattle.replay_model.specs.TableMap.{Row}
+use Rattle.replay_model.specs.TableMap.{TableMap, Row}
 use Rattle.stored_tables.specs.Answers.{Held, IsScanned, Stands}
 use Rattle.stored_tables.specs.OneRow.{SetsRow, TakesRow}
 use Rattle.record_store.specs.States.{Each}
 use Rattle.stored_tables.specs.Tables.{EachTables}
 use Rattle.typed_tables.specs.declared.fault.TypedFault.{TypedFault}
 use Rattle.typed_tables.specs.declared.fault.TypedFault.TheVariants.{Walk, Foreign}
-use Rattle.typed_tables.specs.Typed.{walked, read_as, AllTyped, AreTyped, IfForeign, IsFirstForeign, IsForeignIn, LeavesTyped, Removes}
+use Rattle.typed_tables.specs.Typed.{walked, read_as, AllTyped, AreTyped, IfForeign, IsForeignIn, LeavesTyped, Removes}
 use Rattle.typed_tables.proofs.Tables.{put_typed, scanned_typed}
 
 -- a refusal handed on is that of the walk
@@ -63,15 +63,15 @@ rows_on row_of columns_of table lo hi limit pairs old new first last (Ok done) l
 )
 rows_on row_of columns_of table lo hi limit pairs old new first last (Err fault) listed typed = tt
 
-pub foreign_on : {R F : Type 0} (row_of : Row → Option R) (table lo hi limit : ℕ) (pairs : List (ℕ × Row)) (first last : Meaning)
-    (read : Result (Unit {0}) (TypedFault F)) → Each (Stands first) last (IsScanned table lo hi limit pairs)
+pub foreign_on : {R T F : Type 0} (row_of : Row → Option R) (listed : TableMap → List (ℕ × Row)) (pairs : List (ℕ × Row)) (first last : Meaning)
+    (read : Result T (TypedFault F)) → Each (Stands first) last (λ _ held. pairs ≡ listed held.1)
     → IfForeign read (λ key columns. IsForeignIn row_of pairs key columns)
-    → IfForeign read (λ key columns. EachTables first last (λ _ _ tables. IsFirstForeign row_of table lo hi limit key columns tables))
-foreign_on row_of table lo hi limit pairs first last (Ok done) listed foreign = tt
-foreign_on row_of table lo hi limit pairs first last (Err (Walk walk)) listed foreign = tt
-foreign_on row_of table lo hi limit pairs first last (Err (Foreign key columns)) listed foreign = λ state places tables agrees stands.
+    → IfForeign read (λ key columns. EachTables first last (λ _ _ tables. IsForeignIn row_of (listed tables) key columns))
+foreign_on row_of listed pairs first last (Ok done) is foreign = tt
+foreign_on row_of listed pairs first last (Err (Walk walk)) is foreign = tt
+foreign_on row_of listed pairs first last (Err (Foreign key columns)) is foreign = λ state places tables agrees stands.
     let P : List (ℕ × Row) → Type 0 = λ ps. IsForeignIn row_of ps key columns in
-    subst P (listed state (places, tables) agrees stands) foreign
+    subst P (is state (places, tables) agrees stands) foreign
 
 -- neither torn nor refused by the store
 pub not_torn_on : {F : Type 0} (read : Result (Unit {0}) (TypedFault F)) (P : ℕ → Type 0) → IfTorn (walked read) (λ _. ⊥) → IfTorn (walked read) P

@@ -1,5 +1,5 @@
 -- What pages and tables found, told of each state that stands for tables.
-use Rattle.std.proofs.Common.{◌≡◌, ◌⊎◌, ℕ, ◌+◌, ◌-◌, ◌^◌, ◌<◌, ◌≤◌, Bool, false, cond, not, List, [], ◌∷◌, ◌++◌, length, map, Option, Result, Ok, refl, sym, ap, ◌∙◌, arith}
+use Rattle.std.proofs.Common.{◌≡◌, ℕ, ◌+◌, ◌<◌, ◌≤◌, Bool, false, cond, not, List, [], ◌∷◌, ◌++◌, length, map, Option, Some, Result, Ok, refl, sym, ap, ◌∙◌, arith}
 use Rattle.std.specs.List.{range_with_len}
 use Rattle.std.proofs.lemmas.List.{append_assoc, length-append}
 use Rattle.std.proofs.lemmas.List.FromFn.{map-range_with_len_more}
@@ -7,27 +7,32 @@ use Rattle.plain_data.specs.State.{State}
 use Rattle.record_store.specs.Meaning.{Meaning}
 use Rattle.record_store.specs.declared.walk.Walk.{Walk}
 use Rattle.replay_model.specs.TableMap.{TableMap, Row, pairs_of}
-use Rattle.stored_tables.specs.Answers.{Held, IsScanned, Stands}
+use Rattle.stored_tables.specs.Answers.{Held, Stands}
+use Rattle.stored_tables.specs.RowLists.{IsPage, rows_behind}
 use Rattle.stored_tables.specs.Runs.{Looks}
 use Rattle.stored_tables.proofs.Finding.{stands_on}
 use Rattle.stored_tables.proofs.Runs.{looks_then}
-use Rattle.typed_tables.specs.Listing.{AreListed, ComeBefore, IsListed, rows_from, last_key}
+use Rattle.typed_tables.specs.Listing.{AreListed, ComeBefore, IsListed, last_key}
 use Rattle.typed_tables.proofs.Pages.{full_page, last_page}
 
 -- ---- pages
 
 -- what stands before a page, and what it has
-abbrev pub IsPage : ℕ → ℕ → List (ℕ × Row) → List (ℕ × Row) → State → Held → Type 0
-IsPage table lo pairs page state held = ComeBefore table lo pairs state held × IsScanned table lo (2 ^ 64 - 1) 256 page state held
+abbrev pub PageBehind : ℕ → Option ℕ → List (ℕ × Row) → List (ℕ × Row) → State → Held → Type 0
+PageBehind table behind pairs page state held = ComeBefore table behind pairs state held × IsPage table behind 256 page state held
 
 -- where no page comes behind the last one, the pages are all rows of the table
-pub all_pages : (table lo : ℕ) (pairs page whole : List (ℕ × Row)) (state : State) (held : Held) → IsPage table lo pairs page state held → (length page < 256) ⊎ (last_key page ≡ 2 ^ 64 - 1) → whole ≡ pairs ++ page → IsListed table whole state held
-all_pages table lo pairs page whole state held is ends grown = grown ∙ ap (λ ps. pairs ++ ps) (sym (last_page table lo held.1 page is.1 ends)) ∙ sym is.0
+pub all_pages : (table : ℕ) (behind : Option ℕ) (pairs page whole : List (ℕ × Row)) (state : State) (held : Held)
+    → PageBehind table behind pairs page state held → length page < 256 → whole ≡ pairs ++ page → IsListed table whole state held
+all_pages table behind pairs page whole state held is short grown = grown ∙ ap (λ ps. pairs ++ ps) (sym (last_page table behind held.1 page is.1 short)) ∙ sym is.0
 
 -- a page more
-pub next_page : (table lo next : ℕ) (pairs page whole : List (ℕ × Row)) (state : State) (held : Held) → IsPage table lo pairs page state held → (256 ≤ length page) × (next ≡ last_key page + 1) → whole ≡ pairs ++ page → ComeBefore table next whole state held
-next_page table lo next pairs page whole state held is full grown =
-    is.0 ∙ ap (λ ps. pairs ++ ps) (full_page table lo next held.1 page is.1 full.0 full.1).1 ∙ sym (append_assoc pairs page (rows_from table next held.1)) ∙ ap (λ ps. ps ++ rows_from table next held.1) (sym grown)
+pub next_page : (table : ℕ) (behind : Option ℕ) (last : ℕ) (pairs page whole : List (ℕ × Row)) (state : State) (held : Held)
+    → PageBehind table behind pairs page state held → (256 ≤ length page) × (last ≡ last_key page) → whole ≡ pairs ++ page
+    → ComeBefore table (Some last) whole state held
+next_page table behind last pairs page whole state held is full grown =
+    is.0 ∙ ap (λ ps. pairs ++ ps) (full_page table behind last held.1 page is.1 full.0 full.1).1
+    ∙ sym (append_assoc pairs page (rows_behind table (Some last) held.1)) ∙ ap (λ ps. ps ++ rows_behind table (Some last) held.1) (sym grown)
 
 -- a list that has grown
 pub grown : {T : Type 0} (old now more : List T) (ok failed : Bool) → now ≡ cond ok (old ++ more) old → ok ≡ not failed → failed ≡ false → now ≡ old ++ more
@@ -47,9 +52,12 @@ one_more table rows pairs tables before is = (λ j. before j ++ is j ∷ []) ∙
 
 module _ {S F : Type 0} {read_gives : S → ℕ → Result (Option (List ℕ)) F → S → Type 0} {meaning : S → Meaning} where
   -- a page more
-  pub page_looks : (table lo : ℕ) (pairs : List (ℕ × Row)) (first middle last : S) (result : Result (List (ℕ × Row)) (Walk F)) → Looks {F = F} read_gives meaning (Stands (meaning first)) (λ (_ : Unit {0}). ComeBefore table lo pairs) first middle (Ok (tt {0})) → Looks read_gives meaning (Stands (meaning middle)) (IsScanned table lo (2 ^ 64 - 1) 256) middle last result → Looks read_gives meaning (Stands (meaning first)) (IsPage table lo pairs) first last result
-  page_looks table lo pairs first middle last result acc page =
-      looks_then (IsPage table lo pairs) first middle last (Ok (tt {0})) tt result acc refl page
+  pub page_looks : (table : ℕ) (behind : Option ℕ) (pairs : List (ℕ × Row)) (first middle last : S) (result : Result (List (ℕ × Row)) (Walk F))
+      → Looks {F = F} read_gives meaning (Stands (meaning first)) (λ (_ : Unit {0}). ComeBefore table behind pairs) first middle (Ok (tt {0}))
+      → Looks read_gives meaning (Stands (meaning middle)) (IsPage table behind 256) middle last result
+      → Looks read_gives meaning (Stands (meaning first)) (PageBehind table behind pairs) first last result
+  page_looks table behind pairs first middle last result acc page =
+      looks_then (PageBehind table behind pairs) first middle last (Ok (tt {0})) tt result acc refl page
       (λ state held agrees stands before. (held, stands_on (meaning first) (meaning middle) state held acc.by.only stands, λ found is. (before, is)))
 
   -- a table more

@@ -1,15 +1,17 @@
 -- Typed tables: the rows of a table as values of a type of one's own.
 use Rattle.std.specs.Prelude.{◌≡◌, ℕ, Bool, true, false, List, ◌∷◌, ◌++◌, map, filter, take, All, Option, None, Some, IsSome, Result, Ok, Err, ⊤}
 use Rattle.std.specs.Ordering.{nat_cmp}
-use Rattle.std.specs.FinMap.{FinMap, entries, from_entries, insert}
+use Rattle.std.specs.FinMap.{FinMap, entries, from_entries, get, insert}
 use Rattle.plain_data.specs.State.{State, overlay}
 use Rattle.record_store.specs.Meaning.{Meaning}
 use Rattle.record_store.specs.declared.walk.Walk.{Walk as Walked}
 use Rattle.replay_model.specs.Effect.{lies_between, scanned}
+use Rattle.replay_model.specs.declared.command.Command.TheVariants.{Put}
 use Rattle.replay_model.specs.TableMap.{TableMap, Row, pairs_of, value_at, with_value, without}
-use Rattle.stored_tables.specs.Answers.{Held}
+use Rattle.stored_tables.specs.Answers.{DueBy, Held, IsIndexed, Stands}
 use Rattle.stored_tables.specs.OneRow.{SetsRow, TakesRow}
-use Rattle.stored_tables.specs.Tables.{StandsForSome}
+use Rattle.stored_tables.specs.Plan.{plan}
+use Rattle.stored_tables.specs.Tables.{EachTables, StandsForSome}
 use Rattle.typed_tables.specs.declared.fault.TypedFault.{TypedFault}
 use Rattle.typed_tables.specs.declared.fault.TypedFault.TheVariants.{Walk, Foreign}
 
@@ -72,6 +74,14 @@ pub record AllTyped {R : Type 0} (row_of : Row → Option R) (columns_of : R →
   pub typed : map (read_as row_of) pairs ≡ map as_read rows
   pub written : pairs ≡ map (as_written columns_of) rows
 
+-- ---- searches
+
+-- whether the table's index is on the column; a search that met a foreign row has found that it is
+abbrev pub TellsIndex : ℕ → ℕ → Option Bool → State → Held → Type 0
+TellsIndex table column None state held = IsIndexed table (Some column) state held
+TellsIndex table column (Some true) state held = IsIndexed table (Some column) state held
+TellsIndex table column (Some false) state held = IsIndexed table (Some column) state held → ⊥
+
 -- ---- changes
 
 -- with the writes so far laid over it, the state stands for these tables, wherever they stand
@@ -83,6 +93,13 @@ LeavesTables now state tables = StandsForSome now.size (overlay now.writes state
 pub record LeavesTyped {R : Type 0} (row_of : Row → Option R) (columns_of : R → Row) (table key : ℕ) (row : R) (now : Meaning) (state : State) (tables : TableMap) : Type 0 where
   pub leaves : LeavesTables now state (with_value tables table key (columns_of row))
   pub typed : typed_table row_of table (with_value tables table key (columns_of row)) ≡ insert (typed_table row_of table tables) key (Some row)
+
+-- a row of the typed table was given to the change, and what it made of it stands in its place
+pub record Updates {R : Type 0} (row_of : Row → Option R) (columns_of : R → Row) (changes : R → R → Type 0) (table key : ℕ) (changed : R) (first last : Meaning) : Type 0 where
+  pub row : R
+  pub made : changes row changed
+  pub was : EachTables first last (λ _ _ tables. get (typed_table row_of table tables) key ≡ Some (Some row))
+  pub leaves : EachTables first last (λ state _ tables. LeavesTyped row_of columns_of table key changed last state tables)
 
 -- there was a row, and the state stands for the tables without it; or there was none, and it stands for them
 abbrev pub Removes : ℕ → ℕ → Meaning → Bool → State → TableMap → Type 0
@@ -97,3 +114,16 @@ SetsTyped table key columns now (Some done) asked state held = SetsRow table key
 abbrev pub TakesTyped : ℕ → ℕ → Meaning → Option Bool → ℕ → State → Held → Type 0
 TakesTyped table key now None asked state held = ⊥
 TakesTyped table key now (Some taken) asked state held = TakesRow table key now taken asked state held
+
+-- there was a row of this type, and the state stands for the tables with what the change makes of it; or there was none, and it stands for
+-- them where they stood, as it does where a foreign row was found
+abbrev pub UpdatesTyped : {R : Type 0} → (R → Row) → (R → R → Type 0) → ℕ → ℕ → Meaning → Option (Option R) → ℕ → State → Held → Type 0
+UpdatesTyped columns_of changes table key now None asked state held = (asked ≡ 0) × Stands now state held
+UpdatesTyped columns_of changes table key now (Some None) asked state held = (value_at held.1 table key ≡ None) × (asked ≡ 0) × Stands now state held
+UpdatesTyped {R} columns_of changes table key now (Some (Some changed)) asked state held = (row : R) × changes row changed
+    × (value_at held.1 table key ≡ Some (columns_of row)) × SetsRow table key (columns_of changed) now asked state held
+
+-- new records are asked for as a put asks of what the change makes of the row that stands there
+abbrev pub DueByChange : {R : Type 0} → (R → Row) → (R → R → Type 0) → ℕ → ℕ → ℕ → State → Held → Type 0
+DueByChange {R} columns_of changes table key asked state held = (row : R) × (changed : R) × changes row changed
+    × (value_at held.1 table key ≡ Some (columns_of row)) × DueBy (plan (Put table key (columns_of changed))) asked state held

@@ -6,6 +6,7 @@ ghost use Rattle.record_store.specs.Calls.{Reads, ReadFault};
 ghost use Rattle.record_store.specs.Walks.{IfTorn, IfStore, IfNoMemory, OnlyReads};
 ghost use Rattle.replay_model.specs.TableMap.{value_at};
 ghost use Rattle.stored_tables.specs.Tables.{EachTables};
+ghost use Rattle.stored_tables.specs.Tears.{NamesTorn};
 ghost use Rattle.typed_tables.specs.Typed.{typed_table, IfForeign, walked};
 
 use crate::fault::TypedFault;
@@ -30,6 +31,7 @@ pub fn typed_get<R: Row, S: RecordRead>(
     ensures foreign { IfForeign result (λ at columns. (at ≡ key) × (R.row_of columns ≡ None) × EachTables (S.meaning store.old) (S.meaning store.new) (λ _ _ tables. value_at tables table key ≡ Some columns)) }
     ensures memory { IfNoMemory (walked result) ⊥ }
     ensures torn { IfTorn (walked result) (λ _. EachTables (S.meaning store.old) (S.meaning store.new) (λ _ _ _. ⊥)) }
+    ensures tears { IfTorn (walked result) (NamesTorn table (S.meaning store.old) (S.meaning store.new)) }
     ensures fault { IfStore (walked result) (ReadFault S.read_gives store.old store.new) }
     ensures calls { Reads S.read_gives store.old store.new }
     ensures after { OnlyReads (S.meaning store.old) (S.meaning store.new) }

@@ -5,19 +5,24 @@
 mod account;
 mod columns;
 mod fault;
+mod finding;
 mod getting;
 mod listing;
 mod putting;
 mod removing;
 mod scanning;
 mod typed_row;
+mod updating;
 
 pub use account::Account;
 pub use fault::TypedFault;
+pub use finding::typed_find;
 pub use getting::typed_get;
 pub use listing::list_tables;
 pub use putting::typed_put;
 pub use record_store::Walk;
 pub use removing::{typed_remove, typed_without};
 pub use scanning::typed_scan;
+pub use stored_tables::{FIXED_RECORDS, declare_index};
 pub use typed_row::Row;
+pub use updating::typed_update;

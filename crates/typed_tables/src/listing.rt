@@ -1,18 +1,18 @@
 //! The rows of tables in a store, read page by page.
 
-ghost use Rattle.std.specs.Prelude.{◌≡◌, ◌⊎◌, ◌+◌, ◌-◌, ◌^◌, ◌<◌, ◌≤◌, length, IfOk, IsNone, IfSome};
+ghost use Rattle.std.specs.Prelude.{◌≡◌, ◌<◌, ◌≤◌, length, IfOk, IsNone, IfSome};
 ghost use Rattle.record_store.specs.Calls.{Reads, ReadFault};
 ghost use Rattle.record_store.specs.Walks.{IfTorn, IfStore, OnlyReads};
-ghost use Rattle.stored_tables.specs.Answers.{IsScanned, Stands};
+ghost use Rattle.stored_tables.specs.Answers.{Stands};
+ghost use Rattle.stored_tables.specs.RowLists.{comes_behind};
 ghost use Rattle.stored_tables.specs.Runs.{Looks};
 ghost use Rattle.stored_tables.specs.Tables.{EachTables};
 ghost use Rattle.typed_tables.specs.Listing.{AreListed, AreRows, IsListed, last_key};
 
-use crate::fault::TypedFault;
-use crate::scanning::typed_scan;
 use record_store::{RecordRead, Walk};
-use replay_model::{Columns, Pairs, Sequence};
+use replay_model::{Pairs, Sequence};
 use std::alloc::Global;
+use stored_tables::page_rows;
 
 /// How many rows a page has, but the last of a table, which has fewer.
 const PAGE: usize = 256;
@@ -73,19 +73,19 @@ fn list_table<S: RecordRead>(
     ensures rest { S.rest store.new ≡ S.rest store.old }
 {
     let mut pairs = Vec::new(alloc);
-    let mut from = 0;
+    let mut behind = None;
     loop {
-        let page = read_page(alloc, store, table, from)?;
+        let page = page_rows(alloc, store, table, behind, PAGE as u32)?;
         if pairs.extend_from_slice(page.as_slice()).is_err() {
             return Err(Walk::NoMemory);
         }
-        let Some(next) = key_behind(&page) else {
+        let Some(last) = last_of(&page) else {
             return Ok(Sequence::from_vec(pairs));
         };
-        if next <= from {
+        if !is_behind(behind, last) {
             return Err(Walk::Torn(tree_of(table)));
         }
-        from = next;
+        behind = Some(last);
     }
 }
 
@@ -96,35 +96,25 @@ fn tree_of(table: u32) -> u32
     512 * table + 511
 }
 
-/// The first rows of a table from a key on, a page of them.
-fn read_page<S: RecordRead>(
-    alloc: Global,
-    store: &mut S,
-    table: u32,
-    from: u64,
-) -> Result<Pairs, Walk<S::Fault>>
-    requires table { table < 8 }
-    requires size { 4112 ≤ (S.meaning store.old).size }
-    ensures looks { Looks S.read_gives S.meaning (Stands (S.meaning store.old)) (IsScanned table from (2 ^ 64 - 1) 256) store.old store.new result }
-    ensures rest { S.rest store.new ≡ S.rest store.old }
+/// Whether a key comes behind another; each comes behind none.
+fn is_behind(behind: Option<u64>, key: u64) -> bool
+    ensures { result ≡ comes_behind behind key }
 {
-    let mut page = Vec::new(alloc);
-    match typed_scan::<Columns, S>(alloc, store, table, from, u64::MAX, PAGE as u32, &mut page) {
-        Ok(()) => Ok(Sequence::from_vec(page)),
-        Err(TypedFault::Walk(walk)) => Err(walk),
-        Err(TypedFault::Foreign { .. }) => unreachable!(),
+    match behind {
+        None => true,
+        Some(other) => other < key,
     }
 }
 
-/// The key at which the page behind this one begins, if there is one.
-fn key_behind(page: &Pairs) -> Option<u64>
-    ensures none { IsNone result → (length page.now < 256) ⊎ (last_key page.now ≡ 2 ^ 64 - 1) }
-    ensures some { IfSome result (λ next. (256 ≤ length page.now) × (next ≡ last_key page.now + 1)) }
+/// The last key of a page that is full. Nothing comes behind one that is not.
+fn last_of(page: &Pairs) -> Option<u64>
+    ensures none { IsNone result → length page.now < 256 }
+    ensures some { IfSome result (λ last. (256 ≤ length page.now) × (last ≡ last_key page.now)) }
 {
     let len = page.len();
     if len < PAGE {
         return None;
     }
     let &(last, _) = page.get(len - 1);
-    last.checked_add(1)
+    Some(last)
 }

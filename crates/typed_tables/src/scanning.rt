@@ -4,6 +4,7 @@ ghost use Rattle.std.specs.Prelude.{◌≡◌, ◌⊎◌, ℕ, ◌<◌, ◌≤�
 ghost use Rattle.record_store.specs.Calls.{Reads, ReadFault};
 ghost use Rattle.record_store.specs.Walks.{IfTorn, IfStore, OnlyReads};
 ghost use Rattle.stored_tables.specs.Tables.{EachTables};
+ghost use Rattle.stored_tables.specs.Tears.{NamesTorn};
 ghost use Rattle.typed_tables.specs.Typed.{AllTyped, AreTyped, IfForeign, IsFirstForeign, IsForeignIn, walked};
 
 use crate::fault::TypedFault;
@@ -33,6 +34,7 @@ pub fn typed_scan<R: Row, S: RecordRead>(
     ensures refused { IfForeign result (λ _ columns. R.row_of columns ≡ None) }
     ensures err { OnErr result (out.new.items ≡ out.old.items) }
     ensures torn { IfTorn (walked result) (λ _. EachTables (S.meaning store.old) (S.meaning store.new) (λ _ _ _. ⊥)) }
+    ensures tears { IfTorn (walked result) (NamesTorn table (S.meaning store.old) (S.meaning store.new)) }
     ensures fault { IfStore (walked result) (ReadFault S.read_gives store.old store.new) }
     ensures calls { Reads S.read_gives store.old store.new }
     ensures after { OnlyReads (S.meaning store.old) (S.meaning store.new) }
@@ -46,7 +48,7 @@ pub fn typed_scan<R: Row, S: RecordRead>(
 }
 
 /// Appends the rows of these columns, or nothing where some are refused.
-fn read_all<R: Row, F>(pairs: &Pairs, out: &mut Vec<(u64, R)>) -> Result<(), TypedFault<F>>
+pub fn read_all<R: Row, F>(pairs: &Pairs, out: &mut Vec<(u64, R)>) -> Result<(), TypedFault<F>>
     ensures typed { OnOk result ((rows : List (ℕ × R)) × (out.new.items ≡ out.old.items ++ rows) × AllTyped R.row_of R.columns_of pairs.now rows) }
     ensures err { OnErr result (out.new.items ≡ out.old.items) }
     ensures foreign { IfForeign result (λ key columns. IsForeignIn R.row_of pairs.now key columns) }

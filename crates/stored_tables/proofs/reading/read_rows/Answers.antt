@@ -1,5 +1,10 @@
-use Rattle.std.proofs.Common.{◌≡◌, take, length, Ok, refl, ap, ◌∙◌, arith}
-use Rattle.stored_tables.specs.Rows.{part_in}
+use Rattle.std.proofs.Common.{◌≡◌, take, length, Ok, refl, sym, ap, subst, ◌∙◌, arith}
+use Rattle.record_store.specs.States.{EachState}
+use Rattle.ordered_index.specs.Tree.{In}
+use Rattle.record_store.proofs.Refusals.{IfTorn-map, torn_moved}
+use Rattle.stored_tables.specs.Rows.{entry_records, part_in}
+use Rattle.stored_tables.specs.Tears.{IsNoRow}
+use Rattle.stored_tables.proofs.Tearing.{in_at, tears_behind}
 use Rattle.stored_tables.proofs.Runs.{looks_begin, looks_memory, looks_moved, looks_value}
 use Rattle.stored_tables.proofs.Listed.{pushed, row_read, all_listed}
 use Rattle.stored_tables.proofs.reading.read_rows.Goals as goal
@@ -49,3 +54,13 @@ returns-clause-looks g c =
     (λ state rows agrees lists is. (let whole : c.loop-key.key-index ≡ length c.args.entries.now = omega
     (arith, c.loop-key-test.false, c.loop-key.auto.key-index-end) in c.from_vec.ensures ∙ is ∙ ap (λ n. take n rows) whole
     ∙ all_listed _ (part_in c.args.part) c.args.entries.now rows lists))
+
+pub returns-in_err-row-clause-tears : goal.returns-in_err-row-clause-tears
+returns-in_err-row-clause-tears g c =
+    torn_moved c.from_residual.result c.row_at.result c.in_err-row.field-0.0 _ c.in_err-row.was c.from_residual.ensures.1
+    (IfTorn-map c.row_at.result
+    (λ rid t. subst (λ torn. In torn (entry_records c.args.entries.now) × EachState (g.S.RecordRead.meaning c.args.store.now) (g.S.RecordRead.meaning c.row_at.new.store) (IsNoRow torn)) (sym t.0) (
+      in_at c.args.entries.now c.loop-key.key-index _ c.loop-key-test.true,
+      tears_behind (IsNoRow _) (g.S.RecordRead.meaning c.args.store.now) (g.S.RecordRead.meaning c.loop-key.store)
+          (g.S.RecordRead.meaning c.row_at.new.store) c.loop-key.invariant.looks.by.only t.1,
+    )) c.row_at.ensures.tears)

@@ -3,10 +3,10 @@
 ghost use Rattle.std.specs.Prelude.{◌≡◌, ◌≤◌, ◌==◌, length, codes, option_map, position};
 ghost use Rattle.std.specs.Str.{bytes_eq};
 ghost use Rattle.report_check.specs.Reading.{cut};
-ghost use Rattle.cicada_top.specs.Parts.{input_length, input_part, report_part};
+ghost use Rattle.program_io.specs.Parts.{input_length, input_part, report_part};
 
 /// The input of a text to be checked, which ends behind the first line `done`, and the report behind it.
-pub(crate) fn parts_of(bytes: &[u8]) -> (&[u8], &[u8])
+pub fn parts_of(bytes: &[u8]) -> (&[u8], &[u8])
     ensures input { result.0.now ≡ input_part bytes.now }
     ensures report { result.1.now ≡ report_part bytes.now }
 {

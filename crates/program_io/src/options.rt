@@ -2,7 +2,7 @@
 
 ghost use Rattle.std.specs.Prelude.{◌≡◌, false, IfOk};
 ghost use Rattle.clap.specs.Words.{app_of, rule_of};
-ghost use Rattle.cicada_top.specs.Words.{check_rule, clock_rule, command, seed_rule, tries_rule, workers_rule};
+ghost use Rattle.program_io.specs.Words.{check_rule, clock_rule, command, seed_rule, tries_rule, workers_rule};
 
 use clap::builder::ValueParser;
 use clap::{Arg, ArgAction, Command, value_parser};

@@ -12,13 +12,13 @@ use Rattle.txn_script.specs.declared.fault.Kind.{Kind}
 use Rattle.txn_script.specs.Grammar.{IsInput, IsFault}
 use Rattle.cicada_top.specs.declared.finish.Status.{Status}
 use Rattle.cicada_top.specs.declared.finish.Status.TheVariants.{Done, Usage, Input, TooLong, ReadFault, WriteFault, NoMemory, Differs}
-use Rattle.cicada_top.specs.declared.mode.Mode.{Mode}
-use Rattle.cicada_top.specs.declared.mode.Mode.TheVariants.{Run, Generate, Check}
+use Rattle.program_io.specs.declared.mode.Mode.{Mode}
+use Rattle.program_io.specs.declared.mode.Mode.TheVariants.{Run, Generate, Check}
 use Rattle.report_check.specs.declared.checking.Verdict.{Verdict}
 use Rattle.report_check.specs.declared.checking.Verdict.TheVariants.{Yes, NoOrder, NoLine}
 use Rattle.report_check.specs.Verdicts.{IsVerdict}
-use Rattle.cicada_top.specs.Parts.{input_part, report_part}
-use Rattle.cicada_top.specs.Received.{most_input, most_checked, Receives, ReceivesFor, HoldsFor, HasReadAll, ReadsAtMostFor}
+use Rattle.program_io.specs.Parts.{input_part, report_part}
+use Rattle.program_io.specs.Received.{most_input, most_checked, Receives, ReceivesFor, HoldsFor, HasReadAll, ReadsAtMostFor}
 use Rattle.cicada_top.specs.Due.{IsCheckable, IsJudged, TellsVerdict, IsDueAt, Causes}
 use Rattle.cicada_top.specs.Delivery.{order_kept, IsPart, WritesAs, EndsAs}
 use Rattle.cicada_top.specs.Ending.{ChecksReport, IsInputFor}

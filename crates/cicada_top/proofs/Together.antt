@@ -8,9 +8,9 @@ use Rattle.txn_engine.specs.Alone.{AloneView}
 use Rattle.cicada_top.specs.declared.finish.Finish.{Finish}
 use Rattle.cicada_top.specs.declared.finish.Status.{Status}
 use Rattle.cicada_top.specs.declared.finish.Status.TheVariants.{Done}
-use Rattle.cicada_top.specs.declared.mode.Mode.{Mode}
-use Rattle.cicada_top.specs.declared.mode.Mode.TheVariants.{Run, Generate, Check}
-use Rattle.cicada_top.specs.Received.{ReceivesFor}
+use Rattle.program_io.specs.declared.mode.Mode.{Mode}
+use Rattle.program_io.specs.declared.mode.Mode.TheVariants.{Run, Generate, Check}
+use Rattle.program_io.specs.Received.{ReceivesFor}
 use Rattle.cicada_top.specs.Due.{IsAnswer}
 use Rattle.cicada_top.specs.Delivery.{IsWhole, WritesAs}
 use Rattle.cicada_top.specs.Ending.{RunsBlocks, IsInputFor}

@@ -6,9 +6,9 @@ use Rattle.replay_model.specs.declared.outcome.Placed.{Placed}
 use Rattle.txn_script.specs.declared.fault.InputFault.{InputFault}
 use Rattle.cicada_top.specs.declared.finish.Status.{Status}
 use Rattle.cicada_top.specs.declared.finish.Status.TheVariants.{Done, Usage, Input, TooLong, ReadFault, WriteFault, NoMemory, Differs}
-use Rattle.cicada_top.specs.declared.mode.Mode.{Mode}
-use Rattle.cicada_top.specs.declared.mode.Mode.TheVariants.{Run, Generate, Check}
-use Rattle.cicada_top.specs.Received.{ReceivesFor, IsReadAt}
+use Rattle.program_io.specs.declared.mode.Mode.{Mode}
+use Rattle.program_io.specs.declared.mode.Mode.TheVariants.{Run, Generate, Check}
+use Rattle.program_io.specs.Received.{ReceivesFor, HasReadAll}
 use Rattle.cicada_top.specs.Due.{IsDueAt}
 
 -- the text due was written whole
@@ -68,6 +68,17 @@ WritesAs WriteFault mode bytes order fault before after = StopsShort mode bytes 
 WritesAs NoMemory mode bytes order fault before after =
     (StopsBegun mode bytes order before after × (fault ≡ None)) ⊎ WritesNothing order fault before after
 WritesAs Differs mode bytes order fault before after = IsWhole Differs mode bytes order fault before after
+
+-- the source is at its end, where a run has one to read, at each status but for a text that is too long, of which the rest is left
+abbrev pub IsReadAt : Status → Mode → Option (List ℕ) → Type 0
+IsReadAt Done mode after = HasReadAll mode after
+IsReadAt Usage mode after = ⊥
+IsReadAt Input mode after = HasReadAll mode after
+IsReadAt TooLong mode after = Unit {0}
+IsReadAt ReadFault mode after = ⊥
+IsReadAt WriteFault mode after = ⊥
+IsReadAt NoMemory mode after = ⊥
+IsReadAt Differs mode after = HasReadAll mode after
 
 -- the bytes were received, and this was written for them
 pub record Answers (status : Status) (mode : Mode) (order : List Placed) (fault : Option InputFault)

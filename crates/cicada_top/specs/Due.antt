@@ -17,10 +17,10 @@ use Rattle.load_gen.specs.Load.{lines, spelled}
 use Rattle.load_gen.specs.Summary.{summary_lines}
 use Rattle.cicada_top.specs.declared.finish.Status.{Status}
 use Rattle.cicada_top.specs.declared.finish.Status.TheVariants.{Done, Usage, Input, TooLong, ReadFault, WriteFault, NoMemory, Differs}
-use Rattle.cicada_top.specs.declared.mode.Mode.{Mode}
-use Rattle.cicada_top.specs.declared.mode.Mode.TheVariants.{Run, Generate, Check}
-use Rattle.cicada_top.specs.Received.{most_input, most_checked}
-use Rattle.cicada_top.specs.Parts.{input_part, report_part}
+use Rattle.program_io.specs.declared.mode.Mode.{Mode}
+use Rattle.program_io.specs.declared.mode.Mode.TheVariants.{Run, Generate, Check}
+use Rattle.program_io.specs.Received.{most_input, most_checked}
+use Rattle.program_io.specs.Parts.{input_part, report_part}
 
 -- ---- an order, and the texts made of it
 

@@ -10,9 +10,9 @@ use Rattle.lane_runner.specs.Rows.{stands}
 use Rattle.load_gen.specs.Load.{lines, spelled}
 use Rattle.txn_engine.specs.Pass.{PassView}
 use Rattle.txn_script.specs.Grammar.{IsInput}
-use Rattle.cicada_top.specs.declared.mode.Mode.{Mode}
-use Rattle.cicada_top.specs.declared.mode.Mode.TheVariants.{Run, Generate, Check}
-use Rattle.cicada_top.specs.Received.{most_input}
+use Rattle.program_io.specs.declared.mode.Mode.{Mode}
+use Rattle.program_io.specs.declared.mode.Mode.TheVariants.{Run, Generate, Check}
+use Rattle.program_io.specs.Received.{most_input}
 
 -- blocks are run, and no report of them is checked
 abbrev pub RunsBlocks : Mode → Type 0

@@ -10,11 +10,11 @@ use Rattle.input_runner.specs.Ran.{IsSeenIn, AreSnapshotsOf}
 use Rattle.cicada_top.specs.declared.finish.Finish.{Finish}
 use Rattle.cicada_top.specs.declared.finish.Status.{Status}
 use Rattle.cicada_top.specs.declared.finish.Status.TheVariants.{Done, Usage, ReadFault, WriteFault, NoMemory, Differs}
-use Rattle.cicada_top.specs.declared.mode.Mode.{Mode}
-use Rattle.cicada_top.specs.declared.mode.Settings.{Settings}
-use Rattle.cicada_top.specs.Words.{AreAccepted, AreRefused, IsPlainly, mode_of, settings_of}
+use Rattle.program_io.specs.declared.mode.Mode.{Mode}
+use Rattle.program_io.specs.declared.mode.Settings.{Settings}
+use Rattle.program_io.specs.Words.{AreAccepted, AreRefused, IsPlainly, mode_of, settings_of}
 use Rattle.cicada_top.specs.Ending.{RunsBlocks, ChecksReport, IsInputFor, IsLawfulEnd, IsHistoryOf}
-use Rattle.cicada_top.specs.Received.{HoldsFor, ReceivesFor, ReadsAtMostFor, IsGenerated}
+use Rattle.program_io.specs.Received.{HoldsFor, ReceivesFor, ReadsAtMostFor, IsGenerated}
 use Rattle.cicada_top.specs.Due.{Causes, IsAnswer, IsJudged}
 use Rattle.cicada_top.specs.Delivery.{EndsAs}
 
@@ -100,15 +100,15 @@ pub record BelongsTogether (mode : Mode) (finish : Finish) (end : PassView) (bef
   pub declared : finish.tables ≡ input.tables
   pub history : IsHistoryOf input finish.order.items end
   pub seen_in : All (IsSeenIn input finish.order.items) seen
-  pub snapshots : AreSnapshotsOf input end seen
+  pub snapshots : AreSnapshotsOf input finish.order.items end seen
 
 -- Where blocks were run and all was written, all rows were read so often beside the lanes, and what was read at a stamp are the rows that
--- the transaction blocks of the order up to it leave. Each was read by a snapshot of that stamp in the log of the seat that is alone, behind
--- the loading, and none at a stamp below that of an earlier one.
+-- the transaction blocks of the order up to it leave. Each was read by a snapshot of that stamp of its own in the log of the seat that is
+-- alone, behind the loading, and none at a stamp below that of an earlier one; they were made beside the transactions of the first seat.
 pub record Sees (mode : Mode) (finish : Finish) (before after : Streams) (due : ℕ) (seen : List (ℕ × TableMap)) : Type 0 where
   pub count : IfSome finish.end (λ _. length seen ≡ due)
   pub each : (bytes : List ℕ) → HoldsFor mode before.left bytes
       → IfSome finish.end (λ _. (input : Input) → IsInputFor mode bytes input → All (IsSeenIn input finish.order.items) seen)
   pub snapshots : (bytes : List ℕ) → HoldsFor mode before.left bytes
-      → IfSome finish.end (λ end. (input : Input) → IsInputFor mode bytes input → AreSnapshotsOf input end.pass seen)
+      → IfSome finish.end (λ end. (input : Input) → IsInputFor mode bytes input → AreSnapshotsOf input finish.order.items end.pass seen)
   pub together : IfSome finish.end (λ end. BelongsTogether mode finish end.pass before after seen)

@@ -19,11 +19,11 @@ use Rattle.outside_io.specs.declared.sink.SinkFault.TheVariants.{Failed, NoMemor
 use Rattle.cicada_top.specs.declared.finish.Finish.{Finish}
 use Rattle.cicada_top.specs.declared.finish.Status.{Status}
 use Rattle.cicada_top.specs.declared.finish.Status.TheVariants.{Done, Usage, Input, TooLong, ReadFault, WriteFault, NoMemory, Differs}
-use Rattle.cicada_top.specs.declared.mode.Mode.TheVariants.{Run}
+use Rattle.program_io.specs.declared.mode.Mode.TheVariants.{Run}
 use Rattle.cicada_top.specs.Due.{IsDueAt}
 use Rattle.cicada_top.specs.Delivery.{Answers, EndsAs, IsDue, StopsBegun, StopsShort, WritesNothing}
 use Rattle.cicada_top.specs.Ending.{IsLawfulEnd}
-use Rattle.cicada_top.specs.Received.{ReadsAtMostFor}
+use Rattle.program_io.specs.Received.{ReadsAtMostFor}
 use Rattle.cicada_top.specs.Runs.{BelongsTogether, GoesWith, IsDecided, RunsAs, Streams}
 use Rattle.snap_dump.specs.declared.dump.Dump.{Dump}
 use Rattle.snap_dump.specs.Dumps.{seen_in}
@@ -137,6 +137,7 @@ module _ (words : List Text) (finish : Finish) (made : List Dump) (before mid : 
     stamps_are = stamps_seen made;
     shown = one.seen_in;
     snapshots = one.snapshots;
+    beside = one.snapshots.beside;
   }
 
   abbrev is_report : (due : List ℕ) → due ≡ one.due ++ dumped → IsReportWithDumps words one.bytes finish.order.items due

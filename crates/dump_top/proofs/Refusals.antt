@@ -1,10 +1,10 @@
 -- Why words are refused.
 use Rattle.std.proofs.Common.{◌≢◌, ℕ, List, subst, sym}
 use Rattle.std.specs.Prelude.{Any}
-use Rattle.cicada_top.specs.declared.mode.Mode.TheVariants.{Run}
-use Rattle.cicada_top.specs.declared.words.Refusal.{Refusal}
-use Rattle.cicada_top.specs.declared.words.Refusal.TheVariants.{Usage, NoMemory}
-use Rattle.cicada_top.specs.Words.{AreRefused, mode_of}
+use Rattle.program_io.specs.declared.mode.Mode.TheVariants.{Run}
+use Rattle.program_io.specs.declared.words.Refusal.{Refusal}
+use Rattle.program_io.specs.declared.words.Refusal.TheVariants.{Usage, NoMemory}
+use Rattle.program_io.specs.Words.{AreRefused, mode_of}
 use Rattle.dump_top.specs.Words.{AreRefusedHere, AsksFor, IsBarred, RefusesHere, Text, run_words}
 
 pub refused_barred : (words : List Text) → Any IsBarred (run_words words) → AreRefusedHere words

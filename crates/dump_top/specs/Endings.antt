@@ -10,14 +10,14 @@ use Rattle.replay_model.specs.Report.{report}
 use Rattle.replay_model.specs.TableMap.{TableMap}
 use Rattle.txn_engine.specs.Alone.{AloneView}
 use Rattle.txn_engine.specs.Pass.{PassView}
-use Rattle.input_runner.specs.Ran.{IsSeenIn, AreSnapshotsOf}
+use Rattle.input_runner.specs.Ran.{IsSeenIn, AreBelowLater, AreSnapshotsOf}
 use Rattle.txn_script.specs.declared.fault.InputFault.{InputFault}
 use Rattle.txn_script.specs.Grammar.{IsInput}
 use Rattle.cicada_top.specs.declared.finish.Finish.{Finish}
 use Rattle.cicada_top.specs.declared.finish.Status.{Status}
 use Rattle.cicada_top.specs.declared.finish.Status.TheVariants.{Done, Usage, Input, TooLong, ReadFault, WriteFault, NoMemory, Differs}
-use Rattle.cicada_top.specs.declared.mode.Mode.TheVariants.{Run}
-use Rattle.cicada_top.specs.Received.{most_input, Receives}
+use Rattle.program_io.specs.declared.mode.Mode.TheVariants.{Run}
+use Rattle.program_io.specs.Received.{most_input, Receives}
 use Rattle.cicada_top.specs.Due.{IsDueAt}
 use Rattle.cicada_top.specs.Ending.{IsLawfulEnd, IsHistoryOf}
 use Rattle.cicada_top.specs.Delivery.{EndsAs, WritesNothing}
@@ -38,14 +38,16 @@ pub record IsReportWithDumps (words : List Text) (bytes : List ℕ) (order : Lis
   pub said : due ≡ report input order ++ dumps_text input order stamps
 
 -- THE STAMPS: each is that of a snapshot of the run that left this seat. Its log is lawful and the history of the input in the order; it has
--- the entry of each snapshot, not below the loading nor below the one before, and what that read are the tables that are shown.
+-- an entry of its own for each snapshot, in their order and not below the loading nor below the one before, and what that read are the tables
+-- that are shown. The dump of number i, counted from 0, is stamped below each transaction that the first seat ran, but its first i + 1.
 pub record AreStampsOf (input : InputValue) (order : List Placed) (end : PassView) (stamps : List ℕ) : Type 0 where
   pub lawful : IsLawfulEnd end
   pub history : IsHistoryOf input order end
   pub readings : List (ℕ × TableMap)
   pub stamps_are : stamps ≡ map (λ (reading : ℕ × TableMap). reading.0) readings
   pub shown : All (IsSeenIn input order) readings
-  pub snapshots : AreSnapshotsOf input end readings
+  pub snapshots : AreSnapshotsOf input order end readings
+  pub beside : AreBelowLater order readings
 
 -- the bytes are refused, and the text says so
 pub record IsRefusal (bytes : List ℕ) (order : List Placed) (due : List ℕ) : Type 0 where

@@ -1,9 +1,9 @@
 -- The words of a command that dumps: how many dumps, and the words of the run.
 use Rattle.std.specs.Prelude.{◌≡◌, ◌⊎◌, ℕ, ◌≤◌, ◌<◌, List, [], ◌∷◌, ◌++◌, codes, decimal, drop, All}
-use Rattle.cicada_top.specs.declared.mode.Mode.TheVariants.{Run}
-use Rattle.cicada_top.specs.declared.words.Refusal.{Refusal}
-use Rattle.cicada_top.specs.declared.words.Refusal.TheVariants.{Usage, NoMemory}
-use Rattle.cicada_top.specs.Words.{AreAccepted, mode_of}
+use Rattle.program_io.specs.declared.mode.Mode.TheVariants.{Run}
+use Rattle.program_io.specs.declared.words.Refusal.{Refusal}
+use Rattle.program_io.specs.declared.words.Refusal.TheVariants.{Usage, NoMemory}
+use Rattle.program_io.specs.Words.{AreAccepted, mode_of}
 
 abbrev pub Text : Type 0
 Text = List ℕ

@@ -4,8 +4,8 @@ ghost use Rattle.std.specs.Prelude.{◌≡◌, ℕ, ◌≤◌, true, false, [], 
 ghost use Rattle.std.specs.Str.{bytes_eq};
 ghost use Rattle.dump_top.specs.Words.{AreTaken, AsksFor, IsBarred, IsOption, NoneBelow, RefusesHere};
 
-use cicada_top::{Mode, Refusal, read_words};
 use itoa::Buffer;
+use program_io::{Mode, Refusal, read_words};
 use std::alloc::Global;
 
 /// What is said of a first word that is no number of dumps.

@@ -9,8 +9,8 @@ ghost use Rattle.dump_top.specs.Parts.{IsWrittenInPart};
 ghost use Rattle.dump_top.specs.Texts.{dump_text, readings_text};
 
 use crate::texts::text_of_dump;
-use cicada_top::write_all;
 use outside_io::{Sink, SinkFault};
+use program_io::write_all;
 use replay_model::Names;
 use snap_dump::Dump;
 use std::alloc::Global;

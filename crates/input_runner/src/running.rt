@@ -7,11 +7,11 @@ ghost use Rattle.txn_script.specs.Grammar.{IsWithinLimits, IsRunnable};
 ghost use Rattle.lane_runner.specs.Loading.{AreRowsOf};
 ghost use Rattle.lane_runner.specs.Finishing.{MayFinish};
 ghost use Rattle.input_runner.specs.Ran.{IsRunOf, AreSeenIn, AreSnapshotsOf, order_of};
-ghost use Rattle.input_runner.specs.Running.{IsFor, IsLoaded, HasRunLanes, AreSeenBehind, GrowsBehind, HasRunAll};
+ghost use Rattle.input_runner.specs.Running.{IsFor, IsLoaded, HasRunLanes, AreSeenBehind, AddsLater, GrowsBehind, HasRunAll};
 
 use crate::copying::copy_lanes;
 use crate::reading::read_tables;
-use crate::sizes::{FIXED, sizes_are_enough, sizes_of};
+use crate::sizes::{sizes_are_enough, sizes_of};
 use history_replay::sort_results;
 use lane_runner::{LaneDone, RowTables, finish_alone, load_rows};
 use lane_threads::{
@@ -22,7 +22,7 @@ use replay_model::{Input, NoMemory, Outcome, Pairs, Placed};
 use std::alloc::Global;
 use std::sync::Wait;
 use std::thread::Threads;
-use stored_tables::{RowsLawful, one_tables};
+use stored_tables::{FIXED_RECORDS, RowsLawful, one_tables};
 use txn_engine::{Alone, Engine, Seat, StartFault};
 
 /// What the run of an input came to.
@@ -56,7 +56,7 @@ fn start(
         alloc,
         seats,
         sizes.records,
-        FIXED,
+        FIXED_RECORDS,
         sizes.spare,
     ) {
         Ok(made) => made,
@@ -88,7 +88,7 @@ fn run_lanes<R: Threads + Wait + Sync, C: Clock, G: Gate, L: LaneRun<C, G>>(
     requires clocks { engine.now.size.seats ≤ length clocks.items }
     ensures ran { IfOk result (λ run. HasRunLanes input.now tries (L.due way.old) engine.now alone.pass run.0 run.1.items) }
     ensures due { L.due way.new ≡ L.due way.old }
-    ensures seen { IfOk result (λ run. AreSeenBehind (L.due way.old) alone.pass run.0 (L.seen way.new)) }
+    ensures seen { IfOk result (λ run. AreSeenBehind (L.due way.old) alone.pass run.0 run.1.items (L.seen way.new)) }
 {
     shares_are_all();
     // The engine has a seat, and the seat that is alone is its first.
@@ -116,6 +116,7 @@ fn run_rests(
     ensures ran { IfOk result (λ run. (tries due : ℕ) (loaded : PassView) → tries ≤ 1000 → due ≤ 64 → HasRunLanes input.now tries due engine.now loaded alone.old done.items
         → HasRunAll input.now loaded alone.new.pass run.0.items run.1.items) }
     ensures grows { OnOk result (GrowsBehind alone.old.pass alone.new.pass.log) }
+    ensures later { IfOk result (λ run. AddsLater alone.old.pass done.items run.0.items) }
 {
     sizes_are_enough();
     runs_can_finish();
@@ -129,7 +130,7 @@ fn run_rests(
 
 /// Runs an input on an engine of its own with so many seats, its lanes in this way, each seat with its clock; each transaction block is tried
 /// so many times beside the others, and those that remain are run by the seat that is alone. What was read beside the lanes are the rows
-/// that the transaction blocks up to its stamp leave, each time by a snapshot of the run.
+/// that the transaction blocks up to its stamp leave, each time by a snapshot of the run, beside the transactions of the first seat.
 ///
 /// `NoMemory` may come at any point.
 pub fn run_input<R: Threads + Wait + Sync, C: Clock, G: Gate, L: LaneRun<C, G>>(
@@ -152,7 +153,7 @@ pub fn run_input<R: Threads + Wait + Sync, C: Clock, G: Gate, L: LaneRun<C, G>>(
     ensures ran { IfOk result (λ ran. IsRunOf input.now ran.results.items ran.rows.items ran.end.pass) }
     ensures due { L.due way.new ≡ L.due way.old }
     ensures seen { IfOk result (λ ran. AreSeenIn (L.due way.old) input.now (order_of ran.results.items) (L.seen way.new)) }
-    ensures snapshots { IfOk result (λ ran. AreSnapshotsOf input.now ran.end.pass (L.seen way.new)) }
+    ensures snapshots { IfOk result (λ ran. AreSnapshotsOf input.now (order_of ran.results.items) ran.end.pass (L.seen way.new)) }
 {
     whole_runs_are_results();
     one_tables();

@@ -5,9 +5,7 @@ ghost use Rattle.txn_script.specs.Grammar.{IsWithinLimits, counts};
 ghost use Rattle.input_runner.specs.Sizes.{SizesAreEnough, records_of_run, spare_of_run, records_for_rows, records_for_commands, places_for_seats, count_in, count_in_all};
 
 use replay_model::{Block, Blocks, Command, Input, Lanes};
-
-/// Records that are never given out.
-pub(crate) const FIXED: u32 = 4112;
+use stored_tables::FIXED_RECORDS;
 
 /// Places that a block may want beside one for each record.
 const BLOCK_PLACES: u32 = 8193;
@@ -27,7 +25,7 @@ pub(crate) fn sizes_of(input: &Input, seats: u32) -> Sizes
     ensures records { result.records ≡ records_of_run input.now seats }
     ensures spare { result.spare ≡ spare_of_run input.now seats }
 {
-    let records = FIXED + (for_rows(input) + for_commands(input, seats));
+    let records = FIXED_RECORDS + (for_rows(input) + for_commands(input, seats));
     Sizes {
         records,
         spare: records + (BLOCK_PLACES + for_seats(input, seats)),

@@ -21,18 +21,18 @@ use Rattle.lane_futures.specs.Lanes.AreOfSessions.{none, next}
 
 -- ---- the sessions
 
-pub sessions_none : (records : ℕ) (ss : List SessionView) → AreOfSessions records [] ss ss
-sessions_none records [] = none
-sessions_none records (s ∷ ss) = next [] [] [] s s ss ss none_merged (goes_none records s s refl refl refl refl) (sessions_none records ss)
+pub sessions_none : (records seat : ℕ) (ss : List SessionView) → AreOfSessions records seat [] ss ss
+sessions_none records seat [] = none
+sessions_none records seat (s ∷ ss) = next [] [] [] s s ss ss none_merged (goes_none records seat s s refl refl refl refl) (sessions_none records seat ss)
 
 -- one of them went on
-pub sessions_step : (records : ℕ) (es fs : List Entry) (ss ts : List SessionView) (i : ℕ) (t u : SessionView) → AreOfSessions records es ss ts → slice_get ts i ≡ Some t → GoesOn records fs t u → AreOfSessions records (es ++ fs) ss (set ts i u)
-sessions_step records es fs ss ts i t u none there goes = absurd (cc)
-sessions_step records es fs ss ts zero t u (next xs ys all s s' ss' ts' merged first rest) there goes =
+pub sessions_step : (records seat : ℕ) (es fs : List Entry) (ss ts : List SessionView) (i : ℕ) (t u : SessionView) → AreOfSessions records seat es ss ts → slice_get ts i ≡ Some t → GoesOn records seat fs t u → AreOfSessions records seat (es ++ fs) ss (set ts i u)
+sessions_step records seat es fs ss ts i t u none there goes = absurd (cc)
+sessions_step records seat es fs ss ts zero t u (next xs ys all s s' ss' ts' merged first rest) there goes =
     next (xs ++ fs) ys (all ++ fs) s u ss' ts' (merge_behind_first xs ys all fs merged)
-    (goes_trans records xs fs s t u (subst (λ (x : SessionView). GoesOn records xs s x) (same_Some s' t there) first) goes) rest
-sessions_step records es fs ss ts (suc i) t u (next xs ys all s s' ss' ts' merged first rest) there goes =
-    next xs (ys ++ fs) (all ++ fs) s s' ss' (set ts' i u) (merge_behind_second xs ys all fs merged) first (sessions_step records ys fs ss' ts' i t u rest there goes)
+    (goes_trans records seat xs fs s t u (subst (λ (x : SessionView). GoesOn records seat xs s x) (same_Some s' t there) first) goes) rest
+sessions_step records seat es fs ss ts (suc i) t u (next xs ys all s s' ss' ts' merged first rest) there goes =
+    next xs (ys ++ fs) (all ++ fs) s s' ss' (set ts' i u) (merge_behind_second xs ys all fs merged) first (sessions_step records seat ys fs ss' ts' i t u rest there goes)
 
 -- a sum over them after it
 pub sum_step : (f : SessionView → ℕ) (ss : List SessionView) (i : ℕ) (s t : SessionView) → slice_get ss i ≡ Some s → sum_by f (set ss i t) + f s ≡ sum_by f ss + f t
@@ -50,7 +50,7 @@ pub leads_none : (l : LanesView) → IsIdle l.pass → Leads l l
 leads_none l idle = record {
   entries = [];
   adds = Adds-none l.pass idle;
-  are_of_sessions = sessions_none l.pass.shared.size.records l.sessions;
+  are_of_sessions = sessions_none l.pass.shared.size.records l.pass.seat l.sessions;
   clock = omega arith;
   refusals = omega arith;
 }
@@ -60,8 +60,8 @@ pub leads_steps : (l m : LanesView) (i : ℕ) (s t : SessionView) → slice_get 
 leads_steps l m i s t there steps is = record {
   entries = steps.entries;
   adds = steps.adds;
-  are_of_sessions = subst (λ (ss : List SessionView). AreOfSessions l.pass.shared.size.records steps.entries l.sessions ss) (sym is)
-      (sessions_step l.pass.shared.size.records [] steps.entries l.sessions l.sessions i s t (sessions_none l.pass.shared.size.records l.sessions) there steps.goes);
+  are_of_sessions = subst (λ (ss : List SessionView). AreOfSessions l.pass.shared.size.records l.pass.seat steps.entries l.sessions ss) (sym is)
+      (sessions_step l.pass.shared.size.records l.pass.seat [] steps.entries l.sessions l.sessions i s t (sessions_none l.pass.shared.size.records l.pass.seat l.sessions) there steps.goes);
   clock = omega (arith, steps.clock, sum_step draws_left l.sessions i s t there, ap all_draws_left is);
   refusals = omega (arith, steps.refusals, sum_step (λ (x : SessionView). x.refused) l.sessions i s t there, ap all_refused is);
 }
@@ -76,17 +76,17 @@ fewer_attempt l m i s t answer there some attempts is =
     omega (arith, fewer, sum_step tries_left l.sessions i s t there, ap all_tries_left is)
 
 -- what sessions went on by, behind what they went on by before
-sessions_trans : (records : ℕ) (es fs : List Entry) (ss ts us : List SessionView) → AreOfSessions records es ss ts → AreOfSessions records fs ts us → AreOfSessions records (es ++ fs) ss us
-sessions_trans records es fs ss ts us none none = none
-sessions_trans records es fs ss ts us (next xs ys all s s' ss' ts' merged first rest) (next xs' ys' all' t u ts'' us' merged' second rest') =
-    next (xs ++ xs') (ys ++ ys') (all ++ all') s u ss' us' (merge_append xs ys all xs' ys' all' merged merged') (goes_trans records xs xs' s t u first second) (sessions_trans records ys ys' ss' ts'' us' rest rest')
+sessions_trans : (records seat : ℕ) (es fs : List Entry) (ss ts us : List SessionView) → AreOfSessions records seat es ss ts → AreOfSessions records seat fs ts us → AreOfSessions records seat (es ++ fs) ss us
+sessions_trans records seat es fs ss ts us none none = none
+sessions_trans records seat es fs ss ts us (next xs ys all s s' ss' ts' merged first rest) (next xs' ys' all' t u ts'' us' merged' second rest') =
+    next (xs ++ xs') (ys ++ ys') (all ++ all') s u ss' us' (merge_append xs ys all xs' ys' all' merged merged') (goes_trans records seat xs xs' s t u first second) (sessions_trans records seat ys ys' ss' ts'' us' rest rest')
 
 pub leads_trans : (k l m : LanesView) → Leads k l → Leads l m → Leads k m
 leads_trans k l m first second = record {
   entries = first.entries ++ second.entries;
   adds = Adds-trans k.pass l.pass m.pass first.entries second.entries first.adds second.adds;
-  are_of_sessions = sessions_trans k.pass.shared.size.records first.entries second.entries k.sessions l.sessions m.sessions first.are_of_sessions
-      (subst (λ (e : EngineView). AreOfSessions e.size.records second.entries l.sessions m.sessions) first.adds.engine second.are_of_sessions);
+  are_of_sessions = sessions_trans k.pass.shared.size.records k.pass.seat first.entries second.entries k.sessions l.sessions m.sessions first.are_of_sessions
+      (subst (λ (y : EngineView × ℕ). AreOfSessions y.0.size.records y.1 second.entries l.sessions m.sessions) (λ i. (first.adds.engine i, first.adds.seat i)) second.are_of_sessions);
   clock = omega (arith, first.clock, second.clock);
   refusals = omega (arith, first.refusals, second.refusals);
 }

@@ -74,12 +74,12 @@ MakesTurn before after' = TakesTurn before after' ⊎ (AreOver before × (after'
 
 -- ---- turn behind turn
 
--- these are the entries of sessions, those of each in their order: each session went on with its own
-pub data AreOfSessions (records : ℕ) : List Entry → List SessionView → List SessionView → Type 0 where
-  none : AreOfSessions records [] [] []
+-- these are the entries of sessions, those of each in their order: each session went on with its own, at this seat
+pub data AreOfSessions (records seat : ℕ) : List Entry → List SessionView → List SessionView → Type 0 where
+  none : AreOfSessions records seat [] [] []
   next : (entries more all : List Entry) (s s' : SessionView) (ss ss' : List SessionView)
-      → IsMerge entries more all → GoesOn records entries s s' → AreOfSessions records more ss ss'
-      → AreOfSessions records all (s ∷ ss) (s' ∷ ss')
+      → IsMerge entries more all → GoesOn records seat entries s s' → AreOfSessions records seat more ss ss'
+      → AreOfSessions records seat all (s ∷ ss) (s' ∷ ss')
 
 -- how often the next blocks of sessions were refused
 abbrev pub all_refused : List SessionView → ℕ
@@ -90,7 +90,7 @@ all_refused sessions = sum_by (λ (s : SessionView). s.refused) sessions
 pub record Leads (before after' : LanesView) : Type 0 where
   pub entries : List Entry
   pub adds : Adds before.pass after'.pass entries
-  pub are_of_sessions : AreOfSessions before.pass.shared.size.records entries before.sessions after'.sessions
+  pub are_of_sessions : AreOfSessions before.pass.shared.size.records before.pass.seat entries before.sessions after'.sessions
   pub clock : clock_after after'.pass.clock (all_draws_left after'.sessions) ≤ clock_after before.pass.clock (all_draws_left before.sessions)
   pub refusals : before.pass.refusals + all_refused after'.sessions ≤ after'.pass.refusals + all_refused before.sessions
 

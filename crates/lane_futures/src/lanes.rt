@@ -78,6 +78,7 @@ impl<'a, C: Reads + Drop, G: Meets> Lanes<'a, C, G> {
         ensures more { IfOk result (λ more. more ≡ true → IsSomeAnd self.new (λ l. HasOne l.sessions)) }
         ensures over { IfOk result (λ more. more ≡ false → IsSomeAnd self.new AreOver) }
         ensures fewer { IfOk result (λ more. more ≡ true → BothThere (λ l m. all_tries_left m.sessions < all_tries_left l.sessions) self.old self.new) }
+        ensures room { OnOk result (IsSomeAnd self.new HasRoomLeft) }
     {
         let Some(running) = &mut self.running else {
             unreachable!()

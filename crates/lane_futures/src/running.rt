@@ -84,6 +84,7 @@ impl<'a, C: Reads + Drop, G: Meets> Running<'a, C, G> {
         ensures more { IfOk result (λ more. more ≡ true → HasOne self.new.sessions) }
         ensures over { IfOk result (λ more. more ≡ false → AreOver self.new) }
         ensures fewer { IfOk result (λ more. more ≡ true → all_tries_left self.new.sessions < all_tries_left self.old.sessions) }
+        ensures room { OnOk result (HasRoomLeft self.new) }
     {
         let _ = &self.engine;
         let Some(place) = self.in_turn() else {
@@ -91,6 +92,14 @@ impl<'a, C: Reads + Drop, G: Meets> Running<'a, C, G> {
         };
         self.attempt_at(place)?;
         Ok(self.in_turn().is_some())
+    }
+
+    /// How often other threads should get the chance to run before the next try.
+    pub(crate) fn pause(&self) -> u32 {
+        match self.in_turn() {
+            Some(place) => self.sessions[place].pause(),
+            None => 0,
+        }
     }
 
     /// What it ran with, and what each session has come to. It takes no memory.

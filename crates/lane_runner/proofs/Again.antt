@@ -20,9 +20,9 @@ use Rattle.seat_post.specs.Ends.{Stood}
 use Rattle.seat_post.specs.Leaves.{LeavesValue}
 use Rattle.seat_post.specs.Logs.{IsAbove}
 use Rattle.seat_post.specs.Rewriting.{rewriting, Rewritings, none_yet, one_more}
-use Rattle.seat_post.proofs.Leaving.{leaves_all, leaves_one}
 use Rattle.txn_engine.specs.Pass.{EngineView, PassView, IsIdle, engine_of, desk_of}
 use Rattle.seat_post.specs.Post.{PostView}
+use Rattle.seat_post.specs.Settling.{StopsPost}
 use Rattle.txn_engine.specs.Settling.{SettlesPass}
 use Rattle.seat_post.specs.declared.settled.Settled.{Settled}
 use Rattle.seat_post.specs.Snapshot.{first_snapshot}
@@ -38,7 +38,7 @@ use Rattle.lane_runner.specs.Room.{HasRoom, clock_after}
 use Rattle.lane_runner.proofs.Adding.{Adds-trans, in_order_behind}
 use Rattle.lane_runner.proofs.Promoted.{same_at, leaves_rewritten}
 use Rattle.lane_runner.proofs.Run.{AreEntries-append, AreEntries-others}
-use Rattle.lane_runner.proofs.Within.{all_among}
+use Rattle.lane_runner.proofs.Within.{all_among, leaves_all, leaves_one}
 
 -- ---- the entries
 
@@ -220,5 +220,12 @@ clock_settled first now last records count drawn more = omega arith
 pub never_out : (first now records count : ℕ) → HasRoom first (2 * records + count) → now < first + 2 * records → now ≡ greatest_clock → ⊥
 never_out first now records count room drawn out = omega arith
 
-pub drawn_most : (first now rewritten cut records : ℕ) → now ≡ first + rewritten → rewritten ≤ cut → cut ≤ 2 * records → now ≤ first + 2 * records
-drawn_most first now rewritten cut records drawn less few = omega arith
+pub drawn_most : (first now rewritten records : ℕ) → now ≡ first + rewritten → rewritten ≤ 2 * records → now ≤ first + 2 * records
+drawn_most first now rewritten records drawn most = omega arith
+
+-- where it stopped, each record before was written again twice at most
+pub stopped_within : (before after' : PostView) → StopsPost before after' → after'.clock < before.clock + 2 * before.shared.size.records
+stopped_within before after' stops =
+    let most = stops.first.most in
+    let within = stops.within in
+    ⊎_elim (λ none. let same = none.0 in omega arith) (λ one. let next = one.0 in omega arith) stops.runs_out.told

@@ -21,9 +21,10 @@ use Rattle.stored_tables.specs.Plan.{MayAsk, run_plan}
 use Rattle.stored_tables.specs.Tables.{StandsFor, EachTables}
 use Rattle.stored_tables.specs.Weight.{weight, all_add}
 use Rattle.stored_tables.specs.Weights.{AreKnown, RunAdds, RecordLeft}
+use Rattle.spare_numbers.specs.Spare.{is_on}
 use Rattle.txn_engine.specs.Leaves.{NoneRemains}
 use Rattle.txn_engine.specs.Pass.{PassView}
-use Rattle.txn_engine.proofs.Accounting.{absent_taken}
+use Rattle.lane_runner.proofs.Within.{leaves_one}
 use Rattle.lane_runner.proofs.Entries.{with_none, refused_stays}
 use Rattle.lane_runner.specs.Weighs.{LeadsTo, RunsTo, AddsWeight}
 
@@ -92,6 +93,17 @@ module _ {S F : Type 0} (read_gives : S → ℕ → Result (Option (List ℕ)) F
   by_an_ask (by_write before asked rid value calls answer) = absurd (no_write before rid value answer)
   by_an_ask (by_fresh before asked calls answer may) = (before, asked + 1, answer, may)
 
+-- where none is left, each record that is absent in the state that such a log leaves is given out or written
+absent_taken : (kept : State → Type 0) (state : State) (p : PassView) → Lawful kept p.shared.size.records p.log → Leaves (Contains p.log) state → NoneRemains p
+    → (r : ℕ) → p.fixed ≤ r → r < p.shared.size.records → state r ≡ None → (is_on p.given r ≡ true) ⊎ IsSome (value_at p.writes r)
+absent_taken kept state p lawful leaves none r from within absent = elim (none r from within) as (λ _. (is_on p.given r ≡ true) ⊎ IsSome (value_at p.writes r)) [
+  | inl given ↦ inl given
+  | inr more ↦ elim more as (λ _. (is_on p.given r ≡ true) ⊎ IsSome (value_at p.writes r)) [
+    | inl written ↦ inr written
+    | inr present ↦ absurd (let same : Some present.0 ≡ state r = leaves_one kept p.shared.size.records p.log p.log r (Some present.0) (state r) lawful (λ e h. h) present.1 (leaves r) in let bad : Some present.0 ≡ None = same ∙ absent in cc)
+  ]
+]
+
 -- Where no number is left, each that is absent is given or written; but one is left, neither present nor given, and a block writes no
 -- other.
 pub no_ask_refused : (kept : State → Type 0) (q : PassView) (commands : List Command) (asked most : ℕ) (state : State) (places : Places) (tables : TableMap)
@@ -103,7 +115,7 @@ no_ask_refused kept q commands asked most state places tables left none lawful l
     let found = left q.shared.size.records q.fixed q.shared.size.records state places tables commands asked q.given holds known may fixed (room_lighter q.fixed (weight places) most (all_add commands tables) q.shared.size.records light room) few in
     ⊎_elim (λ given. found.3.not_given (Contains-from_any eqb-true found.0 q.given given))
     (λ writes. ⊎_elim (λ given. found.3.not_given given) (λ more. ⊎_elim (λ low. not_low q.fixed found.0 found.1 low) (λ present. let is : None ≡ Some present.0 = sym found.3.absent ∙ present.1 in absurd (cc)) more) (written found.0 writes))
-    (absent_taken kept q.shared.size.records q.log state q lawful (λ e h. h) leaves none found.0 found.1 found.2 found.3.absent)
+    (absent_taken kept state q lawful leaves none found.0 found.1 found.2 found.3.absent)
 
 pub one_write : (before after' : Meaning) → before.writes ≡ [] → WritesAtMost 1 before after' → length after'.writes ≤ 8192
 one_write before after' none few =

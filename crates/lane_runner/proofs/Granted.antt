@@ -14,7 +14,6 @@ use Rattle.stamp_base.specs.Stamp.{bound_of_clock}
 use Rattle.stored_tables.specs.Weight.{weight, all_add}
 use Rattle.stored_tables.specs.Weights.{AddsAfter}
 use Rattle.validate_core.specs.declared.conflict.Conflict.{Conflict}
-use Rattle.validate_core.specs.declared.conflict.Conflict.TheVariants.{Pending, ReadLater, Overtaken}
 use Rattle.seat_post.specs.Snapshot.{entry_of_snapshot}
 use Rattle.seat_post.specs.Logs.{IsAbove}
 use Rattle.seat_post.specs.Seats.{Bounds, IsAloneAt}
@@ -141,14 +140,10 @@ ample_next p q r block more placed outcome ample commits place others ready =
 
 -- a seat that is alone meets no conflict
 pub none_pending : (p : PassView) (conflict : Conflict) → IsAlone p → IsPending p conflict → ⊥
-none_pending p (Pending rid wts) alone shown = shown.2.not_alone alone
-none_pending p (ReadLater rid wts rts) alone shown = shown
-none_pending p (Overtaken rid seen now) alone shown = shown
+none_pending p conflict alone shown = shown.1.not_alone alone
 
 none_shown : (p : PassView) (conflict : Conflict) → IsAlone p → IsShown p conflict → ⊥
-none_shown p (Pending rid wts) alone shown = shown.2.not_alone alone
-none_shown p (ReadLater rid wts rts) alone shown = shown.3.not_alone alone
-none_shown p (Overtaken rid seen now) alone shown = shown.3.not_alone alone
+none_shown p conflict alone shown = shown.1.not_alone alone
 
 -- so its commit is refused only for want of a place
 pub only_full : (p : PassView) (fault : CommitFault) (P : Type 0) → IsAlone p → MatchStopped fault (IsShown p) P → (fault ≡ commit.PlacesOut → P → ⊥) → ⊥

@@ -11,7 +11,7 @@ use Rattle.history_replay.specs.Results.{StandsForSome}
 use Rattle.replay_model.specs.declared.command.Command.{Command}
 use Rattle.replay_model.specs.declared.outcome.Outcome.{Outcome}
 use Rattle.replay_model.specs.declared.outcome.Placed.{Placed}
-use Rattle.txn_engine.specs.Accounts.{accounted}
+use Rattle.txn_engine.specs.Accounts.{accounted, KeepsAbsent}
 use Rattle.txn_engine.specs.Collecting.{collected}
 use Rattle.seat_post.specs.Leaves.{AreLeft, IsPresent}
 use Rattle.txn_engine.specs.Leaves.{HoldsAbsent}
@@ -21,7 +21,6 @@ use Rattle.txn_engine.specs.Pass.{EngineView, PassView, frame, IsIdle, IsAlone, 
 use Rattle.seat_post.specs.Logs.{IsAbove}
 use Rattle.seat_post.specs.Seats.{Bounds}
 use Rattle.spare_numbers.specs.Spare.{is_on}
-use Rattle.txn_engine.proofs.Accounting.{absent_stays}
 use Rattle.lane_runner.specs.Rows.{stands}
 use Rattle.lane_runner.specs.Adds.{Adds}
 use Rattle.lane_runner.specs.Blocks.{Commits}
@@ -59,6 +58,7 @@ Commits-then commands placed outcome p r w first second = record {
   entry = first.entry;
   adds = Adds-trans p r w (first.entry ∷ []) [] first.adds second;
   is_entry = first.is_entry;
+  seat = first.seat;
   weighs = first.weighs;
 }
 
@@ -84,9 +84,9 @@ absent_same p q engine given spare log absent r from within =
     subst (λ (s : List ℕ). (is_on (q.given ++ s) r ≡ true) ⊎ IsPresent q.log r) (sym spare) at_given
 
 -- it is still alone, and holds the absent records
-pub absent_open : (p b q : PassView) (clock : ℕ) → b ≡ begun p clock → IsAlone p → frame q ≡ frame b → accounted q ≡ accounted b → HoldsAbsent b → HoldsAbsent q
-absent_open p b q clock began alone same_frame same_accounts absent =
-    absent_stays b q same_frame same_accounts (subst (λ (x : PassView). IsAlone x) (sym began) alone) absent
+pub absent_open : (p b q : PassView) (clock : ℕ) → b ≡ begun p clock → IsAlone p → KeepsAbsent b → frame q ≡ frame b → accounted q ≡ accounted b → HoldsAbsent b → HoldsAbsent q
+absent_open p b q clock began alone keeps same_frame same_accounts absent =
+    keeps (subst (λ (x : PassView). IsAlone x) (sym began) alone) absent q same_frame same_accounts
 
 -- a place is left for so few writes
 pub places_left : (q : PassView) (engine : EngineView) → engine_of q ≡ engine → HasPlaces engine → IsRoomy q → length q.writes ≤ 8192 → IsFull q → ⊥

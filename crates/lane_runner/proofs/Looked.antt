@@ -25,11 +25,10 @@ use Rattle.stored_tables.specs.Tables.{StandsFor, EachTables}
 use Rattle.seat_post.specs.Snapshot.{SnapshotView}
 use Rattle.txn_engine.specs.Leaves.{HoldsAbsent}
 use Rattle.txn_engine.specs.Lists.{IsRoomy}
-use Rattle.txn_engine.specs.Pass.{PassView, IsIdle, IsAlone, ticked, engine_of, desk_of, observing, with_log}
+use Rattle.txn_engine.specs.Pass.{PassView, IsIdle, IsAlone, ticked, engine_of, desk_of, observing}
 use Rattle.seat_post.specs.Logs.{IsAbove}
 use Rattle.txn_engine.specs.Snapshot.{Begins, finished, snapshot_store, meaning_of_snapshot, unread, snapshot_begun}
 use Rattle.seat_post.specs.Snapshot.{entry_of_snapshot}
-use Rattle.txn_engine.proofs.Accounting.{absent_snapshot}
 use Rattle.lane_runner.specs.Rows.{stands}
 use Rattle.lane_runner.specs.Room.{clock_after}
 use Rattle.lane_runner.specs.Adds.{IsNext, Adds}
@@ -139,10 +138,9 @@ module _ (p t s0 s1 f : PassView) (clock : ℕ) (begins : Begins t s0) (g : Snap
   pub clock_looked : f.clock ≡ clock
   clock_looked = ap (λ (x : PassView). x.clock) ends ∙ ap (λ (x : PassView). x.clock) whole
 
-  pub absent_looked : HoldsAbsent p → HoldsAbsent f
-  absent_looked absent = absent_same (with_log p (p.log ++ entry_of_snapshot g ∷ [])) f same_engine
-      (ap (λ (x : PassView). x.given) ends ∙ ap (λ (x : PassView). x.given) whole) (ap (λ (x : PassView). x.spare) ends ∙ ap (λ (x : PassView). x.spare) whole) grown
-      (absent_snapshot p (entry_of_snapshot g) refl absent)
+  -- what the seat holds absent it holds while it reads
+  pub absent_looked : HoldsAbsent p → HoldsAbsent s1
+  absent_looked = absent_same p s1 (ap engine_of whole) (ap (λ (x : PassView). x.given) whole) (ap (λ (x : PassView). x.spare) whole) (ap (λ (x : PassView). x.log) whole)
 
   pub roomy_looked : IsRoomy p → IsRoomy f
   roomy_looked roomy = roomy_same p f same_engine (ap (λ (x : PassView). x.bounds) ends ∙ ap (λ (x : PassView). x.bounds) whole) roomy
@@ -168,8 +166,8 @@ pub record Sought (p s1 f : PassView) (stamp : ℕ) : Type 0 where
   pub clock : f.clock ≤ clock_after p.clock 1
 
 pub sought : (p t s0 s1 f : PassView) (clock stamp : ℕ) (begins : Begins t s0) → p.clock < clock → clock ≤ clock_after p.clock 1 → IsIdle p → t ≡ ticked p clock → unread s1 ≡ unread s0 → IfSome s1.snapshot (λ g. f ≡ observing (finished s1 g) f.observed) → IfSome s1.snapshot (λ g. stamp ≡ g.stamp)
-    → IsAlone p → IsAbove p.log t.published → Sought p s1 f stamp
-sought p t s0 s1 f clock stamp begins later drawn idle tick rest ends is alone above =
+    → (HoldsAbsent s1 → HoldsAbsent f) → IsAlone p → IsAbove p.log t.published → Sought p s1 f stamp
+sought p t s0 s1 f clock stamp begins later drawn idle tick rest ends is held alone above =
     let found = seen_at t s0 s1 begins rest in
     let g = found.0 in
     let ended : f ≡ observing (finished s1 g) f.observed = subst (λ (o : Option SnapshotView). IfSome o (λ g. f ≡ observing (finished s1 g) f.observed)) found.1 ends in
@@ -179,7 +177,7 @@ sought p t s0 s1 f clock stamp begins later drawn idle tick rest ends is alone a
       seen = found.1;
       stamp_is = stamped;
       adds = Adds-snapshot p t s0 s1 f clock begins g (before_later p.clock clock later) idle tick rest found.2 ended;
-      absent = absent_looked p t s0 s1 f clock begins g (before_later p.clock clock later) idle tick rest found.2 ended;
+      absent = λ absent. held (absent_looked p t s0 s1 f clock begins g (before_later p.clock clock later) idle tick rest found.2 ended absent);
       roomy = roomy_looked p t s0 s1 f clock begins g (before_later p.clock clock later) idle tick rest found.2 ended;
       behind = behind_looked p t s0 s1 f clock begins g (before_later p.clock clock later) idle tick rest found.2 ended above (begins.alone (subst (λ (x : PassView). IsAlone x) (sym tick) alone));
       clock = subst (λ (n : ℕ). n ≤ clock_after p.clock 1) (sym (clock_looked p t s0 s1 f clock begins g (before_later p.clock clock later) idle tick rest found.2 ended)) drawn;

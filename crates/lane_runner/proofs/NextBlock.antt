@@ -86,6 +86,7 @@ gives_outcome s s' p q r block more placed outcome next is ran others once = let
   entries = commits.entry ∷ others.entries;
   are_entries = result commits.entry others.entries block [] (placed, outcome) [] (record { place = ran.place; is_entry = commits.is_entry; weighs = commits.weighs })
       (AreEntries-others p.shared.size.records others.entries (subst (λ (e : EngineView). (entry : _) → Among entry others.entries → LeavesTables e.size.records entry) commits.adds.engine others.keep));
+  seat = commits.seat;
   adds = Adds-trans p q r (commits.entry ∷ []) others.entries commits.adds others.adds;
   once = once;
 }

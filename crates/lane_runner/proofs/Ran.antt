@@ -25,7 +25,7 @@ use Rattle.txn_engine.specs.Leaves.{HoldsAbsent, NoneRemains}
 use Rattle.txn_engine.specs.Lists.{IsRoomy}
 use Rattle.txn_engine.specs.Pass.{EngineView, PassView, frame, IsIdle, IsAlone, begun, committed, with_bounds, entry_of, store_of, meaning_of_pass, engine_of, desk_of, observing, placing}
 use Rattle.seat_post.specs.Logs.{IsAbove}
-use Rattle.txn_engine.specs.Accounts.{accounted}
+use Rattle.txn_engine.specs.Accounts.{accounted, KeepsAbsent}
 use Rattle.seat_post.specs.Seats.{Bounds}
 use Rattle.lane_runner.specs.Rows.{stands}
 use Rattle.lane_runner.specs.Room.{clock_after}
@@ -119,15 +119,15 @@ pub record Opened (p b q : PassView) : Type 0 where
   pub absent : HoldsAbsent q
   pub roomy : IsRoomy q
 
-pub opened : (p b q : PassView) (clock : ℕ) → p.clock < clock → clock ≤ clock_after p.clock 1 → b ≡ begun p clock → frame q ≡ frame b → IsAbove p.log b.stamp → IsAlone p → accounted q ≡ accounted b → HoldsAbsent b → IsRoomy p → Opened p b q
-opened p b q clock later drawn began rest above alone accounts absent roomy = record {
+pub opened : (p b q : PassView) (clock : ℕ) → p.clock < clock → clock ≤ clock_after p.clock 1 → b ≡ begun p clock → frame q ≡ frame b → IsAbove p.log b.stamp → IsAlone p → KeepsAbsent b → accounted q ≡ accounted b → HoldsAbsent b → IsRoomy p → Opened p b q
+opened p b q clock later drawn began rest above alone keeps accounts absent roomy = record {
   clock = clock;
   later = later;
   drawn = drawn;
   began = began;
   rest = rest;
   above = above_at p b q clock began rest above;
-  absent = absent_open p b q clock began alone rest accounts absent;
+  absent = absent_open p b q clock began alone keeps rest accounts absent;
   roomy = roomy_open p q clock (kept_frame p b q clock began rest) roomy;
 }
 

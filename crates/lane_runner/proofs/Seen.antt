@@ -142,5 +142,6 @@ module _ (p t s q : PassView) (clock : ℕ) (ticks : t ≡ ticked p clock) (begi
             each_state (λ tables. outcome ≡ outcome_of commands tables) told state holds.0 tables agrees (fits record_limit p.shared.size.records state holds.0 tables is_state holds.1);
         writes = λ commit. let both : true ≡ false = kind ∙ commit in cc;
       };
+      seat = λ commit. absurd (let both : true ≡ false = kind ∙ commit in cc);
       weighs = λ commit. cc;
     }

@@ -1,5 +1,5 @@
 -- What the seat that is alone holds once it has collected, has looked for the absent records and has told that its log is lawful.
-use Rattle.std.proofs.Common.{◌≡◌, ◌⊎◌, ℕ, ◌<◌, ◌≤◌, Bool, true, false, List, [], ◌++◌, append-nil, refl, sym, ap, subst, ◌∙◌, arith, inl, inr, All, length}
+use Rattle.std.proofs.Common.{◌≡◌, ℕ, ◌<◌, ◌≤◌, true, List, [], ◌++◌, append-nil, sym, ap, subst, ◌∙◌, arith, All, length}
 use Rattle.std.specs.List.Sorted.{IsPermutation}
 use Rattle.std.proofs.lemmas.List.Sorted.{All-permutation, sum_by-IsPermutation}
 use Rattle.plain_data.specs.declared.entry.Entry.{Entry}
@@ -8,14 +8,12 @@ use Rattle.history_replay.specs.Results.{StandsForSome}
 use Rattle.replay_model.specs.declared.input.Block.{Block}
 use Rattle.stored_tables.specs.Weight.{weight}
 use Rattle.txn_engine.specs.Collecting.{collected}
-use Rattle.seat_post.specs.Leaves.{IsPresent, LeavesAs, AreAbsent}
+use Rattle.txn_engine.specs.Leaves.{HoldsAbsent}
 use Rattle.txn_engine.specs.Lists.{IsRoomy}
 use Rattle.txn_engine.specs.Pass.{EngineView, PassView, IsIdle, engine_of, desk_of, observing, removing, with_met}
 use Rattle.seat_post.specs.Logs.{IsAbove}
 use Rattle.txn_engine.specs.Rescan.{rescanned}
 use Rattle.seat_post.specs.Seats.{Bounds}
-use Rattle.spare_numbers.specs.Spare.{is_on}
-use Rattle.seat_post.proofs.Leaving.{present_all}
 use Rattle.lane_runner.specs.declared.done.LaneDone.{LaneDone}
 use Rattle.lane_runner.specs.Rows.{stands}
 use Rattle.lane_runner.specs.Adds.{Adds}
@@ -32,10 +30,6 @@ use Rattle.lane_runner.proofs.Held.{absent_same, roomy_same}
 use Rattle.lane_runner.proofs.Rests.{rests_may, rests_add_is, rests_count}
 use Rattle.lane_runner.proofs.Within.{within_at}
 
-listed : (b : Bool) (log : List Entry) (r limit : ℕ) (spare : List ℕ) → is_on spare r ≡ b → IsAbove log limit → LeavesAs log r limit b → (is_on spare r ≡ true) ⊎ IsPresent log r
-listed true log r limit spare is above left = inl is
-listed false log r limit spare is above left = inr (present_all log r limit above left)
-
 module _ (p c d t : PassView) (met met' : ℕ) (known : Bounds) (spare : List ℕ) (first : c ≡ removing (observing (collected p met known []) c.observed) c.gone) (second : d ≡ observing (rescanned c spare) d.observed) (third : t ≡ observing (with_met d met') t.observed) (idle : IsIdle p) where
   whole : t ≡ removing (observing (with_met (rescanned (collected p met known []) spare) met') t.observed) c.gone
   whole = third ∙ ap (λ (x : PassView). observing (with_met x met') t.observed) (second ∙ ap (λ (x : PassView). observing (rescanned x spare) d.observed) first)
@@ -46,16 +40,13 @@ module _ (p c d t : PassView) (met met' : ℕ) (known : Bounds) (spare : List �
       let later : c.published ≤ d.published = let is = ap (λ (x : PassView). x.published) second in omega (arith, is) in
       omega arith
 
-  pub Holds-settled : Lawful (StandsForSome stands) d.shared.size.records d.log → IsAbove p.log c.published → AreAbsent c.log d.published c.fixed c.shared.size.records spare → IsRoomy c → Holds t
+  pub Holds-settled : Lawful (StandsForSome stands) d.shared.size.records d.log → IsAbove p.log c.published → HoldsAbsent d → IsRoomy c → Holds t
   Holds-settled lawful above absent roomy = record {
     idle = ap desk_of whole ∙ idle;
     none_queued = ap (λ (x : PassView). x.queue) whole;
     lawful = subst (λ (x : PassView). Lawful (StandsForSome stands) x.shared.size.records x.log) (sym third) lawful;
     above = subst (λ (log : List Entry). IsAbove log t.published) (sym (ap (λ (x : PassView). x.log) whole)) (subst (λ (n : ℕ). IsAbove p.log n) (sym (ap (λ (x : PassView). x.published) third)) (above_settled above));
-    absent = absent_same (record c { given = []; spare = spare }) t (ap engine_of third ∙ ap engine_of second) (ap (λ (x : PassView). x.given) whole) (ap (λ (x : PassView). x.spare) whole)
-        (ap (λ (x : PassView). x.log) third ∙ ap (λ (x : PassView). x.log) second)
-        (λ r from within. listed (is_on spare r) c.log r d.published spare refl
-        (subst (λ (log : List Entry). IsAbove log d.published) (sym (ap (λ (x : PassView). x.log) first)) (above_settled above)) (absent.each r from within));
+    absent = absent_same d t (ap engine_of third) (ap (λ (x : PassView). x.given) third) (ap (λ (x : PassView). x.spare) third) (ap (λ (x : PassView). x.log) third) absent;
     roomy = roomy_same c t (ap engine_of third ∙ ap engine_of second) (ap (λ (x : PassView). x.bounds) third ∙ ap (λ (x : PassView). x.bounds) second) roomy;
   }
 

@@ -10,7 +10,7 @@ use Rattle.history_replay.specs.Results.{IsEntryOf}
 use Rattle.lane_runner.specs.Rows.{stands}
 use Rattle.lane_runner.specs.Using.{MayUse}
 use Rattle.lane_runner.specs.declared.done.BlockDone.{BlockDone}
-use Rattle.lane_runner.specs.Blocks.{Commits, IsDone, IsRefused, IsTried}
+use Rattle.lane_runner.specs.Blocks.{Commits, IsOfSeat, IsDone, IsRefused, IsTried}
 use Rattle.lane_runner.specs.Weighs.{WeighsAtMost}
 use Rattle.lane_runner.proofs.Adding.{Adds-trans}
 use Rattle.lane_runner.proofs.Counted.{once_then, once_after}
@@ -21,6 +21,7 @@ Commits-behind m commands placed outcome p q r first second = record {
   entry = second.entry;
   adds = Adds-trans p q r [] (second.entry ∷ []) first.adds second.adds;
   is_entry = subst (λ (e : EngineView). IsEntryOf stands e.size.records commands placed outcome second.entry) first.adds.engine second.is_entry;
+  seat = subst (λ (n : ℕ). IsOfSeat n placed) first.adds.seat second.seat;
   weighs = subst (λ (e : EngineView). second.entry.snapshot ≡ false → WeighsAtMost e.size.records commands second.entry) first.adds.engine second.weighs;
 }
 
@@ -30,6 +31,7 @@ Commits-then n commands placed outcome p q r first second = record {
   entry = first.entry;
   adds = Adds-trans p q r (first.entry ∷ []) [] first.adds second.adds;
   is_entry = first.is_entry;
+  seat = first.seat;
   weighs = first.weighs;
 }
 

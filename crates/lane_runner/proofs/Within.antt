@@ -4,20 +4,20 @@ use Rattle.std.proofs.lemmas.List.Elements.{All-weaker, All-nil, All-cons, Conta
 use Rattle.plain_data.specs.declared.entry.Entry.{Entry}
 use Rattle.plain_data.specs.State.{State, Agrees, IsEntry, overlay}
 use Rattle.core_rule.specs.Views.{Among}
-use Rattle.histories.specs.History.{Lawful, Leaves}
+use Rattle.histories.specs.History.{Lawful, Leaves, IsValue}
 use Rattle.histories.specs.Laws.{NextStateIsOverlay}
 use Rattle.histories.proofs.Lists.{Contains-nil, Contains-cases}
-use Rattle.histories.proofs.States.{IsValue-same}
+use Rattle.histories.proofs.States.{IsValue-same, one_value}
 use Rattle.replay_model.specs.declared.command.Command.{Command}
 use Rattle.replay_model.specs.Running.{tables_after}
 use Rattle.replay_model.specs.TableMap.{TableMap}
 use Rattle.stored_tables.specs.Places.{Places}
 use Rattle.stored_tables.specs.Weight.{weight}
-use Rattle.seat_post.specs.Leaves.{LeavesValue, AreLeft}
+use Rattle.seat_post.specs.Leaves.{StampedBelow, LeavesValue, AreLeft}
 use Rattle.txn_engine.specs.Pass.{EngineView, PassView}
 use Rattle.seat_post.specs.Logs.{IsAbove}
-use Rattle.seat_post.proofs.Leaving.{leaves_all, leaves_one}
 use Rattle.lane_runner.specs.Adds.{Adds}
+use Rattle.lane_runner.proofs.Elements.{among_of}
 use Rattle.lane_runner.specs.Holding.{LeavesAt, LeavesAfter}
 use Rattle.lane_runner.specs.Weighs.{LeadsTo, RunsTo, AddsWeight}
 
@@ -31,6 +31,14 @@ light_more most more places after grows light = light_sum (weight after) (weight
 pub all_among : {X : Type 0} (P : X → Type 0) (xs : List X) → ((x : X) → Among x xs → P x) → All P xs
 all_among P [] each = All-nil P
 all_among P (x ∷ xs) each = All-cons P x xs (each x (inl refl)) (all_among P xs (λ y among. each y (inr among)))
+
+-- where all commit entries are below the limit
+pub leaves_all : (log : List Entry) (r limit : ℕ) (value : Option (List ℕ)) → IsAbove log limit → LeavesValue log r limit value → IsValue (Contains log) r value
+leaves_all log r limit value above left = IsValue-same (StampedBelow log limit) (Contains log) r value (λ e commit at. at.0) (λ e commit at. (at, above e (among_of log e at) commit)) left
+
+-- a log that stands in a lawful history leaves one value of a record
+pub leaves_one : (kept : State → Type 0) (records : ℕ) (history log : List Entry) (r : ℕ) (x y : Option (List ℕ)) → Lawful kept records history → ((e : Entry) → Contains log e → Contains history e) → IsValue (Contains log) r x → IsValue (Contains log) r y → x ≡ y
+leaves_one kept records history log r x y lawful own a b = one_value records history (Contains log) r x y lawful.each lawful.apart own a b
 
 -- what is read agrees with the state that a lawful log leaves
 pub left_agrees : (kept : State → Type 0) (records : ℕ) (log : List Entry) (limit : ℕ) (reads : List (ℕ × Option (List ℕ))) (state : State) → Lawful kept records log → IsAbove log limit → Leaves (Contains log) state → AreLeft log limit reads → Agrees state reads

@@ -1,6 +1,7 @@
 -- What the run of a block leaves of a pass.
-use Rattle.std.specs.Prelude.{◌≡◌, ℕ, ◌+◌, ◌<◌, ◌≤◌, false, List, [], ◌∷◌, Option, Some, None, IfSome}
+use Rattle.std.specs.Prelude.{◌≡◌, ℕ, ◌+◌, ◌<◌, ◌≤◌, false, List, [], ◌∷◌, All, Option, Some, None, IfSome}
 use Rattle.plain_data.specs.declared.entry.Entry.{Entry}
+use Rattle.stamp_base.specs.Stamp.{stamp_of}
 use Rattle.core_rule.specs.Views.{Among}
 use Rattle.replay_model.specs.declared.command.Command.{Command}
 use Rattle.replay_model.specs.declared.input.Block.{Block}
@@ -19,11 +20,21 @@ pub record IsPlaceOf (block : Block) (placed : Placed) : Type 0 where
   pub lane : placed.lane ≡ block.lane
   pub number : placed.number ≡ block.number
 
--- exactly one entry was added, that of the commands with this outcome; that of a transaction adds no more to the weight than they may
+-- the place is that of a snapshot, or its stamp is one of this seat
+abbrev pub IsOfSeat : (seat : ℕ) → Placed → Type 0
+IsOfSeat seat placed = placed.snap ≡ false → (clock : ℕ) × (placed.stamp ≡ stamp_of clock seat)
+
+-- so it is of each of these results
+abbrev pub AreOfSeat : (seat : ℕ) → List (Placed × Outcome) → Type 0
+AreOfSeat seat results = All (λ (result : Placed × Outcome). IsOfSeat seat result.0) results
+
+-- exactly one entry was added, that of the commands with this outcome; that of a transaction is stamped at the seat of the pass, and adds no
+-- more to the weight than they may
 pub record Commits (commands : List Command) (before after' : PassView) (placed : Placed) (outcome : Outcome) : Type 0 where
   pub entry : Entry
   pub adds : Adds before after' (entry ∷ [])
   pub is_entry : IsEntryOf stands before.shared.size.records commands placed outcome entry
+  pub seat : IsOfSeat before.seat placed
   pub weighs : entry.snapshot ≡ false → WeighsAtMost before.shared.size.records commands entry
 
 -- no entry was added, and so many refusals were counted

@@ -11,6 +11,11 @@ use Rattle.txn_engine.specs.Pass.{PassView}
 use Rattle.lane_runner.specs.declared.done.BlockDone.{BlockDone}
 use Rattle.lane_runner.specs.Rows.{stands}
 
+-- what a try came to: what the block did, or nothing where it was refused
+abbrev pub ran : {E : Type 0} → Result BlockDone E → Option BlockDone
+ran (Ok done) = Some done
+ran (Err refused) = None
+
 -- what the block came to, of which a transaction read this record first, by the answer to its commit
 abbrev pub done_at : Block → Outcome → (first_read : Option ℕ) → Result Committed CommitFault → Option BlockDone
 done_at block outcome first_read (Ok told) = Some (record {

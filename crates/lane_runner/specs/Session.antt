@@ -10,7 +10,7 @@ use Rattle.lane_runner.specs.declared.done.LaneDone.{LaneDone}
 use Rattle.lane_runner.specs.declared.turn.Turn.{Turn as Answer}
 use Rattle.lane_runner.specs.declared.turn.Turn.TheVariants.{Outcome as HasEnded, Again, Kept, Over}
 use Rattle.lane_runner.specs.Adds.{Adds}
-use Rattle.lane_runner.specs.Blocks.{IsRefused}
+use Rattle.lane_runner.specs.Blocks.{AreOfSeat, IsOfSeat, IsRefused}
 use Rattle.lane_runner.specs.Lanes.{AreEntries}
 
 -- The number of the lane, how often each transaction block may be tried, the results so far, the blocks without one, and how often the
@@ -36,8 +36,8 @@ done_of s = record { lane = s.lane; results = s.results; rest = s.left }
 
 -- ---- a try
 
--- the next block has its result, behind the earlier ones; its entry was added to the pass, and none but it that changes the tables; one
--- refusal was counted at most
+-- the next block has its result, behind the earlier ones and at the seat of the pass; its entry was added to the pass, and none but it that
+-- changes the tables; one refusal was counted at most
 pub record GivesOutcome (before after' : SessionView) (p q : PassView) : Type 0 where
   pub block : Block
   pub more : List Block
@@ -46,6 +46,7 @@ pub record GivesOutcome (before after' : SessionView) (p q : PassView) : Type 0 
   pub session_is : after' ≡ record before { results = before.results ++ result ∷ []; left = more; refused = 0 }
   pub entries : List Entry
   pub are_entries : AreEntries p.shared.size.records entries (block ∷ []) (result ∷ [])
+  pub seat : IsOfSeat p.seat result.0
   pub adds : Adds p q entries
   pub once : q.refusals ≤ p.refusals + 1
 
@@ -78,8 +79,8 @@ tries_left s = length (to_try s) * s.tries - s.refused
 abbrev pub draws_left : SessionView → ℕ
 draws_left s = length (to_try s) * (s.tries + 2) - s.refused
 
--- the first of the blocks that were left have their results, behind the earlier ones, with these entries in their order
-pub record GoesOn (records : ℕ) (entries : List Entry) (before after' : SessionView) : Type 0 where
+-- the first of the blocks that were left have their results, behind the earlier ones and at this seat, with these entries in their order
+pub record GoesOn (records seat : ℕ) (entries : List Entry) (before after' : SessionView) : Type 0 where
   pub lane : after'.lane ≡ before.lane
   pub tries : after'.tries ≡ before.tries
   pub done : List Block
@@ -87,3 +88,4 @@ pub record GoesOn (records : ℕ) (entries : List Entry) (before after' : Sessio
   pub left_is : before.left ≡ done ++ after'.left
   pub results_are : after'.results ≡ before.results ++ more
   pub are_entries : AreEntries records entries done more
+  pub seats : AreOfSeat seat more

@@ -10,43 +10,30 @@ ghost use Rattle.lane_runner.specs.Lanes.{MayRun, AddsSome};
 ghost use Rattle.lane_runner.specs.Ready.{IsAmple, IsReady};
 
 use crate::done::BlockDone;
+use crate::keeping_up::sync_with_others;
 use crate::snapping::run_snap;
 use crate::trying::try_once;
 use outside_io::{Meets, Reads};
 use replay_model::{Block, NoMemory};
 use std::alloc::Global;
-use std::thread;
 use stored_tables::RowsLawful;
 use txn_engine::{Engine, Pass};
 
-/// Lets other threads run before a further try: behind each refusal twice as often as behind the one before, and at most 1,024 times. It
-/// waits for none of them.
-fn give_way(refused: u32) {
-    for _ in 0..1_u32 << refused.min(10) {
-        thread::yield_now();
-    }
-}
-
-/// Synchronises the pass before a further try: behind the first refusal with the seat behind its own, then with the next one, and so on,
-/// round and without its own. Other threads may run first. With one seat there is none.
-fn sync_in_turn(engine: &Engine<RowsLawful>, pass: &mut Pass<RowsLawful>, refused: u32)
+/// Synchronises the pass with all others before a further try of a block; before the first one nothing is done.
+fn sync_before_try(engine: &Engine<RowsLawful>, pass: &mut Pass<RowsLawful>, refused: u32)
     requires pass { IsIdleOf engine.now pass.old }
     ensures first { refused ≡ 0 → pass.new ≡ pass.old }
     ensures none { IsRefused 0 pass.old pass.new }
     ensures queue { pass.new.queue ≡ pass.old.queue }
     ensures clock { pass.new.clock ≤ clock_after pass.old.clock 0 }
 {
-    let seats = engine.seats();
-    if refused == 0 || seats == 1 {
-        return;
+    if refused > 0 {
+        sync_with_others(engine, pass);
     }
-    give_way(refused);
-    let steps = 1 + (refused - 1) % (seats - 1);
-    pass.sync(engine, (pass.seat() + steps) % seats);
 }
 
-/// Tries a block once with the clock's reading, and collects. A transaction block that was refused so often is tried again, behind a
-/// synchronisation; a snapshot block is never refused. `None`: it is to be tried again.
+/// Tries a block once with the clock's reading, and collects. A transaction block that was refused is tried again after a synchronisation with
+/// all other seats; a snapshot block is never refused. `None`: it is to be tried again.
 pub(crate) fn try_block<C: Reads, G: Meets>(
     alloc: Global,
     engine: &Engine<RowsLawful>,
@@ -69,6 +56,6 @@ pub(crate) fn try_block<C: Reads, G: Meets>(
         let done = run_snap(alloc, engine, pass, block, clock.reading(), gate)?;
         return Ok(Some(done));
     }
-    sync_in_turn(engine, pass, refused);
+    sync_before_try(engine, pass, refused);
     try_once(alloc, engine, pass, block, clock.reading(), gate)
 }

@@ -25,7 +25,7 @@ use Rattle.lane_runner.proofs.Results.{entry_of_result, after_entries, keep_orde
 use Rattle.lane_runner.proofs.Elements.{among_moved, pairs_append}
 use Rattle.lane_threads.proofs.BecomingLists.{pieces_moved}
 use Rattle.lane_threads.proofs.BecomingLanes.{Rises, IsLane, LanesDiffer, numbered_are_lanes, numbered_differ, blocks_in, blocks_numbered}
-use Rattle.lane_threads.proofs.BecomingRan.{Follows, results_follow, LanesRan, lanes_ran, IsRest, each_rest, DonesDiffer, dones_differ, rests_rise, rests_flat, results_flat}
+use Rattle.lane_threads.proofs.BecomingRan.{Follows, results_follow, LanesRan, lanes_ran, IsRest, each_rest, DonesDiffer, dones_differ, rests_rise, rests_flat, results_moved_by}
 use Rattle.lane_threads.proofs.BecomingLog.{loaded_log, together_begins, last_of_loading, comes_behind, all_behind, loading_up_to}
 use Rattle.lane_threads.proofs.BecomingOrder.{lanes_kept}
 
@@ -90,7 +90,7 @@ module _ (input : Input) (tries due : ℕ) (loaded : PassView) (alone : AloneVie
   ordered_entries = AreEntries-append records added ran.firsts ran.results more remained finish.rests ran.are_entries remained_entries
 
   results_in_order : IsPermutation (results_of done) (results_of finish.order)
-  results_in_order = subst₂ (λ (xs ys : List (Placed × Outcome)). IsPermutation xs ys) (sym (results_flat done)) (sym (results_flat finish.order)) (pieces_moved (λ (d : LaneDone). d.results) done finish.order finish.same)
+  results_in_order = results_moved_by done finish.order finish.same
 
   results_moved : IsPermutation ran.results (results_of finish.order)
   results_moved = IsPermutation-trans ran.results (results_of done) (results_of finish.order) (IsPermutation-sym (results_of done) ran.results ran.same_results) results_in_order

@@ -1,5 +1,5 @@
 -- The blocks of lanes that ran, and those that remain: each once, and in the order of their lanes.
-use Rattle.std.proofs.Common.{◌≡◌, ◌≢◌, ◌⊎◌, inl, inr, ⊎_elim, ℕ, ◌<◌, List, [], ◌∷◌, ◌++◌, All, AllPairs, IsPermutation, refl, sym, ap, subst, ◌∙◌, arith}
+use Rattle.std.proofs.Common.{◌≡◌, ◌≢◌, ◌⊎◌, inl, inr, ⊎_elim, ℕ, ◌<◌, List, [], ◌∷◌, ◌++◌, All, AllPairs, IsPermutation, refl, sym, ap, subst, subst₂, ◌∙◌, arith}
 use Rattle.std.specs.List.{flat_map}
 use Rattle.std.proofs.lemmas.List.Elements.{All-nil, All-cons, All-head, All-tail, All-contains}
 use Rattle.std.proofs.lemmas.List.Kept.{AllPairs-cons}
@@ -23,7 +23,7 @@ use Rattle.lane_runner.proofs.Run.{AreEntries-others}
 use Rattle.lane_threads.proofs.Merging.{MergedEntries, merged_entries, merge_split, merge_permutes, merge_pairs}
 use Rattle.lane_runner.proofs.Results.{entry_of_result}
 use Rattle.lane_runner.proofs.Elements.{all_among, contains_of, pairs_append, pairs_behind}
-use Rattle.lane_threads.proofs.BecomingLists.{pieces_cross, pairs_first, pairs_across}
+use Rattle.lane_threads.proofs.BecomingLists.{pieces_cross, pieces_moved, pairs_first, pairs_across}
 use Rattle.lane_threads.proofs.BecomingLanes.{Rises, IsLane, LanesDiffer, blocks_in}
 
 -- of two results of one lane the later one has the greater number, and stands behind
@@ -212,3 +212,7 @@ rests_flat (d ∷ ds) = ap (λ (more : List Block). d.rest ++ more) (rests_flat 
 pub results_flat : (dones : List LaneDone) → results_of dones ≡ flat_map (λ (done : LaneDone). done.results) dones
 results_flat [] = refl
 results_flat (d ∷ ds) = ap (λ (more : List (Placed × Outcome)). d.results ++ more) (results_flat ds)
+
+-- in another order of the lanes
+pub results_moved_by : (done order : List LaneDone) → IsPermutation done order → IsPermutation (results_of done) (results_of order)
+results_moved_by done order moved = subst₂ (λ (xs ys : List (Placed × Outcome)). IsPermutation xs ys) (sym (results_flat done)) (sym (results_flat order)) (pieces_moved (λ (d : LaneDone). d.results) done order moved)

@@ -1,12 +1,16 @@
 -- What workers leave together, worker behind worker.
-use Rattle.std.proofs.Common.{◌≡◌, ℕ, suc, ◌+◌, Result, Ok, Err, List, [], ◌∷◌, ◌++◌, map, refl, sym, ap, subst, ◌∙◌, append-nil, append_assoc, length, get_or, take, drop, All, arith}
+use Rattle.std.proofs.Common.{◌≡◌, inl, ℕ, suc, ◌+◌, Result, Ok, Err, List, [], ◌∷◌, ◌++◌, map, refl, sym, ap, subst, ◌∙◌, append-nil, append_assoc, length, get_or, take, drop, All, arith}
 use Rattle.std.specs.Prelude.{◌<◌, max, IfOk}
 use Rattle.std.specs.List.{AllByRecursion}
 use Rattle.std.specs.Result.{IsOkAnd}
 use Rattle.std.proofs.lemmas.List.{map-append, length-append}
-use Rattle.std.proofs.lemmas.List.Elements.{All-nil, All-cons}
+use Rattle.std.proofs.lemmas.List.Elements.{All-nil, All-cons, All-append, All-weaker}
 use Rattle.plain_data.specs.declared.entry.Entry.{Entry}
 use Rattle.atomic_table.specs.Seated.{TableId}
+use Rattle.core_rule.specs.Views.{Among}
+use Rattle.core_rule.proofs.Among.{Among-left, Among-right}
+use Rattle.replay_model.specs.declared.outcome.Outcome.{Outcome}
+use Rattle.replay_model.specs.declared.outcome.Placed.{Placed}
 use Rattle.replay_model.specs.TableMap.{TableMap}
 use Rattle.lane_queue.specs.declared.lane.Lane.{Lane}
 use Rattle.lane_queue.specs.Passes.{Taker, IsFresh, IsSamePass, HasEnded, taken_by}
@@ -14,15 +18,18 @@ use Rattle.txn_engine.specs.Pass.{PassView, EngineView}
 use Rattle.txn_engine.specs.Retired.{RetiredView, retired}
 use Rattle.txn_engine.specs.Joining.{AreOfEngine, logs_of, refusals_of, greatest_clock_of, greatest_met_of}
 use Rattle.lane_runner.specs.declared.done.LaneDone.{LaneDone}
+use Rattle.lane_runner.specs.Blocks.{AreOfSeat, IsOfSeat}
+use Rattle.lane_runner.specs.Finishing.{results_of}
 use Rattle.lane_threads.specs.declared.workers.Worker.{Worker}
 use Rattle.lane_threads.specs.declared.workers.Worked.{Worked}
 use Rattle.lane_threads.specs.declared.workers.Left.{Left}
 use Rattle.lane_threads.specs.declared.gathering.Gathered.{Gathered}
 use Rattle.lane_threads.specs.All.{Grown, IsGrown, grown_logs, all_added, AreOfLanes, all_refusals, latest_clock, greatest_met}
 use Rattle.lane_threads.specs.Workers.{MayWork, MayBegin, DoesLanes, DoesAndReads, WorksAndReads, WorksAndRetires, EachRetires, draws_of}
-use Rattle.lane_threads.specs.Seen.{IsRead, met_first}
-use Rattle.lane_threads.specs.Gathers.{Starts, GoesOn, GoesOnByEach, Gathers, GathersIn, fresh_again}
-use Rattle.lane_threads.proofs.LaneLists.{AreOfLanes-append, draws_append, rests_append}
+use Rattle.lane_threads.specs.Seen.{HaveEntries, IsRead, met_first}
+use Rattle.lane_threads.specs.Gathers.{Starts, GoesOn, GoesOnByEach, Gathers, GathersIn, IsOfSome, fresh_again}
+use Rattle.lane_threads.proofs.LaneLists.{AreOfLanes-append, draws_append, rests_append, results_append}
+use Rattle.lane_threads.proofs.Owned.{entered_all}
 
 -- ---- one more at the end of a list
 
@@ -122,6 +129,34 @@ others_retire w more one left all = record {
   each = λ i v other below. all.each (suc i) v other (omega (arith, below));
 }
 
+-- ---- their seats
+
+abbrev seats_of : List RetiredView → List ℕ
+seats_of others = map (λ (x : RetiredView). x.seat) others
+
+abbrev AreOfSome : List RetiredView → List (Placed × Outcome) → Type 0
+AreOfSome others results = All (λ (r : Placed × Outcome). IsOfSome (seats_of others) r.0) results
+
+-- what one more comes to is of its seat
+module _ (others : List RetiredView) (q : PassView) where
+  abbrev one_more : List RetiredView
+  one_more = others ++ retired q ∷ []
+
+  in_all : (seat : ℕ) → Among seat (seats_of others ++ q.seat ∷ []) → Among seat (seats_of one_more)
+  in_all seat among = subst (Among seat) (sym (map-append (λ (x : RetiredView). x.seat) others (retired q ∷ []))) among
+
+  of_earlier : (r : Placed × Outcome) → IsOfSome (seats_of others) r.0 → IsOfSome (seats_of one_more) r.0
+  of_earlier r is kind = let at = is kind in (at.0, at.1, in_all at.1 (Among-left at.1 (seats_of others) (q.seat ∷ []) at.2), at.3)
+
+  of_last : (seat : ℕ) → q.seat ≡ seat → (r : Placed × Outcome) → IsOfSeat seat r.0 → IsOfSome (seats_of one_more) r.0
+  of_last seat same r is kind = let at = is kind in (at.0, seat, in_all seat (Among-right seat (seats_of others) (q.seat ∷ []) (inl same)), at.1)
+
+  apart_more : (theirs more : List LaneDone) (seat : ℕ) → q.seat ≡ seat → AreOfSome others (results_of theirs) → AreOfSeat seat (results_of more) → AreOfSome one_more (results_of (theirs ++ more))
+  apart_more theirs more seat same apart seats = subst (AreOfSome one_more) (sym (results_append theirs more))
+      (All-append (λ (r : Placed × Outcome). IsOfSome (seats_of one_more) r.0) (results_of theirs) (results_of more)
+      (All-weaker (λ (r : Placed × Outcome). IsOfSome (seats_of others) r.0) (λ (r : Placed × Outcome). IsOfSome (seats_of one_more) r.0) of_earlier (results_of theirs) apart)
+      (All-weaker (λ (r : Placed × Outcome). IsOfSeat seat r.0) (λ (r : Placed × Outcome). IsOfSome (seats_of one_more) r.0) (of_last seat same) (results_of more) seats))
+
 module _ (engine : EngineView) (queue : TableId) (tries : ℕ) where
   -- the first one
   gathers_one : (due : ℕ) (p q : PassView) (t u : Taker) (done : List LaneDone) (readings : List (ℕ × TableMap)) → MayWork engine queue tries p t → IsSamePass t u → HasEnded u → DoesAndReads tries due p q u.took done readings
@@ -144,7 +179,13 @@ module _ (engine : EngineView) (queue : TableId) (tries : ℕ) where
     met = omega (arith, does.adds.met);
     few = works.few;
     each_read = works.each;
+    own = subst (λ (e : EngineView). HaveEntries e.size.records q.log readings) may.uses.same (entered_all p.shared.size.records p.log q.log readings works.own);
     in_order = works.in_order;
+    ours = done;
+    theirs = [];
+    done_are = sym (append-nil done);
+    beside = works.beside;
+    apart = All-nil (λ (r : Placed × Outcome). IsOfSome [] r.0);
   } where
     here : AreOfLanes engine.size.records works.does.entries u.took done
     here = subst (λ (e : EngineView). AreOfLanes e.size.records works.does.entries u.took done) may.uses.same works.does.are_of_lanes
@@ -171,6 +212,12 @@ module _ (engine : EngineView) (queue : TableId) (tries : ℕ) where
     clock_to = omega (arith, so_far.clock_to, does.clock, clock_push first.clock others (retired q), latest_push passes p, draws_append tries (taken_by ended) u.took, ap (λ (lanes : List Lane). draws_of lanes tries) (taken_push ended u));
     met = omega (arith, so_far.met, does.adds.met, met_push first.met others (retired q), greatest_push passes p);
     few = so_far.few;
+    own = so_far.own;
+    ours = so_far.ours;
+    theirs = so_far.theirs ++ more;
+    done_are = ap (λ (ds : List LaneDone). ds ++ more) so_far.done_are ∙ append_assoc so_far.ours so_far.theirs more;
+    beside = so_far.beside;
+    apart = apart_more others q so_far.theirs more p.seat does.adds.seat so_far.apart does.seats;
     each_read = subst (λ (m : ℕ). All (IsRead m first) readings) (sym (met_stays first.seat (map (λ (r : RetiredView). r.seat) others) passes p so_far.seats)) so_far.each_read;
     in_order = so_far.in_order;
   } where

@@ -1,27 +1,33 @@
 -- Lanes one behind another: which of them may run, how many stamps they may draw, and the entries of what they come to.
-use Rattle.std.proofs.Common.{◌≡◌, ◌≢◌, ℕ, suc, ◌+◌, ◌≤◌, List, [], ◌∷◌, ◌++◌, inl, inr, ⊎_elim, refl, sym, ap, subst, length, Result, Ok, Err, arith}
+use Rattle.std.proofs.Common.{◌≡◌, ◌≢◌, ℕ, suc, ◌+◌, ◌≤◌, List, [], ◌∷◌, ◌++◌, append-nil, append_assoc, inl, inr, ⊎_elim, refl, sym, ap, subst, ◌∙◌, length, Result, Ok, Err, arith}
 use Rattle.std.specs.Prelude.{All, IfOk}
-use Rattle.std.proofs.lemmas.List.Elements.{All-nil, All-cons, All-head, All-tail}
+use Rattle.std.proofs.lemmas.List.Elements.{All-nil, All-cons, All-append, All-head, All-tail}
 use Rattle.std.proofs.lemmas.List.Sums.{sum_by-cons, sum_by_push, sum_by-append}
 use Rattle.plain_data.specs.declared.entry.Entry.{Entry}
 use Rattle.core_rule.specs.Views.{Among}
 use Rattle.core_rule.proofs.Among.{Among-split}
 use Rattle.replay_model.specs.declared.input.Block.{Block}
+use Rattle.replay_model.specs.declared.outcome.Outcome.{Outcome}
+use Rattle.replay_model.specs.declared.outcome.Placed.{Placed}
 use Rattle.lane_queue.specs.declared.lane.Lane.{Lane}
 use Rattle.lane_queue.specs.Subsequences.{IsSubsequence}
 use Rattle.lane_queue.specs.Passes.{numbered, HasEnded}
+use Rattle.txn_engine.specs.Alone.{AloneView}
 use Rattle.txn_engine.specs.Pass.{PassView, EngineView, IsIdle}
 use Rattle.lane_runner.specs.declared.done.LaneDone.{LaneDone}
 use Rattle.lane_runner.specs.Room.{HasRoom, clock_after}
 use Rattle.lane_runner.specs.Lanes.{MayRun, lane_draws}
 use Rattle.lane_runner.specs.Weighs.{LeavesTables}
+use Rattle.lane_runner.specs.Blocks.{AreOfSeat, IsOfSeat}
+use Rattle.lane_runner.specs.Finishing.{results_of}
 use Rattle.lane_runner.specs.Done.{DoesLane}
 use Rattle.lane_runner.specs.Done.{tries_of_rest}
 use Rattle.lane_threads.specs.All.{AreOfLane, AreOfLanes, tries_of_rests, all_draws}
 use Rattle.lane_threads.specs.All.AreOfLanes.{none, next}
 use Rattle.lane_threads.specs.Workers.{MayRunLane, draws_of, RunsLanes, DoesLanes, DoesAndReads, WorksAndReads, NothingIsRead}
-use Rattle.lane_threads.specs.Seen.{IsRead}
+use Rattle.lane_threads.specs.Seen.{IsRead, ReadsAll}
 use Rattle.lane_runner.proofs.Adding.{Adds-none, Adds-trans}
+use Rattle.lane_threads.proofs.Owned.{entered_none}
 use Rattle.lane_threads.proofs.Merging.{merge_first, merge_before_second, merge_behind_second}
 
 -- ---- how many stamps they may draw
@@ -116,6 +122,16 @@ rest_counted : (tries : ℕ) (rest : List Block) (m n : ℕ) → (rest ≢ [] �
 rest_counted tries [] m n counts low = omega arith
 rest_counted tries (block ∷ rest) m n counts low = counts (λ none. cc)
 
+-- ---- results
+
+pub results_append : (dones more : List LaneDone) → results_of (dones ++ more) ≡ results_of dones ++ results_of more
+results_append [] more = refl
+results_append (done ∷ dones) more = ap (λ (rs : List (Placed × Outcome)). done.results ++ rs) (results_append dones more) ∙ sym (append_assoc done.results (results_of dones) (results_of more))
+
+-- those of both are of the seat
+seats_append : (seat : ℕ) (dones more : List LaneDone) → AreOfSeat seat (results_of dones) → AreOfSeat seat (results_of more) → AreOfSeat seat (results_of (dones ++ more))
+seats_append seat dones more first second = subst (AreOfSeat seat) (sym (results_append dones more)) (All-append (λ (r : Placed × Outcome). IsOfSeat seat r.0) (results_of dones) (results_of more) first second)
+
 -- ---- the work of one pass
 
 pub RunsLanes-none : (tries : ℕ) (p : PassView) → IsIdle p → RunsLanes tries 0 p p [] []
@@ -125,11 +141,12 @@ RunsLanes-none tries p idle = record {
   are_of_lanes = none [] (λ entry among. absurd among);
   refusals = omega arith;
   clock = omega arith;
+  seats = All-nil (λ (r : Placed × Outcome). IsOfSeat p.seat r.0);
 }
 
 -- more draws than it made
 pub RunsLanes-weaker : (tries m n : ℕ) (p q : PassView) (lanes : List Lane) (dones : List LaneDone) → m ≤ n → RunsLanes tries m p q lanes dones → RunsLanes tries n p q lanes dones
-RunsLanes-weaker tries m n p q lanes dones few does = record { entries = does.entries; adds = does.adds; are_of_lanes = does.are_of_lanes; refusals = does.refusals; clock = (let clock = does.clock in omega arith) }
+RunsLanes-weaker tries m n p q lanes dones few does = record { entries = does.entries; adds = does.adds; are_of_lanes = does.are_of_lanes; refusals = does.refusals; clock = (let clock = does.clock in omega arith); seats = does.seats }
 
 -- the work on more lanes behind that on others
 pub RunsLanes-append : (tries m n : ℕ) (p q r : PassView) (lanes more : List Lane) (dones dones' : List LaneDone) → RunsLanes tries m p q lanes dones → RunsLanes tries n q r more dones' → RunsLanes tries (m + n) p r (lanes ++ more) (dones ++ dones')
@@ -140,6 +157,7 @@ RunsLanes-append tries m n p q r lanes more dones dones' first second = record {
       (subst (λ (e : EngineView). AreOfLanes e.size.records second.entries more dones') first.adds.engine second.are_of_lanes);
   refusals = omega (arith, first.refusals, second.refusals, rests_append tries dones dones');
   clock = omega (arith, first.clock, second.clock);
+  seats = seats_append p.seat dones dones' first.seats (subst (λ (n : ℕ). AreOfSeat n (results_of dones')) first.adds.seat second.seats);
 }
 
 -- that on one more lane
@@ -158,6 +176,7 @@ RunsLanes-next tries m n p q r lanes lanes' lane dones dones' done taken pushed 
           let counted : q.refusals + tries_of_rest tries done.rest ≤ r.refusals = rest_counted tries done.rest q.refusals r.refusals rest does.runs.adds.refusals in
           omega (arith, counted);
       clock = clock;
+      seats = subst (AreOfSeat q.seat) (sym (append-nil done.results)) does.seats;
     }
 
 pub DoesLanes-none : (tries : ℕ) (p : PassView) → IsIdle p → DoesLanes tries p p [] []
@@ -181,22 +200,41 @@ ok_then (Ok x) P Q then so = then x so
 ok_then (Err fault) P Q then so = tt
 
 -- one that reads nothing
-none_read : (due tries : ℕ) (p q : PassView) (lanes : List Lane) (dones : List LaneDone) → DoesLanes tries p q lanes dones → DoesAndReads tries due p q lanes dones []
-none_read due tries p q lanes dones does = record {
+none_read : (tries : ℕ) (p q : PassView) (lanes : List Lane) (dones : List LaneDone) → DoesLanes tries p q lanes dones → DoesAndReads tries 0 p q lanes dones []
+none_read tries p q lanes dones does = record {
   does = RunsLanes-weaker tries (draws_of lanes tries) (draws_of lanes tries + 0) p q lanes dones (omega arith) does;
   few = omega arith;
   each = All-nil (IsRead p.met q);
+  own = entered_none p.shared.size.records p.log q.log does.entries does.adds.log;
   in_order = λ i j d less within. absurd (omega arith);
+  beside = record { stand = tt; all = λ still. absurd (omega (arith, still)) };
 }
 
 pub nothing_is_read : NothingIsRead
-nothing_is_read due tries pass taker worked readings is_none works = subst (WorksAndReads due tries pass taker worked) (sym is_none) (record {
+nothing_is_read tries pass taker worked readings is_none works = subst (WorksAndReads 0 tries pass taker worked) (sym is_none) (record {
   adds = works.adds;
   same = works.same;
   done = ok_then worked.done (λ done. HasEnded worked.taker × DoesLanes tries pass worked.pass worked.taker.took done.items)
-      (λ done. HasEnded worked.taker × DoesAndReads tries due pass worked.pass worked.taker.took done.items [])
-      (λ done so. (so.0, none_read due tries pass worked.pass worked.taker.took done.items so.1)) works.done;
+      (λ done. HasEnded worked.taker × DoesAndReads tries 0 pass worked.pass worked.taker.took done.items [])
+      (λ done so. (so.0, none_read tries pass worked.pass worked.taker.took done.items so.1)) works.done;
 })
+
+-- nothing is read by a seat that is alone where nothing is due
+pub reads_none : (alone : AloneView) → IsIdle alone.pass → ReadsAll 0 [] alone alone []
+reads_none alone idle = record {
+  others = record { entries = []; adds = Adds-none alone.pass idle; keep = λ entry among. absurd among };
+  beside = refl;
+  given = refl;
+  queue = refl;
+  boost = refl;
+  more = [];
+  seen_are = refl;
+  count = refl;
+  clock = omega arith;
+  each = All-nil (IsRead alone.pass.met alone.pass);
+  own = entered_none alone.pass.shared.size.records alone.pass.log alone.pass.log [] (sym (append-nil alone.pass.log));
+  in_order = λ i j d less within. absurd (omega arith);
+}
 
 pub no_items : {X : Type 0} (xs : List X) → length xs ≡ 0 → xs ≡ []
 no_items [] is = refl

@@ -10,7 +10,10 @@ mod WholeRun
 mod Remaining
 mod BecomingLists
 mod BecomingLanes
-mod BecomingRan
+pub mod BecomingRan
 mod BecomingLog
 mod BecomingOrder
 mod Becoming
+pub mod Counting
+pub mod Beside
+pub mod Owned

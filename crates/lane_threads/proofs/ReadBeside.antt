@@ -19,10 +19,13 @@ use Rattle.lane_runner.specs.Adds.{IsNext, AreInOrder}
 use Rattle.lane_runner.specs.Weighs.{LeavesTables}
 use Rattle.lane_threads.specs.All.{AreAllPasses, AreOfLanes, Grown, IsGrown, grown_logs, all_added, all_draws, latest_clock, greatest_met, RunsAll, RunsAndReads}
 use Rattle.lane_threads.specs.All.AreOfLanes.{none}
-use Rattle.lane_threads.specs.Seen.{met_first, IsRead, NeverFall, ReadsAll, IsSeen, AreSeen, ReadingsAreSeen}
+use Rattle.lane_threads.specs.Beside.{FewUpTo, places_of}
+use Rattle.lane_threads.specs.Seen.{met_first, HaveEntries, IsRead, NeverFall, ReadsAll, IsSeen, AreSeen, ReadingsAreSeen}
 use Rattle.lane_runner.proofs.Adding.{alone_stays, in_order_behind}
 use Rattle.lane_threads.proofs.LaneLists.{AreOfLanes-append}
 use Rattle.lane_threads.proofs.Together.{count_passes, added_in_logs}
+use Rattle.lane_threads.proofs.Beside.{few_behind}
+use Rattle.lane_threads.proofs.Owned.{have_then}
 use Rattle.lane_threads.proofs.Readings.{read_later, reads_behind}
 
 -- ---- room
@@ -110,15 +113,24 @@ module _ (engine : EngineView) (passes : List PassView) (lanes : List (List Bloc
       (λ e among. subst (Among e) (sym reads.others.adds.log) (Among-left e alone.pass.log more among)) reads.others.adds.clock reads.others.adds.met earlier both.each)
       (read_later alone.pass.met (met_first passes) alone'.pass alone'.pass (omega (arith, runs.met, met_below passes)) refl refl (λ e among. among) (omega arith) (omega arith) reads.more reads.each))
 
-  pub seen_beside : ReadingsAreSeen → Lawful (StandsForSome stands) alone'.pass.shared.size.records alone'.pass.log → AreSeen due passes alone' seen
+  draws_are : length earlier + length reads.more ≡ due
+  draws_are = omega (arith, reads.count, ap (λ (xs : List (ℕ × TableMap)). length xs) reads.seen_are, length-append earlier reads.more)
+
+  -- each by an entry of its own
+  own_entries : HaveEntries alone'.pass.shared.size.records alone'.pass.log (earlier ++ reads.more)
+  own_entries =
+      subst (λ (e : EngineView). HaveEntries e.size.records alone'.pass.log (earlier ++ reads.more)) (sym reads.others.adds.engine)
+      (subst (λ (log : List Entry). HaveEntries alone.pass.shared.size.records log (earlier ++ reads.more)) (sym reads.own.log_is)
+      (have_then alone.pass.shared.size.records alone.pass.log reads.own.added earlier reads.more both.own reads.own.own))
+
+  pub seen_beside : ReadingsAreSeen → Lawful (StandsForSome stands) alone'.pass.shared.size.records alone'.pass.log → AreSeen due passes alone' done seen
   seen_beside law lawful = record {
     count = reads.count;
     each = law passes alone' seen lawful each_read;
+    own = subst (HaveEntries alone'.pass.shared.size.records alone'.pass.log) (sym reads.seen_are) own_entries;
+    beside = subst (FewUpTo (places_of done)) (sym reads.seen_are) (few_behind due (places_of done) earlier reads.more draws_are both.beside);
     in_order = subst NeverFall (sym reads.seen_are) (reads_behind (met_first passes) alone.pass alone'.pass earlier reads.more both.each reads.each both.in_order reads.in_order);
   }
-
-  draws_are : length earlier + length reads.more ≡ due
-  draws_are = omega (arith, reads.count, ap (λ (xs : List (ℕ × TableMap)). length xs) reads.seen_are, length-append earlier reads.more)
 
   module _ (g : Grown) (gs : List Grown) (are : runs.grown ≡ g ∷ gs) where
     passes_are : map (λ (x : Grown). x.pass) (g ∷ gs) ≡ passes
@@ -215,9 +227,11 @@ module _ (alone told : AloneView) (pass : told.pass ≡ observing (with_met alon
     met = omega (arith, runs.met, not_back);
   })
 
-  pub seen_told : (due : ℕ) (passes : List PassView) (seen : List (ℕ × TableMap)) → AreSeen due passes alone seen → AreSeen due passes told seen
-  seen_told due passes seen are = subst (λ (a : AloneView). AreSeen due passes a seen) (sym is) (record {
+  pub seen_told : (due : ℕ) (passes : List PassView) (done : List LaneDone) (seen : List (ℕ × TableMap)) → AreSeen due passes alone done seen → AreSeen due passes told done seen
+  seen_told due passes done seen are = subst (λ (a : AloneView). AreSeen due passes a done seen) (sym is) (record {
     count = are.count;
+    own = are.own;
+    beside = are.beside;
     each = All-weaker (IsSeen passes alone) (IsSeen passes (with_pass alone (observing (with_met alone.pass told.pass.met) told.pass.observed)))
         (λ x s. record { entered = s.entered; tables = s.tables; leaves = s.leaves; rows = s.rows; up_to = s.up_to; met = s.met }) seen are.each;
     in_order = are.in_order;

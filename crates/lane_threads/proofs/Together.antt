@@ -1,16 +1,22 @@
 -- From what the workers leave to what the run of all lanes leaves.
-use Rattle.std.proofs.Common.{◌≡◌, ℕ, zero, suc, ◌+◌, ◌-◌, ◌≤◌, max, true, List, [], ◌∷◌, ◌++◌, length, map, refl, sym, ap, subst, ◌∙◌, arith, ⊎_elim}
+use Rattle.std.proofs.Common.{◌≡◌, inl, inr, ℕ, zero, suc, ◌+◌, ◌-◌, ◌<◌, ◌≤◌, max, true, List, [], ◌∷◌, ◌++◌, length, map, refl, sym, ap, subst, ◌∙◌, arith, ⊎_elim}
 use Rattle.std.specs.Prelude.{All, Option}
 use Rattle.std.specs.List.{sum_by, range_with_len, AllByRecursion}
 use Rattle.std.specs.List.Sorted.{IsPermutation}
 use Rattle.std.proofs.lemmas.List.{length-map}
+use Rattle.std.proofs.lemmas.List.Elements.{All-map, All-weaker}
 use Rattle.std.proofs.lemmas.List.FromFn.{length-range_with_len}
 use Rattle.std.proofs.lemmas.List.Sorted.{IsPermutation-refl, sum_by-IsPermutation}
 use Rattle.std.proofs.lemmas.List.Sums.{sum_by-cons}
 use Rattle.atomic_table.specs.Seated.{TableId}
+use Rattle.plain_data.specs.declared.entry.Entry.{Entry}
+use Rattle.stamp_base.specs.Stamp.{seat_of, stamp_of}
+use Rattle.stamp_base.proofs.Stamps.{seat_of-stamp_of}
 use Rattle.core_rule.specs.Views.{Among, AllIn}
 use Rattle.core_rule.proofs.Among.{Among-left, Among-right, Among-split}
 use Rattle.replay_model.specs.declared.input.Block.{Block}
+use Rattle.replay_model.specs.declared.outcome.Outcome.{Outcome}
+use Rattle.replay_model.specs.declared.outcome.Placed.{Placed}
 use Rattle.replay_model.specs.TableMap.{TableMap}
 use Rattle.lane_queue.specs.declared.lane.Lane.{Lane}
 use Rattle.stored_tables.specs.Places.{fixed_records}
@@ -23,12 +29,17 @@ use Rattle.txn_engine.specs.Joining.{AreOthers, come_together, greatest_clock_of
 use Rattle.lane_runner.specs.declared.done.LaneDone.{LaneDone}
 use Rattle.lane_threads.specs.declared.workers.Worker.{Worker}
 use Rattle.lane_runner.specs.Room.{HasRoom}
+use Rattle.lane_runner.specs.Finishing.{results_of}
 use Rattle.lane_runner.specs.Lanes.{MayRun, lane_draws}
 use Rattle.lane_threads.specs.All.{AreAllPasses, Grown, grown_logs, all_added, all_draws, RunsAndReads}
-use Rattle.lane_threads.specs.Seen.{met_first}
+use Rattle.lane_threads.specs.Beside.{AreFewBeside}
+use Rattle.lane_threads.specs.Seen.{HaveEntries, met_first}
 use Rattle.lane_threads.specs.Workers.{MayRunLane, MayBegin, HasRoomBeside, draws_of}
-use Rattle.lane_threads.specs.Gathers.{Gathers, fresh_again}
-use Rattle.lane_threads.proofs.LaneLists.{draws_numbered, may_numbered}
+use Rattle.lane_threads.specs.Gathers.{Gathers, IsOfSome, fresh_again}
+use Rattle.lane_threads.proofs.LaneLists.{draws_numbered, may_numbered, results_append}
+use Rattle.lane_threads.proofs.Beside.{few_beside, places}
+use Rattle.lane_threads.proofs.Counting.{IsOfOther}
+use Rattle.lane_threads.proofs.Owned.{have_behind}
 use Rattle.lane_threads.proofs.Gathered.{passes_of, takers_of}
 use Rattle.lane_threads.proofs.Readings.{read_later}
 
@@ -102,12 +113,40 @@ pub range_first : (n : ℕ) → 1 ≤ n → range_with_len 0 n ≡ 0 ∷ range_w
 range_first zero some = absurd (omega arith)
 range_first (suc n) some = let e : n ≡ suc n - 1 = omega arith in ap (λ (k : ℕ). 0 ∷ range_with_len 1 k) e
 
+in_range : (low count seat : ℕ) → Among seat (range_with_len low count) → (low ≤ seat) × (seat < low + count)
+in_range low zero seat among = absurd among
+in_range low (suc count) seat (inl same) = (omega (arith, same), omega (arith, same))
+in_range low (suc count) seat (inr among) = let at = in_range (low + 1) count seat among in (omega (arith, at.0), omega (arith, at.1))
+
+-- each of these is a seat behind the first
+abbrev pub AreApart : List RetiredView → Type 0
+AreApart others = (seat : ℕ) → Among seat (map (λ (r : RetiredView). r.seat) others) → (1 ≤ seat) × (seat < 64)
+
+-- what they come to is none of the first seat's
+of_others : (others : List RetiredView) (results : List (Placed × Outcome)) → AreApart others → All (λ (r : Placed × Outcome). IsOfSome (map (λ (x : RetiredView). x.seat) others) r.0) results → All (IsOfOther 0) (places results)
+of_others others results apart of =
+    All-map (IsOfOther 0) (λ (r : Placed × Outcome). r.0) results
+    (All-weaker (λ (r : Placed × Outcome). IsOfSome (map (λ (x : RetiredView). x.seat) others) r.0) (λ (r : Placed × Outcome). IsOfOther 0 r.0)
+    (λ r is kind seat.
+    let at = is kind in
+    let low = apart at.1 at.2 in
+    let own : seat_of (stamp_of at.0 at.1) ≡ at.1 = seat_of-stamp_of at.0 at.1 (omega (arith, low.1)) in
+    let same : seat_of r.0.stamp ≡ at.1 = ap seat_of at.3 ∙ own in
+    omega (arith, low.0, seat, same)) results of)
+
 module _ (engine : EngineView) (passes : List PassView) (first : PassView) (others : List RetiredView) (some : 1 ≤ engine.size.seats) (are : AreAllPasses engine passes) (seats : first.seat ∷ map (λ r. r.seat) others ≡ map (λ p. p.seat) passes) where
   all_seats : first.seat ∷ map (λ r. r.seat) others ≡ 0 ∷ range_with_len 1 (engine.size.seats - 1)
   all_seats = seats ∙ are.seats ∙ range_first engine.size.seats some
 
   pub first_seat : first.seat ≡ 0
   first_seat = let is = all_seats in cc
+
+  pub others_behind : map (λ r. r.seat) others ≡ range_with_len 1 (engine.size.seats - 1)
+  others_behind = let is = all_seats in cc
+
+  -- the others are of other seats than the first
+  pub others_apart : engine.size.seats ≤ 64 → AreApart others
+  others_apart few seat among = let at = in_range 1 (engine.size.seats - 1) seat (subst (Among seat) others_behind among) in (at.0, omega (arith, at.1, few, some))
 
   pub other_seats : AreOthers engine.size others
   other_seats = let is = all_seats in let same : map (λ r. r.seat) others ≡ range_with_len 1 (engine.size.seats - 1) = cc in subst (IsPermutation (map (λ r. r.seat) others)) same (IsPermutation-refl (map (λ r. r.seat) others))
@@ -130,7 +169,7 @@ met_grows met (r ∷ rs) = let more : max met r.met ≤ greatest_met_of (max met
 
 module _ (engine : EngineView) (passes : List PassView) (takers : List Taker) (lanes : List (List Block)) (tries due : ℕ) (first : PassView) (others : List RetiredView) (ended : List Taker) (done : List LaneDone) (readings : List (ℕ × TableMap))
     (alone : AloneView) (snapshot : Option SnapshotView) (gathers : Gathers engine tries due passes takers first others ended done readings)
-    (first_seat : first.seat ≡ 0) (each_once : IsPermutation (numbered 1 lanes) (taken_by ended)) (is : alone.pass ≡ with_snapshot (come_together first others) snapshot) (shared : alone.shared ≡ true) (earlier : alone.earlier ≡ refusals_of others) (is_alone : IsAlone alone.pass) where
+    (first_seat : first.seat ≡ 0) (each_once : IsPermutation (numbered 1 lanes) (taken_by ended)) (is : alone.pass ≡ with_snapshot (come_together first others) snapshot) (shared : alone.shared ≡ true) (earlier : alone.earlier ≡ refusals_of others) (is_alone : IsAlone alone.pass) (apart : AreApart others) where
   log_is : alone.pass.log ≡ grown_logs gathers.grown
   log_is = ap (λ (p : PassView). p.log) is ∙ gathers.logs
 
@@ -167,13 +206,17 @@ module _ (engine : EngineView) (passes : List PassView) (takers : List Taker) (l
     each = read_later (met_first passes) (met_first passes) first alone.pass (omega arith) (ap engine_of is) (ap (λ (p : PassView). p.seat) is)
         (λ e among. subst (Among e) (sym (ap (λ (p : PassView). p.log) is)) (Among-left e first.log (logs_of others) among))
         (omega (arith, clock_grows first.clock others, ap (λ (p : PassView). p.clock) is)) (omega (arith, met_grows first.met others, ap (λ (p : PassView). p.met) is)) readings gathers.each_read;
+    own = subst (λ (e : EngineView). HaveEntries e.size.records alone.pass.log readings) (sym (ap engine_of is ∙ gathers.engine_is))
+        (subst (λ (log : List Entry). HaveEntries engine.size.records log readings) (sym (ap (λ (p : PassView). p.log) is)) (have_behind engine.size.records first.log (logs_of others) readings gathers.own));
     in_order = gathers.in_order;
+    beside = subst (λ (results : List (Placed × Outcome)). AreFewBeside due (places results) readings) (sym (ap results_of gathers.done_are ∙ results_append gathers.ours gathers.theirs))
+        (few_beside due readings (results_of gathers.ours) (results_of gathers.theirs) (of_others others (results_of gathers.theirs) apart gathers.apart) gathers.beside);
   }
 
 -- the same of passes that are these
 pub runs_all_on : (engine : EngineView) (passes passes' : List PassView) (takers : List Taker) (lanes : List (List Block)) (tries due : ℕ) (first : PassView) (others : List RetiredView) (ended : List Taker) (done : List LaneDone) (readings : List (ℕ × TableMap))
     (alone : AloneView) (snapshot : Option SnapshotView) → Gathers engine tries due passes takers first others ended done readings → first.seat ≡ 0 → IsPermutation (numbered 1 lanes) (taken_by ended)
-    → alone.pass ≡ with_snapshot (come_together first others) snapshot → alone.shared ≡ true → alone.earlier ≡ refusals_of others → IsAlone alone.pass → passes ≡ passes' → RunsAndReads engine passes' lanes tries due alone done readings
-runs_all_on engine passes passes' takers lanes tries due first others ended done readings alone snapshot gathers first_seat each_once is shared earlier is_alone same =
+    → alone.pass ≡ with_snapshot (come_together first others) snapshot → alone.shared ≡ true → alone.earlier ≡ refusals_of others → IsAlone alone.pass → AreApart others → passes ≡ passes' → RunsAndReads engine passes' lanes tries due alone done readings
+runs_all_on engine passes passes' takers lanes tries due first others ended done readings alone snapshot gathers first_seat each_once is shared earlier is_alone apart same =
     subst (λ (ps : List PassView). RunsAndReads engine ps lanes tries due alone done readings) same
-    (runs_all engine passes takers lanes tries due first others ended done readings alone snapshot gathers first_seat each_once is shared earlier is_alone)
+    (runs_all engine passes takers lanes tries due first others ended done readings alone snapshot gathers first_seat each_once is shared earlier is_alone apart)

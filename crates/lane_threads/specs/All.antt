@@ -15,7 +15,8 @@ use Rattle.lane_runner.specs.Room.{clock_after}
 use Rattle.lane_runner.specs.Done.{tries_of_rest}
 use Rattle.lane_runner.specs.Adds.{IsNext, AreInOrder}
 use Rattle.lane_threads.specs.Merges.{IsMerge}
-use Rattle.lane_threads.specs.Seen.{IsRead, NeverFall, met_first}
+use Rattle.lane_threads.specs.Beside.{AreFewBeside, places_of}
+use Rattle.lane_threads.specs.Seen.{HaveEntries, IsRead, NeverFall, met_first}
 use Rattle.lane_runner.specs.Weighs.{LeavesTables}
 use Rattle.lane_runner.specs.Lanes.{AreEntries, KeepOrder, lane_draws}
 
@@ -122,10 +123,12 @@ pub record RunsAll (engine : EngineView) (passes : List PassView) (lanes : List 
   pub clock_to : alone.pass.clock ≤ clock_after (latest_clock passes) (all_draws lanes tries + due)
   pub met : greatest_met passes ≤ alone.pass.met
 
--- Besides, the worker of the first pass has read all rows, at most so often, each time with its entry in the log and not below the
--- earlier ones.
+-- Besides, the worker of the first pass has read all rows, at most so often and beside its blocks, each time with an entry of its own in the
+-- log and not below the earlier ones.
 pub record RunsAndReads (engine : EngineView) (passes : List PassView) (lanes : List (List Block)) (tries due : ℕ) (alone : AloneView) (done : List LaneDone) (readings : List (ℕ × TableMap)) : Type 0 where
   pub runs : RunsAll engine passes lanes tries (length readings) alone done
   pub few : length readings ≤ due
   pub each : All (IsRead (met_first passes) alone.pass) readings
+  pub own : HaveEntries alone.pass.shared.size.records alone.pass.log readings
   pub in_order : NeverFall readings
+  pub beside : AreFewBeside due (places_of done) readings

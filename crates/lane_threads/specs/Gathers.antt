@@ -2,6 +2,10 @@
 use Rattle.std.specs.Prelude.{◌≡◌, ℕ, ◌+◌, ◌≤◌, false, List, [], ◌∷◌, ◌++◌, map, length, All}
 use Rattle.std.specs.List.{AllByRecursion}
 use Rattle.std.specs.Result.{IsOkAnd}
+use Rattle.stamp_base.specs.Stamp.{stamp_of}
+use Rattle.core_rule.specs.Views.{Among}
+use Rattle.replay_model.specs.declared.outcome.Outcome.{Outcome}
+use Rattle.replay_model.specs.declared.outcome.Placed.{Placed}
 use Rattle.replay_model.specs.TableMap.{TableMap}
 use Rattle.lane_queue.specs.Passes.{Taker, HasEnded, taken_by}
 use Rattle.txn_engine.specs.Pass.{EngineView, PassView, IsIdle, engine_of}
@@ -12,9 +16,11 @@ use Rattle.lane_threads.specs.declared.workers.Worked.{Worked}
 use Rattle.lane_threads.specs.declared.workers.Left.{Left}
 use Rattle.lane_threads.specs.declared.gathering.Gathered.{Gathered}
 use Rattle.lane_runner.specs.Room.{clock_after}
+use Rattle.lane_runner.specs.Finishing.{results_of}
 use Rattle.lane_threads.specs.Workers.{draws_of}
 use Rattle.lane_threads.specs.All.{Grown, IsGrown, grown_logs, all_added, AreOfLanes, all_refusals, tries_of_rests, latest_clock, greatest_met}
-use Rattle.lane_threads.specs.Seen.{IsRead, NeverFall, met_first}
+use Rattle.lane_threads.specs.Beside.{AreBeside}
+use Rattle.lane_threads.specs.Seen.{HaveEntries, IsRead, NeverFall, met_first}
 
 -- what is gathered is what this worker left
 pub record Starts (worked : Worked) (gathered : Gathered) : Type 0 where
@@ -34,6 +40,10 @@ pub record GoesOn (before after' : Gathered) (left : Left) : Type 0 where
 abbrev pub GoesOnByEach : (before : Gathered) → List Left → (after' : Gathered) → Type 0
 GoesOnByEach before [] after' = after' ≡ before
 GoesOnByEach before (left ∷ more) after' = (between : Gathered) × GoesOn before between left × GoesOnByEach between more after'
+
+-- the place is that of a snapshot, or its stamp is one of these seats
+abbrev pub IsOfSome : List ℕ → Placed → Type 0
+IsOfSome seats placed = placed.snap ≡ false → (clock seat : ℕ) × Among seat seats × (placed.stamp ≡ stamp_of clock seat)
 
 -- a right to take lanes as it was when nothing was taken yet
 abbrev pub fresh_again : Taker → Taker
@@ -63,7 +73,14 @@ pub record Gathers (engine : EngineView) (tries due : ℕ) (passes : List PassVi
   -- the readings
   pub few : length readings ≤ due
   pub each_read : All (IsRead (met_first passes) first) readings
+  pub own : HaveEntries engine.size.records first.log readings
   pub in_order : NeverFall readings
+  -- they stand beside what the lanes of the first worker come to; what those of the others come to is of other seats
+  pub ours : List LaneDone
+  pub theirs : List LaneDone
+  pub done_are : done ≡ ours ++ theirs
+  pub beside : AreBeside due readings (results_of ours)
+  pub apart : All (λ (result : Placed × Outcome). IsOfSome (map (λ (r : RetiredView). r.seat) others) result.0) (results_of theirs)
 
 abbrev pub GathersIn : (engine : EngineView) (tries due : ℕ) (passes : List PassView) (takers : List Taker) → Gathered → List (ℕ × TableMap) → Type 0
 GathersIn engine tries due passes takers g readings = Gathers engine tries due passes takers g.pass g.retired.items g.takers.items g.done.items readings

@@ -1,5 +1,6 @@
 pub mod Merges
 pub mod Seen
+pub mod Beside
 pub mod All
 pub mod Workers
 pub mod Gathers

@@ -15,9 +15,12 @@ use Rattle.lane_threads.specs.declared.workers.Left.{Left}
 use Rattle.lane_runner.specs.Room.{HasRoom, clock_after}
 use Rattle.lane_runner.specs.Using.{MayUse}
 use Rattle.lane_runner.specs.Adds.{Adds}
+use Rattle.lane_runner.specs.Blocks.{AreOfSeat}
+use Rattle.lane_runner.specs.Finishing.{results_of}
 use Rattle.lane_runner.specs.Lanes.{MayRun, AddsSome, lane_draws}
 use Rattle.lane_threads.specs.All.{AreOfLanes, tries_of_rests}
-use Rattle.lane_threads.specs.Seen.{IsRead, NeverFall}
+use Rattle.lane_threads.specs.Beside.{AreBeside}
+use Rattle.lane_threads.specs.Seen.{IsRead, NeverFall, AreEntered}
 
 -- each block of a lane may be run
 abbrev pub MayRunLane : Lane → Type 0
@@ -35,25 +38,28 @@ pub record MayWork (engine : EngineView) (queue : TableId) (tries : ℕ) (pass :
   pub lanes : All MayRunLane taker.lanes
   pub room : HasRoom pass.clock (draws_of taker.lanes tries)
 
--- a pass has run these lanes, which came to this, and has drawn so many stamps at most
+-- a pass has run these lanes, which came to this at its seat, and has drawn so many stamps at most
 pub record RunsLanes (tries draws : ℕ) (before after' : PassView) (lanes : List Lane) (done : List LaneDone) : Type 0 where
   pub entries : List Entry
   pub adds : Adds before after' entries
   pub are_of_lanes : AreOfLanes before.shared.size.records entries lanes done
   pub refusals : before.refusals + tries_of_rests tries done ≤ after'.refusals
   pub clock : after'.clock ≤ clock_after before.clock draws
+  pub seats : AreOfSeat before.seat (results_of done)
 
 -- no more than these lanes may draw
 abbrev pub DoesLanes : (tries : ℕ) (before after' : PassView) (lanes : List Lane) (done : List LaneDone) → Type 0
 DoesLanes tries before after' lanes done = RunsLanes tries (draws_of lanes tries) before after' lanes done
 
--- Or besides one for each reading that it made beside them: at most so many, each with its entry in the log of the pass. None of them is
--- more than one below what the pass had met before, nor below an earlier one.
+-- Or besides one for each reading that it made beside them: at most so many, one behind each result while some are due, each with an entry
+-- of its own in the log of the pass. None of them is more than one below what the pass had met before, nor below an earlier one.
 pub record DoesAndReads (tries due : ℕ) (before after' : PassView) (lanes : List Lane) (done : List LaneDone) (readings : List (ℕ × TableMap)) : Type 0 where
   pub does : RunsLanes tries (draws_of lanes tries + length readings) before after' lanes done
   pub few : length readings ≤ due
   pub each : All (IsRead before.met after') readings
+  pub own : AreEntered before.shared.size.records before.log after'.log readings
   pub in_order : NeverFall readings
+  pub beside : AreBeside due readings (results_of done)
 
 -- what a worker leaves that began with this pass and this right to take lanes: unless it had no memory, no lane was left
 pub record Works (tries : ℕ) (pass : PassView) (taker : Taker) (worked : Worked) : Type 0 where
@@ -67,13 +73,13 @@ pub record WorksAndReads (due tries : ℕ) (pass : PassView) (taker : Taker) (wo
   pub same : IsSamePass taker worked.taker
   pub done : IfOk worked.done (λ done. HasEnded worked.taker × DoesAndReads tries due pass worked.pass worked.taker.took done.items readings)
 
--- one that reads nothing is such a worker
+-- one that reads nothing is such a worker where nothing is due
 abbrev pub NothingIsRead : Type 0
 NothingIsRead =
-    (due tries : ℕ) (pass : PassView) (taker : Taker) (worked : Worked) (readings : List (ℕ × TableMap))
+    (tries : ℕ) (pass : PassView) (taker : Taker) (worked : Worked) (readings : List (ℕ × TableMap))
     → readings ≡ []
     → Works tries pass taker worked
-    → WorksAndReads due tries pass taker worked readings
+    → WorksAndReads 0 tries pass taker worked readings
 
 -- the same as `Works` of a worker whose pass has retired then
 pub record WorksAndRetires (tries : ℕ) (pass : PassView) (taker : Taker) (left : Left) : Type 0 where

@@ -210,7 +210,7 @@ pub fn run_all_by<R: Threads + Wait + Sync, C: Clock, G: Gate, L: LaneRun<C, G>>
     requires room { AllByRecursion (λ p. HasRoom p.clock (all_draws lanes tries + L.due run.old)) passes.items }
     ensures due { L.due run.new ≡ L.due run.old }
     ensures ran { IfOk result (λ ran. RunsAll engine.now passes.items lanes tries (L.due run.old) ran.0 ran.1.items) }
-    ensures seen { IfOk result (λ ran. AreSeen (L.due run.old) passes.items ran.0 (L.seen run.new)) }
+    ensures seen { IfOk result (λ ran. AreSeen (L.due run.old) passes.items ran.0 ran.1.items (L.seen run.new)) }
 {
     readings_are_seen();
     let (way, reader) = run.begin(lanes.len(), engine.seats());

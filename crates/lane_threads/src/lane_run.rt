@@ -16,7 +16,8 @@ use txn_engine::{Alone, Engine};
 /// A way to run all lanes on the passes of an engine, which may read the rows of all tables beside them. The threads are those of
 /// `run_all_by`: what is said here is what one thread does.
 ///
-/// What is due is read by the worker of the first pass between its blocks, and behind all lanes by the seat that is alone.
+/// What is due is read by the worker of the first pass, once behind each result of its lanes, and what is left then behind all lanes by the
+/// seat that is alone.
 pub trait LaneRun<C: Clock, G: Gate> {
     ghost use Rattle.std.specs.Prelude.{◌≡◌, ℕ, ◌+◌, ◌-◌, ◌≤◌, List, [], OnOk, length};
     ghost use Rattle.replay_model.specs.TableMap.{TableMap};
@@ -50,7 +51,7 @@ pub trait LaneRun<C: Clock, G: Gate> {
         ensures none { has_read result.1 ≡ [] };
 
     /// The work of the worker of the first pass, beside the others and on the caller's thread. Like these it takes lanes until none is left;
-    /// between its blocks it may read all rows.
+    /// behind each result it reads all rows, while that is still due.
     fn first<R: Wait>(
         rt: &R,
         alloc: Global,

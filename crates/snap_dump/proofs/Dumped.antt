@@ -12,7 +12,8 @@ use Rattle.stored_tables.specs.Places.{Places}
 use Rattle.stored_tables.specs.Tables.{EachTables, StandsFor}
 use Rattle.seat_post.specs.Ends.{Stood}
 use Rattle.seat_post.specs.Snapshot.{entry_of_snapshot}
-use Rattle.txn_engine.specs.Pass.{PassView, IsIdle, ticked, with_snapshot, observing}
+use Rattle.seat_post.specs.Logs.{IsAbove}
+use Rattle.txn_engine.specs.Pass.{PassView, IsAlone, IsIdle, ticked, with_snapshot, observing}
 use Rattle.txn_engine.specs.Snapshot.{Begins, finished, snapshot_begun, meaning_of_snapshot, unread}
 use Rattle.typed_tables.specs.Listing.{AreRows}
 use Rattle.lane_runner.proofs.Seen.{Adds-finished, has_seen}
@@ -79,8 +80,8 @@ module _ (p t s q : PassView) (clock : ℕ) (ticks : t ≡ ticked p clock) (begi
 
     pub dumps_seen : (lists : List (List (ℕ × Row))) (dump : Dump) → FitsRecords
         → EachTables (meaning_of_snapshot s) (meaning_of_snapshot q) (λ _ _ tables. AreRows 8 tables lists)
-        → IfSome q.snapshot (λ g. dump.stamp ≡ g.stamp) → dump.rows ≡ tagged 0 lists → Dumps p f dump
-    dumps_seen lists dump fits told stamp rows =
+        → IfSome q.snapshot (λ g. dump.stamp ≡ g.stamp) → dump.rows ≡ tagged 0 lists → IsAbove p.log t.published → Dumps p f dump
+    dumps_seen lists dump fits told stamp rows drawn =
         let seen = has_seen p t s q clock ticks begins rest in
         record {
           entry = entry_of_snapshot seen.0;
@@ -96,4 +97,10 @@ module _ (p t s q : PassView) (clock : ℕ) (ticks : t ≡ ticked p clock) (begi
           no_writes = refl;
           below = below;
           met = met_next;
+          all = λ alone e among commit.
+              let met : q.met ≡ seen.0.stamp + 1 = ap (λ (x : PassView). x.met) seen.1.same in
+              let as_begun : q.met ≡ begins.stamp + 1 = ap (λ (x : PassView). x.met) rest ∙ ap (λ (x : PassView). x.met) begins.pass in
+              let low = begins.alone (subst IsAlone (sym ticks) alone) in
+              let high = drawn e among commit in
+              omega (arith, met, as_begun, low, high);
         }

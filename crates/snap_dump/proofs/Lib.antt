@@ -3,3 +3,4 @@ pub mod Dumped
 pub mod Made
 pub mod Placed
 pub mod Worked
+pub mod Beside

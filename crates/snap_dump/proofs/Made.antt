@@ -15,7 +15,7 @@ use Rattle.seat_post.specs.Snapshot.{SnapshotView}
 use Rattle.txn_engine.specs.Alone.{AloneView, with_pass}
 use Rattle.txn_engine.specs.Pass.{PassView, EngineView, IsIdle}
 use Rattle.lane_runner.specs.Adds.{Adds, IsNext}
-use Rattle.lane_runner.specs.Blocks.{AddsOthers}
+use Rattle.lane_runner.specs.Blocks.{AddsOthers, AreOfSeat, IsOfSeat}
 use Rattle.lane_queue.specs.declared.lane.Lane.{Lane}
 use Rattle.lane_runner.specs.Done.{DoesLane}
 use Rattle.lane_runner.specs.Lanes.{AddsSome, AreEntries, KeepOrder}
@@ -27,7 +27,8 @@ use Rattle.lane_runner.proofs.Adding.{Adds-none, Adds-trans}
 use Rattle.lane_runner.proofs.Attempted.{Steps, goes_trans, room_for_try, steps_none}
 use Rattle.lane_runner.proofs.Results.{keep_order}
 use Rattle.lane_runner.proofs.Run.{AreEntries-others}
-use Rattle.lane_threads.specs.Seen.{IsRead, IsReadingOf, NeverFall}
+use Rattle.lane_threads.specs.Seen.{AreEntered, IsRead, IsReadingOf, NeverFall}
+use Rattle.lane_threads.proofs.Owned.{entered_none, entered_one, entered_then}
 use Rattle.lane_threads.proofs.Readings.{entered_later, reads_behind}
 use Rattle.snap_dump.specs.declared.dump.Dump.{Dump}
 use Rattle.snap_dump.specs.Dumps.{Dumps, DumpsMade, KeepsOthers, how_many, seen_in, seen_of}
@@ -77,7 +78,7 @@ stamp_later : (a b seat : ℕ) → a ≤ b → stamp_of a seat ≤ stamp_of b se
 stamp_later a b seat less = omega arith
 
 -- what was made stays as the log goes on
-goes_on : (minimum : ℕ) (q r : PassView) (entries : List Entry) (seen : ℕ × TableMap) → Adds q r entries → IsRead minimum q seen → IsRead minimum r seen
+pub goes_on : (minimum : ℕ) (q r : PassView) (entries : List Entry) (seen : ℕ × TableMap) → Adds q r entries → IsRead minimum q seen → IsRead minimum r seen
 goes_on minimum q r entries seen adds is = record {
   entered = entered_later q r seen adds.engine (λ e among. subst (Among e) (sym adds.log) (Among-left e q.log entries among)) is.entered;
   up_to = (let later = stamp_later q.clock r.clock q.seat adds.clock in let seat : stamp_of r.clock r.seat ≡ stamp_of r.clock q.seat = ap (stamp_of r.clock) adds.seat in let low = is.up_to in omega (arith, later, seat, low));
@@ -86,7 +87,7 @@ goes_on minimum q r entries seen adds is = record {
 }
 
 -- it was made behind an earlier pass too
-begins_earlier : (p q r : PassView) (entries : List Entry) (seen : ℕ × TableMap) → Adds p q entries → IsRead q.met r seen → IsRead p.met r seen
+pub begins_earlier : (p q r : PassView) (entries : List Entry) (seen : ℕ × TableMap) → Adds p q entries → IsRead q.met r seen → IsRead p.met r seen
 begins_earlier p q r entries seen adds is = record {
   entered = is.entered;
   up_to = is.up_to;
@@ -94,18 +95,23 @@ begins_earlier p q r entries seen adds is = record {
   below = is.below;
 }
 
+-- nothing was added
+pub none_added : (p : PassView) → IsIdle p → AddsSome p p
+none_added p idle = ([], Adds-none p idle)
+
 abbrev IsDumpOf : PassView → PassView → Dump → Type 0
 IsDumpOf p q dump = IsRead p.met q (seen_of dump)
 
 -- none was made, whatever was added
-pub made_none : (p q : PassView) (old : List Dump) → DumpsMade p q old old
-made_none p q old = record { more = []; grown = sym (append-nil old); each = All-nil (IsDumpOf p q); in_order = λ i j d less within. absurd (omega arith) }
+abbrev pub made_none : (p q : PassView) (old : List Dump) → AddsSome p q → DumpsMade p q old old
+made_none p q old adds = record { more = []; grown = sym (append-nil old); each = All-nil (IsDumpOf p q); own = entered_none p.shared.size.records p.log q.log adds.0 adds.1.log; in_order = λ i j d less within. absurd (omega arith) }
 
 pub made_one : (p q : PassView) (old new : List Dump) (dump : Dump) → Dumps p q dump → new ≡ old ++ dump ∷ [] → DumpsMade p q old new
 made_one p q old new dump made grown = record {
   more = dump ∷ [];
   grown = grown;
   each = All-cons (IsDumpOf p q) dump [] is (All-nil (IsDumpOf p q));
+  own = entered_one p.shared.size.records p.log q.log made.entry (seen_of dump) made.adds.log made.reading;
   in_order = λ i j d less within. absurd (omega (arith, less, within));
 } where
   next : IsNext p made.entry
@@ -124,13 +130,16 @@ made_one p q old new dump made grown = record {
   }
 
 -- one part behind the other
-pub made_then : (p q r : PassView) (old mid new : List Dump) → AddsSome p q → AddsSome q r → DumpsMade p q old mid → DumpsMade q r mid new → DumpsMade p r old new
+abbrev pub made_then : (p q r : PassView) (old mid new : List Dump) → AddsSome p q → AddsSome q r → DumpsMade p q old mid → DumpsMade q r mid new → DumpsMade p r old new
 made_then p q r old mid new before after first second = record {
   more = first.more ++ second.more;
   grown = second.grown ∙ ap (λ ds. ds ++ second.more) first.grown ∙ append_assoc old first.more second.more;
   each = All-append (IsDumpOf p r) first.more second.more
       (All-weaker (IsDumpOf p q) (IsDumpOf p r) (λ dump is. goes_on p.met q r after.0 (seen_of dump) after.1 is) first.more first.each)
       (All-weaker (IsDumpOf q r) (IsDumpOf p r) (λ dump is. begins_earlier p q r before.0 (seen_of dump) before.1 is) second.more second.each);
+  own = subst (AreEntered p.shared.size.records p.log r.log) (sym (map-append seen_of first.more second.more))
+      (entered_then p.shared.size.records p.log q.log r.log (seen_in first.more) (seen_in second.more) first.own
+      (subst (λ (e : EngineView). AreEntered e.size.records q.log r.log (seen_in second.more)) before.1.engine second.own));
   in_order = subst NeverFall (sym (map-append seen_of first.more second.more))
       (reads_behind p.met q r (seen_in first.more) (seen_in second.more) (all_read p.met q first.more first.each) (all_read q.met r second.more second.each) first.in_order second.in_order);
 }
@@ -152,7 +161,7 @@ count_more old mid new dump n so_far grown =
 pub record StepsDumping (p q : PassView) (before after' : SessionView) (dumps : ℕ) : Type 0 where
   pub entries : List Entry
   pub adds : Adds p q entries
-  pub goes : GoesOn p.shared.size.records entries before after'
+  pub goes : GoesOn p.shared.size.records p.seat entries before after'
   pub clock : clock_after q.clock (draws_left after') ≤ clock_after p.clock (draws_left before + dumps)
   pub refusals : p.refusals + after'.refused ≤ q.refusals + before.refused
 
@@ -179,6 +188,7 @@ steps_dumps p q s dumps others clock = record {
     left_is = refl;
     results_are = sym (append-nil s.results);
     are_entries = AreEntries-others p.shared.size.records others.entries others.keep;
+    seats = All-nil (λ (r : Placed × Outcome). IsOfSeat p.seat r.0);
   };
   clock = omega (arith, clock);
   refusals = (let grows = others.adds.refusals in omega (arith, grows));
@@ -188,8 +198,8 @@ pub steps_then : (p q r : PassView) (s t u : SessionView) (m n : ℕ) → StepsD
 steps_then p q r s t u m n first second = record {
   entries = first.entries ++ second.entries;
   adds = Adds-trans p q r first.entries second.entries first.adds second.adds;
-  goes = goes_trans p.shared.size.records first.entries second.entries s t u first.goes
-      (subst (λ (e : EngineView). GoesOn e.size.records second.entries t u) first.adds.engine second.goes);
+  goes = goes_trans p.shared.size.records p.seat first.entries second.entries s t u first.goes
+      (subst (λ (y : EngineView × ℕ). GoesOn y.0.size.records y.1 second.entries t u) (λ i. (first.adds.engine i, first.adds.seat i)) second.goes);
   clock = (let a = first.clock in let b = second.clock in omega (arith, a, b));
   refusals = (let a = first.refusals in let b = second.refusals in omega (arith, a, b));
 }
@@ -230,6 +240,7 @@ does_lane_dumping lane tries p q s dumps steps =
         adds = steps.adds;
       };
       order = subst KeepOrder done_is (keep_order p.shared.size.records steps.entries steps.goes.done steps.goes.more steps.goes.are_entries steps.adds.in_order);
+      seats = subst (AreOfSeat p.seat) done_is steps.goes.seats;
     }
 
 -- ---- at the seat that is alone

@@ -35,5 +35,6 @@ reads_all a b due old new others keeps made count clock = record {
   count = length-seen_in new ∙ count;
   clock = (let grown = ap (λ (ds : List Dump). length ds) made.grown in let sum = length-append old made.more in let more = length-seen_in made.more in omega (arith, clock, grown, sum, more));
   each = all_read a.pass.met b.pass made.more made.each;
+  own = made.own;
   in_order = made.in_order;
 }

@@ -5,12 +5,15 @@ use Rattle.lane_queue.specs.declared.lane.Lane.{Lane}
 use Rattle.txn_engine.specs.Pass.{PassView, IsIdle}
 use Rattle.lane_runner.specs.declared.done.LaneDone.{LaneDone}
 use Rattle.lane_runner.specs.Done.{DoesLane}
+use Rattle.lane_runner.specs.Finishing.{results_of}
 use Rattle.lane_runner.specs.Lanes.{lane_draws}
 use Rattle.lane_runner.specs.Room.{HasRoom, clock_after}
-use Rattle.lane_threads.specs.Seen.{IsRead, NeverFall}
+use Rattle.lane_threads.specs.Beside.{StandBeside}
+use Rattle.lane_threads.specs.Seen.{AreEntered, IsRead, NeverFall}
 use Rattle.lane_threads.specs.Workers.{DoesAndReads, RunsLanes, draws_of}
 use Rattle.lane_threads.proofs.LaneLists.{RunsLanes-next, RunsLanes-none, RunsLanes-weaker, draws_push, taken_room}
 use Rattle.snap_dump.specs.declared.dump.Dump.{Dump}
+use Rattle.snap_dump.specs.Beside.{AreBeside}
 use Rattle.snap_dump.specs.Dumps.{DumpsMade, how_many, seen_in}
 use Rattle.snap_dump.proofs.Placed.{all_read, length-seen_in}
 
@@ -39,14 +42,23 @@ runs_more tries p q r took took' lane dones dones' done old mid new taken pushed
     (RunsLanes-next tries m n p q r took took' lane dones dones' done taken pushed so_far does rest clock)
 
 -- all lanes
-pub does_dumping : (tries due : ℕ) (p q : PassView) (took : List Lane) (dones : List LaneDone) (old new : List Dump) → old ≡ [] → RunsLanes tries (draws_of took tries + how_many old new) p q took dones → DumpsMade p q old new → length new ≤ due
+pub does_dumping : (tries due : ℕ) (p q : PassView) (took : List Lane) (dones : List LaneDone) (old new : List Dump) → old ≡ [] → RunsLanes tries (draws_of took tries + how_many old new) p q took dones → (made : DumpsMade p q old new) → length new ≤ due → AreBeside due old made.more (results_of dones)
     → DoesAndReads tries due p q took dones (seen_in new)
-does_dumping tries due p q took dones old new none does made within =
+does_dumping tries due p q took dones old new none does made within beside =
     let count = length-seen_in new in
     let are_new : new ≡ made.more = made.grown ∙ ap (λ (ds : List Dump). ds ++ made.more) none in
     record {
       does = RunsLanes-weaker tries (draws_of took tries + how_many old new) (draws_of took tries + length (seen_in new)) p q took dones (omega (arith, count)) does;
       few = omega (arith, count, within);
       each = subst (λ (ds : List Dump). All (IsRead p.met q) (seen_in ds)) (sym are_new) (all_read p.met q made.more made.each);
+      own = subst (λ (ds : List Dump). AreEntered p.shared.size.records p.log q.log (seen_in ds)) (sym are_new) made.own;
       in_order = subst (λ (ds : List Dump). NeverFall (seen_in ds)) (sym are_new) made.in_order;
+      beside = record {
+        stand = subst (λ (ds : List Dump). StandBeside (seen_in ds) (results_of dones)) (sym are_new) beside.stand;
+        all = λ still.
+            let as_many = ap (λ (ds : List Dump). length ds) are_new in
+            let no_old = ap (λ (ds : List Dump). length ds) none in
+            let all = beside.all (omega (arith, still, count, as_many, no_old)) in
+            omega (arith, all, count, as_many);
+      };
     }

@@ -4,9 +4,10 @@ use Rattle.plain_data.specs.declared.entry.Entry.{Entry}
 use Rattle.replay_model.specs.TableMap.{TableMap, loaded}
 use Rattle.stamp_base.specs.Stamp.{stamp_of}
 use Rattle.txn_engine.specs.Alone.{AloneView}
-use Rattle.txn_engine.specs.Pass.{PassView}
+use Rattle.seat_post.specs.Logs.{IsAbove}
+use Rattle.txn_engine.specs.Pass.{PassView, IsAlone}
 use Rattle.lane_runner.specs.Adds.{Adds}
-use Rattle.lane_threads.specs.Seen.{IsRead, IsReadingOf, NeverFall}
+use Rattle.lane_threads.specs.Seen.{AreEntered, IsRead, IsReadingOf, NeverFall}
 use Rattle.snap_dump.specs.declared.dump.Dump.{Dump}
 
 -- a dump as what was read: its stamp, and tables with its rows
@@ -25,12 +26,16 @@ pub record Dumps (before after' : PassView) (dump : Dump) : Type 0 where
   pub no_writes : entry.writes ≡ []
   pub below : entry.stamp < stamp_of after'.clock after'.seat
   pub met : after'.met ≡ entry.stamp + 1
+  -- where no other seat is open it shows all that was committed
+  pub all : IsAlone before → IsAbove before.log (entry.stamp + 1)
 
--- the dumps that were made on the way from one pass to the other, none of them stamped below an earlier one
+-- The dumps that were made on the way from one pass to the other, each with an entry of its own in the log, in their order; none is stamped
+-- below an earlier one. Two may have one stamp where other seats are open: one of these that rests holds the minimum down.
 pub record DumpsMade (before now : PassView) (old new : List Dump) : Type 0 where
   pub more : List Dump
   pub grown : new ≡ old ++ more
   pub each : All (λ (dump : Dump). IsRead before.met now (seen_of dump)) more
+  pub own : AreEntered before.shared.size.records before.log now.log (seen_in more)
   pub in_order : NeverFall (seen_in more)
 
 -- how many they are

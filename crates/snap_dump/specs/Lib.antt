@@ -1,2 +1,3 @@
 pub mod Tagged
 pub mod Dumps
+pub mod Beside

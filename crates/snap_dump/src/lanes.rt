@@ -6,12 +6,13 @@ ghost use Rattle.lane_runner.specs.Blocks.{AddsOthers};
 ghost use Rattle.lane_runner.specs.Done.{DoesLane};
 ghost use Rattle.lane_runner.specs.Lanes.{AddsSome, MayRun, lane_draws};
 ghost use Rattle.lane_runner.specs.Room.{HasRoom, clock_after};
+ghost use Rattle.snap_dump.specs.Beside.{MadeBeside};
 ghost use Rattle.snap_dump.specs.Dumps.{DumpsMade, how_many};
 
 use crate::at_pass::dump_at_pass;
 use crate::dump::Dump;
 use lane_queue::Lane;
-use lane_runner::{LaneDone, Session, Turn};
+use lane_runner::{LaneDone, Session, Turn, give_way};
 use outside_io::{Meets, Reads};
 use replay_model::NoMemory;
 use std::alloc::Global;
@@ -73,9 +74,14 @@ pub(crate) fn run_lane_dumping<C: Reads, G: Meets>(
     ensures within { OnOk result (length made.new.items ≤ due) }
     ensures adds { AddsSome pass.old pass.new }
     ensures clock { OnOk result (pass.new.clock ≤ clock_after pass.old.clock (lane_draws lane.blocks tries + how_many made.old.items made.new.items)) }
+    ensures beside { IfOk result (λ done. MadeBeside due pass.old pass.new made.old.items made.new.items done.results) }
 {
+    // The seat of the pass is one of 64.
+    pass.seat();
+    engine.seats();
     let mut session = Session::new(alloc, lane, tries);
     'attempts: while session.has_next() {
+        give_way(session.pause());
         let turn = session.attempt(engine, pass, clock, gate)?;
         dump_behind(alloc, engine, pass, clock, turn, due, made)?;
     }

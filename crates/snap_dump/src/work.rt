@@ -40,6 +40,9 @@ pub(crate) fn work_dumping<R: Wait, C: Reads, G: Meets>(
     ensures ended { IfOk result (λ done. HasEnded taker.new) }
     ensures does { IfOk result (λ done. DoesAndReads tries due pass.old pass.new taker.new.took done.items (seen_in made.new.items)) }
 {
+    // The seat of the pass is one of 64.
+    pass.seat();
+    engine.seats();
     let mut done = Vec::new(alloc);
     for _ in rt.forever() {
         let Some(lane) = queue.take(rt, taker) else {

@@ -7,7 +7,7 @@ use Rattle.txn_script.specs.Answer.{IsAnswer}
 use Rattle.txn_script.specs.Grammar.{IsFault}
 use Rattle.txn_script.specs.Kinds.{input_fault}
 use Rattle.cicada_top.specs.Due.{IsCheckable}
-use Rattle.cicada_top.specs.Parts.{input_part}
+use Rattle.program_io.specs.Parts.{input_part}
 use Rattle.cicada_top.proofs.DueLaws.{only_verdict, only_fault_checked}
 use Rattle.cicada_top.proofs.checking.reply_to_report.Goals as goal
 

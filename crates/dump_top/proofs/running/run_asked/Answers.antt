@@ -1,8 +1,8 @@
 use Rattle.std.proofs.Common.{rules, ◌≡◌, ◌≢◌, List, length, inr, refl, sym, ap, subst, ◌∙◌}
 use Rattle.std.specs.Prelude.{IfSome}
 use Rattle.cicada_top.specs.declared.finish.Status.TheVariants.{Done}
-use Rattle.cicada_top.specs.declared.mode.Mode.{Mode}
-use Rattle.cicada_top.specs.declared.mode.Mode.TheVariants.{Run}
+use Rattle.program_io.specs.declared.mode.Mode.{Mode}
+use Rattle.program_io.specs.declared.mode.Mode.TheVariants.{Run}
 use Rattle.cicada_top.specs.Runs.{BelongsTogether, IsDecided, RunsAs, streams}
 use Rattle.snap_dump.specs.declared.dump.Dump.{Dump}
 use Rattle.snap_dump.specs.Dumps.{seen_in}

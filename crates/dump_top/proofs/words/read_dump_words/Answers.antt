@@ -1,10 +1,10 @@
 use Rattle.std.proofs.Common.{◌≡◌, ◌⊎◌, inl, inr, ℕ, List, String, Global, map, drop, ap, sym, subst, ◌∙◌}
 use Rattle.std.specs.Prelude.{Any, string_bytes}
 use Rattle.std.proofs.lemmas.List.{drop-map}
-use Rattle.cicada_top.specs.Words.{mode_of}
-use Rattle.cicada_top.specs.declared.mode.Mode.{Mode}
-use Rattle.cicada_top.specs.declared.mode.Mode.TheVariants.{Check, Generate, Run}
-use Rattle.cicada_top.specs.declared.mode.Settings.{Settings}
+use Rattle.program_io.specs.Words.{mode_of}
+use Rattle.program_io.specs.declared.mode.Mode.{Mode}
+use Rattle.program_io.specs.declared.mode.Mode.TheVariants.{Check, Generate, Run}
+use Rattle.program_io.specs.declared.mode.Settings.{Settings}
 use Rattle.dump_top.specs.Words.{IsBarred, Text}
 use Rattle.dump_top.proofs.Refusals.{refused_barred, refused_mode, refuses_here}
 use Rattle.dump_top.proofs.words.read_dump_words.Goals as goal

@@ -1,4 +1,4 @@
-use Rattle.std.proofs.Common.{rules, ◌≡◌, ℕ, ◌≤◌, true, Option, IfSome, sym, ap, subst, ◌∙◌}
+use Rattle.std.proofs.Common.{rules, ◌≡◌, ℕ, ◌≤◌, true, false, Option, IfSome, sym, ap, subst, ◌∙◌}
 use Rattle.history_replay.specs.Results.{StandsForSome}
 use Rattle.txn_engine.specs.Alone.{Beside}
 use Rattle.txn_engine.specs.Snapshot.{SnapshotFrame}
@@ -25,7 +25,7 @@ sight c =
     let s1 = c.exec_snap-told.new.store.seat.now.pass in
     let f = c.finish-stamp.new.self.0 in
     sought p c.tick.new.self.pass c.snapshot-snapshot.result.seat.now.pass s1 f.pass (next_clock p 0) c.finish-stamp.result c.snapshot-snapshot.ensures.begins (clock_later p 0) (clock_drawn p 0) c.requires.holds.idle
-    c.in-Ok.ensures.ok (ap (λ (x : SnapshotFrame Beside). x.of_pass) c.exec_snap-told.ensures.rest) c.finish-stamp.ensures.finishes.after c.finish-stamp.ensures.finishes.stamp c.shared.ensures.alone
+    c.in-Ok.ensures.ok (ap (λ (x : SnapshotFrame Beside). x.of_pass) c.exec_snap-told.ensures.rest) c.finish-stamp.ensures.finishes.after c.finish-stamp.ensures.finishes.stamp c.finish-stamp.ensures.finishes.absent c.shared.ensures.alone
     (subst (λ (n : ℕ). IsAbove p.log n) (c.in-Ok.ensures.stamp ∙ sym (ap (λ (x : PassView). x.published) c.in-Ok.ensures.ok)) c.in-Ok.ensures.above)
 
 pub untorn-requires : goal.untorn-requires
@@ -58,6 +58,7 @@ enters c =
         adds = o.adds;
         is_entry = is_entry_looked p.shared.size.records (meaning_of_snapshot s0) (meaning_of_snapshot s1) c.args.commands.now c.in_ok-outcome.outcome placed o.snapshot c.fits_records.ensures (size_looked p t s0 s1 (next_clock p 0) begins tick o.snapshot o.seen)
             (none_looked p t s0 s1 (next_clock p 0) begins tick o.snapshot o.seen) (reads_looked p t s0 s1 (next_clock p 0) begins tick o.snapshot o.seen) (rw c.in_ok-outcome.ensures at c.exec_snap-told.ensures.outcome) (sym (stamp ∙ o.stamp_is)) kind;
+        seat = λ commit. absurd (let both : true ≡ false = sym kind ∙ commit in cc);
         weighs = λ commit. cc;
       };
       leaves = λ lawful. leaves_looked p c.finish-stamp.new.self.0.pass o.snapshot c.args.commands.now o.adds c.requires.reads;

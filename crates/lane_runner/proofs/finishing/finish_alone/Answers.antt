@@ -1,7 +1,7 @@
 use Rattle.std.proofs.Common.{◌+◌, ◌*◌, ◌<◌, ◌≤◌, subst, ◌∙◌}
 use Rattle.txn_engine.specs.Pass.{EngineView}
 use Rattle.lane_runner.specs.Finishing.{rests_add, how_many_remain}
-use Rattle.lane_runner.proofs.Again.{engine_settled, idle_settled, records_again, Finishes-again, room_settled, clock_settled, never_out, drawn_most, if_ok, on_ok}
+use Rattle.lane_runner.proofs.Again.{engine_settled, idle_settled, records_again, Finishes-again, room_settled, clock_settled, never_out, stopped_within, drawn_most, if_ok, on_ok}
 use Rattle.lane_runner.proofs.finishing.finish_alone.Goals as goal
 use Rattle.lane_runner.proofs.finishing.finish_alone.Goals.{In-Ok}
 
@@ -11,13 +11,15 @@ drawn c =
     let p = c.args.alone.now.pass in
     let q = c.settle.new.self.pass in
     subst (λ (e : EngineView). q.clock ≤ p.clock + 2 * e.size.records) c.requires.pass.same
-    (drawn_most p.clock q.clock _ _ p.shared.size.records c.in-Ok.ensures.settles.draws c.in-Ok.ensures.settles.counts.0 c.in-Ok.ensures.settles.counts.1)
+    (drawn_most p.clock q.clock _ p.shared.size.records c.in-Ok.ensures.settles.draws c.in-Ok.ensures.settles.done.first.most)
 
 pub unreachable-requires : goal.unreachable-requires
 unreachable-requires c =
     let p = c.args.alone.now.pass in
     let q = c.settle.new.self.pass in
-    never_out p.clock q.clock c.args.engine.now.size.records (how_many_remain c.args.done.items) c.requires.room (subst (λ (e : EngineView). q.clock < p.clock + 2 * e.size.records) c.requires.pass.same c.in_default.ensures.settles.within) c.in_default.ensures.settles.clock_out
+    let stops = c.in_default.ensures.settles.stops in
+    let within = stopped_within p.post q.post stops in
+    never_out p.clock q.clock c.args.engine.now.size.records (how_many_remain c.args.done.items) c.requires.room (subst (λ (e : EngineView). q.clock < p.clock + 2 * e.size.records) c.requires.pass.same within) stops.runs_out.at_end
 
 pub finish_settled-requires-clause-pass : goal.finish_settled-requires-clause-pass
 finish_settled-requires-clause-pass c = record {

@@ -55,7 +55,7 @@ run_rests-requires-clause-holds c =
     let d = c.rescan.new.self.pass in
     let t = c.tell.new.self.pass in
     Holds-settled p here d t here.met t.met here.bounds d.spare (collected_alone p here c.collect.ensures.collects.after (c.collect.ensures.collects.alone c.collect.ensures.holds)) c.rescan.ensures.rescans.after c.tell.ensures.value c.requires.pass.idle
-    (c.tell.ensures.lawful c.tell.ensures.holds) c.collect.ensures.collects.above c.rescan.ensures.rescans.absent (c.collect.ensures.collects.roomy c.collect.ensures.holds (roomy_once p c.requires.roomy))
+    (c.tell.ensures.lawful c.tell.ensures.holds) c.collect.ensures.collects.above c.rescan.ensures.rescans.held (c.collect.ensures.collects.roomy c.collect.ensures.holds (roomy_once p c.requires.roomy))
 
 pub run_rests-requires-clause-blocks : goal.run_rests-requires-clause-blocks
 run_rests-requires-clause-blocks c =

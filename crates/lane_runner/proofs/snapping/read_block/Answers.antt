@@ -1,9 +1,9 @@
 use Rattle.std.proofs.Common.{rules, ◌≡◌, ℕ, [], ◌∷◌, refl, sym, ap, subst, ◌∙◌, arith}
 use Rattle.seat_post.specs.Logs.{IsAbove}
-use Rattle.seat_post.proofs.Answered.{on_err}
 use Rattle.txn_engine.specs.Pass.{EngineView, PassView, next_clock}
 use Rattle.txn_engine.specs.Snapshot.{SnapshotFrame, unread}
 use Rattle.seat_post.specs.Snapshot.{entry_of_snapshot}
+use Rattle.lane_runner.proofs.Answered.{on_err}
 use Rattle.lane_runner.proofs.Clocks.{clock_later, clock_drawn}
 use Rattle.lane_runner.proofs.Granted.{ready_seen}
 use Rattle.lane_runner.proofs.Looked.{sought}
@@ -58,5 +58,5 @@ returns-clause-ready c = λ ready.
     let f = c.finish-stamp.new.self.0 in
     ready_seen p s f _ c.finish-stamp.result
     (sought p c.tick.new.self c.snapshot-snapshot.result.seat.now s f (next_clock p c.args.reading) c.finish-stamp.result c.snapshot-snapshot.ensures.begins (clock_later p c.args.reading) (clock_drawn p c.args.reading) c.requires.pass.idle
-    c.in-Ok.ensures.ok (ap (λ (x : SnapshotFrame (Unit {0})). x.of_pass) c.exec_snap-told.ensures.rest) c.finish-stamp.ensures.finishes.after c.finish-stamp.ensures.finishes.stamp ready.alone
+    c.in-Ok.ensures.ok (ap (λ (x : SnapshotFrame (Unit {0})). x.of_pass) c.exec_snap-told.ensures.rest) c.finish-stamp.ensures.finishes.after c.finish-stamp.ensures.finishes.stamp c.finish-stamp.ensures.finishes.absent ready.alone
     (subst (λ (n : ℕ). IsAbove p.log n) (c.in-Ok.ensures.stamp ∙ sym (ap (λ (x : PassView). x.published) c.in-Ok.ensures.ok)) c.in-Ok.ensures.above)) (search rules) ready

@@ -28,6 +28,6 @@ pub returns-clause-seen : goal.returns-clause-seen
 returns-clause-seen g c =
     let both = subst (λ (n : ℕ). RunsAndReads c.args.engine.now c.args.passes.items c.args.lanes c.args.tries n c.in_ok-alone.alone c.in_ok-alone.done.items (g.L.LaneRun.has_read c.in_ok-alone.reader)) c.begin-way.ensures.may c.in_ok-alone.ensures in
     let reads = subst (λ (n : ℕ). ReadsAll n (g.L.LaneRun.has_read c.in_ok-alone.reader) c.in_ok-alone.alone c.read_all.new.alone (g.L.LaneRun.seen c.read_all.new.self)) c.begin-way.ensures.due c.in_ok-read_all.ensures.reads in
-    seen_told c.read_all.new.alone c.tell.new.self c.tell.ensures.value c.tell.ensures.beside c.tell.ensures.not_back (g.L.LaneRun.due c.args.run.now) c.args.passes.items (g.L.LaneRun.seen c.read_all.new.self)
+    seen_told c.read_all.new.alone c.tell.new.self c.tell.ensures.value c.tell.ensures.beside c.tell.ensures.not_back (g.L.LaneRun.due c.args.run.now) c.args.passes.items c.in_ok-alone.done.items (g.L.LaneRun.seen c.read_all.new.self)
     (seen_beside c.args.engine.now c.args.passes.items c.args.lanes c.args.tries (g.L.LaneRun.due c.args.run.now) c.in_ok-alone.alone c.read_all.new.alone c.in_ok-alone.done.items (g.L.LaneRun.has_read c.in_ok-alone.reader) (g.L.LaneRun.seen c.read_all.new.self)
     both reads c.readings_are_seen.ensures (c.tell.ensures.lawful c.tell.ensures.holds))

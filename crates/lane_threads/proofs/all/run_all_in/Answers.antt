@@ -3,7 +3,7 @@ use Rattle.lane_queue.specs.Passes.{numbered}
 use Rattle.txn_engine.specs.Pass.{PassView}
 use Rattle.lane_runner.proofs.Answered.{not_ok}
 use Rattle.lane_threads.proofs.Gathered.{passes_of, takers_of}
-use Rattle.lane_threads.proofs.Together.{count_passes, begin_all, less_room, room_all, all_again, of_again, first_seat, other_seats, runs_all_on}
+use Rattle.lane_threads.proofs.Together.{count_passes, begin_all, less_room, room_all, all_again, of_again, first_seat, other_seats, others_apart, runs_all_on}
 use Rattle.lane_threads.proofs.all.run_all_in.Goals as goal
 
 pub workers_of-requires-clause-takers : goal.workers_of-requires-clause-takers
@@ -42,7 +42,8 @@ returns g c =
     let first = first_seat c.args.engine.now c.args.passes.items c.in_ok-gathered.gathered.pass c.in_ok-gathered.gathered.retired.items c.seats.ensures.in_range.has_seat c.requires.passes seats in
     let same = of_again (numbered 1 c.args.lanes) c.in_ok-queue.takers.items c.in_ok-gathered.gathered.takers.items (left.takers_are ∙ c.in_ok-workers.ensures.takers) c.in_ok-queue.ensures.lanes in
     runs_all_on c.args.engine.now (passes_of c.in_ok-workers.workers.items) c.args.passes.items (takers_of c.in_ok-workers.workers.items) c.args.lanes c.args.tries (g.L.LaneRun.may_read c.args.reader) c.in_ok-gathered.gathered.pass c.in_ok-gathered.gathered.retired.items c.in_ok-gathered.gathered.takers.items c.in_ok-gathered.gathered.done.items
-    (g.L.LaneRun.has_read c.in_ok-gathered.reader) c.alone.result c.alone.result.pass.snapshot left first (c.close.ensures (numbered 1 c.args.lanes) same) joined.pass joined.shared joined.earlier joined.alone c.in_ok-workers.ensures.passes
+    (g.L.LaneRun.has_read c.in_ok-gathered.reader) c.alone.result c.alone.result.pass.snapshot left first (c.close.ensures (numbered 1 c.args.lanes) same) joined.pass joined.shared joined.earlier joined.alone
+    (others_apart c.args.engine.now c.args.passes.items c.in_ok-gathered.gathered.pass c.in_ok-gathered.gathered.retired.items c.seats.ensures.in_range.has_seat c.requires.passes seats c.seats.ensures.in_range.seats_in_range) c.in_ok-workers.ensures.passes
 
 pub workers_of-requires-clause-clocks : goal.workers_of-requires-clause-clocks
 workers_of-requires-clause-clocks g c κs within = c.requires.clocks

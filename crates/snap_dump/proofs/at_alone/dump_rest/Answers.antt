@@ -1,12 +1,12 @@
 use Rattle.std.proofs.Common.{◌∙◌, arith}
-use Rattle.snap_dump.proofs.Made.{made_none, made_one, made_then, none_others, dump_others, others_some, others_then, keeps_none, keeps_then, count_more}
+use Rattle.snap_dump.proofs.Made.{made_none, made_one, made_then, none_added, none_others, dump_others, others_some, others_then, keeps_none, keeps_then, count_more}
 use Rattle.snap_dump.proofs.at_alone.dump_rest.Goals as goal
 
 pub loop-init : goal.loop-init
 loop-init c = record {
   engine = c.requires.pass.same;
   others = none_others c.args.alone.now.pass c.requires.pass.idle;
-  made = made_none c.args.alone.now.pass c.args.alone.now.pass c.args.made.now.items;
+  made = made_none c.args.alone.now.pass c.args.alone.now.pass c.args.made.now.items (none_added c.args.alone.now.pass c.requires.pass.idle);
   count = omega arith;
   keeps = keeps_none c.args.alone.now;
   clock = omega arith;

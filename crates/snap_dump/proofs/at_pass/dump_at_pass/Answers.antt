@@ -1,8 +1,9 @@
-use Rattle.std.proofs.Common.{rules, ◌≡◌, [], ◌∷◌, ap, ◌∙◌, arith}
-use Rattle.seat_post.proofs.Answered.{on_err}
-use Rattle.txn_engine.specs.Pass.{EngineView, next_clock}
+use Rattle.std.proofs.Common.{rules, ◌≡◌, ℕ, [], ◌∷◌, sym, subst, ap, ◌∙◌, arith}
+use Rattle.seat_post.specs.Logs.{IsAbove}
+use Rattle.txn_engine.specs.Pass.{EngineView, PassView, next_clock}
 use Rattle.txn_engine.specs.Snapshot.{SnapshotFrame, unread}
 use Rattle.seat_post.specs.Snapshot.{entry_of_snapshot}
+use Rattle.lane_runner.proofs.Answered.{on_err}
 use Rattle.lane_runner.proofs.Seen.{has_seen, sees_all, never_torn, not_torn, Adds-finished}
 use Rattle.snap_dump.specs.Tagged.{tagged}
 use Rattle.snap_dump.proofs.Dumped.{dumps_seen, read_in_order}
@@ -33,6 +34,7 @@ returns-clause-dumps c =
     dumps_seen p c.tick.new.self s q (next_clock p c.args.reading) c.in-Ok.ensures.ok c.snapshot-snapshot.ensures.begins rest c.finish-stamp.new.self.0 _ c.finish-stamp.ensures.finishes.after (search rules) c.requires.pass.idle (omega arith)
     c.in_ok-lists.lists.items _ c.fits_records.ensures (rw c.in_ok-lists.ensures at c.list_tables-told.ensures.rows) c.finish-stamp.ensures.finishes.stamp
     (c.in_ok-rows.ensures ∙ ap (tagged 0) c.deref.ensures.value)
+    (subst (λ (n : ℕ). IsAbove p.log n) (c.in-Ok.ensures.stamp ∙ sym (ap (λ (x : PassView). x.published) c.in-Ok.ensures.ok)) c.in-Ok.ensures.above)
 
 pub returns-in_err-lists-clause-fault : goal.returns-in_err-lists-clause-fault
 returns-in_err-lists-clause-fault c =

@@ -1,11 +1,17 @@
-use Rattle.std.proofs.Common.{◌-◌, ◌≤◌, length, sym, subst, ◌∙◌, arith}
+use Rattle.std.proofs.Common.{◌≡◌, ◌≢◌, ◌+◌, ◌-◌, ◌<◌, ◌≤◌, List, [], ◌++◌, length, sym, ap, subst, ◌∙◌, arith}
+use Rattle.std.proofs.lemmas.List.{length-append}
+use Rattle.txn_engine.specs.Pass.{EngineView}
+use Rattle.lane_runner.specs.declared.turn.Turn.TheVariants.{Outcome as HasEnded}
+use Rattle.snap_dump.specs.declared.dump.Dump.{Dump}
+use Rattle.snap_dump.specs.Beside.{AreBeside, MadeBeside}
+use Rattle.snap_dump.proofs.Beside.{beside_next, beside_none}
 use Rattle.lane_runner.specs.declared.done.LaneDone.{LaneDone}
 use Rattle.lane_runner.specs.Done.{DoesLane}
 use Rattle.lane_runner.specs.Lanes.{lane_draws}
 use Rattle.lane_runner.specs.Session.{SessionView, draws_left}
 use Rattle.lane_runner.proofs.Attempted.{steps_none, steps_attempt, tries_attempt, draws_new}
 use Rattle.snap_dump.specs.Dumps.{how_many}
-use Rattle.snap_dump.proofs.Made.{StepsDumping, does_lane_dumping, made_more, made_none, made_then, room_behind, room_left, room_to_try, some_then, steps_alone, steps_more}
+use Rattle.snap_dump.proofs.Made.{StepsDumping, does_lane_dumping, made_more, made_none, made_then, none_added, room_behind, room_left, room_to_try, some_then, steps_alone, steps_more}
 use Rattle.snap_dump.proofs.lanes.run_lane_dumping.Goals as goal
 
 pub attempts-init : goal.attempts-init
@@ -13,7 +19,8 @@ attempts-init g c = record {
   engine = c.requires.pass.same;
   steps = subst (StepsDumping c.args.pass.now c.args.pass.now c.new-session.result c.new-session.result) (omega arith)
       (steps_alone c.args.pass.now c.args.pass.now c.new-session.result c.new-session.result (steps_none c.args.pass.now c.new-session.result c.requires.pass.idle));
-  made = made_none c.args.pass.now c.args.pass.now c.args.made.now.items;
+  made = made_none c.args.pass.now c.args.pass.now c.args.made.now.items (none_added c.args.pass.now c.requires.pass.idle);
+  beside = subst (λ (s : SessionView). AreBeside c.args.due c.args.made.now.items [] s.results) (sym c.new-session.ensures) (beside_none c.args.due c.args.made.now.items);
   within = c.requires.within;
 }
 
@@ -57,11 +64,22 @@ attempts-preserved g c =
     let new = c.dump_behind.new.made.items in
     let try = steps_attempt c.in_ok-turn.turn c.attempts.pass c.attempt.new.pass c.attempts.session c.attempt.new.self i.steps.adds.idle c.in_ok-turn.ensures.attempts c.in_ok-turn.ensures.clock in
     let dumped = c.in_ok-dump_behind.ensures in
-    let fresh = made_then q r v mid mid new c.attempt.ensures.adds c.dump_behind.ensures.adds (made_none q r mid) dumped.made in
+    let fresh = made_then q r v mid mid new c.attempt.ensures.adds c.dump_behind.ensures.adds (made_none q r mid c.attempt.ensures.adds) dumped.made in
+    let grown = ap (λ (ds : List Dump). length ds) dumped.made.grown in
+    let sum = length-append mid dumped.made.more in
+    let front = ap (λ (ds : List Dump). length ds) i.made.grown in
+    let size : p.shared.size.seats ≡ c.args.engine.now.size.seats = ap (λ (e : EngineView). e.size.seats) c.requires.pass.same in
+    let same_seat = i.steps.adds.seat in
     record {
       engine = c.dump_behind.ensures.adds.1.engine ∙ c.attempt.ensures.adds.1.engine ∙ i.engine;
       steps = steps_more p q r v c.new-session.result c.attempts.session c.attempt.new.self old mid new (made_more p q old mid i.made) (made_more q v mid new fresh) i.steps try dumped.others dumped.clock;
       made = made_then p q v old mid new (i.steps.entries, i.steps.adds) (some_then q r v c.attempt.ensures.adds c.dump_behind.ensures.adds) i.made fresh;
+      beside = beside_next c.in_ok-turn.turn p.met c.args.due q r c.attempts.session c.attempt.new.self old i.made.more dumped.made.more
+          (omega (arith, c.seat.ensures.within, c.seats.ensures.in_range.seats_in_range, size, same_seat)) c.in_ok-turn.ensures.attempts i.made.each
+          (λ outcome few. let one = dumped.one outcome (omega (arith, few, front)) in omega (arith, one, grown, sum))
+          (λ other. let none = ap (λ (ds : List Dump). length ds) (c.dump_behind.ensures.none other).0 in omega (arith, none, grown, sum))
+          (let most = dumped.within in omega (arith, most, grown, sum, front))
+          i.beside;
       within = dumped.within;
     }
 
@@ -80,3 +98,8 @@ returns-clause-does g c =
     subst (λ (done : LaneDone). DoesLane c.args.lane done c.args.pass.now c.attempts.pass) (sym c.finish.ensures)
     (does_lane_dumping c.args.lane c.args.tries c.args.pass.now c.attempts.pass c.attempts.session dumps
     (subst (λ (s : SessionView). StepsDumping c.args.pass.now c.attempts.pass s c.attempts.session dumps) c.new-session.ensures c.attempts.invariant.steps))
+
+pub returns-clause-beside : goal.returns-clause-beside
+returns-clause-beside g c =
+    subst (λ (done : LaneDone). MadeBeside c.args.due c.args.pass.now c.attempts.pass c.args.made.now.items c.attempts.made.items done.results) (sym c.finish.ensures)
+    (c.attempts.invariant.made, c.attempts.invariant.beside)

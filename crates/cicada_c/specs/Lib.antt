@@ -1,0 +1,4 @@
+pub mod Heap
+pub mod Lending
+pub mod EachCall
+pub mod Status

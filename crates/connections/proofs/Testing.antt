@@ -1,0 +1,85 @@
+-- When a call of a connection is refused by its tests, and when it goes on.
+use Rattle.std.proofs.Common.{◌≡◌, Bool, true, false, Option, Some, Result, Ok, Err, IfErr, inl, inr, refl, sym, ap, subst, ◌∙◌}
+use Rattle.txn_engine.specs.Pass.{EngineView, PassView}
+use Rattle.txn_engine.specs.Retired.{RetiredView}
+use Rattle.connections.specs.declared.fault.CallFault.{CallFault}
+use Rattle.connections.specs.declared.fault.CallFault.TheVariants.{Conflict, PlacesOut, RecordsOut, NoMemory, ClockOut, Range, Misused}
+use Rattle.connections.specs.declared.opened.Opened.{Opened}
+use Rattle.connections.specs.declared.opened.Opened.TheVariants.{Snapshot}
+use Rattle.connections.specs.Rows.{after_rows}
+use Rattle.connections.specs.Connection.{ConnectionView}
+use Rattle.connections.specs.Calls.{Calls, Goes, IsOfCall}
+
+-- a fault of a call that goes on is neither of the two that its tests answer
+never_misused : {T : Type 0} (answer : Result T CallFault) → IfErr answer IsOfCall → answer ≡ Err Misused → ⊥
+never_misused (Ok value) of_call is = cc
+never_misused (Err (Conflict conflict)) of_call is = cc
+never_misused (Err PlacesOut) of_call is = cc
+never_misused (Err RecordsOut) of_call is = cc
+never_misused (Err NoMemory) of_call is = cc
+never_misused (Err ClockOut) of_call is = cc
+never_misused (Err Range) of_call is = absurd of_call
+never_misused (Err Misused) of_call is = absurd of_call
+
+never_range : {T : Type 0} (answer : Result T CallFault) → IfErr answer IsOfCall → answer ≡ Err Range → ⊥
+never_range (Ok value) of_call is = cc
+never_range (Err (Conflict conflict)) of_call is = cc
+never_range (Err PlacesOut) of_call is = cc
+never_range (Err RecordsOut) of_call is = cc
+never_range (Err NoMemory) of_call is = cc
+never_range (Err ClockOut) of_call is = cc
+never_range (Err Range) of_call is = absurd of_call
+never_range (Err Misused) of_call is = absurd of_call
+
+module _ {T : Type 0} (fits : Bool) (InRange : Type 0) (Does : PassView → PassView → Type 0) (opened : Opened) (before after' : ConnectionView) where
+  -- it fits, and its numbers are in range
+  pub calls_goes : (answer : Result T CallFault) → fits ≡ true → InRange → IfErr answer IsOfCall → Goes Does opened before after' → Calls fits InRange Does opened before after' answer
+  calls_goes answer fit within of_call goes = record {
+    misused = (λ is. absurd (never_misused answer of_call is), λ is. cc);
+    range = (λ is. absurd (never_range answer of_call is), λ both. absurd (both.1 within));
+    refused = λ either. absurd (elim either [ inl is ↦ (let no : ⊥ = cc in no) | inr out ↦ out within ]);
+    goes = λ _ _. goes;
+  }
+
+  -- it does not fit
+  pub calls_misused : fits ≡ false → after' ≡ before → Calls {T = T} fits InRange Does opened before after' (Err Misused)
+  calls_misused unfit same = record {
+    misused = (λ _. unfit, λ _. refl);
+    range = (λ is. absurd (let no : ⊥ = cc in no), λ both. absurd (let is : fits ≡ true = both.0 in let no : ⊥ = cc in no));
+    refused = λ _. same;
+    goes = λ is. absurd (let no : ⊥ = cc in no);
+  }
+
+  -- a number is out of range
+  pub calls_range : fits ≡ true → (InRange → ⊥) → after' ≡ before → Calls {T = T} fits InRange Does opened before after' (Err Range)
+  calls_range fit out same = record {
+    misused = (λ is. absurd (let no : ⊥ = cc in no), λ is. absurd (let no : ⊥ = cc in no));
+    range = (λ _. (fit, out), λ _. refl);
+    refused = λ _. same;
+    goes = λ _ within. absurd (out within);
+  }
+
+-- a call that goes on at the pass of a connection, which is seen so before it and so behind it
+pub calls_at : {T : Type 0} (fits : Opened → Bool) (InRange : Type 0) (Does : Opened → PassView → PassView → Type 0) (o o' : Opened) (e : EngineView) (r : Option RetiredView) (pass : Option PassView) (p q : PassView) (before : ConnectionView) (answer : Result T CallFault)
+    → record { engine = e; opened = o; pass = pass; retired = r } ≡ before → pass ≡ Some p → fits o ≡ true → InRange → IfErr answer IsOfCall → Does o p q
+    → Calls (fits before.opened) InRange (Does before.opened) o' before (record { engine = e; opened = o'; pass = Some q; retired = r }) answer
+calls_at {T} fits InRange Does o o' e r pass p q before answer seen is fit within of_call does =
+    let was : ConnectionView = record { engine = e; opened = o; pass = pass; retired = r } in
+    let now : ConnectionView = record { engine = e; opened = o'; pass = Some q; retired = r } in
+    subst (λ (c : ConnectionView). Calls (fits c.opened) InRange (Does c.opened) o' c now answer) seen
+    (calls_goes (fits o) InRange (Does o) o' was now answer fit within of_call (record { from = p; to = q; was = is; is = refl; does = does }))
+
+-- the same where what is open afterwards is told of what was open
+pub calls_after : {T : Type 0} (fits : Opened → Bool) (InRange : Type 0) (Does : Opened → PassView → PassView → Type 0) (After : Opened → Opened) (o o' : Opened) (e : EngineView) (r : Option RetiredView) (pass : Option PassView) (p q : PassView) (before : ConnectionView) (answer : Result T CallFault)
+    → record { engine = e; opened = o; pass = pass; retired = r } ≡ before → pass ≡ Some p → After o ≡ o' → fits o ≡ true → InRange → IfErr answer IsOfCall → Does o p q
+    → Calls (fits before.opened) InRange (Does before.opened) (After before.opened) before (record { engine = e; opened = o'; pass = Some q; retired = r }) answer
+calls_after {T} fits InRange Does After o o' e r pass p q before answer seen is then fit within of_call does =
+    let now : ConnectionView = record { engine = e; opened = o'; pass = Some q; retired = r } in
+    let at : Calls (fits before.opened) InRange (Does before.opened) (After o) before now answer =
+    subst (λ (x : Opened). Calls (fits before.opened) InRange (Does before.opened) x before now answer) (sym then) (calls_at fits InRange Does o o' e r pass p q before answer seen is fit within of_call does) in
+    subst (λ (x : Opened). Calls (fits before.opened) InRange (Does before.opened) (After x) before now answer) (ap (λ (c : ConnectionView). c.opened) seen) at
+
+-- a snapshot goes on behind each call on rows
+pub after_snapshot : {T : Type 0} (o : Opened) (answer : Result T CallFault) → o ≡ Snapshot → after_rows o answer ≡ o
+after_snapshot o (Ok value) is = refl
+after_snapshot {T} o (Err f) is = ap (λ (x : Opened). after_rows {T = T} x (Err f)) is ∙ sym is

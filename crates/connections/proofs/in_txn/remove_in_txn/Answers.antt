@@ -1,0 +1,36 @@
+use Rattle.std.proofs.Common.{rules, ◌≡◌, Bool, refl, ap}
+use Rattle.txn_engine.specs.Faults.{told_by}
+use Rattle.txn_engine.specs.Pass.{frame, meaning_of_pass}
+use Rattle.txn_engine.specs.Txn.{TxnFrame}
+use Rattle.connections.specs.Rows.{FreshGives, ReadGives, WriteGives}
+use Rattle.connections.proofs.InTxns.{in_txn_err, in_txn_ok, torn_doomed, walk_torn, open_remove}
+use Rattle.connections.proofs.Stores.{see_runs, see_goes}
+use Rattle.connections.proofs.in_txn.remove_in_txn.Goals as goal
+
+pub spoil-requires-clause-torn : goal.spoil-requires-clause-torn
+spoil-requires-clause-torn c =
+    let rest : frame c.remove_row-told.new.store.seat.now ≡ frame c.resume-txn.result.seat.now = ap (λ (x : TxnFrame (Unit {0})). x.of_pass) c.remove_row-told.ensures.rest in
+    torn_doomed c.args.engine.now c.args.pass.now c.resume-txn.result.seat.now c.remove_row-told.new.store.seat.now _ c.resume-txn.ensures.seat (search rules) c.requires.pass rest c.in-Err.walk c.keeps_tables.ensures c.remove_row-told.ensures.runs.by.grow (walk_torn (Bool) (meaning_of_pass c.resume-txn.result.seat.now) (meaning_of_pass c.remove_row-told.new.store.seat.now) c.in-Err.walk c.in-Err.ensures.runs.torn)
+
+pub returns-in-Ok-clause-did : goal.returns-in-Ok-clause-did
+returns-in-Ok-clause-did c =
+    let rest : frame c.remove_row-told.new.store.seat.now ≡ frame c.resume-txn.result.seat.now = ap (λ (x : TxnFrame (Unit {0})). x.of_pass) c.remove_row-told.ensures.rest in
+    in_txn_ok c.args.engine.now c.args.pass.now c.resume-txn.result.seat.now c.remove_row-told.new.store.seat.now _ c.resume-txn.ensures.seat (search rules) c.requires.pass rest _ c.in-Ok.taken (record {
+      runs = see_runs c.in-Ok.ensures.runs (λ t. t.seat.now) ReadGives WriteGives FreshGives meaning_of_pass refl (record { calls = λ s t rid answer is. (told_by (λ f. f) answer, is); fails = λ s t rid fault is. is }) (record { calls = λ s t rid value answer is. (told_by (λ f. f) answer, is); fails = λ s t rid value fault is. is }) (record { calls = λ s t answer is. (told_by (λ f. f) answer, is); fails = λ s t fault is. is });
+      asks_nothing = see_goes c.in-Ok.ensures.asks_nothing (λ t. t.seat.now) ReadGives WriteGives FreshGives meaning_of_pass refl (record { calls = λ s t rid answer is. (told_by (λ f. f) answer, is); fails = λ s t rid fault is. is }) (record { calls = λ s t rid value answer is. (told_by (λ f. f) answer, is); fails = λ s t rid value fault is. is }) (record { calls = λ s t answer is. (told_by (λ f. f) answer, is); fails = λ s t fault is. is });
+      kept = c.in-Ok.ensures.kept;
+    })
+
+pub returns-in-Ok-clause-open_there : goal.returns-in-Ok-clause-open_there
+returns-in-Ok-clause-open_there c =
+    let rest : frame c.remove_row-told.new.store.seat.now ≡ frame c.resume-txn.result.seat.now = ap (λ (x : TxnFrame (Unit {0})). x.of_pass) c.remove_row-told.ensures.rest in
+    open_remove c.args.engine.now c.args.pass.now c.resume-txn.result.seat.now c.remove_row-told.new.store.seat.now _ c.resume-txn.ensures.seat (search rules) c.requires.pass rest c.args.table c.args.key c.in-Ok.ensures.runs.asked c.in-Ok.taken c.remove_row-told.ensures.runs.by.grow c.in-Ok.ensures.runs.did
+
+pub returns-in-Err-clause-did : goal.returns-in-Err-clause-did
+returns-in-Err-clause-did c =
+    let rest : frame c.remove_row-told.new.store.seat.now ≡ frame c.resume-txn.result.seat.now = ap (λ (x : TxnFrame (Unit {0})). x.of_pass) c.remove_row-told.ensures.rest in
+    in_txn_err c.args.engine.now c.args.pass.now c.resume-txn.result.seat.now c.remove_row-told.new.store.seat.now _ c.resume-txn.ensures.seat (search rules) c.requires.pass rest _ c.in-Err.walk c.spoil.new.pass c.spoil.result (record {
+      runs = see_runs c.in-Err.ensures.runs (λ t. t.seat.now) ReadGives WriteGives FreshGives meaning_of_pass refl (record { calls = λ s t rid answer is. (told_by (λ f. f) answer, is); fails = λ s t rid fault is. is }) (record { calls = λ s t rid value answer is. (told_by (λ f. f) answer, is); fails = λ s t rid value fault is. is }) (record { calls = λ s t answer is. (told_by (λ f. f) answer, is); fails = λ s t fault is. is });
+      asks_nothing = see_goes c.in-Err.ensures.asks_nothing (λ t. t.seat.now) ReadGives WriteGives FreshGives meaning_of_pass refl (record { calls = λ s t rid answer is. (told_by (λ f. f) answer, is); fails = λ s t rid fault is. is }) (record { calls = λ s t rid value answer is. (told_by (λ f. f) answer, is); fails = λ s t rid value fault is. is }) (record { calls = λ s t answer is. (told_by (λ f. f) answer, is); fails = λ s t fault is. is });
+      kept = c.in-Err.ensures.kept;
+    }) c.spoil.ensures.ends c.spoil.ensures.idle c.spoil.ensures.no_entry

@@ -1,0 +1,7 @@
+pub mod Connection
+pub mod Calls
+pub mod Opening
+pub mod Transactions
+pub mod Resting
+pub mod Rows
+pub mod Closing

@@ -1,0 +1,43 @@
+//! The end of a connection.
+
+ghost use Rattle.std.specs.Prelude.{◌≡◌};
+ghost use Rattle.connections.specs.Closing.{Closes, EndsOpened};
+ghost use Rattle.connections.specs.Connection.{IsAt};
+ghost use Rattle.txn_engine.specs.Pass.{IsIdleOf};
+
+use crate::connection::Connection;
+use crate::opened::Opened;
+use crate::snapshots::finish_at;
+use crate::transactions::abort_at;
+use stored_tables::RowsLawful;
+use txn_engine::{Engine, Pass};
+
+impl Connection {
+    /// Ends whatever is open, without a trace of a transaction, and the seat: the others of the engine do not wait for it any more. Each
+    /// later call answers `Misused`; to close it again changes nothing.
+    pub fn close(&mut self)
+        ensures { Closes self.old self.new }
+    {
+        let Some(mut pass) = self.pass.take() else {
+            return;
+        };
+        end_at(&mut pass, &self.engine, self.opened);
+        self.retired = Some(pass.retire(&self.engine));
+        self.opened = Opened::Closed;
+    }
+}
+
+// Ends what is open at the pass.
+fn end_at(pass: &mut Pass<RowsLawful>, engine: &Engine<RowsLawful>, opened: Opened)
+    requires pass { IsAt opened engine.now pass.old }
+    ensures ends { EndsOpened opened pass.old pass.new }
+    ensures idle { IsIdleOf engine.now pass.new }
+{
+    match opened {
+        Opened::Transaction => abort_at(pass, engine),
+        Opened::Snapshot => {
+            finish_at(pass, engine);
+        }
+        _ => {}
+    }
+}

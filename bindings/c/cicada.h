@@ -29,7 +29,7 @@ enum {
     CICADA_TABLES = 8,             /* tables are 0 to 7 */
     CICADA_COLUMNS = 6,            /* of a row, each a number of 64 bits */
     CICADA_MOST_CONNECTIONS = 64,
-    CICADA_MOST_ROWS = 195888,     /* records for rows: a row and its entries take up to four */
+    CICADA_MOST_ROWS = 195888,     /* records for rows: two a row, up to six where rows come and go */
     CICADA_MOST_SPARE = 262144
 };
 

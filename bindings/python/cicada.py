@@ -503,8 +503,8 @@ class Seat:
 
 
 class Engine:
-    """An engine of eight empty tables: `seats` (1 to 64), records for `rows` (0 to 195,888; a row and its entries take up to four), and `spare` places for
-    versions (up to 262,144; 0: as many as is advised). The seats of an engine that is let go are closed."""
+    """An engine of eight empty tables: `seats` (1 to 64), records for `rows` (0 to 195,888; two a row, where rows come and go up to four, six with an
+    index), and `spare` places for versions (up to 262,144; 0: as many as is advised). The seats of an engine that is let go are closed."""
 
     def __init__(self, seats: int = 1, rows: int = 10_000, spare: int = 0) -> None:
         self.seats: list[Seat] = []

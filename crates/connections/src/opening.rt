@@ -13,19 +13,16 @@ use crate::fault::CallFault;
 use crate::opened::Opened;
 use std::alloc::Global;
 use std::sync::Arc;
-use stored_tables::RowsLawful;
+use stored_tables::{FIXED_RECORDS, RowsLawful};
 use txn_engine::{Alone, Engine, Pass, StartFault};
 use word_layout::{MAX_RECORDS, MAX_SPARE};
-
-/// The records that tables have at places of their own.
-const TABLE_RECORDS: u32 = 4_112;
 
 /// The places for versions that are advised for each seat.
 const PLACES_FOR_SEAT: u32 = 10_000;
 
 /// Connections to a new engine of eight empty tables, by rising seat number: so many `seats` (1 to 64), with room for so many records of
-/// `rows` (at most 195,888; a row and its entries in indexes take up to four), and `spare` places for versions beside one for each record
-/// (at most 262,144). Where `spare` is 0 it is as advised: one for each row, and 10,000 for each seat, or the most that there may be.
+/// `rows` (at most 195,888; two a row, where rows come and go up to four, six with an index), and `spare` places for versions beside one for each
+/// record (at most 262,144). Where `spare` is 0 it is as advised: one for each row, and 10,000 for each seat, or the most that there may be.
 ///
 /// All memory of the engine is taken here. `Range`: a number is out of its range.
 pub fn open(alloc: Global, seats: u32, rows: u32, spare: u32) -> Result<Vec<Connection>, CallFault>
@@ -57,13 +54,13 @@ fn start(
     ensures refused { IfErr result IsRefused }
 {
     // More records than there may be are too many.
-    let records = rows.min(MAX_RECORDS) + TABLE_RECORDS;
+    let records = rows.min(MAX_RECORDS) + FIXED_RECORDS;
     let places = if spare == 0 {
         advised(seats, rows)
     } else {
         spare
     };
-    match Engine::start(alloc, seats, records, TABLE_RECORDS, places) {
+    match Engine::start(alloc, seats, records, FIXED_RECORDS, places) {
         Ok(made) => Ok(made),
         Err(StartFault::Limit) => Err(CallFault::Range),
         Err(StartFault::NoMemory) => Err(CallFault::NoMemory),

@@ -26,6 +26,7 @@ pub mod Settlement
 pub mod Steady
 pub mod Stopped
 pub mod Stuck
+pub mod Visiting
 pub mod WriteMore
 pub mod Dues
 pub mod SettledOne

@@ -22,6 +22,10 @@ with_load o l = record o { loads = o.loads ++ l ∷ [] }
 abbrev pub with_loads : Observed → List Load → Observed
 with_loads o ls = record o { loads = o.loads ++ ls }
 
+-- one exchange more was lost
+abbrev pub with_loss : Observed → Load → Observed
+with_loss o l = record o { lost = o.lost ++ l ∷ [] }
+
 -- The words of a family were loaded, of so many seats once each and by rising number, and that of this seat was `own`. Then a minimum was
 -- raised to the least of them: it was found so, and came to this.
 pub record RaisesTo (family : ℕ → Name) (minimum : Name) (seats seat own raised : ℕ) (before after' : Observed) : Type 0 where

@@ -1,10 +1,12 @@
 -- What becomes of a post where its seat is shared: it is announced, and makes the posts of the other seats.
-use Rattle.std.specs.Prelude.{None, ◌+◌, max, []}
+use Rattle.std.specs.Prelude.{◌≡◌, ◌⊎◌, ℕ, None, ◌+◌, max, []}
 use Rattle.stamp_base.specs.Stamp.{bound_of_clock}
-use Rattle.core_rule.specs.View.{sharing, shared, nothing_known}
+use Rattle.core_rule.specs.View.{Load, sharing, shared, nothing_known}
 use Rattle.core_rule.specs.Offers.{made_of}
 use Rattle.seat_post.specs.declared.phase.Phase.TheVariants.{Idle}
-use Rattle.seat_post.specs.Post.{PostView}
+use Rattle.seat_post.specs.Observing.{with_loss}
+use Rattle.seat_post.specs.Post.{PostView, observing}
+use Rattle.version_pool.specs.Takes.{IsLostOn}
 use Rattle.seat_post.specs.Seats.{Bounds, nothing_observed, nothing_removed}
 
 -- nothing is known of lists
@@ -39,3 +41,7 @@ made_next p = record {
   versions = [];
   writes = [];
 }
+
+-- a place was taken and given back, and all is as before; or it was met not free, by an exchange that was lost
+abbrev pub Visits : (place : ℕ) → PostView → PostView → Type 0
+Visits place before after' = (after' ≡ before) ⊎ ((exchange : Load) × IsLostOn place exchange × (after' ≡ observing before (with_loss before.observed exchange)))

@@ -2,9 +2,10 @@
 ghost use Rattle.std.specs.Prelude.{◌≡◌, ◌<◌, ◌≤◌};
 ghost use Rattle.core_rule.specs.Offers.{MayOffer, made_of};
 ghost use Rattle.word_layout.specs.Name.{published_write, min_write};
+ghost use Rattle.word_layout.specs.Size.{IsUsable};
 ghost use Rattle.seat_post.specs.Observing.{RaisesTo};
 ghost use Rattle.seat_post.specs.Seats.{IsAloneAt};
-ghost use Rattle.seat_post.specs.Sharing.{announced_at, one_more, made_next};
+ghost use Rattle.seat_post.specs.Sharing.{announced_at, one_more, made_next, Visits};
 
 use crate::phase::Phase;
 use crate::post::Post;
@@ -12,6 +13,7 @@ use crate::rewriting::Room;
 use clock_stamps::{idle, raise_min_write};
 use core_rule::{Core, Keeps};
 use std::alloc::Global;
+use version_pool::visit;
 
 impl<J: Keeps> Post<J> {
     /// Publishes the bound of its clock, and raises `min_wts` to it, which no other seat holds back.
@@ -38,5 +40,15 @@ impl<J: Keeps> Post<J> {
     {
         let hand = core.split(&mut self.hand);
         Post::new(alloc, hand, room)
+    }
+
+    /// Takes this usable place of the pool if it is free, and gives it back: its next search for a place begins behind it.
+    pub fn visit(&mut self, core: &Core<J>, place: u32)
+        requires core { self.old.shared ≡ core.now }
+        requires idle { self.old.phase ≡ Phase.Idle }
+        requires usable { IsUsable core.now.size place }
+        ensures { Visits place self.old self.new }
+    {
+        visit(core, &mut self.hand, place);
     }
 }

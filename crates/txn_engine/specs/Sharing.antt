@@ -1,10 +1,12 @@
 -- What becomes of the seat that is alone where it is shared: one pass for each seat.
-use Rattle.std.specs.Prelude.{◌≡◌, ℕ, None, ◌-◌, nat_lt, false, List, [], ◌∷◌, ◌++◌, map, if◌then◌else◌, All}
+use Rattle.std.specs.Prelude.{◌≡◌, ◌⊎◌, ℕ, None, ◌+◌, ◌-◌, ◌*◌, ◌/◌, nat_lt, false, List, [], ◌∷◌, ◌++◌, map, if◌then◌else◌, All}
 use Rattle.std.specs.List.{range_with_len}
 use Rattle.word_layout.specs.Name.{published_write, min_write}
-use Rattle.core_rule.specs.View.{sharing}
-use Rattle.txn_engine.specs.Pass.{PassView, bare}
-use Rattle.seat_post.specs.Observing.{RaisesTo}
+use Rattle.word_layout.specs.Size.{Size}
+use Rattle.core_rule.specs.View.{Load, sharing}
+use Rattle.version_pool.specs.Takes.{IsLostOn}
+use Rattle.txn_engine.specs.Pass.{PassView, bare, observing}
+use Rattle.seat_post.specs.Observing.{RaisesTo, with_loss}
 use Rattle.seat_post.specs.Seats.{Others, Bounds, Placed, nothing_observed}
 use Rattle.seat_post.specs.Sharing.{no_bounds, announced_at, made_next}
 use Rattle.spare_numbers.specs.Spare.{every}
@@ -57,12 +59,24 @@ shares_of p = first_share p ∷ map (share_at p) (range_with_len 1 (p.shared.siz
 abbrev pub shares : PassView → List PassView
 shares p = shares_of (announced p)
 
--- its steps came upon nothing
-abbrev pub SawNothing : PassView → Type 0
-SawNothing p = p.observed ≡ nothing_observed
+-- The spare places are dealt out by rising number, as many to each seat. This one is before those of a seat; before those of seat 0 it is an
+-- inline place.
+abbrev pub before_share : Size → (seat : ℕ) → ℕ
+before_share z seat = z.records + seat * (z.spare / z.seats) - 1
+
+-- it looks for places from its share on: the place before was taken and given back, or was left, and all is as before; or it was met not
+-- free, by an exchange that was lost
+abbrev pub LooksInShare : PassView → PassView → Type 0
+LooksInShare p q = (q ≡ p) ⊎ ((exchange : Load) × IsLostOn (before_share p.shared.size p.seat) exchange × (q ≡ observing p (with_loss p.observed exchange)))
+
+-- its steps came upon nothing, or upon the place before its share, which was not free
+abbrev pub SawAtMost : PassView → Type 0
+SawAtMost p =
+    (p.observed ≡ nothing_observed)
+    ⊎ ((exchange : Load) × IsLostOn (before_share p.shared.size p.seat) exchange × (p.observed ≡ with_loss nothing_observed exchange))
 
 -- the steps of seat 0 have raised `min_wts` by the published write words, the own one among them as it was published before, and those of the
--- others came upon nothing
+-- others came upon no more than the place before their share
 pub record HaveSeen (p first : PassView) (rest : List PassView) : Type 0 where
   pub raised : RaisesTo published_write min_write p.shared.size.seats p.seat first.published first.met p.observed first.observed
-  pub others : All SawNothing rest
+  pub others : All SawAtMost rest

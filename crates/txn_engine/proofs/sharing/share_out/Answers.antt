@@ -3,11 +3,12 @@ use Rattle.core_rule.specs.Offers.{MayOffer, made_of}
 use Rattle.core_rule.specs.Views.{Among}
 use Rattle.txn_engine.specs.Alone.{PartsView}
 use Rattle.txn_engine.specs.Pass.{PassView, EngineView, bare, engine_of}
-use Rattle.txn_engine.specs.Sharing.{with_made, share_at, first_share, SawNothing}
+use Rattle.txn_engine.specs.Sharing.{with_made, share_at, first_share, SawAtMost}
 use Rattle.seat_post.specs.Seats.{Others, Observed}
 use Rattle.spare_numbers.specs.Spare.{NumbersView, no_numbers, every}
 use Rattle.std.specs.List.{range_with_len}
 use Rattle.std.proofs.lemmas.List.Elements.{All-nil, All-same, All-push}
+use Rattle.txn_engine.proofs.InShare.{bare_looks, saw_at_most}
 use Rattle.txn_engine.proofs.Making.{may_make, next_share, next_made, pushed_share, count_shares}
 use Rattle.core_rule.proofs.Among.{Among-last, Among-left}
 use Rattle.txn_engine.proofs.sharing.share_out.Goals as goal
@@ -21,7 +22,7 @@ loop-seat-init g c =
     record {
       pass = refl;
       passes = ap (map bare) c.parts.invariant;
-      observed = All-same SawNothing _ [] c.parts.invariant (All-nil SawNothing);
+      observed = All-same SawAtMost _ [] c.parts.invariant (All-nil SawAtMost);
       lists = omega arith;
       empty = λ n among. has.empty n (subst (λ (p : PartsView). Among n p.lists) view among);
       room = subst (λ (p : PartsView). c.args.engine.now.size.seats ≤ p.room) (sym view) has.room;
@@ -59,8 +60,8 @@ loop-seat-preserved g c =
     let made = next_share c.args.pass c.loop-seat.pass c.split.result c.loop-seat._seat some plain i.pass (ap bare c.split.ensures.made) in
     record {
       pass = next_made c.args.pass c.loop-seat.pass c.split.new.self c.loop-seat._seat some plain i.pass c.split.ensures.after;
-      passes = pushed_share c.args.pass c.loop-seat.passes.items c.push.new.self.items c.loop-seat._seat c.split.result some i.passes made c.in-Ok.ensures.items;
-      observed = All-same SawNothing _ _ c.in-Ok.ensures.items (All-push SawNothing _ _ i.observed (ap (λ (p : PassView). p.observed) c.split.ensures.made));
+      passes = pushed_share c.args.pass c.loop-seat.passes.items c.push.new.self.items c.loop-seat._seat c.look_in_share.new.self some i.passes (bare_looks c.split.result c.look_in_share.new.self c.look_in_share.ensures ∙ made) c.in-Ok.ensures.items;
+      observed = All-same SawAtMost _ _ c.in-Ok.ensures.items (All-push SawAtMost _ _ i.observed (saw_at_most c.split.result c.look_in_share.new.self (ap (λ (p : PassView). p.observed) c.split.ensures.made) c.look_in_share.ensures));
       lists = omega arith;
       empty = λ n among. i.empty n (subst (λ (ns : List NumbersView). Among n ns) (sym popped) (Among-left n c.pop.new.self.items (c.in-Some.list ∷ []) among));
       room = omega arith;
@@ -131,4 +132,4 @@ returns-clause-observed g c = λ first rest same.
     let head : first ≡ c.retain_share.new.self = cc in
     let tail : rest ≡ c.loop-seat.passes.items = cc in
     let seen : PassView → Observed = λ p. p.observed in
-    (ap seen head ∙ ap seen c.retain_share.ensures ∙ ap seen c.loop-seat.invariant.pass, All-same SawNothing _ _ tail c.loop-seat.invariant.observed)
+    (ap seen head ∙ ap seen c.retain_share.ensures ∙ ap seen c.loop-seat.invariant.pass, All-same SawAtMost _ _ tail c.loop-seat.invariant.observed)

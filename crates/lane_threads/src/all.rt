@@ -169,6 +169,7 @@ fn run_all_in<R: Threads + Wait + Sync, C: Clock, G: Gate, L: LaneRun<C, G>>(
     requires few { length lanes < 2 ^ 32 }
     requires fixed { fixed_records ≤ engine.now.fixed }
     requires room { AllByRecursion (λ p. HasRoom p.clock (all_draws lanes tries + L.may_read reader)) passes.items }
+    requires way { L.is_for way.now (length lanes) engine.now.size.seats }
     requires none { L.has_read reader ≡ [] }
     ensures { IfOk result (λ run. RunsAndReads engine.now passes.items lanes tries (L.may_read reader) run.0 run.1.items (L.has_read run.2)) }
 {

@@ -43,9 +43,13 @@ pub trait LaneRun<C: Clock, G: Gate> {
 
     ghost has_read: { Self.Reader → List (ℕ × TableMap) };
 
+    /// The way is that of a run of so many lanes by so many workers.
+    ghost is_for: { Self.Way → (lanes workers : ℕ) → Type 0 };
+
     /// Begins a run of so many lanes by so many workers, of which nothing was read yet.
     fn begin(&mut self, lanes: usize, workers: u32) -> (Self::Way, Self::Reader)
         requires { 1 ≤ workers }
+        ensures way { is_for result.0 lanes workers }
         ensures due { due self.new ≡ due self.old }
         ensures may { may_read result.1 ≡ due self.old }
         ensures none { has_read result.1 ≡ [] };
@@ -91,7 +95,7 @@ pub trait LaneRun<C: Clock, G: Gate> {
 pub struct Workers;
 
 impl<C: Clock, G: Gate> LaneRun<C, G> for Workers {
-    ghost use Rattle.std.specs.Prelude.{[]};
+    ghost use Rattle.std.specs.Prelude.{[], ⊤};
     ghost use Rattle.std.proofs.Common.{arith};
 
     type Way = LaneByLane;
@@ -105,6 +109,8 @@ impl<C: Clock, G: Gate> LaneRun<C, G> for Workers {
     ghost may_read = { λ _. 0 };
 
     ghost has_read = { λ _. [] };
+
+    ghost is_for = { λ _ _ _. ⊤ };
 
     ghost few_due = { λ _. Prim.omega arith };
 

@@ -1,10 +1,11 @@
 -- Lists of numbers of which the first ones are given out.
-use Rattle.std.proofs.Common.{◌≡◌, ℕ, ◌<◌, ◌≤◌, ◌+◌, ◌-◌, zero, suc, true, false, Bool, List, [], ◌∷◌, ◌++◌, refl, sym, ap, ◌∙◌, subst, inl, inr, ◌⊎◌, arith, ◌||◌, length, take, drop, get_or, remove, insert, map, eqb, length-take-le, length-drop, length-append, append_assoc, eq-eqb}
+use Rattle.std.proofs.Common.{◌≡◌, ℕ, ◌<◌, ◌≤◌, ◌+◌, ◌-◌, zero, suc, true, false, Bool, cond, List, [], ◌∷◌, ◌++◌, refl, sym, ap, ◌∙◌, subst, inl, inr, ◌⊎◌, arith, ◌||◌, length, take, drop, get_or, remove, insert, map, eqb, length-take-le, length-drop, length-append, append_assoc, eq-eqb}
 use Rattle.std.specs.List.{list_any, IsDistinct, AllByRecursion, range_with_len}
 use Rattle.std.specs.List.Sorted.{IsPermutation}
 use Rattle.std.proofs.Math.Nat.{sub_self, add-sub_cancel_left}
 use Rattle.std.proofs.Math.Seq.{take-append_seam, drop-append_seam}
 use Rattle.std.proofs.lemmas.List.{length-map, take-append-drop, get_or-drop, get_or-take}
+use Rattle.std.proofs.lemmas.List.Folds.{list_any-append}
 use Rattle.std.proofs.lemmas.List.Edits.{remove-append_right, insert-append_right, length-remove, length-insert}
 use Rattle.std.proofs.lemmas.List.Sorted.{IsPermutation-remove, IsPermutation-append_right, list_any-IsPermutation}
 use Rattle.std.proofs.lemmas.Map.Keys.{IsDistinct-IsPermutation, IsDistinct-head, IsDistinct-tail, IsDistinct-cons, IsDistinct-push, apart_from_distinct}
@@ -12,7 +13,7 @@ use Rattle.std.proofs.lemmas.Map.Steps.{length-le_from_distinct_below}
 use Rattle.std.proofs.lemmas.Grind.{get_or_default_zero}
 use Rattle.std.proofs.lemmas.Cmp.{nat_eq_equiv}
 use Rattle.std.proofs.lemmas.Bool.Decides.{eqb_tells}
-use Rattle.spare_numbers.specs.Spare.{AreNumbers, NumbersView, is_on, added}
+use Rattle.spare_numbers.specs.Spare.{AreNumbers, NumbersView, is_on, added, taken_in}
 
 flipped : (a b : ℕ) → (eqb a b ≡ false) × (a ≡ b → ⊥) → eqb a b ≡ eqb b a
 flipped a b t = elim (eqb_tells b a) as (λ _. eqb a b ≡ eqb b a) [ inl s ↦ absurd (t.1 (sym s.1)) | inr s ↦ t.0 ∙ sym s.0 ]
@@ -276,16 +277,33 @@ numbers_room fixed records t rid xs room are off from within =
     let fits = are.fits in
     omega arith
 
--- nothing is given out
-pub none_marked : (xs : List ℕ) (t : ℕ) → t ≤ length xs → take t xs ≡ [] → t ≡ 0
-none_marked xs t marked none = let h = length-take-le t xs marked in let k = ap length none in omega arith
+-- ---- a number is taken in, given out or not
 
-pub added_view : (fixed records t rid : ℕ) (xs ys : List ℕ) → t ≡ 0 → is_on xs rid ≡ false → ys ≡ xs ++ rid ∷ [] → viewed fixed records (drop t ys) (take t ys) ≡ viewed fixed records (added (drop t xs) rid) (take t xs)
-added_view fixed records t rid xs ys none off more = rw (none, more, off) refl
+pub on_parts : (xs : List ℕ) (t rid : ℕ) → is_on xs rid ≡ (is_on (take t xs) rid || is_on (drop t xs) rid)
+on_parts xs t rid = ap (λ ys. is_on ys rid) (sym (take-append-drop t xs)) ∙ list_any-append (eqb rid) (take t xs) (drop t xs)
+
+kept_where : (given spare : Bool) (xs more : List ℕ) → (given || spare) ≡ true → cond given xs (cond spare xs more) ≡ xs
+kept_where true spare xs more on = refl
+kept_where false true xs more on = refl
+kept_where false false xs more on = absurd (apart_bools (sym on))
+
+added_where : (given spare : Bool) (xs more : List ℕ) → (given || spare) ≡ false → cond given xs (cond spare xs more) ≡ more
+added_where true spare xs more off = absurd (apart_bools off)
+added_where false true xs more off = absurd (apart_bools off)
+added_where false false xs more off = refl
+
+pub added_view : (fixed records t rid : ℕ) (xs ys : List ℕ) → t ≤ length xs → is_on xs rid ≡ false → ys ≡ xs ++ rid ∷ [] → viewed fixed records (drop t ys) (take t ys) ≡ viewed fixed records (taken_in (take t xs) (drop t xs) rid) (take t xs)
+added_view fixed records t rid xs ys marked off more =
+    let long = length-take-le t xs marked in
+    let whole : ys ≡ take t xs ++ (drop t xs ++ rid ∷ []) = more ∙ ap (λ zs. zs ++ rid ∷ []) (sym (take-append-drop t xs)) ∙ append_assoc (take t xs) (drop t xs) (rid ∷ []) in
+    numbers_view fixed records _ _ _ _
+        (ap (drop t) whole ∙ second_part (take t xs) (drop t xs ++ rid ∷ []) t long ∙ sym (added_where (is_on (take t xs) rid) (is_on (drop t xs) rid) (drop t xs) (drop t xs ++ rid ∷ []) (sym (on_parts xs t rid) ∙ off)))
+        (ap (take t) whole ∙ first_part (take t xs) (drop t xs ++ rid ∷ []) t long)
 
 -- a number that is on the list is not added
-pub listed_view : (fixed records t rid : ℕ) (xs : List ℕ) → t ≡ 0 → is_on xs rid ≡ true → viewed fixed records (drop t xs) (take t xs) ≡ viewed fixed records (added (drop t xs) rid) (take t xs)
-listed_view fixed records t rid xs none on = rw (none, on) refl
+pub listed_view : (fixed records t rid : ℕ) (xs : List ℕ) → is_on xs rid ≡ true → viewed fixed records (drop t xs) (take t xs) ≡ viewed fixed records (taken_in (take t xs) (drop t xs) rid) (take t xs)
+listed_view fixed records t rid xs on =
+    ap (λ ys. viewed fixed records ys (take t xs)) (sym (kept_where (is_on (take t xs) rid) (is_on (drop t xs) rid) (drop t xs) (drop t xs ++ rid ∷ []) (sym (on_parts xs t rid) ∙ on)))
 
 -- a number behind those that are given out is none of them
 none_equal : (gs : List ℕ) (rid : ℕ) → ((k : ℕ) → k < length gs → eqb (get_or gs k rid) rid ≡ false) → is_on gs rid ≡ false

@@ -3,6 +3,7 @@ use Rattle.std.proofs.Common.{◌≡◌, ℕ, zero, suc, ◌+◌, ◌-◌, ◌<�
 use Rattle.std.specs.Prelude.{slice_get}
 use Rattle.std.specs.List.{IsDistinct, AllByRecursion, list_any}
 use Rattle.std.proofs.lemmas.List.{append-nil, drop-drop}
+use Rattle.std.proofs.lemmas.List.Folds.{list_any-append}
 use Rattle.std.proofs.lemmas.Map.Keys.{IsDistinct-head, IsDistinct-tail, IsDistinct-cons}
 use Rattle.spare_numbers.specs.Spare.{every, is_on, added}
 use Rattle.spare_numbers.proofs.NumberLists.{eqb_flips}
@@ -37,6 +38,17 @@ pub not_earlier : (xs ys : List ℕ) (y : ℕ) → IsDistinct eqb (xs ++ y ∷ y
 not_earlier [] ys y distinct = refl
 not_earlier (x ∷ xs) ys y distinct =
     neither (eqb y x) (list_any (eqb y) xs) (eqb_flips y x ∙ apart_middle x y xs ys (IsDistinct-head eqb x (xs ++ y ∷ ys) distinct)) (not_earlier xs ys y (IsDistinct-tail eqb x (xs ++ y ∷ ys) distinct))
+
+-- a list without its last number
+pub last_off : (xs : List ℕ) (i rid : ℕ) → i + 1 ≡ length xs → slice_get xs i ≡ Some rid → xs ≡ remove xs i ++ rid ∷ []
+last_off [] i rid long at = cc
+last_off (x ∷ []) zero rid long at = let same : x ≡ rid = cc in ap (λ y. y ∷ []) same
+last_off (x ∷ y ∷ ys) zero rid long at = let no : ⊥ = omega arith in absurd no
+last_off (x ∷ xs) (suc i) rid long at = ap (λ ys. x ∷ ys) (last_off xs i rid (omega arith) at)
+
+-- a number that is given out to none, and stands behind all spare ones, is none of these
+pub none_of_both : (given spare : List ℕ) (rid : ℕ) → is_on given rid ≡ false → IsDistinct eqb (spare ++ rid ∷ []) → is_on (given ++ spare) rid ≡ false
+none_of_both given spare rid off distinct = list_any-append (eqb rid) given spare ∙ neither (is_on given rid) (is_on spare rid) off (not_earlier spare [] rid distinct)
 
 -- ---- every so many-th of a list
 

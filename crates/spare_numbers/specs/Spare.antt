@@ -1,5 +1,5 @@
 -- The spare record numbers of a pass.
-use Rattle.std.specs.Prelude.{◌≡◌, ℕ, zero, suc, ◌+◌, ◌-◌, Bool, true, false, nat_eq, ◌==◌, ◌&&◌, ◌≤◌, ◌<◌, nat_le, not, if◌then◌else◌, List, [], ◌∷◌, ◌++◌, Option, None, Some, filter, length, slice_index_or}
+use Rattle.std.specs.Prelude.{◌≡◌, ℕ, zero, suc, ◌+◌, ◌-◌, Bool, true, false, nat_eq, ◌==◌, ◌&&◌, ◌≤◌, ◌<◌, nat_le, not, if◌then◌else◌, List, [], ◌∷◌, ◌++◌, Option, None, Some, IfNone, IfSome, is_some, option_to_list, filter, take, drop, length, slice_index_or}
 use Rattle.std.specs.List.{list_any, range_with_len, IsDistinct}
 use Rattle.record_store.specs.Meaning.{value_at}
 
@@ -25,10 +25,21 @@ unused writes given = filter (λ rid. not (holds (value_at writes rid))) given
 abbrev pub added : List ℕ → ℕ → List ℕ
 added rids rid = if is_on rids rid then rids else rids ++ rid ∷ []
 
+-- the spare ones with a number at their end, where it is neither spare nor given out
+abbrev pub taken_in : (given spare : List ℕ) → ℕ → List ℕ
+taken_in given spare rid = if is_on given rid then spare else added spare rid
+
 -- the list with each record from `fixed` on that is deleted
 abbrev pub with_deleted : (fixed : ℕ) → List ℕ → List (ℕ × Option (List ℕ)) → List ℕ
 with_deleted fixed rids [] = rids
 with_deleted fixed rids (write ∷ writes) = with_deleted fixed (if is_deletion write.1 && nat_le fixed write.0 then added rids write.0 else rids) writes
+
+-- those of the numbers that are written; and a list without those before a place that are not
+abbrev pub written_of : List (ℕ × Option (List ℕ)) → List ℕ → List ℕ
+written_of writes rids = filter (λ rid. is_some (value_at writes rid)) rids
+
+abbrev pub struck_before : List (ℕ × Option (List ℕ)) → (place : ℕ) → List ℕ → List ℕ
+struck_before writes place rids = written_of writes (take place rids) ++ drop place rids
 
 -- the list after a commit of these writes, where these numbers were given out
 abbrev pub spare_after : (fixed : ℕ) → List (ℕ × Option (List ℕ)) → (given spare : List ℕ) → List ℕ
@@ -40,6 +51,15 @@ pub record NumbersView : Type 0 where
   pub records : ℕ
   pub spare : List ℕ
   pub given : List ℕ
+
+-- The last spare number is parted with, where there is one, and stands on the list no more. All else is as it was.
+pub record PartsWith (before after' : NumbersView) (answer : Option ℕ) : Type 0 where
+  pub last : before.spare ≡ after'.spare ++ option_to_list answer
+  pub none : IfNone answer (before.spare ≡ [])
+  pub only : after' ≡ record before { spare = after'.spare }
+  pub from : IfSome answer (λ rid. before.fixed ≤ rid)
+  pub within : IfSome answer (λ rid. rid < before.records)
+  pub gone : IfSome answer (λ rid. is_on (after'.given ++ after'.spare) rid ≡ false)
 
 -- the first `taken` are given out; each number is there once and in its range, and all that may be there find room
 pub record AreNumbers (fixed records taken : ℕ) (items : List ℕ) (room : ℕ) : Type 0 where

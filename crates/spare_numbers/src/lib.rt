@@ -2,11 +2,12 @@
 //! flight.
 //!
 //! Each pass has a list of its own. What was given out is taken back, or put back by what a commit has written; a list is dealt
-//! out among passes, and lists come together again.
+//! out among passes, and lists come together again. Lists may also hand single numbers to each other.
 #![tactic(auto)]
 
 mod numbers;
 mod settling;
 mod sharing;
+mod striking;
 
 pub use numbers::Numbers;

@@ -1,7 +1,7 @@
 //! The list of the spare record numbers of a pass.
 ghost use Rattle.std.specs.Prelude.{◌≡◌, ◌≢◌, ◌<◌, ◌≤◌, ◌-◌, ◌++◌, ◌∷◌, [], false, IfOk, IfSome, length, nat_eq, slice_get, slice_index_or, remove, Some};
 ghost use Rattle.std.specs.List.{range_with_len, IsDistinct};
-ghost use Rattle.spare_numbers.specs.Spare.{no_numbers, all_numbers, is_on, NumbersView, added};
+ghost use Rattle.spare_numbers.specs.Spare.{no_numbers, all_numbers, is_on, NumbersView, added, taken_in, PartsWith};
 
 use plain_data::NoMemory;
 use std::alloc::Global;
@@ -205,6 +205,15 @@ impl Numbers {
         requires none { self.old.given ≡ [] }
         ensures { self.new ≡ record self.old { spare = added self.old.spare rid } }
     {
+        self.take_in(rid);
+    }
+
+    /// Takes in a number: it is the last of the spare ones then, unless it was on the list already, spare or given out.
+    pub fn take_in(&mut self, rid: u32)
+        requires from { self.old.fixed ≤ rid }
+        requires within { rid < self.old.records }
+        ensures { self.new ≡ record self.old { spare = taken_in self.old.given self.old.spare rid } }
+    {
         let mark = (rid - self.fixed) as usize;
         if self.marks[mark] {
             return;
@@ -213,5 +222,15 @@ impl Numbers {
             unreachable!();
         };
         self.marks[mark] = true;
+    }
+
+    /// Parts with the last spare number, which is on the list no more. `None` comes exactly where no number is spare.
+    pub fn part(&mut self) -> Option<u32>
+        ensures parts { PartsWith self.old self.new result }
+    {
+        let last = (self.len() as usize).checked_sub(1)?;
+        let rid = self.at(last)?;
+        self.strike(last);
+        Some(rid)
     }
 }

@@ -6,6 +6,7 @@ mod at_alone;
 mod at_pass;
 mod engine;
 mod fresh;
+mod handing;
 mod joining;
 mod opened;
 mod parts;

@@ -2,4 +2,4 @@ pub mod Marked
 pub mod NumberLists
 pub mod Shares
 pub mod Written
-pub mod Striking
+pub mod Struck

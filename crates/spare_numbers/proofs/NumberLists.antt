@@ -297,8 +297,8 @@ added_view fixed records t rid xs ys marked off more =
     let long = length-take-le t xs marked in
     let whole : ys ≡ take t xs ++ (drop t xs ++ rid ∷ []) = more ∙ ap (λ zs. zs ++ rid ∷ []) (sym (take-append-drop t xs)) ∙ append_assoc (take t xs) (drop t xs) (rid ∷ []) in
     numbers_view fixed records _ _ _ _
-        (ap (drop t) whole ∙ second_part (take t xs) (drop t xs ++ rid ∷ []) t long ∙ sym (added_where (is_on (take t xs) rid) (is_on (drop t xs) rid) (drop t xs) (drop t xs ++ rid ∷ []) (sym (on_parts xs t rid) ∙ off)))
-        (ap (take t) whole ∙ first_part (take t xs) (drop t xs ++ rid ∷ []) t long)
+    (ap (drop t) whole ∙ second_part (take t xs) (drop t xs ++ rid ∷ []) t long ∙ sym (added_where (is_on (take t xs) rid) (is_on (drop t xs) rid) (drop t xs) (drop t xs ++ rid ∷ []) (sym (on_parts xs t rid) ∙ off)))
+    (ap (take t) whole ∙ first_part (take t xs) (drop t xs ++ rid ∷ []) t long)
 
 -- a number that is on the list is not added
 pub listed_view : (fixed records t rid : ℕ) (xs : List ℕ) → is_on xs rid ≡ true → viewed fixed records (drop t xs) (take t xs) ≡ viewed fixed records (taken_in (take t xs) (drop t xs) rid) (take t xs)

@@ -1,5 +1,5 @@
 -- Numbers before a place are struck off a list, one after another.
-use Rattle.std.proofs.Common.{◌≡◌, ℕ, ◌+◌, ◌<◌, Bool, true, false, cond, Option, None, Some, List, [], ◌∷◌, ◌++◌, refl, sym, ap, ◌∙◌, arith, length, take, drop, get_or, remove, append_assoc, append-nil, length-append}
+use Rattle.std.proofs.Common.{◌≡◌, ℕ, ◌+◌, ◌<◌, Bool, true, false, cond, Option, None, Some, List, [], ◌∷◌, ◌++◌, refl, sym, ap, ◌∙◌, arith, length, take, drop, get_or, remove, append_assoc, append-nil, length-append, Bor}
 use Rattle.std.specs.Prelude.{is_some, option_copied, slice_get}
 use Rattle.std.proofs.lemmas.List.{drop_more}
 use Rattle.std.proofs.lemmas.List.Elements.{filter_more}
@@ -60,5 +60,7 @@ module _ (writes : List (ℕ × Option (List ℕ))) (all : List ℕ) (n stay : �
         spare_is = (λ i. remove (in_parts i) (struck.count i)) ∙ removed_seam kept next (drop (n + 1) all) ∙ ap (λ ys. ys ++ drop (n + 1) all) (sym same);
       }
 
-pub some_copied : {A : Type 0} (found : Option A) (copied : Option A) → copied ≡ found → is_some copied ≡ is_some found
-some_copied found copied same = ap is_some same
+-- whether a reference was found tells whether its value was
+pub some_copied : {A : Type 0} (x : Option (Bor A)) (value : Option A) → option_copied x ≡ value → is_some x ≡ is_some value
+some_copied None value same = ap is_some same
+some_copied (Some a) value same = ap is_some same

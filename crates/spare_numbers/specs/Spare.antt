@@ -52,11 +52,13 @@ pub record NumbersView : Type 0 where
   pub spare : List ℕ
   pub given : List ℕ
 
--- The last spare number is parted with, where there is one, and stands on the list no more. All else is as it was.
+-- The last spare number is parted with, where there is one, and stands on the list no more. All else is as it was: nothing that was spare or
+-- given out is lost.
 pub record PartsWith (before after' : NumbersView) (answer : Option ℕ) : Type 0 where
   pub last : before.spare ≡ after'.spare ++ option_to_list answer
   pub none : IfNone answer (before.spare ≡ [])
   pub only : after' ≡ record before { spare = after'.spare }
+  pub whole : before.given ++ before.spare ≡ (after'.given ++ after'.spare) ++ option_to_list answer
   pub from : IfSome answer (λ rid. before.fixed ≤ rid)
   pub within : IfSome answer (λ rid. rid < before.records)
   pub gone : IfSome answer (λ rid. is_on (after'.given ++ after'.spare) rid ≡ false)

@@ -226,7 +226,7 @@ impl Numbers {
 
     /// Parts with the last spare number, which is on the list no more. `None` comes exactly where no number is spare.
     pub fn part(&mut self) -> Option<u32>
-        ensures parts { PartsWith self.old self.new result }
+        ensures { PartsWith self.old self.new result }
     {
         let last = (self.len() as usize).checked_sub(1)?;
         let rid = self.at(last)?;

@@ -28,8 +28,8 @@ loop-seat-init g c =
       room = subst (λ (p : PartsView). c.args.engine.now.size.seats ≤ p.room) (sym view) has.room;
     }
 
-pub split-requires-clause-list : goal.split-requires-clause-list
-split-requires-clause-list g c =
+pub split-next-requires-clause-list : goal.split-next-requires-clause-list
+split-next-requires-clause-list g c =
     let i = c.loop-seat.invariant in
     let engine : engine_of c.loop-seat.pass ≡ c.args.engine.now = ap engine_of i.pass ∙ c.requires.engine in
     let is = i.empty c.in-Some.list (subst (λ (ns : List NumbersView). Among c.in-Some.list ns) (sym c.in-Some.ensures.items) (Among-last c.in-Some.list c.pop.new.self.items)) in
@@ -57,11 +57,11 @@ loop-seat-preserved g c =
     let lists = i.lists in
     let room = i.room in
     let kept = c.in-Ok.ensures.capacity in
-    let made = next_share c.args.pass c.loop-seat.pass c.split.result c.loop-seat._seat some plain i.pass (ap bare c.split.ensures.made) in
+    let made = next_share c.args.pass c.loop-seat.pass c.split-next.result c.loop-seat._seat some plain i.pass (ap bare c.split-next.ensures.made) in
     record {
-      pass = next_made c.args.pass c.loop-seat.pass c.split.new.self c.loop-seat._seat some plain i.pass c.split.ensures.after;
-      passes = pushed_share c.args.pass c.loop-seat.passes.items c.push.new.self.items c.loop-seat._seat c.look_in_share.new.self some i.passes (bare_looks c.split.result c.look_in_share.new.self c.look_in_share.ensures ∙ made) c.in-Ok.ensures.items;
-      observed = All-same SawAtMost _ _ c.in-Ok.ensures.items (All-push SawAtMost _ _ i.observed (saw_at_most c.split.result c.look_in_share.new.self (ap (λ (p : PassView). p.observed) c.split.ensures.made) c.look_in_share.ensures));
+      pass = next_made c.args.pass c.loop-seat.pass c.split-next.new.self c.loop-seat._seat some plain i.pass c.split-next.ensures.after;
+      passes = pushed_share c.args.pass c.loop-seat.passes.items c.push.new.self.items c.loop-seat._seat c.look_in_share.new.self some i.passes (bare_looks c.split-next.result c.look_in_share.new.self c.look_in_share.ensures ∙ made) c.in-Ok.ensures.items;
+      observed = All-same SawAtMost _ _ c.in-Ok.ensures.items (All-push SawAtMost _ _ i.observed (saw_at_most c.split-next.result c.look_in_share.new.self (ap (λ (p : PassView). p.observed) c.split-next.ensures.made) c.look_in_share.ensures));
       lists = omega arith;
       empty = λ n among. i.empty n (subst (λ (ns : List NumbersView). Among n ns) (sym popped) (Among-left n c.pop.new.self.items (c.in-Some.list ∷ []) among));
       room = omega arith;
@@ -112,13 +112,13 @@ returns-clause-passes g c =
     let others : map bare c.loop-seat.passes.items ≡ map (share_at p) (range_with_len 1 (p.shared.size.seats - 1)) = i.passes ∙ ap (λ (n : ℕ). map (share_at p) (range_with_len 1 (n - 1))) at in
     ap (map bare) c.in-Ok-insert.ensures.items ∙ (λ k. first k ∷ others k)
 
-pub split-requires-clause-makes : goal.split-requires-clause-makes
-split-requires-clause-makes g c =
+pub split-next-requires-clause-makes : goal.split-next-requires-clause-makes
+split-next-requires-clause-makes g c =
     let may = may_make c.loop-seat._seat c.args.pass.others c.loop-seat.auto._seat (ap (λ (o : Others). o.splitting) c.requires.only) in
     subst (λ (p : PassView). MayOffer p.others.splitting) (sym c.loop-seat.invariant.pass) may.0
 
-pub split-requires-clause-room : goal.split-requires-clause-room
-split-requires-clause-room g c =
+pub split-next-requires-clause-room : goal.split-next-requires-clause-room
+split-next-requires-clause-room g c =
     let plain = ap (λ (o : Others). o.splitting) c.requires.only in
     let may = may_make c.loop-seat._seat c.args.pass.others c.loop-seat.auto._seat plain in
     let count = ap (λ (p : PassView). made_of p.others.splitting) c.loop-seat.invariant.pass ∙ may.1 in

@@ -1,1 +1,0 @@
-use Rattle.txn_engine.proofs.pass.Pass.look_in_share.Goals as goal

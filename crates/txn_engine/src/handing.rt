@@ -39,7 +39,7 @@ impl<J> Pass<J> {
     pub fn take_in(&mut self, rid: u32)
         requires from { self.old.fixed ≤ rid }
         requires within { rid < self.old.shared.size.records }
-        ensures after { self.new ≡ record self.old { spare = taken_in self.old.given self.old.spare rid } }
+        ensures { self.new ≡ record self.old { spare = taken_in self.old.given self.old.spare rid } }
     {
         self.numbers.take_in(rid);
     }

@@ -1,5 +1,5 @@
 -- Which records a pass accounts for, before and after a call.
-use Rattle.std.proofs.Common.{◌≡◌, ℕ, ◌+◌, ◌-◌, ⊎_elim, zero, suc, ◌<◌, ◌≤◌, true, false, Bool, cond, not, eqb, eqb-true, eq-eqb, List, [], ◌∷◌, ◌++◌, Option, None, Some, refl, sym, ap, ◌∙◌, subst, inl, inr, ◌⊎◌, arith, length, remove, Contains}
+use Rattle.std.proofs.Common.{◌≡◌, ℕ, ◌+◌, ◌-◌, ⊎_elim, zero, suc, ◌<◌, ◌≤◌, true, false, Bool, cond, not, eqb, eqb-true, eq-eqb, List, [], ◌∷◌, ◌++◌, Option, None, Some, refl, sym, ap, ◌∙◌, subst, inl, inr, ◌⊎◌, arith, length, take, drop, remove, Contains}
 use Rattle.std.specs.Prelude.{IsSome, is_some, nat_lt, nat_le, ◌&&◌, ◌||◌, slice_get}
 use Rattle.std.specs.List.{list_any, range_with_len}
 use Rattle.std.proofs.lemmas.List.Elements.{Contains-push, Contains-append_left, Contains-push_cases}
@@ -9,13 +9,14 @@ use Rattle.std.proofs.lemmas.List.Folds.{list_any-append, Any-from_list_any, lis
 use Rattle.std.proofs.lemmas.Map.Views.{any-filter_same}
 use Rattle.plain_data.specs.declared.entry.Entry.{Entry}
 use Rattle.plain_data.specs.State.{State}
-use Rattle.histories.specs.History.{Lawful, Leaves, Writes, IsLastWrite, IsValue}
+use Rattle.histories.specs.History.{Lawful, Writes, IsLastWrite, IsValue}
 use Rattle.histories.proofs.States.{IsValue-same}
 use Rattle.histories.proofs.Lists.{Contains-nil, Contains-head, Contains-tail, Contains-cases}
 use Rattle.record_store.specs.Meaning.{value_at}
 use Rattle.seat_post.specs.Seats.{Bounds, is_alone_at}
-use Rattle.spare_numbers.specs.Spare.{is_on, holds, is_deletion, unused, added, with_deleted, spare_after}
-use Rattle.txn_engine.specs.Fresh.{AreWritten}
+use Rattle.spare_numbers.specs.Spare.{is_on, holds, is_deletion, unused, added, with_deleted, spare_after, written_of, struck_before}
+use Rattle.spare_numbers.proofs.NumberLists.{on_parts}
+use Rattle.txn_engine.specs.Fresh.{AreWritten, struck_to}
 use Rattle.txn_engine.specs.Rescan.{rescanned}
 use Rattle.stamp_base.specs.Stamp.{bound_of_clock}
 use Rattle.txn_engine.specs.Pass.{PassView, IsAlone, first_pass, with_log, observing, frame, with_bounds, entry_of, decided, published, committed, EngineView, engine_of}
@@ -120,11 +121,12 @@ given_bools true true e y p = refl
 given_bools true false true y p = refl
 given_bools true false false y p = refl
 
-struck_bools : (a x e y p : Bool) → (a ≡ true → e ≡ true → p ≡ true) → (not a || ((x || y) || p)) ≡ (not a || ((x || (e || y)) || p))
-struck_bools false x e y p here = refl
-struck_bools true x false y p here = refl
-struck_bools true true true y p here = refl
-struck_bools true false true y p here = let on : p ≡ true = here refl refl in or_right y p on
+passed_bools : (a x w y z p : Bool) → (a ≡ true → y ≡ true → (w ≡ true) ⊎ (p ≡ true)) → (not a || ((x || ((w && y) || z)) || p)) ≡ (not a || ((x || (y || z)) || p))
+passed_bools false x w y z p here = refl
+passed_bools true true w y z p here = refl
+passed_bools true false true y z p here = refl
+passed_bools true false false false z p here = refl
+passed_bools true false false true z p here = ⊎_elim (λ (no : false ≡ true). cc) (λ (on : p ≡ true). or_right z p on) (here refl refl)
 
 each_same : (f g : ℕ → Bool) → ((r : ℕ) → f r ≡ g r) → f ≡ g
 each_same f g same = λ j. λ r. same r j
@@ -136,12 +138,18 @@ accounted_given p i rid at = each_same _ _ (λ r.
     let there = list_any-append (eqb r) p.given p.spare ∙ ap (λ b. is_on p.given r || b) (on_removed p.spare i rid r at) in
     ap (λ b. not a || (b || is_present p.log r)) here ∙ given_bools a (is_on p.given r) (eqb r rid) (is_on (remove p.spare i) r) (is_present p.log r) ∙ sym (ap (λ b. not a || (b || is_present p.log r)) there))
 
-pub accounted_struck : (p : PassView) (i rid : ℕ) → slice_get p.spare i ≡ Some rid → (IsAlone p → IsPresent p.log rid) → accounted (record p { spare = remove p.spare i }) ≡ accounted p
-accounted_struck p i rid at present = each_same _ _ (λ r.
+-- the numbers before a place that are not written are struck off, where each of them is one of a record that is present
+pub accounted_struck : (p : PassView) (i : ℕ) → (IsAlone p → (r : ℕ) → is_on (take i p.spare) r ≡ true → IsSome (value_at p.writes r) ⊎ IsPresent p.log r) → accounted (struck_to p i) ≡ accounted p
+accounted_struck p i held = each_same _ _ (λ r.
     let a = is_alone_at p.shared.size p.seat p.others in
-    let there = list_any-append (eqb r) p.given p.spare ∙ ap (λ b. is_on p.given r || b) (on_removed p.spare i rid r at) in
-    let on : a ≡ true → eqb r rid ≡ true → is_present p.log r ≡ true = λ alone same. present_shown p.log r (subst (λ n. IsPresent p.log n) (sym (eqb-true r rid same)) (present alone)) in
-    ap (λ b. not a || (b || is_present p.log r)) (list_any-append (eqb r) p.given (remove p.spare i)) ∙ struck_bools a (is_on p.given r) (eqb r rid) (is_on (remove p.spare i) r) (is_present p.log r) on ∙ sym (ap (λ b. not a || (b || is_present p.log r)) there))
+    let passed = take i p.spare in
+    let behind = drop i p.spare in
+    let written = is_some (value_at p.writes r) in
+    let kept : is_on (written_of p.writes passed) r ≡ (written && is_on passed r) = any-filter_same (eqb r) (λ n. is_some (value_at p.writes n)) written (λ k at. ap (λ n. is_some (value_at p.writes n)) (sym (eqb-true r k at))) passed in
+    let here = list_any-append (eqb r) p.given (struck_before p.writes i p.spare) ∙ ap (λ b. is_on p.given r || b) (list_any-append (eqb r) (written_of p.writes passed) behind ∙ ap (λ b. b || is_on behind r) kept) in
+    let there = list_any-append (eqb r) p.given p.spare ∙ ap (λ b. is_on p.given r || b) (on_parts p.spare i r) in
+    let on : a ≡ true → is_on passed r ≡ true → (written ≡ true) ⊎ (is_present p.log r ≡ true) = λ alone listed. ⊎_elim (λ (some : IsSome (value_at p.writes r)). inl some) (λ (present : IsPresent p.log r). inr (present_shown p.log r present)) (held alone r listed) in
+    ap (λ b. not a || (b || is_present p.log r)) here ∙ passed_bools a (is_on p.given r) written (is_on passed r) (is_on behind r) (is_present p.log r) on ∙ sym (ap (λ b. not a || (b || is_present p.log r)) there))
 
 -- ---- absent records
 

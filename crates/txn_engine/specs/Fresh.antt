@@ -1,14 +1,12 @@
 -- How a transaction asks for a new record number.
-use Rattle.std.specs.Prelude.{◌≡◌, ◌⊎◌, ℕ, ◌<◌, ◌+◌, Bool, true, false, if◌then◌else◌, List, ◌∷◌, ◌++◌, [], Option, None, Some, IsSome, slice_get, remove}
+use Rattle.std.specs.Prelude.{◌≡◌, ◌⊎◌, ℕ, ◌<◌, Bool, true, false, if◌then◌else◌, List, ◌∷◌, ◌++◌, [], Option, None, Some, IsSome, slice_get, remove}
 use Rattle.record_store.specs.Meaning.{value_at, after_read}
-use Rattle.record_store.specs.Store.{IsFresh}
-use Rattle.txn_engine.specs.declared.fresh.Asked.{Asked}
-use Rattle.txn_engine.specs.declared.fresh.Asked.TheVariants.{Given, Next}
 use Rattle.validate_core.specs.declared.conflict.Conflict.{Conflict}
 use Rattle.seat_post.specs.Post.{known_at}
 use Rattle.seat_post.specs.Reading.{FindsValue}
 use Rattle.seat_post.specs.Seats.{Observed}
 use Rattle.seat_post.specs.Leaves.{IsPresent}
+use Rattle.spare_numbers.specs.Spare.{struck_before}
 use Rattle.txn_engine.specs.Faults.{StopsRead}
 use Rattle.txn_engine.specs.Pass.{PassView, IsAlone, store_of, observing}
 
@@ -16,9 +14,13 @@ use Rattle.txn_engine.specs.Pass.{PassView, IsAlone, store_of, observing}
 abbrev pub read_absent : PassView → (rid : ℕ) → List (ℕ × ℕ) → PassView
 read_absent p rid versions = record p { post = record p.post { reads = (after_read (store_of p) rid None).reads; versions = versions } }
 
--- the spare number at this place is given out
-abbrev pub given_out : PassView → (i rid : ℕ) → List (ℕ × ℕ) → PassView
-given_out p i rid versions = record (read_absent p rid versions) { spare = remove p.spare i; given = p.given ++ rid ∷ [] }
+-- the spare numbers before this place that are not written are struck off
+abbrev pub struck_to : PassView → ℕ → PassView
+struck_to p i = record p { spare = struck_before p.writes i p.spare }
+
+-- and the one that stood at this place is given out
+abbrev pub given_at : PassView → (i rid : ℕ) → PassView
+given_at p i rid = struck_to (record p { spare = remove p.spare i; given = p.given ++ rid ∷ [] }) i
 
 -- the transaction writes each spare number before this place
 abbrev pub AreWritten : PassView → ℕ → Type 0
@@ -47,7 +49,8 @@ pub record TellsAbsent (before after' : PassView) (rid : ℕ) (absent : Bool) : 
   -- a seat that is alone meets what its log leaves
   pub left : IsAlone before → absent ≡ false → IsPresent before.log rid
 
--- Numbers of the list were passed, in turn: one that is written stayed there, and one that is not and was met present was struck off.
+-- Numbers of the list were passed, in turn: one that is written, which stays there, or one that is not and was met present. The latter are
+-- struck off where a call comes to its end, but not where memory is wanted.
 pub data PassesOver (p : PassView) : (numbers stayed : List ℕ) → Observed → Observed → Type 0 where
   none_yet : (o : Observed) → PassesOver p [] [] o o
   one_stays : (numbers stayed : List ℕ) (rid : ℕ) (o t : Observed) → PassesOver p numbers stayed o t → IsSome (value_at p.writes rid)
@@ -67,7 +70,8 @@ pub record GivesFirst (before after' : PassView) (rid : ℕ) : Type 0 where
   pub spare : after'.spare ≡ stayed ++ behind
   pub given : after'.given ≡ before.given ++ rid ∷ []
 
--- memory is wanted for a number of the list of which nothing is known: those before it were passed, and nothing else has changed
+-- Memory is wanted for a number of the list of which nothing is known. Those before it were passed, which what was loaded shows, and all else
+-- is as before: each of them is on the list still.
 pub record WantsMemory (before after' : PassView) : Type 0 where
   pub numbers : List ℕ
   pub stayed : List ℕ
@@ -76,7 +80,7 @@ pub record WantsMemory (before after' : PassView) : Type 0 where
   pub list : before.spare ≡ numbers ++ rid ∷ behind
   pub over : PassesOver before numbers stayed before.observed after'.observed
   pub unknown : known_at before.post rid ≡ None
-  pub after : after' ≡ observing (record before { spare = stayed ++ rid ∷ behind }) after'.observed
+  pub after : after' ≡ observing before after'.observed
 
 -- A conflict was met at a number of the list of which nothing was known, at which its search stopped: those before it were passed.
 pub record MeetsNext (before after' : PassView) (conflict : Conflict) : Type 0 where
@@ -95,15 +99,7 @@ pub record MeetsNext (before after' : PassView) (conflict : Conflict) : Type 0 w
 abbrev pub PassesAll : (before after' : PassView) → Type 0
 PassesAll before after' = PassesOver before before.spare after'.spare before.observed after'.observed
 
--- the number at this place stays, since it is written, and the next one is behind it
-abbrev pub Passes : (i rid : ℕ) (before after' : PassView) (next : ℕ) → Type 0
-Passes i rid before after' next = (after' ≡ before) × IsSome (value_at before.writes rid) × (next ≡ i + 1)
-
--- it is struck off, since it is not written and was met present, and the next one is at its place
-abbrev pub Strikes : (i rid : ℕ) (before after' : PassView) (next : ℕ) → Type 0
-Strikes i rid before after' next = (after' ≡ observing (record before { spare = remove before.spare i }) after'.observed) × (next ≡ i) × (value_at before.writes rid ≡ None) × IsMetPresent before rid before.observed after'.observed
-
--- what asking for the number at this place makes of the pass: it is given out, or the next one is to be asked for
-abbrev pub Asks : (i rid : ℕ) (before after' : PassView) → Asked → Type 0
-Asks i rid before after' Given = IsFresh (store_of before) rid × (after' ≡ observing (given_out before i rid after'.versions) after'.observed) × IsMetAbsent before rid after'.versions before.observed after'.observed
-Asks i rid before after' (Next next) = Passes i rid before after' next ⊎ Strikes i rid before after' next
+-- What asking for a number tells, which is whether it is to be given out: no, where it is written, and nothing is changed; else whether its
+-- record was met absent.
+abbrev pub Asks : (before after' : PassView) (rid : ℕ) → Bool → Type 0
+Asks before after' rid free = ((free ≡ false) × (after' ≡ before) × IsSome (value_at before.writes rid)) ⊎ ((value_at before.writes rid ≡ None) × TellsAbsent before after' rid free)

@@ -1,6 +1,5 @@
 -- What becomes of a transaction in its stages: its versions are linked, it is decided, and they are published; or it is refused.
-use Rattle.std.specs.Prelude.{◌≡◌, ◌≢◌, ◌+◌, List, [], ◌∷◌, ◌++◌, None, IfSome, length}
-use Rattle.plain_data.specs.declared.entry.Entry.{Entry}
+use Rattle.std.specs.Prelude.{◌≡◌, ◌≢◌, ◌+◌, List, [], None, IfSome, length}
 use Rattle.plain_data.specs.State.{State}
 use Rattle.core_rule.specs.View.{Load}
 use Rattle.validate_core.specs.Checked.{Validates}

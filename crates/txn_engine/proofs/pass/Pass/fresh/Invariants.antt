@@ -1,5 +1,5 @@
 use Rattle.std.proofs.Common.{◌-◌, length}
-use Rattle.txn_engine.proofs.Giving.{HasAsked}
+use Rattle.txn_engine.proofs.Passing.{HasAsked}
 use Rattle.txn_engine.proofs.pass.Pass.fresh.Given as goal
 
 abbrev pub invariant-loop-rid : goal.invariant-loop-rid

@@ -1,4 +1,3 @@
 pub mod Heap
 pub mod Lending
-pub mod EachCall
 pub mod Status

@@ -11,7 +11,7 @@ use Rattle.connections.specs.declared.opened.Opened.TheVariants as opened
 use Rattle.connections.specs.Calls.{is_there}
 use Rattle.connections.specs.Connection.{ConnectionView}
 use Rattle.txn_engine.specs.Pass.{PassView}
-use Rattle.cicada_c.specs.EachCall.{Call}
+use Rattle.connections.specs.EachCall.{Call}
 use Rattle.cicada_c.specs.declared.resting.CicadaCounts.{CicadaCounts}
 use Rattle.cicada_c.specs.declared.handle.CicadaHandle.{CicadaHandle}
 use Rattle.cicada_c.specs.declared.status.CicadaConflict.{CicadaConflict}

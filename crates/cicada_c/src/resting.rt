@@ -1,6 +1,6 @@
 //! What is done while nothing is open, and what is asked at any time.
 ghost use Rattle.std.specs.Prelude.{◌≡◌};
-ghost use Rattle.cicada_c.specs.EachCall.{Collect, Hear, Tick};
+ghost use Rattle.connections.specs.EachCall.{Collect, Hear, Tick};
 ghost use Rattle.cicada_c.specs.Status.{Answers, Counts, coded, coded_opened, noted, places_or, value_or};
 
 use crate::handle::CicadaHandle;

@@ -1,6 +1,6 @@
 //! Rows of the tables.
 ghost use Rattle.std.specs.Prelude.{◌≡◌, length};
-ghost use Rattle.cicada_c.specs.EachCall.{DeclareIndex, FindRows, Get, ListRows, Put, Remove};
+ghost use Rattle.connections.specs.EachCall.{DeclareIndex, FindRows, Get, ListRows, Put, Remove};
 ghost use Rattle.cicada_c.specs.Status.{Answers, coded, coded_bool, coded_option, counted_or, counted_option, noted, some_or};
 
 use crate::handle::CicadaHandle;

@@ -1,6 +1,6 @@
 //! Snapshots.
 ghost use Rattle.std.specs.Prelude.{◌≡◌};
-ghost use Rattle.cicada_c.specs.EachCall.{Finish, Snapshot};
+ghost use Rattle.connections.specs.EachCall.{Finish, Snapshot};
 ghost use Rattle.cicada_c.specs.Status.{Answers, coded, noted, value_or};
 
 use crate::handle::CicadaHandle;

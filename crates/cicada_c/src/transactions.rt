@@ -1,6 +1,6 @@
 //! Transactions.
 ghost use Rattle.std.specs.Prelude.{◌≡◌};
-ghost use Rattle.cicada_c.specs.EachCall.{Abort, Begin, Commit};
+ghost use Rattle.connections.specs.EachCall.{Abort, Begin, Commit};
 ghost use Rattle.cicada_c.specs.Status.{Answers, coded, noted, value_or};
 
 use crate::handle::CicadaHandle;

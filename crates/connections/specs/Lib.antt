@@ -4,4 +4,5 @@ pub mod Opening
 pub mod Transactions
 pub mod Resting
 pub mod Rows
+pub mod EachCall
 pub mod Closing

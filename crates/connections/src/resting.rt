@@ -1,10 +1,8 @@
 //! What a connection does while nothing is open.
 
 ghost use Rattle.std.specs.Prelude.{Ok};
-ghost use Rattle.connections.specs.Calls.{Calls, is_at_rest};
-ghost use Rattle.connections.specs.Resting.{Collects, Hears, Ticks};
-ghost use Rattle.connections.specs.declared.opened.Opened.TheVariants as opened;
-ghost use Rattle.stamp_base.specs.Stamp.{IsStamp};
+ghost use Rattle.connections.specs.EachCall.{Collect, Hear, Tick};
+ghost use Rattle.connections.specs.Resting.{Hears, Ticks};
 ghost use Rattle.txn_engine.specs.Collecting.{CollectsPass};
 ghost use Rattle.txn_engine.specs.Pass.{IsIdleOf};
 
@@ -18,7 +16,7 @@ use txn_engine::{Collected, Engine, Pass, Seat};
 impl Connection {
     /// Takes back versions that no reader can reach any more, as far as the other seats have come, and tells what became of them.
     pub fn collect(&mut self) -> Result<Collected, CallFault>
-        ensures { Calls (is_at_rest self.old.opened) (Unit {0}) (Collects result) opened.Nothing self.old self.new result }
+        ensures { Collect self.old self.new result }
     {
         if self.opened != Opened::Nothing {
             return Err(CallFault::Misused);
@@ -31,7 +29,7 @@ impl Connection {
 
     /// Hears a stamp, as a number: each later stamp of this connection is above it. `Range`: the number is that of no stamp.
     pub fn hear(&mut self, number: u64) -> Result<(), CallFault>
-        ensures { Calls (is_at_rest self.old.opened) (IsStamp number) (Hears number result) opened.Nothing self.old self.new result }
+        ensures { Hear number self.old self.new result }
     {
         if self.opened != Opened::Nothing {
             return Err(CallFault::Misused);
@@ -49,7 +47,7 @@ impl Connection {
     /// Draws a stamp that no transaction gets, with the next clock at this reading, and gives it as a number: the others of the engine
     /// do not wait for what is below it. `ClockOut`: no clock is left, and nothing has changed.
     pub fn tick(&mut self, reading: u64) -> Result<u64, CallFault>
-        ensures { Calls (is_at_rest self.old.opened) (Unit {0}) (Ticks reading result) opened.Nothing self.old self.new result }
+        ensures { Tick reading self.old self.new result }
     {
         if self.opened != Opened::Nothing {
             return Err(CallFault::Misused);

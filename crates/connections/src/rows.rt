@@ -1,12 +1,6 @@
 //! Rows of the tables, in a transaction or a snapshot.
 
-ghost use Rattle.std.specs.Prelude.{◌≡◌, ◌⊎◌, ◌<◌};
-ghost use Rattle.connections.specs.Calls.{Calls, can_read, is_in_transaction};
-ghost use Rattle.connections.specs.Rows.{DeclaresAt, InTxn, PutsAt, ReadsRows, RemovesAt, after_rows};
-ghost use Rattle.stored_tables.specs.Answers.{IsScanned};
-ghost use Rattle.stored_tables.specs.OneRow.{IsRowAt};
-ghost use Rattle.stored_tables.specs.RowLists.{IsFoundBy};
-ghost use Rattle.replay_model.specs.Input.{IsColumn};
+ghost use Rattle.connections.specs.EachCall.{DeclareIndex, FindRows, Get, ListRows, Put, Remove};
 
 use crate::connection::Connection;
 use crate::fault::CallFault;
@@ -30,7 +24,7 @@ impl Connection {
     /// A transaction that is refused has ended without a trace, and the connection takes `abort` alone: so it is of each call on rows.
     /// In a snapshot it always answers.
     pub fn get(&mut self, table: u32, key: u64) -> Result<Option<Columns>, CallFault>
-        ensures { Calls (can_read self.old.opened) (table < 8) (ReadsRows ⊥ ⊥ (IsRowAt table key) self.old.opened result) (after_rows self.old.opened result) self.old self.new result }
+        ensures { Get table key self.old self.new result }
     {
         match self.opened {
             Opened::Transaction => {
@@ -63,7 +57,7 @@ impl Connection {
 
     /// Sets the row of a table at a key, whether there is one or not, in a transaction.
     pub fn put(&mut self, table: u32, key: u64, row: &Columns) -> Result<(), CallFault>
-        ensures { Calls (is_in_transaction self.old.opened) (table < 8) (InTxn (PutsAt table key row.now) result) (after_rows self.old.opened result) self.old self.new result }
+        ensures { Put table key row.now self.old self.new result }
     {
         if self.opened != Opened::Transaction {
             return Err(CallFault::Misused);
@@ -85,7 +79,7 @@ impl Connection {
 
     /// Takes the row of a table at a key out, and answers whether there was one, in a transaction.
     pub fn remove(&mut self, table: u32, key: u64) -> Result<bool, CallFault>
-        ensures { Calls (is_in_transaction self.old.opened) (table < 8) (InTxn (RemovesAt table key) result) (after_rows self.old.opened result) self.old self.new result }
+        ensures { Remove table key self.old self.new result }
     {
         if self.opened != Opened::Transaction {
             return Err(CallFault::Misused);
@@ -115,7 +109,7 @@ impl Connection {
         hi: u64,
         limit: u32,
     ) -> Result<Pairs, CallFault>
-        ensures { Calls (can_read self.old.opened) (table < 8) (ReadsRows (Unit {0}) ((limit ≡ 0) ⊎ (hi < lo)) (IsScanned table lo hi limit) self.old.opened result) (after_rows self.old.opened result) self.old self.new result }
+        ensures { ListRows table lo hi limit self.old self.new result }
     {
         match self.opened {
             Opened::Transaction => {
@@ -158,7 +152,7 @@ impl Connection {
         hi: u64,
         limit: u32,
     ) -> Result<Option<Pairs>, CallFault>
-        ensures { Calls (can_read self.old.opened) ((table < 8) × IsColumn column) (ReadsRows (Unit {0}) ⊥ (IsFoundBy table column lo hi limit) self.old.opened result) (after_rows self.old.opened result) self.old self.new result }
+        ensures { FindRows table column lo hi limit self.old self.new result }
     {
         match self.opened {
             Opened::Transaction => {
@@ -197,7 +191,7 @@ impl Connection {
         table: u32,
         column: u32,
     ) -> Result<bool, CallFault>
-        ensures { Calls (is_in_transaction self.old.opened) ((table < 8) × IsColumn column) (InTxn (DeclaresAt table column) result) (after_rows self.old.opened result) self.old self.new result }
+        ensures { DeclareIndex table column self.old self.new result }
     {
         if self.opened != Opened::Transaction {
             return Err(CallFault::Misused);

@@ -1,10 +1,8 @@
 //! Snapshots of a connection.
 
 ghost use Rattle.std.specs.Prelude.{◌≡◌};
-ghost use Rattle.connections.specs.Calls.{Calls, is_at_rest, is_in_snapshot};
 ghost use Rattle.connections.specs.Connection.{IsSeenOf, StandsForRows};
-ghost use Rattle.connections.specs.Transactions.{FinishesSnapshot};
-ghost use Rattle.connections.specs.declared.opened.Opened.TheVariants as opened;
+ghost use Rattle.connections.specs.EachCall.{Finish, Snapshot};
 ghost use Rattle.txn_engine.specs.Pass.{IsIdleOf};
 ghost use Rattle.txn_engine.specs.Snapshot.{Begins, Finishes};
 
@@ -17,7 +15,7 @@ use txn_engine::{Engine, Pass, Seat, SnapshotOver};
 impl Connection {
     /// Begins a snapshot: rows as they stand at one stamp, below that of each transaction that commits from then on.
     pub fn snapshot(&mut self) -> Result<(), CallFault>
-        ensures { Calls (is_at_rest self.old.opened) (Unit {0}) Begins opened.Snapshot self.old self.new result }
+        ensures { Snapshot self.old self.new result }
     {
         if self.opened != Opened::Nothing {
             return Err(CallFault::Misused);
@@ -32,7 +30,7 @@ impl Connection {
 
     /// Ends the snapshot, and gives the stamp at which it read.
     pub fn finish(&mut self) -> Result<u64, CallFault>
-        ensures { Calls (is_in_snapshot self.old.opened) (Unit {0}) (FinishesSnapshot result) opened.Nothing self.old self.new result }
+        ensures { Finish self.old self.new result }
     {
         if self.opened != Opened::Snapshot {
             return Err(CallFault::Misused);

@@ -1,10 +1,9 @@
 //! Transactions of a connection.
 
 ghost use Rattle.std.specs.Prelude.{◌≡◌, OnOk, OnErr};
-ghost use Rattle.connections.specs.Calls.{Calls, by_answer, has_transaction, is_at_rest, is_in_transaction};
 ghost use Rattle.connections.specs.Connection.{IsOpenOf};
-ghost use Rattle.connections.specs.Transactions.{AbortsTxn, BeginsTxn, CommitsTxn, GivesUp};
-ghost use Rattle.connections.specs.declared.opened.Opened.TheVariants as opened;
+ghost use Rattle.connections.specs.EachCall.{Abort, Begin, Commit};
+ghost use Rattle.connections.specs.Transactions.{AbortsTxn, BeginsTxn, CommitsTxn};
 ghost use Rattle.txn_engine.specs.Pass.{IsIdleOf};
 
 use crate::connection::Connection;
@@ -17,7 +16,7 @@ impl Connection {
     /// Begins a transaction, with the next clock at this reading, in any unit. `ClockOut`: no clock is left. `NoMemory`: there was no
     /// room to note one more version. Nothing has changed then.
     pub fn begin(&mut self, reading: u64) -> Result<(), CallFault>
-        ensures { Calls (is_at_rest self.old.opened) (Unit {0}) (BeginsTxn reading result) (by_answer result opened.Transaction opened.Nothing) self.old self.new result }
+        ensures { Begin reading self.old self.new result }
     {
         if self.opened != Opened::Nothing {
             return Err(CallFault::Misused);
@@ -37,7 +36,7 @@ impl Connection {
     /// Commits the transaction, and gives its stamp as a number. Whatever else it answers than `Misused`, the transaction has ended: after
     /// `Conflict` and `PlacesOut` without a trace.
     pub fn commit(&mut self) -> Result<u64, CallFault>
-        ensures { Calls (is_in_transaction self.old.opened) (Unit {0}) (CommitsTxn result) opened.Nothing self.old self.new result }
+        ensures { Commit self.old self.new result }
     {
         if self.opened != Opened::Transaction {
             return Err(CallFault::Misused);
@@ -51,7 +50,7 @@ impl Connection {
 
     /// Ends the transaction without a trace; one that a fault has ended is given up.
     pub fn abort(&mut self) -> Result<(), CallFault>
-        ensures { Calls (has_transaction self.old.opened) (Unit {0}) (GivesUp self.old.opened) opened.Nothing self.old self.new result }
+        ensures { Abort self.old self.new result }
     {
         match self.opened {
             Opened::Transaction => {

@@ -1,5 +1,5 @@
 -- A pass is idle again when its snapshot has ended.
-use Rattle.std.proofs.Common.{rules, ◌≡◌, true, Option, None, Some, ap, sym, subst, ◌∙◌, ℕ}
+use Rattle.std.proofs.Common.{◌≡◌, true, Option, None, Some, ap, ◌∙◌, ℕ}
 use Rattle.std.specs.Prelude.{IfSome}
 use Rattle.seat_post.specs.Snapshot.{SnapshotView}
 use Rattle.seat_post.specs.declared.phase.Phase.{Phase}
@@ -7,17 +7,19 @@ use Rattle.seat_post.specs.declared.phase.Phase.TheVariants.{Idle, Open, Install
 use Rattle.txn_engine.specs.Pass.{EngineView, PassView, IsIdleOf, engine_of, desk_of, observing}
 use Rattle.txn_engine.specs.Snapshot.{Finishes, HasSnapshot, has_snapshot_in, finished}
 use Rattle.connections.specs.Connection.{StandsForRows}
+use Rattle.connections.proofs.Laws.{at_passes}
 
-never : (phase : Phase) (met : ℕ) → has_snapshot_in phase None met ≡ true → ⊥
-never Idle met e = search rules
-never Open met e = search rules
-never Installed met e = search rules
-never Decided met e = search rules
+-- where there is one, it is not none
+pub no_snapshot : (phase : Phase) (met : ℕ) → has_snapshot_in phase None met ≡ true → ⊥
+no_snapshot Idle met has = cc
+no_snapshot Open met has = cc
+no_snapshot Installed met has = cc
+no_snapshot Decided met has = cc
 
 module _ (e : EngineView) (before after' : PassView) where
   at_snapshot : (s : Option SnapshotView) → has_snapshot_in before.phase s before.met ≡ true → IsIdleOf e before
       → IfSome s (λ g. after' ≡ observing (finished before g) after'.observed) → IsIdleOf e after'
-  at_snapshot None has idle after = absurd (never before.phase before.met has)
+  at_snapshot None has idle after = absurd (no_snapshot before.phase before.met has)
   at_snapshot (Some g) has idle after = (ap engine_of after ∙ idle.0, ap desk_of after ∙ idle.1)
 
   pub finished_idle : HasSnapshot before → IsIdleOf e before
@@ -26,5 +28,4 @@ module _ (e : EngineView) (before after' : PassView) where
 
 -- what is said of its end by other names of the pass
 pub finishes_at : (p p' q q' : PassView) (stamp : ℕ) → p' ≡ p → q' ≡ q → Finishes StandsForRows p' q stamp → Finishes StandsForRows p q' stamp
-finishes_at p p' q q' stamp here there finishes =
-    subst (λ (x : PassView). Finishes StandsForRows x q' stamp) here (subst (λ (y : PassView). Finishes StandsForRows p' y stamp) (sym there) finishes)
+finishes_at p p' q q' stamp here there finishes = at_passes (λ x y. Finishes StandsForRows x y stamp) p p' q q' here there finishes

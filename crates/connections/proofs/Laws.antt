@@ -16,6 +16,10 @@ use Rattle.txn_engine.specs.Pass.{PassView, entry_of, frame, meaning_of_pass, st
 use Rattle.connections.specs.Connection.{LeavesTables, StandsForRows}
 use Rattle.connections.specs.Rows.{IsDoomed}
 
+-- what is said of two passes is said of them by other names
+pub at_passes : (Says : PassView → PassView → Type 0) (p p' q q' : PassView) → p' ≡ p → q' ≡ q → Says p' q → Says p q'
+at_passes Says p p' q q' here there says = subst (λ (x : PassView). Says x q') here (subst (λ (y : PassView). Says p' y) (sym there) says)
+
 -- where it has written nothing, it leaves what it found
 pub leaves_none : (p : PassView) → p.writes ≡ [] → LeavesTables p
 leaves_none p none = λ state is_state stands agrees. subst (λ (writes : List (ℕ × Option (List ℕ))). StandsForTables p.shared.size.records (overlay writes state)) (sym none) stands
@@ -68,13 +72,15 @@ module _ (p q : PassView) (opened : p.phase ≡ Open) (rest : frame q ≡ frame 
 
   -- where no such state is lawful, its reads do not commit
   pub doomed : KeepsTables StandsForRows → ReadsGrow (meaning_of_pass p) (meaning_of_pass q) → Each (Stands (meaning_of_pass p)) (meaning_of_pass q) (λ _ _. ⊥) → IsDoomed q
-  doomed keeps grow torn = λ state is_state is_kept agrees.
-      let n : q.shared.size.records ≡ p.shared.size.records = same_records in
-      let there = subst (λ (k : ℕ). IsState k state) n is_state in
-      let here = stood_before grow state there (keeps.stands p.shared.size.records state there is_kept) agrees in
-      torn state here.0 (subst (λ (m : Meaning). Agrees state m.reads) (sym (meaning_open q still_open)) agrees) here.1
+  doomed keeps grow torn = record {
+    none = λ state is_state is_kept agrees.
+        let n : q.shared.size.records ≡ p.shared.size.records = same_records in
+        let there = subst (λ (k : ℕ). IsState k state) n is_state in
+        let here = stood_before grow state there (keeps.stands p.shared.size.records state there is_kept) agrees in
+        torn state here.0 (subst (λ (m : Meaning). Agrees state m.reads) (sym (meaning_open q still_open)) agrees) here.1;
+  }
 
 -- no entry of such reads stood
 pub never_stood : (p q : PassView) → IsDoomed p → q.shared.size.records ≡ p.shared.size.records → q.reads ≡ p.reads → Stood StandsForRows q.shared.size.records q.log (entry_of q) → ⊥
-never_stood p q doomed records reads stood = doomed stood.state (subst (λ (k : ℕ). IsState k stood.state) records stood.left.is_state) stood.left.is_kept
+never_stood p q doomed records reads stood = doomed.none stood.state (subst (λ (k : ℕ). IsState k stood.state) records stood.left.is_state) stood.left.is_kept
     (subst (λ (rs : List (ℕ × Option (List ℕ))). Agrees stood.state rs) reads stood.agrees)

@@ -5,4 +5,5 @@ pub mod Laws
 pub mod Txns
 pub mod Finished
 pub mod InTxns
+pub mod TxnStores
 pub mod InSnapshots

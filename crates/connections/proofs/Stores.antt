@@ -7,45 +7,53 @@ use Rattle.record_store.specs.Calls.Calls.{none as no_calls, read as then_read, 
 use Rattle.record_store.specs.Calls.CallFault.{by_read, by_write, by_fresh}
 use Rattle.record_store.specs.Goes.{GoesByCalls}
 use Rattle.record_store.specs.Meaning.{Meaning}
-use Rattle.record_store.specs.Walks.{IfStore}
+use Rattle.record_store.specs.Walks.{IfNoMemory, IfStore, IfTorn}
 use Rattle.record_store.specs.declared.walk.Walk.{Walk}
 use Rattle.record_store.specs.declared.walk.Walk.TheVariants.{Store, Torn, NoMemory}
 use Rattle.stored_tables.specs.Runs.{Looks, Runs}
 
-store_map : {T F : Type 0} (result : Result T (Walk F)) {P Q : F → Type 0} → ((fault : F) → P fault → Q fault) → IfStore result P → IfStore result Q
+pub store_map : {T F : Type 0} (result : Result T (Walk F)) {P Q : F → Type 0} → ((fault : F) → P fault → Q fault) → IfStore result P → IfStore result Q
 store_map (Ok value) more holds = tt
 store_map (Err (Store fault)) more holds = more fault holds
 store_map (Err (Torn rid)) more holds = tt
 store_map (Err NoMemory) more holds = tt
 
--- each call on the store is one on what it is seen as, a fault the same fault
+pub torn_map : {T F : Type 0} (result : Result T (Walk F)) {P Q : ℕ → Type 0} → ((rid : ℕ) → P rid → Q rid) → IfTorn result P → IfTorn result Q
+torn_map (Ok value) more holds = tt
+torn_map (Err (Store fault)) more holds = tt
+torn_map (Err (Torn rid)) more holds = more rid holds
+torn_map (Err NoMemory) more holds = tt
+
+-- memory may be wanted
+pub any_memory : {T F : Type 0} (result : Result T (Walk F)) → IfNoMemory result (Unit {0})
+any_memory (Ok value) = tt
+any_memory (Err (Store fault)) = tt
+any_memory (Err (Torn rid)) = tt
+any_memory (Err NoMemory) = tt
+
+-- each call on the store is the same one on what it is seen as
 pub record SeesReads {S S' F : Type 0} (see : S → S') (gives : S → ℕ → Result (Option (List ℕ)) F → S → Type 0) (gives' : S' → ℕ → Result (Option (List ℕ)) F → S' → Type 0) : Type 0
   where
-    pub calls : (s t : S) (rid : ℕ) (answer : Result (Option (List ℕ)) F) → gives s rid answer t → (told : Result (Option (List ℕ)) F) × gives' (see s) rid told (see t)
-    pub fails : (s t : S) (rid : ℕ) (fault : F) → gives s rid (Err fault) t → gives' (see s) rid (Err fault) (see t)
+    pub each : (s t : S) (rid : ℕ) (answer : Result (Option (List ℕ)) F) → gives s rid answer t → gives' (see s) rid answer (see t)
 
 pub record SeesWrites {S S' F : Type 0} (see : S → S') (gives : S → ℕ → Option (List ℕ) → Result (Unit {0}) F → S → Type 0) (gives' : S' → ℕ → Option (List ℕ) → Result (Unit {0}) F → S' → Type 0) : Type 0
   where
-    pub calls : (s t : S) (rid : ℕ) (value : Option (List ℕ)) (answer : Result (Unit {0}) F) → gives s rid value answer t → (told : Result (Unit {0}) F) × gives' (see s) rid value told (see t)
-    pub fails : (s t : S) (rid : ℕ) (value : Option (List ℕ)) (fault : F) → gives s rid value (Err fault) t → gives' (see s) rid value (Err fault) (see t)
+    pub each : (s t : S) (rid : ℕ) (value : Option (List ℕ)) (answer : Result (Unit {0}) F) → gives s rid value answer t → gives' (see s) rid value answer (see t)
 
 pub record SeesFresh {S S' F : Type 0} (see : S → S') (gives : S → Result ℕ F → S → Type 0) (gives' : S' → Result ℕ F → S' → Type 0) : Type 0 where
-  pub calls : (s t : S) (answer : Result ℕ F) → gives s answer t → (told : Result ℕ F) × gives' (see s) told (see t)
-  pub fails : (s t : S) (fault : F) → gives s (Err fault) t → gives' (see s) (Err fault) (see t)
+  pub each : (s t : S) (answer : Result ℕ F) → gives s answer t → gives' (see s) answer (see t)
 
 module _ {S S' F : Type 0} {see : S → S'} {gives : S → ℕ → Result (Option (List ℕ)) F → S → Type 0} {gives' : S' → ℕ → Result (Option (List ℕ)) F → S' → Type 0} (sees : SeesReads see gives gives') where
   see_reads : (first last : S) → Reads gives first last → Reads gives' (see first) (see last)
   see_reads first last (none s) = none (see s)
-  see_reads first last (read s before t rid answer calls is) =
-      let told = sees.calls before t rid answer is in
-      read (see s) (see before) (see t) rid told.0 (see_reads s before calls) told.1
+  see_reads first last (read s before t rid answer calls is) = read (see s) (see before) (see t) rid answer (see_reads s before calls) (sees.each before t rid answer is)
 
   see_fault : (first last : S) (fault : F) → ReadFault gives first last fault → ReadFault gives' (see first) (see last) fault
   see_fault first last fault is = record {
     before = see is.before;
     rid = is.rid;
     calls = see_reads first is.before is.calls;
-    answer = sees.fails is.before last is.rid fault is.answer;
+    answer = sees.each is.before last is.rid (Err fault) is.answer;
   }
 
 -- what was found by reads alone
@@ -69,20 +77,14 @@ module _ {S S' F : Type 0} {see : S → S'} {read_gives : S → ℕ → Result (
     {fresh_gives' : S' → Result ℕ F → S' → Type 0} (reads : SeesReads see read_gives read_gives') (writes : SeesWrites see write_gives write_gives') (asks : SeesFresh see fresh_gives fresh_gives') where
   pub see_calls : (first last : S) (asked : ℕ) → Calls read_gives write_gives fresh_gives first asked last → Calls read_gives' write_gives' fresh_gives' (see first) asked (see last)
   see_calls first last asked (no_calls s) = no_calls (see s)
-  see_calls first last asked (then_read s before t n rid answer calls is) =
-      let told = reads.calls before t rid answer is in
-      then_read (see s) (see before) (see t) n rid told.0 (see_calls s before n calls) told.1
-  see_calls first last asked (then_write s before t n rid value answer calls is) =
-      let told = writes.calls before t rid value answer is in
-      then_write (see s) (see before) (see t) n rid value told.0 (see_calls s before n calls) told.1
-  see_calls first last asked (then_fresh s before t n answer calls is) =
-      let told = asks.calls before t answer is in
-      then_fresh (see s) (see before) (see t) n told.0 (see_calls s before n calls) told.1
+  see_calls first last asked (then_read s before t n rid answer calls is) = then_read (see s) (see before) (see t) n rid answer (see_calls s before n calls) (reads.each before t rid answer is)
+  see_calls first last asked (then_write s before t n rid value answer calls is) = then_write (see s) (see before) (see t) n rid value answer (see_calls s before n calls) (writes.each before t rid value answer is)
+  see_calls first last asked (then_fresh s before t n answer calls is) = then_fresh (see s) (see before) (see t) n answer (see_calls s before n calls) (asks.each before t answer is)
 
   pub see_call_fault : (May : ℕ → Type 0) (first last : S) (fault : F) → CallFault read_gives write_gives fresh_gives May first last fault → CallFault read_gives' write_gives' fresh_gives' May (see first) (see last) fault
-  see_call_fault May first last fault (by_read before asked rid calls is) = by_read (see before) asked rid (see_calls first before asked calls) (reads.fails before last rid fault is)
-  see_call_fault May first last fault (by_write before asked rid value calls is) = by_write (see before) asked rid value (see_calls first before asked calls) (writes.fails before last rid value fault is)
-  see_call_fault May first last fault (by_fresh before asked calls is may) = by_fresh (see before) asked (see_calls first before asked calls) (asks.fails before last fault is) may
+  see_call_fault May first last fault (by_read before asked rid calls is) = by_read (see before) asked rid (see_calls first before asked calls) (reads.each before last rid (Err fault) is)
+  see_call_fault May first last fault (by_write before asked rid value calls is) = by_write (see before) asked rid value (see_calls first before asked calls) (writes.each before last rid value (Err fault) is)
+  see_call_fault May first last fault (by_fresh before asked calls is may) = by_fresh (see before) asked (see_calls first before asked calls) (asks.each before last (Err fault) is) may
 
 -- how a part went by calls
 pub see_goes : {S S' F T : Type 0} {read_gives : S → ℕ → Result (Option (List ℕ)) F → S → Type 0} {write_gives : S → ℕ → Option (List ℕ) → Result (Unit {0}) F → S → Type 0} {fresh_gives : S → Result ℕ F → S → Type 0}
@@ -98,14 +100,6 @@ see_goes {S} {S'} {F} {T} {read_gives} {write_gives} {fresh_gives} {meaning} {Ma
       given = here.given;
       grow = here.grow;
     }
-
--- a fault of the calls that led there
-pub see_store_fault : {S S' F : Type 0} {read_gives : S → ℕ → Result (Option (List ℕ)) F → S → Type 0} {write_gives : S → ℕ → Option (List ℕ) → Result (Unit {0}) F → S → Type 0} {fresh_gives : S → Result ℕ F → S → Type 0}
-    {asked : ℕ} {first last : S} → Calls read_gives write_gives fresh_gives first asked last → (T : Type 0) (May : ℕ → Type 0) (result : Result T (Walk F)) → IfStore result (CallFault read_gives write_gives fresh_gives May first last)
-    → (see : S → S') (read_gives' : S' → ℕ → Result (Option (List ℕ)) F → S' → Type 0) (write_gives' : S' → ℕ → Option (List ℕ) → Result (Unit {0}) F → S' → Type 0) (fresh_gives' : S' → Result ℕ F → S' → Type 0)
-    → SeesReads see read_gives read_gives' → SeesWrites see write_gives write_gives' → SeesFresh see fresh_gives fresh_gives' → IfStore result (CallFault read_gives' write_gives' fresh_gives' May (see first) (see last))
-see_store_fault {S} {S'} {F} {read_gives} {write_gives} {fresh_gives} {asked} {first} {last} calls T May result fault see read_gives' write_gives' fresh_gives' reads writes asks =
-    store_map result (λ f is. see_call_fault reads writes asks May first last f is) fault
 
 -- what was done by a part that changes
 pub see_runs : {S S' F T X : Type 0} {read_gives : S → ℕ → Result (Option (List ℕ)) F → S → Type 0} {write_gives : S → ℕ → Option (List ℕ) → Result (Unit {0}) F → S → Type 0} {fresh_gives : S → Result ℕ F → S → Type 0} {meaning : S → Meaning}

@@ -3,40 +3,25 @@ use Rattle.std.proofs.Common.{◌≡◌, Bool, true, false, Option, Some, Result
 use Rattle.txn_engine.specs.Pass.{EngineView, PassView}
 use Rattle.txn_engine.specs.Retired.{RetiredView}
 use Rattle.connections.specs.declared.fault.CallFault.{CallFault}
-use Rattle.connections.specs.declared.fault.CallFault.TheVariants.{Conflict, PlacesOut, RecordsOut, NoMemory, ClockOut, Range, Misused}
+use Rattle.connections.specs.declared.fault.CallFault.TheVariants.{Range, Misused}
 use Rattle.connections.specs.declared.opened.Opened.{Opened}
-use Rattle.connections.specs.declared.opened.Opened.TheVariants.{Snapshot}
-use Rattle.connections.specs.Rows.{after_rows}
+use Rattle.connections.specs.declared.opened.Opened.TheVariants.{Transaction, Spoiled, Snapshot}
+use Rattle.plain_data.specs.State.{State}
+use Rattle.stored_tables.specs.Answers.{Held}
+use Rattle.connections.specs.Rows.{InSnapshot, InTxn, LooksAt, ReadsRows, after_rows}
 use Rattle.connections.specs.Connection.{ConnectionView}
-use Rattle.connections.specs.Calls.{Calls, Goes, IsOfCall}
+use Rattle.connections.specs.Calls.{Calls, Goes, IsOfCall, can_read}
 
--- a fault of a call that goes on is neither of the two that its tests answer
-never_misused : {T : Type 0} (answer : Result T CallFault) → IfErr answer IsOfCall → answer ≡ Err Misused → ⊥
-never_misused (Ok value) of_call is = cc
-never_misused (Err (Conflict conflict)) of_call is = cc
-never_misused (Err PlacesOut) of_call is = cc
-never_misused (Err RecordsOut) of_call is = cc
-never_misused (Err NoMemory) of_call is = cc
-never_misused (Err ClockOut) of_call is = cc
-never_misused (Err Range) of_call is = absurd of_call
-never_misused (Err Misused) of_call is = absurd of_call
-
-never_range : {T : Type 0} (answer : Result T CallFault) → IfErr answer IsOfCall → answer ≡ Err Range → ⊥
-never_range (Ok value) of_call is = cc
-never_range (Err (Conflict conflict)) of_call is = cc
-never_range (Err PlacesOut) of_call is = cc
-never_range (Err RecordsOut) of_call is = cc
-never_range (Err NoMemory) of_call is = cc
-never_range (Err ClockOut) of_call is = cc
-never_range (Err Range) of_call is = absurd of_call
-never_range (Err Misused) of_call is = absurd of_call
+-- a fault that its tests answer is none of a call that goes on
+never : {T : Type 0} (answer : Result T CallFault) (fault : CallFault) → (IsOfCall fault → ⊥) → IfErr answer IsOfCall → answer ≡ Err fault → ⊥
+never {T} answer fault none of_call is = none (subst (λ (r : Result T CallFault). IfErr r IsOfCall) is of_call)
 
 module _ {T : Type 0} (fits : Bool) (InRange : Type 0) (Does : PassView → PassView → Type 0) (opened : Opened) (before after' : ConnectionView) where
   -- it fits, and its numbers are in range
   pub calls_goes : (answer : Result T CallFault) → fits ≡ true → InRange → IfErr answer IsOfCall → Goes Does opened before after' → Calls fits InRange Does opened before after' answer
   calls_goes answer fit within of_call goes = record {
-    misused = (λ is. absurd (never_misused answer of_call is), λ is. cc);
-    range = (λ is. absurd (never_range answer of_call is), λ both. absurd (both.1 within));
+    misused = (λ is. absurd (never answer Misused (λ no. no) of_call is), λ is. cc);
+    range = (λ is. absurd (never answer Range (λ no. no) of_call is), λ both. absurd (both.1 within));
     refused = λ either. absurd (elim either [ inl is ↦ (let no : ⊥ = cc in no) | inr out ↦ out within ]);
     goes = λ _ _. goes;
   }
@@ -80,6 +65,22 @@ calls_after {T} fits InRange Does After o o' e r pass p q before answer seen is 
     subst (λ (x : Opened). Calls (fits before.opened) InRange (Does before.opened) (After x) before now answer) (ap (λ (c : ConnectionView). c.opened) seen) at
 
 -- a snapshot goes on behind each call on rows
-pub after_snapshot : {T : Type 0} (o : Opened) (answer : Result T CallFault) → o ≡ Snapshot → after_rows o answer ≡ o
+after_snapshot : {T : Type 0} (o : Opened) (answer : Result T CallFault) → o ≡ Snapshot → after_rows o answer ≡ o
 after_snapshot o (Ok value) is = refl
 after_snapshot {T} o (Err f) is = ap (λ (x : Opened). after_rows {T = T} x (Err f)) is ∙ sym is
+
+-- a call that reads rows, in a transaction that a fault has ended, and in a snapshot
+module _ {T : Type 0} (Memory Still : Type 0) (Found : T → State → Held → Type 0) (InRange : Type 0) (o : Opened) (e : EngineView) (r : Option RetiredView) (pass : Option PassView) (p q : PassView) (before : ConnectionView)
+    (seen : record { engine = e; opened = o; pass = pass; retired = r } ≡ before) (at : pass ≡ Some p) (within : InRange) where
+  pub reads_spoiled : (f : CallFault) → o ≡ Transaction → IsOfCall f → InTxn (LooksAt Memory Still Found) (Err f) p q
+      → Calls {T = T} (can_read before.opened) InRange (ReadsRows {T = T} Memory Still Found before.opened (Err f)) (after_rows {T = T} before.opened (Err f)) before (record { engine = e; opened = Spoiled; pass = Some q; retired = r }) (Err f)
+  reads_spoiled f is of_call did =
+      let Does : Opened → PassView → PassView → Type 0 = λ x. ReadsRows {T = T} Memory Still Found x (Err f) in
+      let After : Opened → Opened = λ x. after_rows {T = T} x (Err f) in
+      calls_after can_read InRange Does After o Spoiled e r pass p q before (Err f) seen at (ap After is) (ap can_read is) within of_call (subst (λ (x : Opened). Does x p q) (sym is) did)
+
+  pub reads_seen : (answer : Result T CallFault) → o ≡ Snapshot → IfErr answer IsOfCall → InSnapshot Memory Still Found answer p q
+      → Calls (can_read before.opened) InRange (ReadsRows Memory Still Found before.opened answer) (after_rows before.opened answer) before (record { engine = e; opened = o; pass = Some q; retired = r }) answer
+  reads_seen answer is of_call did =
+      let Does : Opened → PassView → PassView → Type 0 = λ x. ReadsRows Memory Still Found x answer in
+      calls_after can_read InRange Does (λ (x : Opened). after_rows x answer) o o e r pass p q before answer seen at (after_snapshot o answer is) (ap can_read is) within of_call (subst (λ (x : Opened). Does x p q) (sym is) did)

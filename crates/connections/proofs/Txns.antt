@@ -15,18 +15,16 @@ use Rattle.txn_engine.specs.Pass.{EngineView, PassView, IsAlone, IsIdleOf, abort
 use Rattle.connections.specs.declared.fault.CallFault.{CallFault}
 use Rattle.connections.specs.Connection.{IsOpenOf, StandsForRows}
 use Rattle.connections.specs.Transactions.{AbortsTxn, BeginsTxn, CommitsTxn, answer_of_commit}
-use Rattle.connections.proofs.Laws.{fits_rows, leaves_none}
+use Rattle.connections.proofs.Laws.{at_passes, fits_rows, leaves_none}
 
 pub aborts_txn : (p p' q q' : PassView) → p' ≡ p → q' ≡ q → q ≡ aborted p' → (IsAlone p' → AreLeft p'.log p'.stamp p'.reads) → AbortsTxn p q'
-aborts_txn p p' q q' here there after left = subst (λ (x : PassView). AbortsTxn x q') here (subst (λ (y : PassView). AbortsTxn p' y) (sym there) (record { after = after; read_left = left }))
+aborts_txn p p' q q' here there after left = at_passes AbortsTxn p p' q q' here there (record { after = after; read_left = left })
 
 pub commits_txn : (p p' q q' : PassView) (answer : Result ℕ CallFault) (told : Result Committed CommitFault) → p' ≡ p → q' ≡ q → answer ≡ answer_of_commit told → Commits StandsForRows p' q told → CommitsTxn answer p q'
-commits_txn p p' q q' answer told here there answered commits =
-    subst (λ (x : PassView). CommitsTxn answer x q') here (subst (λ (y : PassView). CommitsTxn answer p' y) (sym there) (record { told = told; answered = answered; commits = commits }))
+commits_txn p p' q q' answer told here there answered commits = at_passes (CommitsTxn answer) p p' q q' here there (record { told = told; answered = answered; commits = commits })
 
 pub begins_txn : (reading : ℕ) (p q q' : PassView) → q' ≡ q → q ≡ begun p (next_clock p reading) → IsAbove p.log q.stamp → IsDistinct nat_eq q.spare → (HoldsAbsent p → HoldsAbsent q) → next_clock p reading ≤ greatest_clock → BeginsTxn reading (Ok tt) p q'
-begins_txn reading p q q' there ok above once absent within = subst (λ (y : PassView). BeginsTxn reading (Ok tt) p y) (sym there)
-    (record { ok = ok; above = above; each_once = once; absent = absent; in_range = within; fault = tt; err = tt })
+begins_txn reading p q q' there ok above once absent within = at_passes (BeginsTxn reading (Ok tt)) p p q q' refl there (record { ok = ok; above = above; each_once = once; absent = absent; in_range = within; fault = tt; err = tt })
 
 pub open_begun : (e : EngineView) (p q q' : PassView) (clock : ℕ) → q' ≡ q → q ≡ begun p clock → IsIdleOf e p → IsOpenOf e q'
 open_begun e p q q' clock there ok idle = subst (IsOpenOf e) (sym (there ∙ ok)) (record { of = idle.0; open_there = refl; lawful = leaves_none (begun p clock) refl })

@@ -1,5 +1,5 @@
 -- What calls on rows do at the pass of a connection: in a transaction, and in a snapshot.
-use Rattle.std.specs.Prelude.{◌≡◌, ℕ, Bool, false, List, Option, Result, Ok, Err, OnErr, IfOk, IfErr, ⊤}
+use Rattle.std.specs.Prelude.{◌≡◌, ℕ, Bool, false, List, Option, Result, Ok, Err, OnErr, IfOk, IfErr}
 use Rattle.plain_data.specs.State.{State, IsState, Agrees}
 use Rattle.record_store.specs.Calls.{Calls as StoreCalls, CallFault as StoreFault}
 use Rattle.record_store.specs.Goes.{GoesByCalls}
@@ -80,18 +80,16 @@ pub record DeclaresAt (table column : ℕ) (p q : PassView) (told : Result Bool 
   pub refused : OnErr told (OnlyReads (meaning_of_pass p) (meaning_of_pass q))
   pub unchanged : IfOk told (λ declared. declared ≡ false → OnlyReads (meaning_of_pass p) (meaning_of_pass q))
 
--- no lawful tables agree with what it has read, so its reads do not commit
-abbrev pub IsDoomed : PassView → Type 0
-IsDoomed p = (state : State) → IsState p.shared.size.records state → StandsForRows state → Agrees state p.reads → ⊥
+-- no lawful tables of so many records agree with these reads
+abbrev pub NoneAgree : (records : ℕ) → List (ℕ × Option (List ℕ)) → Type 0
+NoneAgree records reads = (state : State) → IsState records state → StandsForRows state → Agrees state reads → ⊥
 
-abbrev pub IfWalkTorn : Walk TxnFault → Type 0 → Type 0
-IfWalkTorn (walk.Store f) P = ⊤
-IfWalkTorn (walk.Torn rid) P = P
-IfWalkTorn walk.NoMemory P = ⊤
+-- so it is of what the transaction has read, which does not commit; and of what the snapshot has
+pub record IsDoomed (p : PassView) : Type 0 where
+  pub none : NoneAgree p.shared.size.records p.reads
 
--- so it is where tables answered that they are torn
-pub record IsDoomedIfTorn (why : Walk TxnFault) (p : PassView) : Type 0 where
-  pub doomed : IfWalkTorn why (IsDoomed p)
+pub record IsUnlawful (p : PassView) : Type 0 where
+  pub none : NoneAgree p.shared.size.records (meaning_of_snapshot p).reads
 
 -- No lawful tables agree with what it has read: its writes are dropped, and its commit is refused by this conflict.
 pub record IsOvertaken (p q : PassView) (conflict : Met) : Type 0 where

@@ -3,12 +3,15 @@
 ghost use Rattle.std.specs.Prelude.{◌≡◌, ◌⊎◌, ◌<◌, IfErr};
 ghost use Rattle.connections.specs.Calls.{IsOfCall};
 ghost use Rattle.connections.specs.Connection.{HoldsTables, IsSeenOf};
-ghost use Rattle.connections.specs.Rows.{InSnapshot};
+ghost use Rattle.connections.specs.Rows.{InSnapshot, IsUnlawful, told_of};
+ghost use Rattle.connections.specs.declared.fault.CallFault.TheVariants.{NoMemory};
+ghost use Rattle.record_store.specs.Walks.{IfTorn};
 ghost use Rattle.stored_tables.specs.Answers.{IsScanned};
 ghost use Rattle.stored_tables.specs.OneRow.{IsRowAt};
 ghost use Rattle.stored_tables.specs.RowLists.{IsFoundBy};
 
 use crate::fault::CallFault;
+use engine_answers::NoFault;
 use record_store::Walk;
 use replay_model::{Columns, Pairs};
 use std::alloc::Global;
@@ -31,19 +34,9 @@ pub(crate) fn get_in_snapshot(
 {
     keeps_tables();
     let mut snapshot = SnapshotOver::resume(pass, engine);
-    match get_row(&mut snapshot, table, key) {
-        Ok(row) => {
-            snapshot.leave();
-            Ok(row)
-        }
-        Err(Walk::Torn(_)) => {
-            // A kept state agrees with what was read, so the tables are not torn.
-            snapshot.finish();
-            unreachable!()
-        }
-        Err(Walk::NoMemory) => unreachable!(),
-        Err(Walk::Store(fault)) => match fault {},
-    }
+    let told = get_row(&mut snapshot, table, key);
+    snapshot.leave();
+    answer_of(pass, engine, told)
 }
 
 // The first rows of a part of a table.
@@ -65,22 +58,9 @@ pub(crate) fn list_in_snapshot(
 {
     keeps_tables();
     let mut snapshot = SnapshotOver::resume(pass, engine);
-    match list_rows(alloc, &mut snapshot, table, lo, hi, limit) {
-        Ok(rows) => {
-            snapshot.leave();
-            Ok(rows)
-        }
-        Err(Walk::NoMemory) => {
-            snapshot.leave();
-            Err(CallFault::NoMemory)
-        }
-        Err(Walk::Torn(_)) => {
-            // A kept state agrees with what was read, so the tables are not torn.
-            snapshot.finish();
-            unreachable!()
-        }
-        Err(Walk::Store(fault)) => match fault {},
-    }
+    let told = list_rows(alloc, &mut snapshot, table, lo, hi, limit);
+    snapshot.leave();
+    answer_of(pass, engine, told)
 }
 
 // The first rows of a table by a column.
@@ -103,20 +83,32 @@ pub(crate) fn find_in_snapshot(
 {
     keeps_tables();
     let mut snapshot = SnapshotOver::resume(pass, engine);
-    match find_rows(alloc, &mut snapshot, table, column, lo, hi, limit) {
-        Ok(rows) => {
-            snapshot.leave();
-            Ok(rows)
-        }
-        Err(Walk::NoMemory) => {
-            snapshot.leave();
-            Err(CallFault::NoMemory)
-        }
-        Err(Walk::Torn(_)) => {
-            // A kept state agrees with what was read, so the tables are not torn.
-            snapshot.finish();
-            unreachable!()
-        }
-        Err(Walk::Store(fault)) => match fault {},
+    let told = find_rows(alloc, &mut snapshot, table, column, lo, hi, limit);
+    snapshot.leave();
+    answer_of(pass, engine, told)
+}
+
+// What a snapshot answers behind what tables answered. They are not torn: its end shows lawful ones that agree with what it has read.
+fn answer_of<T>(
+    pass: &mut Pass<RowsLawful>,
+    engine: &Engine<RowsLawful>,
+    told: Result<T, Walk<NoFault>>,
+) -> Result<T, CallFault>
+    requires pass { IsSeenOf engine.now pass.old }
+    requires torn { IfTorn told (λ _. IsUnlawful pass.old) }
+    ensures told { told_of result ≡ told }
+    ensures kept { pass.new ≡ pass.old }
+    ensures fault { IfErr result (λ f. f ≡ NoMemory) }
+{
+    match told {
+        Ok(value) => Ok(value),
+        Err(walk) => match walk {
+            Walk::NoMemory => Err(CallFault::NoMemory),
+            Walk::Torn(_) => {
+                SnapshotOver::resume(pass, engine).finish();
+                unreachable!()
+            }
+            Walk::Store(fault) => match fault {},
+        },
     }
 }

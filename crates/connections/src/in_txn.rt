@@ -3,7 +3,8 @@
 ghost use Rattle.std.specs.Prelude.{◌≡◌, ◌⊎◌, ◌<◌, OnOk, OnErr, IfErr};
 ghost use Rattle.connections.specs.Calls.{IsOfCall};
 ghost use Rattle.connections.specs.Connection.{HoldsTables, IsOpenOf};
-ghost use Rattle.connections.specs.Rows.{DeclaresAt, EndsBy, InTxn, IsDoomed, IsDoomedIfTorn, IsOvertaken, LooksAt, PutsAt, RemovesAt};
+ghost use Rattle.connections.specs.Rows.{DeclaresAt, GoesOn, InTxn, IsDoomed, IsOvertaken, LooksAt, PutsAt, RemovesAt};
+ghost use Rattle.record_store.specs.Walks.{IfTorn};
 ghost use Rattle.seat_post.specs.declared.phase.Phase.TheVariants.{Open};
 ghost use Rattle.stored_tables.specs.Answers.{IsScanned};
 ghost use Rattle.stored_tables.specs.OneRow.{IsRowAt};
@@ -39,10 +40,7 @@ pub(crate) fn get_in_txn(
     let mut txn = TxnOver::resume(pass, engine);
     let told = get_row(&mut txn, table, key);
     txn.leave();
-    match told {
-        Ok(row) => Ok(row),
-        Err(walk) => Err(spoil(pass, engine, walk)),
-    }
+    go_on(pass, engine, told)
 }
 
 // Sets the row of a table at a key.
@@ -65,10 +63,7 @@ pub(crate) fn put_in_txn(
     let mut txn = TxnOver::resume(pass, engine);
     let told = put_row(&mut txn, table, key, row);
     txn.leave();
-    match told {
-        Ok(()) => Ok(()),
-        Err(walk) => Err(spoil(pass, engine, walk)),
-    }
+    go_on(pass, engine, told)
 }
 
 // Takes the row of a table at a key out.
@@ -90,10 +85,7 @@ pub(crate) fn remove_in_txn(
     let mut txn = TxnOver::resume(pass, engine);
     let told = remove_row(&mut txn, table, key);
     txn.leave();
-    match told {
-        Ok(taken) => Ok(taken),
-        Err(walk) => Err(spoil(pass, engine, walk)),
-    }
+    go_on(pass, engine, told)
 }
 
 // The first rows of a part of a table.
@@ -118,10 +110,7 @@ pub(crate) fn list_in_txn(
     let mut txn = TxnOver::resume(pass, engine);
     let told = list_rows(alloc, &mut txn, table, lo, hi, limit);
     txn.leave();
-    match told {
-        Ok(rows) => Ok(rows),
-        Err(walk) => Err(spoil(pass, engine, walk)),
-    }
+    go_on(pass, engine, told)
 }
 
 // The first rows of a table by a column.
@@ -147,10 +136,7 @@ pub(crate) fn find_in_txn(
     let mut txn = TxnOver::resume(pass, engine);
     let told = find_rows(alloc, &mut txn, table, column, lo, hi, limit);
     txn.leave();
-    match told {
-        Ok(rows) => Ok(rows),
-        Err(walk) => Err(spoil(pass, engine, walk)),
-    }
+    go_on(pass, engine, told)
 }
 
 // Declares an index of a table on a column.
@@ -174,37 +160,35 @@ pub(crate) fn declare_in_txn(
     let mut txn = TxnOver::resume(pass, engine);
     let told = declare_index(alloc, &mut txn, table, column);
     txn.leave();
-    match told {
-        Ok(declared) => Ok(declared),
-        Err(walk) => Err(spoil(pass, engine, walk)),
-    }
+    go_on(pass, engine, told)
 }
 
-// Ends a transaction whose call on rows has no answer. Where no lawful tables agree with what it has read, another one has overtaken it: its
-// reads do not commit, and the commit tells the conflict.
-fn spoil(
+// How a transaction goes on behind what tables answered. A fault ends it. Where the tables are torn, no lawful ones agree with what it has
+// read: another transaction has overtaken it, its reads do not commit, and the commit tells the conflict.
+fn go_on<T>(
     pass: &mut Pass<RowsLawful>,
     engine: &Engine<RowsLawful>,
-    walk: Walk<TxnFault>,
-) -> CallFault
+    told: Result<T, Walk<TxnFault>>,
+) -> Result<T, CallFault>
     requires engine { engine_of pass.old ≡ engine.now }
     requires open_there { pass.old.phase ≡ Open }
-    requires torn { IsDoomedIfTorn walk pass.old }
-    ensures ends { EndsBy walk pass.old pass.new result }
-    ensures idle { IsIdleOf engine.now pass.new }
-    ensures no_entry { pass.new.log ≡ pass.old.log }
-    ensures fault { IsOfCall result }
+    requires torn { IfTorn told (λ _. IsDoomed pass.old) }
+    ensures goes_on { GoesOn told pass.old pass.new result }
+    ensures idle { OnErr result (IsIdleOf engine.now pass.new) }
+    ensures no_entry { OnErr result (pass.new.log ≡ pass.old.log) }
+    ensures fault { IfErr result IsOfCall }
 {
-    match walk {
-        Walk::Store(fault) => {
+    match told {
+        Ok(value) => Ok(value),
+        Err(Walk::Store(fault)) => {
             TxnOver::resume(pass, engine).abort();
-            CallFault::from(fault)
+            Err(CallFault::from(fault))
         }
-        Walk::NoMemory => {
+        Err(Walk::NoMemory) => {
             TxnOver::resume(pass, engine).abort();
-            CallFault::NoMemory
+            Err(CallFault::NoMemory)
         }
-        Walk::Torn(_) => CallFault::Conflict(conflict_of(pass, engine)),
+        Err(Walk::Torn(_)) => Err(CallFault::Conflict(conflict_of(pass, engine))),
     }
 }
 

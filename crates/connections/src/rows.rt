@@ -100,7 +100,7 @@ impl Connection {
     }
 
     /// The first `limit` rows of a table whose keys lie from `lo` to `hi`, both included, by rising key, in a transaction or a snapshot.
-    /// In a snapshot only `NoMemory` may refuse it, and the snapshot goes on.
+    /// In a snapshot only `NoMemory` may refuse it, and the snapshot goes on. Room for `limit` rows is asked for first.
     pub fn list(
         &mut self,
         alloc: Global,
@@ -142,7 +142,7 @@ impl Connection {
 
     /// The first `limit` rows of a table whose column (1 to 6) lies from `lo` to `hi`, both included, by rising column and then by rising
     /// key, in a transaction or a snapshot; `None` where the table's index is not on that column, or it has none. In a snapshot only
-    /// `NoMemory` may refuse it, and the snapshot goes on.
+    /// `NoMemory` may refuse it, and the snapshot goes on. Room for `limit` rows is asked for first.
     pub fn find(
         &mut self,
         alloc: Global,

@@ -1,19 +1,15 @@
-use Rattle.std.proofs.Common.{rules, refl, ap}
+use Rattle.std.proofs.Common.{rules, ap}
 use Rattle.txn_engine.specs.Snapshot.{SnapshotFrame, meaning_of_snapshot}
-use Rattle.connections.specs.Rows.{SeeGives}
-use Rattle.connections.proofs.InSnapshots.{in_snapshot, never_torn}
-use Rattle.connections.proofs.Stores.{see_looks}
+use Rattle.connections.proofs.InSnapshots.{in_snapshot, torn_unlawful}
 use Rattle.connections.proofs.in_snapshot.get_in_snapshot.Goals as goal
 
-pub unreachable-requires : goal.unreachable-requires
-unreachable-requires c = never_torn c.get_row.new.store.seat.now (meaning_of_snapshot c.resume-snapshot.result.seat.now) c.keeps_tables.ensures _ _ c.get_row.new.store.snapshot c.get_row.ensures.looks.by.only
-    (rw c.in-Err-Torn.field-0-is at c.in-Err-Torn.ensures.looks.torn) c.finish.ensures.finishes
+pub answer_of-requires-clause-torn : goal.answer_of-requires-clause-torn
+answer_of-requires-clause-torn c =
+    let told = c.get_row-told in
+    torn_unlawful told.new.store.seat.now (meaning_of_snapshot c.resume-snapshot.result.seat.now) c.keeps_tables.ensures _ told.result (search rules) told.new.store.snapshot told.ensures.looks.by.only told.ensures.looks.torn
 
 pub returns-clause-did : goal.returns-clause-did
 returns-clause-did c =
-    in_snapshot c.args.pass.now c.resume-snapshot.result.seat.now c.get_row.new.store.seat.now _ _ c.resume-snapshot.ensures.seat (search rules) (record {
-      looks = see_looks c.in-Ok.ensures.looks (λ s. s.seat.now) SeeGives meaning_of_snapshot refl (record { calls = λ s t rid answer is. (answer, is); fails = λ s t rid fault is. is });
-      rest = ap (λ (x : SnapshotFrame (Unit {0})). x.of_pass) c.get_row.ensures.rest;
-      fault = tt;
-      still = λ is. absurd is;
-    })
+    let told = c.get_row-told in
+    in_snapshot c.resume-snapshot.result told.new.store (λ s. s.seat.now) c.args.pass.now _ c.resume-snapshot.ensures.seat (search rules) told.result c.answer_of.result c.answer_of.ensures.told c.answer_of.ensures.fault told.ensures.looks
+    (ap (λ (x : SnapshotFrame (Unit {0})). x.of_pass) told.ensures.rest) told.ensures.memory (λ is. absurd is)

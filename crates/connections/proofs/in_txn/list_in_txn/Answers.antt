@@ -1,36 +1,20 @@
-use Rattle.std.proofs.Common.{rules, ◌≡◌, ℕ, List, Err, refl, ap}
-use Rattle.txn_engine.specs.Faults.{told_by}
-use Rattle.txn_engine.specs.Pass.{frame, meaning_of_pass}
-use Rattle.txn_engine.specs.Txn.{TxnFrame}
-use Rattle.connections.specs.Rows.{ReadGives}
-use Rattle.connections.proofs.InTxns.{in_txn_err, in_txn_ok, open_reads, reads_grow, torn_doomed, walk_torn, any_memory}
-use Rattle.connections.proofs.Stores.{see_looks}
+use Rattle.std.proofs.Common.{rules}
+use Rattle.connections.proofs.InTxns.{in_txn, leaves_looked, open_on, reads_grow, torn_doomed}
+use Rattle.connections.proofs.Stores.{any_memory}
+use Rattle.connections.proofs.TxnStores.{looks_there, pass_frame}
 use Rattle.connections.proofs.in_txn.list_in_txn.Goals as goal
 
-pub spoil-requires-clause-torn : goal.spoil-requires-clause-torn
-spoil-requires-clause-torn c =
-    let rest : frame c.list_rows-told.new.store.seat.now ≡ frame c.resume-txn.result.seat.now = ap (λ (x : TxnFrame (Unit {0})). x.of_pass) c.list_rows-told.ensures.rest in
-    torn_doomed c.args.engine.now c.args.pass.now c.resume-txn.result.seat.now c.list_rows-told.new.store.seat.now _ c.resume-txn.ensures.seat (search rules) c.requires.pass rest c.in-Err.walk c.keeps_tables.ensures (reads_grow _ _ c.list_rows-told.ensures.looks.by.only) (walk_torn (List (ℕ × List ℕ)) (meaning_of_pass c.resume-txn.result.seat.now) (meaning_of_pass c.list_rows-told.new.store.seat.now) c.in-Err.walk c.in-Err.ensures.looks.torn)
+pub go_on-requires-clause-torn : goal.go_on-requires-clause-torn
+go_on-requires-clause-torn c =
+    let told = c.list_rows-told in
+    torn_doomed c.args.engine.now c.args.pass.now c.resume-txn.result.seat.now told.new.store.seat.now _ c.resume-txn.ensures.seat (search rules) c.requires.pass (pass_frame told.ensures.rest) told.result c.keeps_tables.ensures (reads_grow _ _ told.ensures.looks.by.only) told.ensures.looks.torn
 
-pub returns-in-Ok-clause-did : goal.returns-in-Ok-clause-did
-returns-in-Ok-clause-did c =
-    let rest : frame c.list_rows-told.new.store.seat.now ≡ frame c.resume-txn.result.seat.now = ap (λ (x : TxnFrame (Unit {0})). x.of_pass) c.list_rows-told.ensures.rest in
-    in_txn_ok c.args.engine.now c.args.pass.now c.resume-txn.result.seat.now c.list_rows-told.new.store.seat.now _ c.resume-txn.ensures.seat (search rules) c.requires.pass rest _ c.in-Ok.rows (record {
-      looks = see_looks c.in-Ok.ensures.looks (λ t. t.seat.now) ReadGives meaning_of_pass refl (record { calls = λ s t rid answer is. (told_by (λ f. f) answer, is); fails = λ s t rid fault is. is });
-      memory = tt;
-      still = λ is i. (c.list_rows-told.ensures.nothing is i).seat.now;
-    })
+pub returns-clause-did : goal.returns-clause-did
+returns-clause-did c =
+    let told = c.list_rows-told in
+    in_txn c.args.engine.now c.args.pass.now c.resume-txn.result.seat.now told.new.store.seat.now _ c.resume-txn.ensures.seat (search rules) c.requires.pass (pass_frame told.ensures.rest) _ told.result c.go_on.result c.go_on.new.pass (looks_there c.resume-txn.result told.new.store (λ t. t.seat.now) told.result told.ensures.looks (any_memory told.result) (λ is i. (told.ensures.nothing is i).seat.now)) c.go_on.ensures.goes_on c.go_on.ensures.idle c.go_on.ensures.no_entry
 
-pub returns-in-Ok-clause-open_there : goal.returns-in-Ok-clause-open_there
-returns-in-Ok-clause-open_there c =
-    let rest : frame c.list_rows-told.new.store.seat.now ≡ frame c.resume-txn.result.seat.now = ap (λ (x : TxnFrame (Unit {0})). x.of_pass) c.list_rows-told.ensures.rest in
-    open_reads c.args.engine.now c.args.pass.now c.resume-txn.result.seat.now c.list_rows-told.new.store.seat.now _ c.resume-txn.ensures.seat (search rules) c.requires.pass rest c.in-Ok.ensures.looks.by.only
-
-pub returns-in-Err-clause-did : goal.returns-in-Err-clause-did
-returns-in-Err-clause-did c =
-    let rest : frame c.list_rows-told.new.store.seat.now ≡ frame c.resume-txn.result.seat.now = ap (λ (x : TxnFrame (Unit {0})). x.of_pass) c.list_rows-told.ensures.rest in
-    in_txn_err c.args.engine.now c.args.pass.now c.resume-txn.result.seat.now c.list_rows-told.new.store.seat.now _ c.resume-txn.ensures.seat (search rules) c.requires.pass rest _ c.in-Err.walk c.spoil.new.pass c.spoil.result (record {
-      looks = see_looks c.in-Err.ensures.looks (λ t. t.seat.now) ReadGives meaning_of_pass refl (record { calls = λ s t rid answer is. (told_by (λ f. f) answer, is); fails = λ s t rid fault is. is });
-      memory = any_memory (List (ℕ × List ℕ)) (Err c.in-Err.walk);
-      still = λ is i. (c.list_rows-told.ensures.nothing is i).seat.now;
-    }) c.spoil.ensures.ends c.spoil.ensures.idle c.spoil.ensures.no_entry
+pub returns-clause-open_there : goal.returns-clause-open_there
+returns-clause-open_there c =
+    let told = c.list_rows-told in
+    open_on c.args.engine.now c.args.pass.now c.resume-txn.result.seat.now told.new.store.seat.now _ c.resume-txn.ensures.seat (search rules) c.requires.pass (pass_frame told.ensures.rest) told.result c.go_on.result c.go_on.new.pass (leaves_looked c.args.engine.now c.args.pass.now c.resume-txn.result.seat.now told.new.store.seat.now c.resume-txn.ensures.seat c.requires.pass (pass_frame told.ensures.rest) told.result told.ensures.looks.by.only) c.go_on.ensures.goes_on

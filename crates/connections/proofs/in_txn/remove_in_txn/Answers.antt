@@ -1,36 +1,19 @@
-use Rattle.std.proofs.Common.{rules, ◌≡◌, Bool, refl, ap}
-use Rattle.txn_engine.specs.Faults.{told_by}
-use Rattle.txn_engine.specs.Pass.{frame, meaning_of_pass}
-use Rattle.txn_engine.specs.Txn.{TxnFrame}
-use Rattle.connections.specs.Rows.{FreshGives, ReadGives, WriteGives}
-use Rattle.connections.proofs.InTxns.{in_txn_err, in_txn_ok, torn_doomed, walk_torn, open_remove}
-use Rattle.connections.proofs.Stores.{see_runs, see_goes}
+use Rattle.std.proofs.Common.{rules}
+use Rattle.connections.proofs.InTxns.{in_txn, leaves_remove, open_on, torn_doomed}
+use Rattle.connections.proofs.TxnStores.{goes_there, pass_frame, runs_there}
 use Rattle.connections.proofs.in_txn.remove_in_txn.Goals as goal
 
-pub spoil-requires-clause-torn : goal.spoil-requires-clause-torn
-spoil-requires-clause-torn c =
-    let rest : frame c.remove_row-told.new.store.seat.now ≡ frame c.resume-txn.result.seat.now = ap (λ (x : TxnFrame (Unit {0})). x.of_pass) c.remove_row-told.ensures.rest in
-    torn_doomed c.args.engine.now c.args.pass.now c.resume-txn.result.seat.now c.remove_row-told.new.store.seat.now _ c.resume-txn.ensures.seat (search rules) c.requires.pass rest c.in-Err.walk c.keeps_tables.ensures c.remove_row-told.ensures.runs.by.grow (walk_torn (Bool) (meaning_of_pass c.resume-txn.result.seat.now) (meaning_of_pass c.remove_row-told.new.store.seat.now) c.in-Err.walk c.in-Err.ensures.runs.torn)
+pub go_on-requires-clause-torn : goal.go_on-requires-clause-torn
+go_on-requires-clause-torn c =
+    let told = c.remove_row-told in
+    torn_doomed c.args.engine.now c.args.pass.now c.resume-txn.result.seat.now told.new.store.seat.now _ c.resume-txn.ensures.seat (search rules) c.requires.pass (pass_frame told.ensures.rest) told.result c.keeps_tables.ensures told.ensures.runs.by.grow told.ensures.runs.torn
 
-pub returns-in-Ok-clause-did : goal.returns-in-Ok-clause-did
-returns-in-Ok-clause-did c =
-    let rest : frame c.remove_row-told.new.store.seat.now ≡ frame c.resume-txn.result.seat.now = ap (λ (x : TxnFrame (Unit {0})). x.of_pass) c.remove_row-told.ensures.rest in
-    in_txn_ok c.args.engine.now c.args.pass.now c.resume-txn.result.seat.now c.remove_row-told.new.store.seat.now _ c.resume-txn.ensures.seat (search rules) c.requires.pass rest _ c.in-Ok.taken (record {
-      runs = see_runs c.in-Ok.ensures.runs (λ t. t.seat.now) ReadGives WriteGives FreshGives meaning_of_pass refl (record { calls = λ s t rid answer is. (told_by (λ f. f) answer, is); fails = λ s t rid fault is. is }) (record { calls = λ s t rid value answer is. (told_by (λ f. f) answer, is); fails = λ s t rid value fault is. is }) (record { calls = λ s t answer is. (told_by (λ f. f) answer, is); fails = λ s t fault is. is });
-      asks_nothing = see_goes c.in-Ok.ensures.asks_nothing (λ t. t.seat.now) ReadGives WriteGives FreshGives meaning_of_pass refl (record { calls = λ s t rid answer is. (told_by (λ f. f) answer, is); fails = λ s t rid fault is. is }) (record { calls = λ s t rid value answer is. (told_by (λ f. f) answer, is); fails = λ s t rid value fault is. is }) (record { calls = λ s t answer is. (told_by (λ f. f) answer, is); fails = λ s t fault is. is });
-      kept = c.in-Ok.ensures.kept;
-    })
+pub returns-clause-did : goal.returns-clause-did
+returns-clause-did c =
+    let told = c.remove_row-told in
+    in_txn c.args.engine.now c.args.pass.now c.resume-txn.result.seat.now told.new.store.seat.now _ c.resume-txn.ensures.seat (search rules) c.requires.pass (pass_frame told.ensures.rest) _ told.result c.go_on.result c.go_on.new.pass (record { runs = runs_there c.resume-txn.result told.new.store (λ t. t.seat.now) told.result told.ensures.runs; asks_nothing = goes_there c.resume-txn.result told.new.store (λ t. t.seat.now) told.result told.ensures.asks_nothing; kept = told.ensures.kept }) c.go_on.ensures.goes_on c.go_on.ensures.idle c.go_on.ensures.no_entry
 
-pub returns-in-Ok-clause-open_there : goal.returns-in-Ok-clause-open_there
-returns-in-Ok-clause-open_there c =
-    let rest : frame c.remove_row-told.new.store.seat.now ≡ frame c.resume-txn.result.seat.now = ap (λ (x : TxnFrame (Unit {0})). x.of_pass) c.remove_row-told.ensures.rest in
-    open_remove c.args.engine.now c.args.pass.now c.resume-txn.result.seat.now c.remove_row-told.new.store.seat.now _ c.resume-txn.ensures.seat (search rules) c.requires.pass rest c.args.table c.args.key c.in-Ok.ensures.runs.asked c.in-Ok.taken c.remove_row-told.ensures.runs.by.grow c.in-Ok.ensures.runs.did
-
-pub returns-in-Err-clause-did : goal.returns-in-Err-clause-did
-returns-in-Err-clause-did c =
-    let rest : frame c.remove_row-told.new.store.seat.now ≡ frame c.resume-txn.result.seat.now = ap (λ (x : TxnFrame (Unit {0})). x.of_pass) c.remove_row-told.ensures.rest in
-    in_txn_err c.args.engine.now c.args.pass.now c.resume-txn.result.seat.now c.remove_row-told.new.store.seat.now _ c.resume-txn.ensures.seat (search rules) c.requires.pass rest _ c.in-Err.walk c.spoil.new.pass c.spoil.result (record {
-      runs = see_runs c.in-Err.ensures.runs (λ t. t.seat.now) ReadGives WriteGives FreshGives meaning_of_pass refl (record { calls = λ s t rid answer is. (told_by (λ f. f) answer, is); fails = λ s t rid fault is. is }) (record { calls = λ s t rid value answer is. (told_by (λ f. f) answer, is); fails = λ s t rid value fault is. is }) (record { calls = λ s t answer is. (told_by (λ f. f) answer, is); fails = λ s t fault is. is });
-      asks_nothing = see_goes c.in-Err.ensures.asks_nothing (λ t. t.seat.now) ReadGives WriteGives FreshGives meaning_of_pass refl (record { calls = λ s t rid answer is. (told_by (λ f. f) answer, is); fails = λ s t rid fault is. is }) (record { calls = λ s t rid value answer is. (told_by (λ f. f) answer, is); fails = λ s t rid value fault is. is }) (record { calls = λ s t answer is. (told_by (λ f. f) answer, is); fails = λ s t fault is. is });
-      kept = c.in-Err.ensures.kept;
-    }) c.spoil.ensures.ends c.spoil.ensures.idle c.spoil.ensures.no_entry
+pub returns-clause-open_there : goal.returns-clause-open_there
+returns-clause-open_there c =
+    let told = c.remove_row-told in
+    open_on c.args.engine.now c.args.pass.now c.resume-txn.result.seat.now told.new.store.seat.now _ c.resume-txn.ensures.seat (search rules) c.requires.pass (pass_frame told.ensures.rest) told.result c.go_on.result c.go_on.new.pass (leaves_remove c.args.engine.now c.args.pass.now c.resume-txn.result.seat.now told.new.store.seat.now c.resume-txn.ensures.seat c.requires.pass (pass_frame told.ensures.rest) c.args.table c.args.key told.ensures.runs.asked told.result told.ensures.runs.by.grow told.ensures.runs.did) c.go_on.ensures.goes_on

@@ -342,6 +342,20 @@ int32_t cicada_tick(cicada_connection *it, uint64_t reading, uint64_t *stamp) {
     return leave(it, &noted, status);
 }
 
+int32_t cicada_rest(cicada_connection *it, uint64_t reading, uint64_t *stamp) {
+    conflict noted = {0};
+    uint64_t drawn = 0;
+    uint32_t freed = 0;
+    int32_t status = enter(it);
+    if (status != CICADA_OK) return status;
+    status = cicada_proved_tick(handle_of(it), reading, &drawn, &noted);
+    if (status == CICADA_OK) {
+        if (stamp != NULL) *stamp = drawn;
+        status = cicada_proved_collect(handle_of(it), &freed, &noted);
+    }
+    return leave(it, &noted, status);
+}
+
 int32_t cicada_count(cicada_connection *it, cicada_counts *counts) {
     conflict noted = {0};
     if (counts == NULL) return CICADA_RANGE;

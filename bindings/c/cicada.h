@@ -10,7 +10,7 @@
  *
  * A connection is what one thread works at; it may go from thread to thread. Two threads that call at one connection at once are told so (BUSY).
  * A connection that rests holds the others of its engine back: their snapshots lag, their versions are not taken back, and their places run out.
- * So it ticks and then collects now and then, or is closed.
+ * So it calls cicada_rest a few times a second, or is closed.
  */
 #ifndef CICADA_H
 #define CICADA_H
@@ -40,7 +40,7 @@ typedef enum {
     CICADA_CONFLICT = 2,     /* Another transaction is in the way; this one leaves nothing. From commit: nothing is open. From a call on rows: abort is
                                 the one call that is left. Then hear what cicada_conflict tells, collect, pause, and begin again. */
     CICADA_PLACES_OUT = 3,   /* No place is left for a version; the transaction leaves nothing, and nothing is open. Collect, let other threads go on,
-                                and begin again. Where it stays so: open with more spare places, or have resting connections tick and collect. */
+                                and begin again. Where it stays so: open with more spare places, or have resting connections call cicada_rest. */
     CICADA_RECORDS_OUT = 4,  /* No record is left for a row; the transaction leaves nothing, and abort is the one call that is left. Other connections
                                 may have some. Remove rows there, or open with more. */
     CICADA_NO_MEMORY = 5,    /* malloc answered null. From open, begin and in a snapshot: as before. From a call on rows in a transaction: it leaves
@@ -80,7 +80,7 @@ int32_t cicada_close(cicada_connection *connection);
 
 /* What is open at a connection. */
 enum {
-    CICADA_NOTHING = 0,      /* begin, snapshot, collect, hear, tick */
+    CICADA_NOTHING = 0,      /* begin, snapshot, collect, hear, tick, rest */
     CICADA_TRANSACTION = 1,  /* get, put, remove, list, find, apply, declare_index, commit, abort */
     CICADA_SPOILED = 2,      /* abort alone: a call on rows has ended the transaction */
     CICADA_SNAPSHOT = 3,     /* get, list, find, apply of gets, finish */
@@ -166,14 +166,20 @@ int32_t cicada_collect(cicada_connection *connection, uint32_t *places);
  * no stamp. */
 int32_t cicada_hear(cicada_connection *connection, uint64_t stamp);
 
-/* What a resting connection does now and then, with a reading of the clock of `begin`, and then collects: the others do not wait for it then. `stamp` may
- * be null. CLOCK_OUT. */
+/* Draws a stamp that no transaction gets, with a reading of the clock of `begin`: nobody waits for what this connection might do below it. `stamp` may be
+ * null. CLOCK_OUT. */
 int32_t cicada_tick(cicada_connection *connection, uint64_t reading, uint64_t *stamp);
 
-/* What a connection has done and has, at any time. */
+/* What a resting connection calls a few times a second, with a reading of the clock of `begin`: it ticks and then collects. `stamp`
+ * may be null. CLOCK_OUT. */
+int32_t cicada_rest(cicada_connection *connection, uint64_t reading, uint64_t *stamp);
+
+/* What a connection has done and has, at any time. It takes some nanoseconds. */
 typedef struct cicada_counts {
     uint64_t commits;   /* transactions of this connection that committed */
     uint64_t refusals;  /* and that were refused */
+    uint64_t records;   /* records that it has left for new rows, without those of other connections; a row that it removes gives some back */
+    uint64_t queued;    /* versions that it has committed, and below which collect has not come yet: they hold places */
 } cicada_counts;
 int32_t cicada_count(cicada_connection *connection, cicada_counts *counts);
 

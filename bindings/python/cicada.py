@@ -19,10 +19,10 @@ import os
 import time
 from collections.abc import Callable, Iterable, Iterator, Sequence
 from types import TracebackType
-from typing import Any, Optional, TypeVar
+from typing import Any, NamedTuple, Optional, TypeVar
 
 __all__ = [
-    "BusyError", "CicadaError", "ClockOutError", "ConflictError", "Engine", "MisusedError", "OutOfMemoryError", "OutOfRangeError", "PlacesOutError",
+    "BusyError", "CicadaError", "ClockOutError", "ConflictError", "Counts", "Engine", "MisusedError", "OutOfMemoryError", "OutOfRangeError", "PlacesOutError",
     "Reader", "RecordsOutError", "Seat", "Transaction", "View", "add", "get", "put", "remove", "subtract", "version",
 ]
 
@@ -35,6 +35,19 @@ _BETWEEN_COLLECTIONS = 64
 
 Row = tuple[int, ...]
 Answer = TypeVar("Answer")
+
+
+class Counts(NamedTuple):
+    """What a seat has done, and what it has."""
+
+    commits: int
+    """Transactions that committed."""
+    refusals: int
+    """Tries that were refused."""
+    records: int
+    """Records that the seat has left for new rows, without those of other seats."""
+    queued: int
+    """Versions that it has committed, and below which `collect` has not come yet: they hold places."""
 
 
 # ---- errors
@@ -111,7 +124,7 @@ class _Connection(ctypes.Structure):
 
 
 class _Counts(ctypes.Structure):
-    _fields_ = [("commits", _U64), ("refusals", _U64)]
+    _fields_ = [("commits", _U64), ("refusals", _U64), ("records", _U64), ("queued", _U64)]
 
 
 class _Operation(ctypes.Structure):
@@ -138,7 +151,7 @@ def _calls() -> dict[str, list[Any]]:
         "apply": [at, ctypes.POINTER(_Operation), _SIZE, size],
         "collect": [at, u32],
         "hear": [at, _U64],
-        "tick": [at, _U64, u64],
+        "rest": [at, _U64, u64],
         "count": [at, ctypes.POINTER(_Counts)],
     }
 
@@ -156,7 +169,7 @@ def _load() -> ctypes.CDLL:
 
 
 _library = _load()
-(_open, _close, _begin, _commit, _abort, _conflict, _snapshot, _finish, _get, _list, _find, _declare_index, _put, _remove, _apply, _collect, _hear, _tick,
+(_open, _close, _begin, _commit, _abort, _conflict, _snapshot, _finish, _get, _list, _find, _declare_index, _put, _remove, _apply, _collect, _hear, _rest,
  _count) = (getattr(_library, f"cicada_{name}") for name in _calls())
 
 
@@ -479,17 +492,16 @@ class Seat:
         self._check(_hear(self._at, _number(stamp, GREATEST, "a stamp")))
 
     def rest(self) -> int:
-        """What a seat that makes no other call has to do now and then, so that the others need not wait for it; its stamp."""
+        """What a seat that makes no other call has to do a few times a second, so that the others need not wait for it; its stamp."""
         stamp = _U64()
-        self._check(_tick(self._at, time.monotonic_ns(), stamp))
-        self.collect()
+        self._check(_rest(self._at, time.monotonic_ns(), stamp))
         return stamp.value
 
-    def counts(self) -> tuple[int, int]:
-        """How many transactions of this seat committed, and how many were refused."""
+    def counts(self) -> Counts:
+        """What this seat has done, and what it has."""
         counts = _Counts()
         self._check(_count(self._at, counts))
-        return counts.commits, counts.refusals
+        return Counts(counts.commits, counts.refusals, counts.records, counts.queued)
 
     def close(self) -> None:
         """Ends what is open, and the seat; each later call of it raises MisusedError. It may be closed again."""

@@ -43,6 +43,7 @@ static int32_t apply_none(cicada_connection *it) { return apply_one(it, operatio
 static int32_t collect(cicada_connection *it) { return cicada_collect(it, &number); }
 static int32_t hear(cicada_connection *it) { return cicada_hear(it, 512); }
 static int32_t tick(cicada_connection *it) { return cicada_tick(it, 0, &stamp); }
+static int32_t rest(cicada_connection *it) { return cicada_rest(it, 0, &stamp); }
 static int32_t count(cicada_connection *it) { return cicada_count(it, &counted); }
 static int32_t opened(cicada_connection *it) { return cicada_opened(it, &number); }
 static int32_t close_(cicada_connection *it) { return cicada_close(it); }
@@ -73,6 +74,7 @@ static const struct {
     {"collect", collect, "OMMM", "ntps", CICADA_MISUSED},
     {"hear", hear, "OMMM", "ntps", CICADA_MISUSED},
     {"tick", tick, "OMMM", "ntps", CICADA_MISUSED},
+    {"rest", rest, "OMMM", "ntps", CICADA_MISUSED},
     {"count", count, "OOOO", "ntps", CICADA_MISUSED},
     {"opened", opened, "OOOO", "ntps", CICADA_OK},
     {"close", close_, "OOOO", "cccc", CICADA_OK},
@@ -361,8 +363,43 @@ static void texts(void) {
     holds(strchr(cicada_version(), '.') != NULL, "a version");
 }
 
+/* ---- what a connection has left, and how much is queued */
+
+static cicada_counts counts_of(cicada_connection *it) {
+    cicada_counts now = {99, 99, 99, 99};
+    holds(cicada_count(it, &now) == CICADA_OK, "the counts of a connection");
+    return now;
+}
+
+static void what_is_left(void) {
+    cicada_connection two[2];
+    cicada_counts now, before;
+    if (cicada_open(100, 100, two, 2) != CICADA_OK) return;
+    before = counts_of(&two[0]);
+    holds(before.commits == 0 && before.refusals == 0 && before.records == 50 && before.queued == 0, "half of the records are those of each of two");
+    cicada_begin(&two[0], 0), cicada_put(&two[0], 0, 1, row);
+    holds(counts_of(&two[0]).records < 50, "a row that is put takes records at once");
+    cicada_abort(&two[0]);
+    now = counts_of(&two[0]);
+    holds(now.records == 50 && now.queued == 0 && now.commits == 0 && now.refusals == 0, "an abort leaves all as it was");
+    cicada_begin(&two[0], 0), cicada_put(&two[0], 0, 1, row);
+    holds(commit(&two[0]) == CICADA_OK, "a put commits");
+    before = counts_of(&two[0]);
+    holds(before.commits == 1 && before.records < 50 && before.queued > 0, "a commit takes records, and queues what it wrote");
+    cicada_begin(&two[0], 0), cicada_remove(&two[0], 0, 1);
+    holds(commit(&two[0]) == CICADA_OK, "a removal commits");
+    now = counts_of(&two[0]);
+    holds(now.commits == 2 && now.records > before.records && now.queued > before.queued, "a removal gives records back");
+    holds(counts_of(&two[1]).records == 50, "of another connection nothing is told");
+    for (uint64_t reading = 1000; reading < 1003; reading++)
+        for (int i = 0; i < 2; i++) holds(cicada_rest(&two[i], reading, NULL) == CICADA_OK, "a connection rests");
+    holds(counts_of(&two[0]).queued == 0, "once all have rested nothing is queued");
+    cicada_close(&two[0]), cicada_close(&two[1]);
+}
+
 int main(void) {
     each_call_in_each_state();
+    what_is_left();
     tables();
     sizes();
     stamps();

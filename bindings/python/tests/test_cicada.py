@@ -29,7 +29,20 @@ class Calls(unittest.TestCase):
         self.assertEqual(self.here(cicada.GREATEST, 7), (cicada.GREATEST, 0, 0, 0, 0, 0))
         self.assertTrue(self.seat.transact(lambda txn: txn.remove(0, 7)))
         self.assertFalse(self.seat.transact(lambda txn: txn.remove(0, 7)))
-        self.assertEqual(self.seat.counts(), (5, 0))
+        self.assertEqual(self.seat.counts()[:2], (5, 0))
+
+    def test_counts_tell_what_is_left(self):
+        before = self.seat.counts()
+        self.seat.transact(lambda txn: txn.put(3, 1, ROW))
+        after = self.seat.counts()
+        self.assertEqual((after.commits, after.refusals), (before.commits + 1, before.refusals))
+        self.assertLess(after.records, before.records)
+        self.assertGreater(after.queued, before.queued)
+        self.seat.transact(lambda txn: txn.remove(3, 1))
+        self.assertGreater(self.seat.counts().records, after.records)
+        self.other.rest()
+        self.seat.rest()
+        self.assertLess(self.seat.counts().queued, after.queued)
 
     def test_any_exception_aborts(self):
         for error in (ValueError, KeyboardInterrupt, SystemExit, GeneratorExit, ZeroDivisionError):

@@ -95,13 +95,17 @@ fn pause(turn: u32) {
     }
 }
 
-/// How many transactions of a seat committed, and how many were refused.
+/// What a seat has done, and what it has.
 #[derive(Debug, Clone, Copy, PartialEq, Eq)]
 pub struct Counts {
     /// Transactions that committed.
     pub commits: u64,
     /// Tries that were refused.
     pub refusals: u64,
+    /// Records that the seat has left for new rows, without those of other seats.
+    pub records: u64,
+    /// Versions that it has committed, and below which `collect` has not come yet: they hold places.
+    pub queued: u64,
 }
 
 impl Seat {
@@ -259,20 +263,19 @@ impl Seat {
         self.answer(unsafe { sys::cicada_hear(self.at_connection(), stamp) }).map(drop)
     }
 
-    /// What a seat that makes no other call has to do now and then, so that the others need not wait for it; its stamp.
+    /// What a seat that makes no other call has to do a few times a second, so that the others need not wait for it; its stamp.
     pub fn rest(&mut self) -> Result<u64, Error> {
         let mut stamp = 0;
         // SAFETY: as for each call of a seat.
-        self.answer(unsafe { sys::cicada_tick(self.at_connection(), reading(), &mut stamp) })?;
-        self.collect()?;
+        self.answer(unsafe { sys::cicada_rest(self.at_connection(), reading(), &mut stamp) })?;
         Ok(stamp)
     }
 
-    /// How many transactions of this seat committed, and how many were refused.
+    /// What this seat has done, and what it has.
     pub fn counts(&mut self) -> Result<Counts, Error> {
         let mut counts = sys::Counts::default();
         // SAFETY: as for each call of a seat.
         self.answer(unsafe { sys::cicada_count(self.at_connection(), &mut counts) })?;
-        Ok(Counts { commits: counts.commits, refusals: counts.refusals })
+        Ok(Counts { commits: counts.commits, refusals: counts.refusals, records: counts.records, queued: counts.queued })
     }
 }

@@ -11,6 +11,8 @@ pub struct Connection {
 pub struct Counts {
     pub commits: u64,
     pub refusals: u64,
+    pub records: u64,
+    pub queued: u64,
 }
 
 pub const OK: i32 = 0;
@@ -64,6 +66,6 @@ extern "C" {
     pub fn cicada_remove(it: *mut Connection, table: u32, key: u64) -> i32;
     pub fn cicada_collect(it: *mut Connection, places: *mut u32) -> i32;
     pub fn cicada_hear(it: *mut Connection, stamp: u64) -> i32;
-    pub fn cicada_tick(it: *mut Connection, reading: u64, stamp: *mut u64) -> i32;
+    pub fn cicada_rest(it: *mut Connection, reading: u64, stamp: *mut u64) -> i32;
     pub fn cicada_count(it: *mut Connection, counts: *mut Counts) -> i32;
 }

@@ -95,13 +95,16 @@ counted_option before (Ok (Some rows)) = length rows
 counted_option before (Ok None) = before
 counted_option before (Err fault) = before
 
--- what is told of a connection: how many of its transactions committed, and how many were refused
+-- what is told of a connection: how many of its transactions committed, and how many were refused; how many numbers of records it has left, and
+-- how many versions are queued
 pub record Counts (before after' : ConnectionView) (answer : Result CicadaCounts CallFault) : Type 0 where
   pub kept : after' ≡ before
   pub misused : (answer ≡ Err Misused) ↔ (is_there before.opened ≡ false)
   pub only : OnErr answer (answer ≡ Err Misused)
   pub commits : IfOk answer (λ counts. (p : PassView) × (before.pass ≡ Some p) × (counts.commits ≡ p.commits))
   pub refusals : IfOk answer (λ counts. (p : PassView) × (before.pass ≡ Some p) × (counts.refusals ≡ p.refusals))
+  pub records : IfOk answer (λ counts. (p : PassView) × (before.pass ≡ Some p) × (counts.records ≡ length p.spare))
+  pub queued : IfOk answer (λ counts. (p : PassView) × (before.pass ≡ Some p) × (counts.queued ≡ length p.queue))
 
 -- ---- an export
 

@@ -66,7 +66,7 @@ pub extern "C" fn cicada_proved_opened(handle: &mut CicadaHandle) -> u32
     }
 }
 
-/// What a connection has done.
+/// What a connection has done, and what it has.
 #[derive(Clone, Copy, Drop)]
 #[repr(C)]
 pub struct CicadaCounts {
@@ -74,9 +74,13 @@ pub struct CicadaCounts {
     pub commits: u64,
     /// Transactions of the connection that were refused.
     pub refusals: u64,
+    /// Numbers of records that the connection has left for new rows.
+    pub records: u64,
+    /// Versions that it has committed, and below which nothing was taken back yet.
+    pub queued: u64,
 }
 
-/// What the connection has done.
+/// What the connection has done, and what it has.
 #[unsafe(no_mangle)]
 pub extern "C" fn cicada_proved_counts(
     handle: &mut CicadaHandle,
@@ -99,5 +103,12 @@ fn counted(connection: &Connection) -> Result<CicadaCounts, CallFault>
 {
     let commits = connection.commits()?;
     let refusals = connection.refusals()?;
-    Ok(CicadaCounts { commits, refusals })
+    let records = connection.spare_records()?;
+    let queued = connection.queued()?;
+    Ok(CicadaCounts {
+        commits,
+        refusals,
+        records: records as u64,
+        queued: queued as u64,
+    })
 }

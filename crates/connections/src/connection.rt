@@ -1,6 +1,6 @@
 //! A connection.
 
-ghost use Rattle.std.specs.Prelude.{◌≡◌};
+ghost use Rattle.std.specs.Prelude.{◌≡◌, length};
 ghost use Rattle.connections.specs.Calls.{Tells, is_there};
 ghost use Rattle.connections.specs.Connection.{IsConnection};
 
@@ -62,6 +62,26 @@ impl Connection {
     {
         match &self.pass {
             Some(pass) => Ok(pass.refusals()),
+            None => Err(CallFault::Misused),
+        }
+    }
+
+    /// How many numbers of records it has left for new rows. Those of other connections are not among them.
+    pub fn spare_records(&self) -> Result<u32, CallFault>
+        ensures { Tells (is_there self.now.opened) (λ p. length p.spare) self.now result }
+    {
+        match &self.pass {
+            Some(pass) => Ok(pass.spare()),
+            None => Err(CallFault::Misused),
+        }
+    }
+
+    /// How many versions that it has committed are queued: `collect` is still to take back what is older than these.
+    pub fn queued(&self) -> Result<usize, CallFault>
+        ensures { Tells (is_there self.now.opened) (λ p. length p.queue) self.now result }
+    {
+        match &self.pass {
+            Some(pass) => Ok(pass.queued()),
             None => Err(CallFault::Misused),
         }
     }

@@ -90,8 +90,9 @@ int32_t cicada_opened(cicada_connection *connection, uint32_t *opened);
 
 /* ---- transactions: all that one reads and writes happens at one moment, that of its stamp, or not at all */
 
-/* Begins a transaction. `reading` is what a clock shows that all threads read, in any unit: nanoseconds are best; 0 at each call counts. Stamps go by
- * it, and who lags is refused more often. NO_MEMORY, CLOCK_OUT. */
+/* Begins a transaction. `reading` is what a clock shows that all threads read, best in nanoseconds since the process began; 0 at each call counts. Stamps go
+ * by it, and who lags is refused more often. What is above 2^55 counts as 2^55: nanoseconds last 416 days, and those since 1970 do not serve.
+ * NO_MEMORY, CLOCK_OUT. */
 int32_t cicada_begin(cicada_connection *connection, uint64_t reading);
 
 /* Ends the transaction, whatever it answers but RANGE, MISUSED and BUSY. OK: it has committed at `stamp`. CONFLICT: `stamp` is to be heard before the

@@ -173,6 +173,14 @@ _library = _load()
  _count) = (getattr(_library, f"cicada_{name}") for name in _calls())
 
 
+# One clock for all seats, in nanoseconds: the engine takes no reading above 2^55, which are 416 days.
+_BEGAN = time.monotonic_ns()
+
+
+def _reading() -> int:
+    return time.monotonic_ns() - _BEGAN
+
+
 # What a transaction or a snapshot stands at once it has ended: a connection that was never opened, at which each call is misuse.
 _nowhere = ctypes.create_string_buffer(ctypes.sizeof(_Connection))
 _NOWHERE = ctypes.addressof(_nowhere)
@@ -390,7 +398,7 @@ class _Opened:
         self._seat = seat
 
     def __enter__(self) -> Transaction:
-        self._seat._check(_begin(self._seat._at, time.monotonic_ns()))
+        self._seat._check(_begin(self._seat._at, _reading()))
         self._txn = Transaction(self._seat)
         return self._txn
 
@@ -494,7 +502,7 @@ class Seat:
     def rest(self) -> int:
         """What a seat that makes no other call has to do a few times a second, so that the others need not wait for it; its stamp."""
         stamp = _U64()
-        self._check(_rest(self._at, time.monotonic_ns(), stamp))
+        self._check(_rest(self._at, _reading(), stamp))
         return stamp.value
 
     def counts(self) -> Counts:

@@ -19,6 +19,8 @@ mod due;
 #[cfg(test)]
 mod flights;
 #[cfg(test)]
+mod handing;
+#[cfg(test)]
 mod limits;
 #[cfg(test)]
 mod meeting;

@@ -6,7 +6,7 @@ use crate::alone::commit_and_settle;
 use crate::calls::{Step, Told, make_all};
 use crate::coming::{Size, begin, shared};
 use crate::flights::{Flight, cross_on, fly_and_settle, fly_on};
-use crate::{limits, refused, stress, threads};
+use crate::{handing, limits, refused, stress, threads};
 use histories::AnyState;
 use std::alloc::{AllocError, Global};
 use std::process::Abort;
@@ -42,6 +42,8 @@ pub enum Piece<'a> {
     MeetsPending,
     /// Transactions that ask for new numbers, where calls may be refused memory.
     AsksTwice,
+    /// Spare numbers that go from the first pass to the second.
+    Hands,
 }
 
 /// Plays on a new engine of so many seats.
@@ -86,6 +88,7 @@ fn play_on<R: Threads + Wait + Abort + Sync>(
         Piece::Crosses(due) => cross_on(rt, engine, alone, due),
         Piece::MeetsPending => refused::meet_pending_on(rt, engine, alone),
         Piece::AsksTwice => refused::ask_twice_on(rt, engine, alone),
+        Piece::Hands => handing::hand_on(rt, engine, alone),
     }
     Ok(())
 }

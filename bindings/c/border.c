@@ -1,68 +1,22 @@
 /* What stands between C and the proved exports of crates/cicada_c. It tests what no export can: null pointers, connections that are copied, closed or were
  * never opened, and two threads in one connection. No proof covers this file. */
-#include "cicada.h"
+#include "border.h"
 
-#include <stdbool.h>
 #include <string.h>
 
 _Static_assert(sizeof(cicada_connection) == 64, "a connection is 64 bytes");
 _Static_assert(sizeof(cicada_operation) == 72, "an operation is 72 bytes");
 
-/* ---- the exports, as crates/cicada_c declares them; where `noted` is given, it is written at CONFLICT alone */
-
-typedef struct {
-    void *at;
-} handle;
-
-typedef struct {
-    uint64_t stamp;
-    uint32_t record;
-} conflict;
-
-int32_t cicada_proved_open(uint32_t rows, uint32_t spare, void **out, size_t count, conflict *noted);
-void cicada_proved_close(handle *it);
-void cicada_proved_free(handle it);
-uint32_t cicada_proved_opened(handle *it);
-int32_t cicada_proved_begin(handle *it, uint64_t reading, conflict *noted);
-int32_t cicada_proved_commit(handle *it, uint64_t *stamp, conflict *noted);
-int32_t cicada_proved_abort(handle *it, conflict *noted);
-int32_t cicada_proved_snapshot(handle *it, conflict *noted);
-int32_t cicada_proved_finish(handle *it, uint64_t *stamp, conflict *noted);
-int32_t cicada_proved_get(handle *it, uint32_t table, uint64_t key, uint64_t *row, conflict *noted);
-int32_t cicada_proved_put(handle *it, uint32_t table, uint64_t key, const uint64_t *row, conflict *noted);
-int32_t cicada_proved_remove(handle *it, uint32_t table, uint64_t key, conflict *noted);
-int32_t cicada_proved_list(handle *it, uint32_t table, uint64_t low, uint64_t high, uint32_t limit, uint64_t *keys, size_t key_count,
-                           uint64_t (*rows)[CICADA_COLUMNS], size_t row_count, size_t *count, conflict *noted);
-int32_t cicada_proved_find(handle *it, uint32_t table, uint32_t column, uint64_t low, uint64_t high, uint32_t limit, uint64_t *keys, size_t key_count,
-                           uint64_t (*rows)[CICADA_COLUMNS], size_t row_count, size_t *count, conflict *noted);
-int32_t cicada_proved_declare_index(handle *it, uint32_t table, uint32_t column, conflict *noted);
-int32_t cicada_proved_collect(handle *it, uint32_t *places, conflict *noted);
-int32_t cicada_proved_hear(handle *it, uint64_t stamp, conflict *noted);
-int32_t cicada_proved_tick(handle *it, uint64_t reading, uint64_t *stamp, conflict *noted);
-int32_t cicada_proved_counts(handle *it, cicada_counts *counts, conflict *noted);
-
-/* ---- into a connection, and out of it */
-
-enum { FREE = 0, TAKEN = 1 };
-
 /* More rows than an engine can have. */
 enum { ALL_ROWS = 200000 };
 
-/* OK: this call alone is in the connection, and leaves it by `leave`. */
-static int32_t take(cicada_connection *it) {
-    if (it == NULL) return CICADA_RANGE;
-    if (it->home != it) return CICADA_MISUSED;
-    if (__atomic_exchange_n(&it->word, TAKEN, __ATOMIC_SEQ_CST) != FREE) return CICADA_BUSY;
-    return CICADA_OK;
-}
+/* ---- into a connection, and out of it */
 
-static void give_back(cicada_connection *it) { __atomic_store_n(&it->word, FREE, __ATOMIC_SEQ_CST); }
-
-/* The same, of a connection that is not closed. */
+/* OK: this call alone is in the connection, which is not closed, and leaves it by `leave`. */
 static int32_t enter(cicada_connection *it) {
-    int32_t status = take(it);
+    int32_t status = claim(it);
     if (status == CICADA_OK && it->at == NULL) {
-        give_back(it);
+        release(it);
         return CICADA_MISUSED;
     }
     return status;
@@ -74,11 +28,9 @@ static int32_t leave(cicada_connection *it, const conflict *noted, int32_t statu
         it->record = noted->record;
         it->met = true;
     }
-    give_back(it);
+    release(it);
     return status;
 }
-
-static handle *handle_of(cicada_connection *it) { return (handle *)&it->at; }
 
 /* ---- opening and closing */
 
@@ -97,23 +49,19 @@ int32_t cicada_open(uint32_t rows, uint32_t spare, cicada_connection *connection
 }
 
 int32_t cicada_close(cicada_connection *it) {
-    int32_t status = take(it);
+    int32_t status = claim(it);
     if (status != CICADA_OK) return status;
-    if (it->at != NULL) {
-        cicada_proved_close(handle_of(it));
-        cicada_proved_free(*handle_of(it));
-        it->at = NULL;
-    }
-    give_back(it);
+    close_claimed(it);
+    release(it);
     return CICADA_OK;
 }
 
 int32_t cicada_opened(cicada_connection *it, uint32_t *opened) {
     if (opened == NULL) return CICADA_RANGE;
-    int32_t status = take(it);
+    int32_t status = claim(it);
     if (status != CICADA_OK) return status;
     *opened = it->at == NULL ? (uint32_t)CICADA_CLOSED : cicada_proved_opened(handle_of(it));
-    give_back(it);
+    release(it);
     return CICADA_OK;
 }
 
@@ -132,6 +80,7 @@ int32_t cicada_commit(cicada_connection *it, uint64_t *stamp, uint32_t *record) 
     int32_t status = enter(it);
     if (status != CICADA_OK) return status;
     status = cicada_proved_commit(handle_of(it), stamp, &noted);
+    if (status == CICADA_OK) it->committed = *stamp;
     if (status == CICADA_CONFLICT) {
         *stamp = noted.stamp;
         if (record != NULL) *record = noted.record;
@@ -156,7 +105,7 @@ int32_t cicada_conflict(cicada_connection *it, uint64_t *stamp, uint32_t *record
     } else {
         status = CICADA_ABSENT;
     }
-    give_back(it);
+    release(it);
     return status;
 }
 
@@ -297,7 +246,7 @@ int32_t cicada_apply(cicada_connection *it, cicada_operation *operations, size_t
     if (status != CICADA_OK) return status;
     uint32_t opened = cicada_proved_opened(handle_of(it));
     if (opened != CICADA_TRANSACTION && opened != CICADA_SNAPSHOT) {
-        give_back(it);
+        release(it);
         return CICADA_MISUSED;
     }
     size_t i = 0;
@@ -376,8 +325,8 @@ const char *cicada_status_text(int32_t status) {
     case CICADA_NO_MEMORY: return "no memory is left";
     case CICADA_CLOCK_OUT: return "the clock of the connection has come to its end";
     case CICADA_RANGE: return "a number is out of its range, or a pointer is null";
-    case CICADA_MISUSED: return "what is open at the connection does not fit the call, or it is closed or copied";
-    case CICADA_BUSY: return "another call is in this connection";
+    case CICADA_MISUSED: return "what is open at the connection does not fit the call, or it is closed, copied or in a pool";
+    case CICADA_BUSY: return "another call is in this connection, or all of the pool are taken";
     default: return "this is no status";
     }
 }

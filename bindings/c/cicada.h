@@ -47,8 +47,10 @@ typedef enum {
                                 nothing, and abort is the one call that is left. */
     CICADA_CLOCK_OUT = 6,    /* The clock of the connection has come to its end. As before. Close the connection; others go on. */
     CICADA_RANGE = 7,        /* A number is out of its range, or a pointer is null. As before. The call has to be mended. */
-    CICADA_MISUSED = 8,      /* What is open does not fit the call, or the connection is closed, copied, or was never opened. As before. Mend the call. */
-    CICADA_BUSY = 9          /* Another call is in this connection at this moment. As before, but for that other call. Mend the threads. */
+    CICADA_MISUSED = 8,      /* What is open does not fit the call, or the connection is closed, copied, in a pool, or was never opened. As before. Mend
+                                the call. */
+    CICADA_BUSY = 9          /* Another call is in this connection at this moment. As before, but for that other call. Mend the threads. Of a pool: all
+                                of its connections are taken. Give one back, and take again. */
 } cicada_status;
 
 /* A sentence for each status, in English, without a full stop. */
@@ -65,7 +67,9 @@ typedef struct cicada_connection {
     uint32_t record;
     uint32_t met;
     uint32_t word;
-    uint32_t reserved[7];
+    uint32_t reserved;
+    uint64_t committed;
+    uint64_t more[2];
 } cicada_connection;
 
 /* Makes an engine of eight empty tables, with so many connections (1 to 64), records for rows (0 to CICADA_MOST_ROWS) and spare places for versions (1
@@ -183,6 +187,34 @@ typedef struct cicada_counts {
     uint64_t queued;    /* versions that it has committed, and below which collect has not come yet: they hold places */
 } cicada_counts;
 int32_t cicada_count(cicada_connection *connection, cicada_counts *counts);
+
+/* ---- a pool: connections for threads that come and go, or that are more than the connections; it may be called by all threads at once */
+
+/* Connections that go round: who takes one gets that which has rested longest. So none of them rests while others work, and the records of rows that are
+ * removed come to all. It stays where cicada_share wrote it: a copy answers MISUSED. */
+typedef struct cicada_pool {
+    CICADA_ALIGNED void *home;
+    cicada_connection *connections;
+    uint64_t count;
+    uint64_t tickets;
+    uint64_t committed;
+    uint64_t rested[CICADA_MOST_CONNECTIONS];
+} cicada_pool;
+
+/* Puts connections into a new pool, side by side as cicada_open wrote them (1 to 64); nothing is open at any. Each is used from now on by who has taken it, and
+ * lives until the pool is closed. Nothing is written where it does not answer OK. RANGE, MISUSED (one of them is in a pool, closed, or has something open),
+ * BUSY (another call is in one). */
+int32_t cicada_share(cicada_connection *connections, size_t count, cicada_pool *pool);
+
+/* Takes the connection that has rested longest. All that was committed at connections of this pool before they were given back is below its next stamp: its
+ * next transaction sees it. RANGE, MISUSED, BUSY (all are taken). */
+int32_t cicada_take(cicada_pool *pool, cicada_connection **connection);
+
+/* Gives a connection back that was taken from this pool. RANGE, MISUSED (it was not, or is closed, or something is open: it stays with the caller), BUSY. */
+int32_t cicada_give_back(cicada_pool *pool, cicada_connection *connection);
+
+/* Closes all connections of a pool, and the pool. OK also where it is closed already. BUSY: some are taken, and none was closed. RANGE, MISUSED. */
+int32_t cicada_close_pool(cicada_pool *pool);
 
 #ifdef __cplusplus
 }

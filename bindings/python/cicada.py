@@ -14,8 +14,10 @@ The library is looked for where CICADA_LIBRARY says, beside this file, and where
 """
 from __future__ import annotations
 
+import contextlib
 import ctypes
 import os
+import threading
 import time
 from collections.abc import Callable, Iterable, Iterator, Sequence
 from types import TracebackType
@@ -123,6 +125,10 @@ class _Connection(ctypes.Structure):
     _fields_ = [("content", _U64 * 8)]
 
 
+class _Pool(ctypes.Structure):
+    _fields_ = [("content", _U64 * 72)]
+
+
 class _Counts(ctypes.Structure):
     _fields_ = [("commits", _U64), ("refusals", _U64), ("records", _U64), ("queued", _U64)]
 
@@ -153,6 +159,10 @@ def _calls() -> dict[str, list[Any]]:
         "hear": [at, _U64],
         "rest": [at, _U64, u64],
         "count": [at, ctypes.POINTER(_Counts)],
+        "share": [at, _SIZE, at],
+        "take": [at, ctypes.POINTER(at)],
+        "give_back": [at, at],
+        "close_pool": [at],
     }
 
 
@@ -170,7 +180,7 @@ def _load() -> ctypes.CDLL:
 
 _library = _load()
 (_open, _close, _begin, _commit, _abort, _conflict, _snapshot, _finish, _get, _list, _find, _declare_index, _put, _remove, _apply, _collect, _hear, _rest,
- _count) = (getattr(_library, f"cicada_{name}") for name in _calls())
+ _count, _share, _take, _give_back, _close_pool) = (getattr(_library, f"cicada_{name}") for name in _calls())
 
 
 # One clock for all seats, in nanoseconds: the engine takes no reading above 2^55, which are 416 days.
@@ -533,17 +543,57 @@ class Engine:
         if not 1 <= _number(seats, 64, "seats"):
             raise OutOfRangeError("seats is a number from 1 to 64, and not 0")
         size = ctypes.sizeof(_Connection)
-        self._memory = ctypes.create_string_buffer(size * (seats + 1))
-        first = (ctypes.addressof(self._memory) + size - 1) // size * size
-        status = _open(rows, spare, first, seats)
+        self._memory = ctypes.create_string_buffer(size * (seats + 1) + ctypes.sizeof(_Pool))
+        self._first = (ctypes.addressof(self._memory) + size - 1) // size * size
+        self._pool: Optional[int] = None
+        self._sharing = threading.RLock()
+        status = _open(rows, spare, self._first, seats)
         if status:
             raise _error(status)
-        self.seats = [Seat(self, first + size * i) for i in range(seats)]
+        self.seats = [Seat(self, self._first + size * i) for i in range(seats)]
+
+    def share(self) -> None:
+        """Lets the seats go round from now on: each is used by who has taken it, and no longer by way of `seats`. MisusedError: something is open at one
+        of them, or one is closed, or they go round already."""
+        with self._sharing:
+            if self._pool is not None:
+                raise _error(MisusedError.status)
+            pool = self._first + ctypes.sizeof(_Connection) * len(self.seats)
+            status = _share(self._first, len(self.seats), pool)
+            if status:
+                raise _error(status)
+            self._pool = pool
+
+    @contextlib.contextmanager
+    def seat(self) -> Iterator[Seat]:
+        """`with engine.seat() as seat:` takes the seat that has rested longest, and gives it back at the end of the body. It sees all that was committed at
+        seats that had been given back. BusyError: all are taken."""
+        with self._sharing:
+            if self._pool is None:
+                self.share()
+        at = ctypes.c_void_p()
+        status = _take(self._pool, at)
+        if status:
+            raise _error(status)
+        seat = self.seats[((at.value or 0) - self._first) // ctypes.sizeof(_Connection)]
+        try:
+            yield seat
+        finally:
+            # (one that was closed in the body is not given back)
+            _give_back(self._pool, seat._at)
+
+    def _close_all(self) -> int:
+        """Closes the seats that are taken, or go round no more, and then those that rest; the last status that is none of these."""
+        statuses = [_close(seat._at) for seat in self.seats]
+        if self._pool is not None:
+            statuses = [status for status in statuses if status != MisusedError.status] + [_close_pool(self._pool)]
+        return max([0, *statuses])
 
     def close(self) -> None:
-        """Closes all seats."""
-        for seat in self.seats:
-            seat.close()
+        """Closes all seats. It may be closed again."""
+        status = self._close_all()
+        if status:
+            raise _error(status)
 
     def __enter__(self) -> Engine:
         return self
@@ -552,5 +602,5 @@ class Engine:
         self.close()
 
     def __del__(self) -> None:
-        for seat in self.seats:
-            _close(seat._at)
+        if self.seats:
+            self._close_all()

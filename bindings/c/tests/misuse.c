@@ -4,10 +4,11 @@
 #include "cases.h"
 #include <string.h>
 
-enum { NOTHING, TRANSACTION, SPOILED, SNAPSHOT, CLOSED, NEVER_OPENED, COPIED, NO_CONNECTION, STATES };
-static const char *const state_names[STATES] = {"nothing", "transaction", "spoiled", "snapshot", "closed", "never opened", "copied", "null"};
+enum { NOTHING, TRANSACTION, SPOILED, SNAPSHOT, CLOSED, NEVER_OPENED, COPIED, IN_POOL, NO_CONNECTION, STATES };
+static const char *const state_names[STATES] = {"nothing", "transaction", "spoiled", "snapshot", "closed", "never opened", "copied", "in a pool", "null"};
 
 static cicada_connection home, place;
+static cicada_pool pool;
 static uint64_t row[CICADA_COLUMNS] = {1, 2, 3, 4, 5, 6}, got[CICADA_COLUMNS], keys[4], rows[4][CICADA_COLUMNS], stamp;
 static uint32_t record, number;
 static size_t listed, there, done;
@@ -90,6 +91,7 @@ static cicada_connection *in_state(int state) {
         for (uint64_t key = 10; cicada_put(&home, 0, key, row) == CICADA_OK;) key++;
     if (state == SNAPSHOT) cicada_snapshot(&home);
     if (state == CLOSED) cicada_close(&home);
+    if (state == IN_POOL) cicada_share(&home, 1, &pool);
     if (state != COPIED) return &home;
     place = home;
     return &place;
@@ -114,6 +116,7 @@ static void each_call_in_each_state(void) {
             if (state <= SNAPSHOT)
                 holds(open_at(it) == what[(int)calls[i].then[state]], "%s in state %s leaves %u", calls[i].name, state_names[state], open_at(it));
             if (state == CLOSED) holds(open_at(it) == CICADA_CLOSED, "%s opens what is closed", calls[i].name);
+            if (state == IN_POOL) holds(cicada_take(&pool, &it) == CICADA_OK && it == &home && open_at(it) == CICADA_NOTHING, "%s leaves the pool as it was", calls[i].name);
             if (state != NEVER_OPENED && state != NO_CONNECTION) holds(cicada_close(&home) == CICADA_OK, "close behind %s", calls[i].name);
         }
 }

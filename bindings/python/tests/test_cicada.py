@@ -2,6 +2,7 @@
 import gc
 import random
 import threading
+import time
 import unittest
 
 import cicada
@@ -277,9 +278,63 @@ class Calls(unittest.TestCase):
             self.assertTrue(all(row[0] == key for key, row in rows))
             self.assertEqual(sum(seat.counts()[0] for seat in engine.seats), 4 * rounds + 1)
 
+    def test_seats_that_go_round(self):
+        with cicada.Engine(seats=2, rows=1000) as engine:
+            for turn in range(6):
+                with engine.seat() as seat:
+                    self.assertIs(seat, engine.seats[turn % 2])
+                    # (the one before it was another seat)
+                    self.assertEqual(seat.transact(lambda txn: txn.get(0, 1)), (turn, 0, 0, 0, 0, 0) if turn else None)
+                    seat.transact(lambda txn: txn.put(0, 1, (turn + 1,)))
+            with engine.seat(), engine.seat():
+                with self.assertRaises(cicada.BusyError), engine.seat():
+                    pass
+            with self.assertRaises(ZeroDivisionError), engine.seat() as seat, seat.transaction() as txn:
+                txn.put(0, 1, (1 // 0,))
+            with engine.seat() as one, engine.seat() as two:
+                self.assertIsNot(one, two)
+            for call in (engine.seats[0].collect, engine.seats[0].close, engine.share):
+                self.assertRaises(cicada.MisusedError, call)
+        engine.close()
+        with self.assertRaises(cicada.MisusedError), engine.seat():
+            pass
+
+    def test_seats_do_not_go_round_while_one_has_something_open(self):
+        with self.seat.transaction(), self.assertRaises(cicada.MisusedError):
+            self.engine.share()
+        self.engine.share()
+        with self.engine.seat() as seat:
+            seat.close()
+        with self.engine.seat() as seat:
+            self.assertIs(seat, self.other)
+
+    def test_threads_that_share_seats(self):
+        threads, turns = 6, 100
+        with cicada.Engine(seats=2, rows=1000) as engine:
+
+            def work():
+                for _ in range(turns):
+                    while True:
+                        try:
+                            with engine.seat() as seat:
+                                seat.transact(lambda txn: txn.put(0, 1, ((txn.get(0, 1) or (0,))[0] + 1,)))
+                            break
+                        except cicada.BusyError:
+                            time.sleep(0)
+
+            working = [threading.Thread(target=work) for _ in range(threads)]
+            for thread in working:
+                thread.start()
+            for thread in working:
+                thread.join()
+            with engine.seat() as seat:
+                self.assertEqual(seat.transact(lambda txn: txn.get(0, 1))[0], threads * turns)
+
     def test_an_engine_that_is_let_go(self):
-        for _ in range(50):
-            cicada.Engine(seats=8, rows=1000)
+        for turn in range(50):
+            engine = cicada.Engine(seats=8, rows=1000)
+            if turn % 2:
+                engine.share()
         gc.collect()
 
 

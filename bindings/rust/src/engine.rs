@@ -1,6 +1,6 @@
 //! An engine, and its seats.
 use crate::{seat::Block, sys, Error, Seat};
-use std::sync::{Arc, Mutex, MutexGuard, PoisonError};
+use std::{cell::UnsafeCell, fmt, mem::MaybeUninit, ptr::null_mut, sync::Arc};
 
 /// How large an engine is.
 #[derive(Debug, Clone, Copy)]
@@ -15,18 +15,42 @@ pub struct Sizes {
 
 /// An engine of eight empty tables. It keeps the seats that nobody has, and may be shared by threads.
 ///
+/// Seats go round: who takes one gets that which has rested longest, and sees all that was committed at seats that had been given back. So none of them
+/// rests while others work.
+///
 /// ```
 /// use cicada::{Engine, Error, Read};
 ///
 /// let engine = Engine::open(2, 1000)?;
 /// let mut seat = engine.take().expect("nobody has it");
 /// seat.transact(|txn| txn.put(0, 7, &[1, 2, 3, 4, 5, 6]))?;
-/// assert_eq!(seat.transact(|txn| txn.get(0, 7))?, Some([1, 2, 3, 4, 5, 6]));
-/// engine.give_back(seat);
+/// engine.give_back(seat).expect("it is of this engine");
+/// let mut other = engine.take().expect("nobody has it");
+/// assert_eq!(other.transact(|txn| txn.get(0, 7))?, Some([1, 2, 3, 4, 5, 6]));
 /// # Ok::<(), Error>(())
 /// ```
 pub struct Engine {
-    idle: Mutex<Vec<Seat>>,
+    block: Arc<Block>,
+    pool: Box<UnsafeCell<MaybeUninit<sys::Pool>>>,
+}
+
+// SAFETY: the calls of a pool may be made by all threads at once, and seats may go to another thread.
+unsafe impl Send for Engine {}
+unsafe impl Sync for Engine {}
+
+impl Drop for Engine {
+    // Closes the seats that nobody has.
+    fn drop(&mut self) {
+        while let Some(seat) = self.take() {
+            drop(seat);
+        }
+    }
+}
+
+impl fmt::Debug for Engine {
+    fn fmt(&self, f: &mut fmt::Formatter<'_>) -> fmt::Result {
+        f.debug_struct("Engine").finish_non_exhaustive()
+    }
 }
 
 impl Engine {
@@ -41,38 +65,58 @@ impl Engine {
             return Err(Error::Range);
         }
         let block = Arc::new(Block::of(sizes.seats));
-        // SAFETY: the block has room for so many connections, and stays where it is until its last seat has gone.
+        let pool = Box::new(UnsafeCell::new(MaybeUninit::zeroed()));
+        // SAFETY: the block has room for so many connections, and stays where it is until its last seat has gone; so does the pool until the engine has.
         let status = unsafe { sys::cicada_open(sizes.rows, sizes.spare, block.at(0), sizes.seats) };
         if status != sys::OK {
             return Err(crate::seat::error_of(status, None));
         }
-        let seats = (0..sizes.seats).rev().map(|place| Seat::of(&block, place)).collect();
-        Ok(Engine { idle: Mutex::new(seats) })
+        let engine = Engine { block, pool };
+        // SAFETY: the same.
+        match unsafe { sys::cicada_share(engine.block.at(0), sizes.seats, engine.at_pool()) } {
+            sys::OK => Ok(engine),
+            status => Err(crate::seat::error_of(status, None)),
+        }
     }
 
-    fn idle(&self) -> MutexGuard<'_, Vec<Seat>> {
-        self.idle.lock().unwrap_or_else(PoisonError::into_inner)
+    fn at_pool(&self) -> *mut sys::Pool {
+        self.pool.get().cast()
     }
 
-    /// A seat that nobody has, if there is one.
+    /// The seat that has rested longest of those that nobody has; `None` where all are taken.
     pub fn take(&self) -> Option<Seat> {
-        self.idle().pop()
+        let mut at = null_mut();
+        // SAFETY: the pool stays where it is.
+        let status = unsafe { sys::cicada_take(self.at_pool(), &mut at) };
+        (status == sys::OK).then(|| Seat::of(&self.block, at))
     }
 
-    /// Takes a seat back. Seats that nobody has rest: [`rest`](Engine::rest) has to be called now and then.
-    pub fn give_back(&self, seat: Seat) {
-        self.idle().push(seat);
+    /// Takes a seat back. One of another engine is handed back.
+    pub fn give_back(&self, seat: Seat) -> Result<(), Seat> {
+        // SAFETY: the pool and the connection stay where they are, and nobody else has the seat.
+        match unsafe { sys::cicada_give_back(self.at_pool(), seat.at_connection()) } {
+            sys::OK => {
+                seat.let_go();
+                Ok(())
+            }
+            _ => Err(seat),
+        }
     }
 
-    /// Lets the seats that nobody has tick and collect, so that the others need not wait for them.
+    /// Lets the seats that nobody has tick and collect, so that others need not wait for them. While seats are taken again and again, it is not needed.
     pub fn rest(&self) -> Result<(), Error> {
-        self.idle().iter_mut().try_for_each(|seat| seat.rest().map(drop))
+        for _ in 0..self.block.len() {
+            let Some(mut seat) = self.take() else { break };
+            let rested = seat.rest();
+            // (it is of this engine, and nothing is open there)
+            let _given = self.give_back(seat);
+            rested?;
+        }
+        Ok(())
     }
 
     /// All seats that nobody has.
     pub fn into_seats(self) -> Vec<Seat> {
-        let mut seats = self.idle.into_inner().unwrap_or_else(PoisonError::into_inner);
-        seats.reverse();
-        seats
+        std::iter::from_fn(|| self.take()).collect()
     }
 }

@@ -3,9 +3,12 @@ use crate::{sys, Error, Txn, View};
 use std::{
     cell::UnsafeCell,
     fmt,
-    mem::MaybeUninit,
-    ptr::NonNull,
-    sync::{Arc, OnceLock},
+    mem::{ManuallyDrop, MaybeUninit},
+    ptr::{self, NonNull},
+    sync::{
+        atomic::{AtomicU32, Ordering},
+        Arc, OnceLock,
+    },
     thread,
     time::{Duration, Instant},
 };
@@ -15,9 +18,10 @@ const TRIES: u32 = 10_000;
 /// After so many transactions a seat collects.
 const BETWEEN_COLLECTIONS: u32 = 64;
 
-// The connections of an engine, which stay where they are.
+// The connections of an engine, which stay where they are, and how many transactions each has made since it collected.
 pub(crate) struct Block {
     connections: Box<[UnsafeCell<MaybeUninit<sys::Connection>>]>,
+    since: Box<[AtomicU32]>,
 }
 
 // SAFETY: each connection is handed to the library by the one seat that has it.
@@ -27,7 +31,12 @@ unsafe impl Sync for Block {}
 impl Block {
     pub(crate) fn of(count: usize) -> Self {
         let connections = (0..count).map(|_| UnsafeCell::new(MaybeUninit::zeroed())).collect();
-        Block { connections }
+        let since = (0..count).map(|_| AtomicU32::new(0)).collect();
+        Block { connections, since }
+    }
+
+    pub(crate) fn len(&self) -> usize {
+        self.connections.len()
     }
 
     pub(crate) fn at(&self, place: usize) -> *mut sys::Connection {
@@ -38,8 +47,7 @@ impl Block {
 /// A seat of an engine. It may go to another thread. A call takes it by `&mut`, so no two overlap; one that is let go is closed.
 pub struct Seat {
     at: NonNull<sys::Connection>,
-    _block: Arc<Block>,
-    since: u32,
+    block: Arc<Block>,
 }
 
 // SAFETY: that a connection may go to another thread is proved of its type, in `crates/cicada_c/src/handle.rt`.
@@ -109,9 +117,23 @@ pub struct Counts {
 }
 
 impl Seat {
-    pub(crate) fn of(block: &Arc<Block>, place: usize) -> Self {
-        let at = NonNull::new(block.at(place)).expect("a place of a block");
-        Seat { at, _block: block.clone(), since: 0 }
+    pub(crate) fn of(block: &Arc<Block>, at: *mut sys::Connection) -> Self {
+        let at = NonNull::new(at).expect("a connection of a block");
+        Seat { at, block: block.clone() }
+    }
+
+    // Lets the seat go without closing it.
+    pub(crate) fn let_go(self) {
+        let seat = ManuallyDrop::new(self);
+        // SAFETY: nothing of the seat is used any more.
+        drop(unsafe { ptr::read(&seat.block) });
+    }
+
+    // How many transactions it has made since it collected.
+    fn since(&self) -> &AtomicU32 {
+        // SAFETY: it is a connection of the block.
+        let place = unsafe { self.at.as_ptr().offset_from(self.block.at(0)) };
+        &self.block.since[place as usize]
     }
 
     pub(crate) fn at_connection(&self) -> *mut sys::Connection {
@@ -217,9 +239,8 @@ impl Seat {
 
     // Collects now and then.
     fn count_one(&mut self) {
-        self.since += 1;
-        if self.since >= BETWEEN_COLLECTIONS {
-            self.since = 0;
+        if self.since().fetch_add(1, Ordering::Relaxed) + 1 >= BETWEEN_COLLECTIONS {
+            self.since().store(0, Ordering::Relaxed);
             // (nothing is open, so it is done)
             let _collected = self.collect();
         }

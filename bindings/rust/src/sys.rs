@@ -6,6 +6,11 @@ pub struct Connection {
     pub content: [u64; 8],
 }
 
+#[repr(C, align(64))]
+pub struct Pool {
+    pub content: [u64; 72],
+}
+
 #[repr(C)]
 #[derive(Clone, Copy, Default)]
 pub struct Counts {
@@ -68,4 +73,7 @@ extern "C" {
     pub fn cicada_hear(it: *mut Connection, stamp: u64) -> i32;
     pub fn cicada_rest(it: *mut Connection, reading: u64, stamp: *mut u64) -> i32;
     pub fn cicada_count(it: *mut Connection, counts: *mut Counts) -> i32;
+    pub fn cicada_share(connections: *mut Connection, count: usize, pool: *mut Pool) -> i32;
+    pub fn cicada_take(pool: *mut Pool, it: *mut *mut Connection) -> i32;
+    pub fn cicada_give_back(pool: *mut Pool, it: *mut Connection) -> i32;
 }

@@ -17,6 +17,63 @@ fn sizes_out_of_range() {
 }
 
 #[test]
+fn seats_go_round() {
+    let engine = Engine::open(2, 1000).unwrap();
+    for turn in 0..6_u64 {
+        let mut seat = engine.take().unwrap();
+        let before = seat.transact(|txn| txn.get::<Columns>(0, 1)).unwrap();
+        // (the one before it was another seat)
+        assert_eq!(before.map(|row| row[0]), (turn > 0).then_some(turn));
+        seat.transact(|txn| txn.put(0, 1, &[turn + 1, 0, 0, 0, 0, 0])).unwrap();
+        engine.give_back(seat).unwrap();
+    }
+    let (one, two) = (engine.take().unwrap(), engine.take().unwrap());
+    assert!(engine.take().is_none());
+    engine.give_back(one).unwrap();
+    drop(two);
+    assert_eq!(engine.rest(), Ok(()));
+    assert_eq!(engine.into_seats().len(), 1);
+}
+
+#[test]
+fn a_seat_of_another_engine_is_handed_back() {
+    let (engine, other) = (Engine::open(1, 100).unwrap(), Engine::open(1, 100).unwrap());
+    let seat = other.take().unwrap();
+    let mut seat = engine.give_back(seat).unwrap_err();
+    assert_eq!(seat.transact(|txn| txn.put(0, 1, &ROW)), Ok(()));
+    drop(other);
+    assert_eq!(seat.transact(|txn| txn.get::<Columns>(0, 1)), Ok(Some(ROW)));
+}
+
+#[test]
+fn threads_share_seats() {
+    let engine = Engine::open(2, 1000).unwrap();
+    std::thread::scope(|scope| {
+        for _ in 0..6 {
+            scope.spawn(|| {
+                for _ in 0..100 {
+                    let mut seat = loop {
+                        match engine.take() {
+                            Some(seat) => break seat,
+                            None => std::thread::yield_now(),
+                        }
+                    };
+                    let counted = seat.transact(|txn| {
+                        let [count, rest @ ..] = txn.get::<Columns>(0, 1)?.unwrap_or_default();
+                        let [a, b, c, d, e] = rest;
+                        txn.put(0, 1, &[count + 1, a, b, c, d, e])
+                    });
+                    assert_eq!(counted, Ok(()));
+                    engine.give_back(seat).unwrap();
+                }
+            });
+        }
+    });
+    let mut seat = engine.take().unwrap();
+    assert_eq!(seat.transact(|txn| txn.get::<Columns>(0, 1)).unwrap().unwrap()[0], 600);
+}
+
+#[test]
 fn a_panic_ends_the_transaction() {
     let mut seat = one();
     let panicked = catch_unwind(AssertUnwindSafe(|| {

@@ -4,7 +4,7 @@ ghost use Rattle.std.specs.Prelude.{◌≡◌, ℕ, ◌+◌, ◌<◌, ◌≤◌,
 ghost use Rattle.record_store.specs.Goes.{WalksByReads, WalksByCalls, WalksCounting};
 ghost use Rattle.record_store.specs.Limits.{record_limit};
 ghost use Rattle.record_store.specs.States.{EachState};
-ghost use Rattle.record_store.specs.Walks.{IfTorn};
+ghost use Rattle.record_store.specs.Walks.{IfTorn, OnlyReads};
 ghost use Rattle.record_store.specs.Writes.{WritesAtMost, WritesOnly, EachWritesKnown};
 ghost use Rattle.hash_index.specs.Chain.{EachChain, RowEndsWell, bucket_of, record_of};
 ghost use Rattle.hash_index.specs.Search.{AddsNode, IsInStore};
@@ -44,6 +44,7 @@ pub fn put<S: RecordStore>(
     ensures ok { OnOk result (PutsPair base key rid (S.meaning store.old) (S.meaning store.new)) }
     ensures walked { OnOk result (EachState (S.meaning store.old) (S.meaning store.new) (RowEndsWell (S.meaning store.old).size (base + bucket_of key) key)) }
     ensures torn { IfTorn result (IsTornChain base key (S.meaning store.old) (S.meaning store.new)) }
+    ensures unwritten { IfTorn result (λ _. OnlyReads (S.meaning store.old) (S.meaning store.new)) }
 
     // each ask of `fresh` is counted, and may be made
     ensures walk { WalksCounting S.read_gives S.write_gives S.fresh_gives S.meaning S.rest (PutMayAsk base key) (PutAsks base key) store.old store.new result }
@@ -106,6 +107,7 @@ pub fn remove<S: RecordStore>(store: &mut S, base: u32, key: u64) -> Result<bool
     ensures ok { IfOk result (λ was_there. RemovesPair base key was_there (S.meaning store.old) (S.meaning store.new)) }
     ensures walked { OnOk result (EachState (S.meaning store.old) (S.meaning store.new) (RowEndsWell (S.meaning store.old).size (base + bucket_of key) key)) }
     ensures torn { IfTorn result (IsTornChain base key (S.meaning store.old) (S.meaning store.new)) }
+    ensures unwritten { IfTorn result (λ _. OnlyReads (S.meaning store.old) (S.meaning store.new)) }
 
     // `fresh` is never asked
     ensures walk { WalksByCalls S.read_gives S.write_gives S.fresh_gives S.meaning S.rest (λ _. ⊥) 0 store.old store.new result }

@@ -54,6 +54,7 @@ pub fn enter<S: RecordStore>(
     ensures within { IfOk result (λ entering. IfTakes entering (λ entry. entry.1 < size)) }
     ensures there { IfOk result (λ entering. IfThere entering (OnlyReads (S.meaning store.old) (S.meaning store.new))) }
     ensures torn { IfTorn result (λ torn. ((content_at here.now).kind ≡ Inner) × EachState (S.meaning store.old) (S.meaning store.new) (λ state. TearsBelow size depth key (content_at here.now).entries state torn)) }
+    ensures unwritten { IfTorn result (λ _. OnlyReads (S.meaning store.old) (S.meaning store.new)) }
 
     // `fresh` is asked for a full node, where the key is not there
     ensures walk { WalksCounting S.read_gives S.write_gives S.fresh_gives S.meaning S.rest (MayAskUnder key (content_at here.now)) (AsksUnder key (content_at here.now) depth) store.old store.new result }

@@ -5,7 +5,7 @@ ghost use Rattle.record_store.specs.Goes.{WalksByReads, WalksByCalls, WalksCount
 ghost use Rattle.ordered_index.specs.Changes.{RemovesEntry, InsertsEntry};
 ghost use Rattle.record_store.specs.Writes.{EachWritesKnown};
 ghost use Rattle.ordered_index.specs.Asks.{InsertMayAsk, InsertAsks};
-ghost use Rattle.record_store.specs.Walks.{IfTorn};
+ghost use Rattle.record_store.specs.Walks.{IfTorn, OnlyReads};
 ghost use Rattle.ordered_index.specs.Tree.{EachTree, record_of_key};
 ghost use Rattle.record_store.specs.States.{EachState};
 ghost use Rattle.ordered_index.specs.Walk.{DescentEndsWell, IsTornTree};
@@ -47,6 +47,7 @@ pub fn remove<S: RecordStore>(store: &mut S, root: u32, key: Key) -> Result<bool
     ensures ok { IfOk result (λ was_there. RemovesEntry root key was_there (S.meaning store.old) (S.meaning store.new)) }
     ensures walked { OnOk result (EachState (S.meaning store.old) (S.meaning store.new) (DescentEndsWell (S.meaning store.old).size root key)) }
     ensures torn { IfTorn result (IsTornTree root key (S.meaning store.old) (S.meaning store.new)) }
+    ensures unwritten { IfTorn result (λ _. OnlyReads (S.meaning store.old) (S.meaning store.new)) }
 
     // `fresh` is never asked
     ensures walk { WalksByCalls S.read_gives S.write_gives S.fresh_gives S.meaning S.rest (λ _. ⊥) 0 store.old store.new result }
@@ -83,6 +84,7 @@ pub fn insert<S: RecordStore>(
     ensures ok { IfOk result (λ done. InsertsEntry root key rid done (S.meaning store.old) (S.meaning store.new)) }
     ensures walked { OnOk result (EachState (S.meaning store.old) (S.meaning store.new) (DescentEndsWell (S.meaning store.old).size root key)) }
     ensures torn { IfTorn result (IsTornTree root key (S.meaning store.old) (S.meaning store.new)) }
+    ensures unwritten { IfTorn result (λ _. OnlyReads (S.meaning store.old) (S.meaning store.new)) }
 
     // `fresh` is asked where the key is not there, and so often at most as new records are due
     ensures walk { WalksCounting S.read_gives S.write_gives S.fresh_gives S.meaning S.rest (InsertMayAsk root key) (InsertAsks root key) store.old store.new result }

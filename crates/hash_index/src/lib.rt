@@ -11,3 +11,4 @@ mod search;
 
 pub use index::{get, put, remove};
 pub use record_store::Walk;
+pub use search::bucket_at;

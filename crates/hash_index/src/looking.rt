@@ -9,7 +9,7 @@ ghost use Rattle.hash_index.specs.Looking.{IsSeen, RowAnswers};
 ghost use Rattle.hash_index.specs.Node.{IsNode};
 
 use crate::node::next_record;
-use crate::search::BUCKETS;
+use crate::search::bucket_at;
 use plain_data::Cells;
 use record_store::{RecordRead, Walk};
 
@@ -38,7 +38,7 @@ pub fn look<S: RecordRead>(
     ensures torn { IfTorn result (λ rid. EachState (S.meaning store.old) (S.meaning store.new) (λ state. RowTears size (base + bucket_of key) key state rid)) }
     ensures walk { WalksByReads S.read_gives S.meaning S.rest store.old store.new result }
 {
-    let mut at = base + (key % BUCKETS) as u32;
+    let mut at = bucket_at(base, key);
     let mut position = 0;
     let mut cells = Cells::new([0; 32]);
     loop {

@@ -1,6 +1,6 @@
 //! The walk over the nodes of a bucket.
 
-ghost use Rattle.std.specs.Prelude.{◌≡◌, ℕ, ◌+◌, ◌<◌, ◌≤◌, IfNone, IfOk, IfSome, OnOk, slice_index};
+ghost use Rattle.std.specs.Prelude.{◌≡◌, ℕ, ◌+◌, ◌^◌, ◌<◌, ◌≤◌, IfNone, IfOk, IfSome, OnOk, slice_index};
 ghost use Rattle.record_store.specs.Goes.{WalksByReads};
 ghost use Rattle.record_store.specs.Limits.{record_limit};
 ghost use Rattle.record_store.specs.States.{EachState};
@@ -15,7 +15,15 @@ use plain_data::Cells;
 use record_store::{RecordRead, Walk};
 
 /// The buckets of a base.
-pub const BUCKETS: u64 = 511;
+const BUCKETS: u64 = 511;
+
+/// The record of a key's bucket in the chain of `base`.
+pub fn bucket_at(base: u32, key: u64) -> u32
+    requires { base + 511 < 2 ^ 32 }
+    ensures { result ≡ base + bucket_of key }
+{
+    base + (key % BUCKETS) as u32
+}
 
 /// A node that was read: its record, its position in the row, the next one, and its words.
 #[derive(Clone, Copy)]
@@ -55,7 +63,7 @@ pub fn search<S: RecordRead>(
     ensures torn { IfTorn result (λ rid. EachState (S.meaning store.old) (S.meaning store.new) (λ state. RowTears size (base + bucket_of key) key state rid)) }
     ensures walk { WalksByReads S.read_gives S.meaning S.rest store.old store.new result }
 {
-    let bucket = base + (key % BUCKETS) as u32;
+    let bucket = bucket_at(base, key);
     let Some(mut here) = read_link(store, size, bucket, 0)? else {
         return Ok(Place::Empty(bucket));
     };

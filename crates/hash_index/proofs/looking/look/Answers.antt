@@ -1,6 +1,7 @@
-use Rattle.std.proofs.Common.{Ok, Some, sym, ap, ◌∙◌, arith}
+use Rattle.std.proofs.Common.{◌+◌, Ok, Some, sym, ap, ◌∙◌, arith}
 use Rattle.record_store.specs.Into.{value_if}
 use Rattle.record_store.proofs.Going.{reads_none, reads_refused, reads_done, reads_then}
+use Rattle.hash_index.specs.Chain.{bucket_of}
 use Rattle.hash_index.proofs.Seen.{found_within, next_within}
 use Rattle.hash_index.proofs.Looked.{each_read, look_at_none, look_begins, look_ends, look_finds, look_misses, look_steps, look_tears}
 use Rattle.hash_index.proofs.looking.look.Goals as goal
@@ -9,7 +10,7 @@ pub loop-cells-init : goal.loop-cells-init
 loop-cells-init g c = record {
   walk = reads_none c.args.store.now (Ok (tt {0})) (tt, tt);
   within = omega arith;
-  looked = λ state agrees. look_begins c.args.size _ c.args.key _;
+  looked = λ state agrees. rw c.bucket_at-at.ensures (look_begins c.args.size (c.args.base + bucket_of c.args.key) c.args.key _);
 }
 
 pub loop-cells-preserved : goal.loop-cells-preserved

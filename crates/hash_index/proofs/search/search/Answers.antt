@@ -14,7 +14,7 @@ loop-index-init g c =
       walk = reads_quiet c.args.store.now c.read_link.new.store (Ok (tt {0})) c.read_link.result (tt, tt) c.read_link.ensures.walk;
       here = link.in_store;
       room = tt;
-      walked = λ state agrees. (let read = rw c.in-Some.is at (c.in_ok-here.ensures.read state agrees) in walk_begins c.args.size _ c.args.key _ c.in-Some.here read.0 read.1 link.at);
+      walked = λ state agrees. (let read = rw c.in-Some.is at (c.in_ok-here.ensures.read state agrees) in rw c.bucket_at-bucket.ensures at (walk_begins c.args.size c.bucket_at-bucket.result c.args.key _ c.in-Some.here read.0 read.1 link.at));
     }
 
 pub returns-in-Some-find-clause-place : goal.returns-in-Some-find-clause-place

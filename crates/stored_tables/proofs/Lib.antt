@@ -3,6 +3,7 @@ pub mod Runs
 pub mod Looking
 pub mod SixColumns
 pub mod Tearing
+pub mod TornChanges
 pub mod Finding
 pub mod Heads
 pub mod Spots

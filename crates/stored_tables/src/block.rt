@@ -11,6 +11,7 @@ ghost use Rattle.stored_tables.specs.Blocks.{Called, IfRefused, RanTo, SawTo};
 ghost use Rattle.stored_tables.specs.Plan.{MayAsk, run_plan};
 ghost use Rattle.stored_tables.specs.Runs.{Looks, Runs};
 ghost use Rattle.stored_tables.specs.Tables.{EachTables};
+ghost use Rattle.stored_tables.specs.Tears.{NamesTorn, NamesTornChange, OfCommand};
 
 use crate::command::{read_command, run_command};
 use record_store::{RecordRead, RecordStore, Walk};
@@ -30,6 +31,7 @@ pub fn exec_txn<S: RecordStore>(
     ensures outcome { IfOk result (λ outcome. EachTables (S.meaning store.old) (S.meaning store.new) (λ _ _ tables. outcome ≡ outcome_of commands.now tables)) }
     ensures called { Called S.read_gives S.write_gives S.fresh_gives S.meaning commands.now store.old store.new result }
     ensures torn { IfTorn result (λ _. EachTables (S.meaning store.old) (S.meaning store.new) (λ _ _ _. ⊥)) }
+    ensures tears { IfTorn result (λ rid. OfCommand commands.now (λ table. NamesTornChange table (S.meaning store.new) rid)) }
 
     // each ask of `fresh` is counted, and may be made; one that is refused gave nothing
     ensures fault { IfStore result (CallFault S.read_gives S.write_gives S.fresh_gives (λ asks. EachTables (S.meaning store.old) (S.meaning store.new) (λ _ places tables. MayAsk (run_plan commands.now tables) places asks) × GivesFewer asks (S.meaning store.old) (S.meaning store.new)) store.old store.new) }
@@ -61,6 +63,7 @@ fn run_commands<S: RecordStore>(
     requires size { 4112 ≤ (S.meaning store.old).size }
     requires fixed { 4112 ≤ (S.meaning store.old).fixed }
     ensures runs { Runs S.read_gives S.write_gives S.fresh_gives S.meaning (Stands (S.meaning store.old)) (DueBy (run_plan commands.now)) (RanTo commands.now (S.meaning store.new)) (128 * length commands.now) store.old store.new result }
+    ensures tears { IfTorn result (λ rid. OfCommand commands.now (λ table. NamesTornChange table (S.meaning store.new) rid)) }
     ensures idle { All IsIdle commands.now → store.new ≡ store.old }
     ensures unrefused { All IsIdle commands.now → IfRefused result ⊥ }
     ensures rest { S.rest store.new ≡ S.rest store.old }
@@ -97,6 +100,7 @@ pub fn exec_snap<S: RecordRead>(
     requires size { 4112 ≤ (S.meaning store.old).size }
     ensures outcome { IfOk result (λ outcome. EachTables (S.meaning store.old) (S.meaning store.new) (λ _ _ tables. outcome ≡ outcome_of commands.now tables)) }
     ensures torn { IfTorn result (λ _. EachTables (S.meaning store.old) (S.meaning store.new) (λ _ _ _. ⊥)) }
+    ensures tears { IfTorn result (λ rid. OfCommand commands.now (λ table. NamesTorn table (S.meaning store.old) (S.meaning store.new) rid)) }
     ensures fault { IfStore result (ReadFault S.read_gives store.old store.new) }
     ensures calls { Reads S.read_gives store.old store.new }
     ensures after { OnlyReads (S.meaning store.old) (S.meaning store.new) }
@@ -119,6 +123,7 @@ fn read_commands<S: RecordRead>(
     requires reads { All ReadsAlone commands.now }
     requires size { 4112 ≤ (S.meaning store.old).size }
     ensures looks { Looks S.read_gives S.meaning (Stands (S.meaning store.old)) (SawTo commands.now) store.old store.new result }
+    ensures tears { IfTorn result (λ rid. OfCommand commands.now (λ table. NamesTorn table (S.meaning store.old) (S.meaning store.new) rid)) }
     ensures idle { All IsIdle commands.now → store.new ≡ store.old }
     ensures rest { S.rest store.new ≡ S.rest store.old }
 {

@@ -1,10 +1,12 @@
 //! How a row gets other columns.
 
 ghost use Rattle.std.specs.Prelude.{◌≡◌, ◌≤◌, ◌<◌, IfSome};
+ghost use Rattle.record_store.specs.Walks.{IfTorn};
 ghost use Rattle.replay_model.specs.Input.{IsColumn};
 ghost use Rattle.stored_tables.specs.Answers.{Has, Changes, DueBy};
 ghost use Rattle.stored_tables.specs.Plan.{moves_entry};
 ghost use Rattle.stored_tables.specs.Runs.{Runs};
+ghost use Rattle.stored_tables.specs.Tears.{NamesTornChange};
 
 use crate::reading::Found;
 use crate::steps::{insert_entry, remove_entry, write_row};
@@ -26,6 +28,7 @@ pub fn change_row<S: RecordStore>(
     requires rid { found.now.rid < (S.meaning store.old).size }
     requires column { IfSome index IsColumn }
     ensures runs { Runs S.read_gives S.write_gives S.fresh_gives S.meaning (Has (S.meaning store.old) table key index found.now) (DueBy (λ _. moves_entry table key index found.now.row row.now)) (λ _. Changes table key index found.now.row row.now (S.meaning store.new)) 53 store.old store.new result }
+    ensures tears { IfTorn result (NamesTornChange table (S.meaning store.new)) }
     ensures rest { S.rest store.new ≡ S.rest store.old }
 {
     let rid = found.rid;
@@ -45,7 +48,6 @@ pub fn change_row<S: RecordStore>(
             high: was,
             low: key,
         },
-        rid,
     )?;
     insert_entry(store, table + 8, Key { high, low: key }, rid)
 }

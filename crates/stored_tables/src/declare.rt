@@ -9,6 +9,7 @@ ghost use Rattle.stored_tables.specs.Answers.{Stands};
 ghost use Rattle.stored_tables.specs.Declare.{Declares, TellsRows};
 ghost use Rattle.stored_tables.specs.Runs.{Looks};
 ghost use Rattle.stored_tables.specs.Tables.{EachTables};
+ghost use Rattle.stored_tables.specs.Tears.{NamesTorn};
 
 use crate::head::{head_cells, index_of};
 use crate::places::{head_of, root_of};
@@ -29,6 +30,7 @@ pub fn declare_index<S: RecordStore>(
     requires fixed { 4112 ≤ (S.meaning store.old).fixed }
     ensures declared { IfOk result (λ declared. EachTables (S.meaning store.old) (S.meaning store.new) (λ state places tables. Declares table column (S.meaning store.new) declared state (places, tables))) }
     ensures torn { IfTorn result (λ _. EachTables (S.meaning store.old) (S.meaning store.new) (λ _ _ _. ⊥)) }
+    ensures tears { IfTorn result (NamesTorn table (S.meaning store.old) (S.meaning store.new)) }
     ensures fault { IfStore result (CallFault S.read_gives S.write_gives S.fresh_gives (λ _. ⊥) store.old store.new) }
 
     // `fresh` is never asked
@@ -58,6 +60,7 @@ fn has_row<S: RecordRead>(alloc: Global, store: &mut S, table: u32) -> Result<bo
     requires table { table < 8 }
     requires size { 4112 ≤ (S.meaning store.old).size }
     ensures looks { Looks S.read_gives S.meaning (Stands (S.meaning store.old)) (TellsRows table) store.old store.new result }
+    ensures tears { IfTorn result (NamesTorn table (S.meaning store.old) (S.meaning store.new)) }
     ensures rest { S.rest store.new ≡ S.rest store.old }
 {
     let lo = Key { high: 0, low: 0 };

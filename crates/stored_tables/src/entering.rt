@@ -1,9 +1,11 @@
 //! How a row enters a table.
 
 ghost use Rattle.std.specs.Prelude.{◌≡◌, ◌≤◌, ◌<◌, ◌^◌, IfSome};
+ghost use Rattle.record_store.specs.Walks.{IfTorn};
 ghost use Rattle.replay_model.specs.Input.{IsColumn};
 ghost use Rattle.stored_tables.specs.Answers.{Lacks, Enters, DueBy, enter_moves};
 ghost use Rattle.stored_tables.specs.Runs.{Runs};
+ghost use Rattle.stored_tables.specs.Tears.{NamesTornChange};
 
 use crate::steps::{add_row, insert_entry, put_pair};
 use ordered_index::Key;
@@ -22,6 +24,7 @@ pub fn enter_row<S: RecordStore>(
     requires fixed { 4112 ≤ (S.meaning store.old).fixed }
     requires column { IfSome index IsColumn }
     ensures runs { Runs S.read_gives S.write_gives S.fresh_gives S.meaning (Lacks (S.meaning store.old) table key index) (DueBy (λ _. enter_moves table key index row.now)) (λ _. Enters table key index row.now (S.meaning store.new)) 105 store.old store.new result }
+    ensures tears { IfTorn result (NamesTornChange table (S.meaning store.new)) }
     ensures rest { S.rest store.new ≡ S.rest store.old }
 {
     let rid = add_row(store, row)?;

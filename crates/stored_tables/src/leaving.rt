@@ -2,13 +2,14 @@
 
 ghost use Rattle.std.specs.Prelude.{◌≡◌, ◌≤◌, ◌<◌, false, IfOk, IfSome};
 ghost use Rattle.record_store.specs.Goes.{GoesByCalls};
-ghost use Rattle.record_store.specs.Walks.{OnlyReads};
+ghost use Rattle.record_store.specs.Walks.{IfTorn, OnlyReads};
 ghost use Rattle.replay_model.specs.Input.{IsColumn};
 ghost use Rattle.replay_model.specs.declared.command.Command.TheVariants.{Del};
 ghost use Rattle.stored_tables.specs.Answers.{DueBy, Has, IndexLeft, Leaves, Stands, leave_moves};
 ghost use Rattle.stored_tables.specs.OneRow.{TakesRow};
 ghost use Rattle.stored_tables.specs.Plan.{plan};
 ghost use Rattle.stored_tables.specs.Runs.{Runs};
+ghost use Rattle.stored_tables.specs.Tears.{NamesTornChange};
 
 use crate::head::index_of;
 use crate::reading::{Found, find_row};
@@ -22,6 +23,7 @@ pub fn take_row<S: RecordStore>(store: &mut S, table: u32, key: u64) -> Result<b
     requires size { 4112 ≤ (S.meaning store.old).size }
     requires fixed { 4112 ≤ (S.meaning store.old).fixed }
     ensures runs { Runs S.read_gives S.write_gives S.fresh_gives S.meaning (Stands (S.meaning store.old)) (DueBy (plan (Del table key))) (λ taken. TakesRow table key (S.meaning store.new) taken) 4 store.old store.new result }
+    ensures tears { IfTorn result (NamesTornChange table (S.meaning store.new)) }
     ensures asks_nothing { GoesByCalls S.read_gives S.write_gives S.fresh_gives S.meaning (λ _. ⊥) 0 store.old store.new result }
 
     // nothing is written where there is no row
@@ -49,12 +51,13 @@ pub fn leave_row<S: RecordStore>(
     requires rid { found.now.rid < (S.meaning store.old).size }
     requires column { IfSome index IsColumn }
     ensures runs { Runs S.read_gives S.write_gives S.fresh_gives S.meaning (Has (S.meaning store.old) table key index found.now) (DueBy (λ _. leave_moves table key index found.now.row)) (λ _. Leaves table key index found.now.row (S.meaning store.new)) 4 store.old store.new result }
+    ensures tears { IfTorn result (NamesTornChange table (S.meaning store.new)) }
     ensures asks_nothing { GoesByCalls S.read_gives S.write_gives S.fresh_gives S.meaning (λ _. ⊥) 0 store.old store.new result }
     ensures rest { S.rest store.new ≡ S.rest store.old }
 {
     leave_index(store, table, key, index, found)?;
-    remove_pair(store, table, key, found.rid)?;
-    remove_entry(store, table, Key { high: key, low: 0 }, found.rid)?;
+    remove_pair(store, table, key)?;
+    remove_entry(store, table, Key { high: key, low: 0 })?;
     drop_row(store, found.rid)
 }
 
@@ -70,6 +73,7 @@ fn leave_index<S: RecordStore>(
     requires fixed { 4112 ≤ (S.meaning store.old).fixed }
     requires column { IfSome index IsColumn }
     ensures runs { Runs S.read_gives S.write_gives S.fresh_gives S.meaning (Has (S.meaning store.old) table key index found.now) (DueBy (λ _. leave_moves table key index found.now.row)) (λ _. IndexLeft table key index found.now (S.meaning store.old) (S.meaning store.new)) 1 store.old store.new result }
+    ensures tears { IfTorn result (NamesTornChange table (S.meaning store.new)) }
     ensures asks_nothing { GoesByCalls S.read_gives S.write_gives S.fresh_gives S.meaning (λ _. ⊥) 0 store.old store.new result }
     ensures rest { S.rest store.new ≡ S.rest store.old }
 {
@@ -77,5 +81,5 @@ fn leave_index<S: RecordStore>(
         return Ok(());
     };
     let high = found.row.column(column);
-    remove_entry(store, table + 8, Key { high, low: key }, found.rid)
+    remove_entry(store, table + 8, Key { high, low: key })
 }

@@ -10,7 +10,7 @@ ghost use Rattle.stored_tables.specs.OneRow.{IsRowAt, SetsRow, TakesRow};
 ghost use Rattle.stored_tables.specs.Plan.{plan};
 ghost use Rattle.stored_tables.specs.RowLists.{IsPage, comes_behind};
 ghost use Rattle.stored_tables.specs.Runs.{Looks, Runs};
-ghost use Rattle.stored_tables.specs.Tears.{NamesTorn};
+ghost use Rattle.stored_tables.specs.Tears.{NamesTorn, NamesTornChange};
 
 use crate::command;
 use crate::leaving::take_row;
@@ -103,6 +103,7 @@ pub fn put_row<S: RecordStore>(
     requires table { table < 8 }
     requires fixed { 4112 ≤ (S.meaning store.old).fixed }
     ensures runs { Runs S.read_gives S.write_gives S.fresh_gives S.meaning (Stands (S.meaning store.old)) (DueBy (plan (Put table key row.now))) (λ _. SetsRow table key row.now (S.meaning store.new)) 128 store.old store.new result }
+    ensures tears { IfTorn result (NamesTornChange table (S.meaning store.new)) }
     ensures rest { S.rest store.new ≡ S.rest store.old }
 {
     // The records that are never given out lie in the store: its size says so.
@@ -121,6 +122,7 @@ pub fn remove_row<S: RecordStore>(
     requires table { table < 8 }
     requires fixed { 4112 ≤ (S.meaning store.old).fixed }
     ensures runs { Runs S.read_gives S.write_gives S.fresh_gives S.meaning (Stands (S.meaning store.old)) (DueBy (plan (Del table key))) (λ taken. TakesRow table key (S.meaning store.new) taken) 4 store.old store.new result }
+    ensures tears { IfTorn result (NamesTornChange table (S.meaning store.new)) }
     ensures asks_nothing { GoesByCalls S.read_gives S.write_gives S.fresh_gives S.meaning (λ _. ⊥) 0 store.old store.new result }
 
     // nothing is written where there is no row

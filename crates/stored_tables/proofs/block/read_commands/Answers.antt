@@ -3,6 +3,9 @@ use Rattle.replay_model.specs.declared.command.Command.{Command}
 use Rattle.stored_tables.proofs.Listed.{pushed}
 use Rattle.stored_tables.proofs.Running.{idle_at, next_looks, seen_value, seen_all, seen_refused}
 use Rattle.stored_tables.proofs.Runs.{looks_begin, looks_memory, looks_moved, looks_value}
+use Rattle.record_store.proofs.Refusals.{torn_moved}
+use Rattle.stored_tables.proofs.TornChanges.{names_after, of_command}
+use Rattle.stored_tables.specs.Tears.{NamesTorn}
 use Rattle.stored_tables.proofs.block.read_commands.Goals as goal
 
 pub returns-then-is_err-clause-looks : goal.returns-then-is_err-clause-looks
@@ -95,3 +98,14 @@ returns-in-Err-clause-idle g c =
     ∙ ap (λ (cs : List Command). get_or cs c.loop-i.i c.command-item.result) c.as_slice-command-items.ensures in
     λ all. c.read_command.ensures.idle (idle_at c.args.commands.now c.command-item.result c.loop-i.i all within here)
     ∙ c.loop-i.invariant.idle all
+
+pub returns-in_err-answer-clause-tears : goal.returns-in_err-answer-clause-tears
+returns-in_err-answer-clause-tears g c =
+    let within : c.loop-i.i < length c.args.commands.now = omega (arith, ap length c.as_slice-command-items.ensures) in
+    let here : c.command-item.result ≡ get_or c.args.commands.now c.loop-i.i c.command-item.result = c.command-item.is
+    ∙ ap (λ (cs : List Command). get_or cs c.loop-i.i c.command-item.result) c.as_slice-command-items.ensures in
+    torn_moved c.from_residual.result c.read_command.result c.in_err-answer.field-0.0 _ c.in_err-answer.was c.from_residual.ensures.1
+    (of_command c.args.commands.now c.command-item.result c.loop-i.i (λ table. NamesTorn table (g.S.RecordRead.meaning c.args.store.now) (g.S.RecordRead.meaning c.read_command.new.store))
+    c.read_command.result within here
+    (names_after _ (g.S.RecordRead.meaning c.args.store.now) (g.S.RecordRead.meaning c.loop-i.store) (g.S.RecordRead.meaning c.read_command.new.store)
+    c.read_command.result c.loop-i.invariant.looks.by.only c.read_command.ensures.tears))

@@ -6,6 +6,9 @@ use Rattle.stored_tables.proofs.Listed.{pushed}
 use Rattle.stored_tables.proofs.Midway.{runs_begin}
 use Rattle.stored_tables.proofs.Running.{idle_at, not_refused, next_runs, step_value, step_refused, left_all}
 use Rattle.stored_tables.proofs.Runs.{ok_of, runs_memory, runs_moved, runs_value}
+use Rattle.record_store.proofs.Refusals.{torn_moved}
+use Rattle.stored_tables.proofs.TornChanges.{of_command}
+use Rattle.stored_tables.specs.Tears.{NamesTornChange}
 use Rattle.stored_tables.proofs.block.run_commands.Goals as goal
 
 pub returns-then-is_err-clause-runs : goal.returns-then-is_err-clause-runs
@@ -136,3 +139,12 @@ returns-then-is_err-2-clause-rest g c = c.run_command.ensures.rest ∙ c.loop-i.
 
 pub returns-in-Err-clause-rest : goal.returns-in-Err-clause-rest
 returns-in-Err-clause-rest g c = c.run_command.ensures.rest ∙ c.loop-i.invariant.rest
+
+pub returns-in_err-answer-clause-tears : goal.returns-in_err-answer-clause-tears
+returns-in_err-answer-clause-tears g c =
+    let within : c.loop-i.i < length c.args.commands.now = omega (arith, ap length c.as_slice-command-items.ensures) in
+    let here : c.command-item.result ≡ get_or c.args.commands.now c.loop-i.i c.command-item.result = c.command-item.is
+    ∙ ap (λ (cs : List Command). get_or cs c.loop-i.i c.command-item.result) c.as_slice-command-items.ensures in
+    torn_moved c.from_residual.result c.run_command.result c.in_err-answer.field-0.0 _ c.in_err-answer.was c.from_residual.ensures.1
+    (of_command c.args.commands.now c.command-item.result c.loop-i.i (λ table. NamesTornChange table (g.S.RecordRead.meaning c.run_command.new.store))
+    c.run_command.result within here c.run_command.ensures.tears)

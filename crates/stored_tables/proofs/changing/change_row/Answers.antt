@@ -8,11 +8,11 @@ pub remove_entry-requires-clause-fixed : goal.remove_entry-requires-clause-fixed
 remove_entry-requires-clause-fixed g c = rw (c.write_row.ensures.runs c.args.table c.args.key).by.grow.fixed c.requires.fixed
 
 pub insert_entry-requires-clause-fixed : goal.insert_entry-requires-clause-fixed
-insert_entry-requires-clause-fixed g c = rw (c.remove_entry.ensures.runs.by.grow.fixed
+insert_entry-requires-clause-fixed g c = rw ((c.remove_entry.ensures.runs c.args.found.now.rid).by.grow.fixed
     ∙ (c.write_row.ensures.runs c.args.table c.args.key).by.grow.fixed) c.requires.fixed
 
 pub insert_entry-requires-clause-rid : goal.insert_entry-requires-clause-rid
-insert_entry-requires-clause-rid g c = rw (c.remove_entry.ensures.runs.by.grow.size
+insert_entry-requires-clause-rid g c = rw ((c.remove_entry.ensures.runs c.args.found.now.rid).by.grow.size
     ∙ (c.write_row.ensures.runs c.args.table c.args.key).by.grow.size) c.requires.rid
 
 pub returns-in_err-write_row-clause-runs : goal.returns-in_err-write_row-clause-runs
@@ -50,7 +50,7 @@ returns-in_err-remove_entry-clause-runs g c =
     c.remove_entry.result c.requires.table c.in-Some.is c.column-was.ensures c.column-high.ensures c.if-was-high.false
     (changed_row {meaning = g.S.RecordRead.meaning} c.args.table c.args.key c.args.index c.args.found.now c.args.row.now
     c.args.store.now c.write_row.new.store c.write_row.result c.requires.table (c.write_row.ensures.runs c.args.table c.args.key))
-    c.in_ok-write_row.was c.remove_entry.ensures.runs) c.in_err-remove_entry.was c.from_residual-in_err-remove_entry.ensures.1
+    c.in_ok-write_row.was (c.remove_entry.ensures.runs c.args.found.now.rid)) c.in_err-remove_entry.was c.from_residual-in_err-remove_entry.ensures.1
 
 pub returns-clause-runs : goal.returns-clause-runs
 returns-clause-runs g c =
@@ -63,4 +63,4 @@ returns-clause-runs g c =
     c.remove_entry.result c.requires.table c.in-Some.is c.column-was.ensures c.column-high.ensures c.if-was-high.false
     (changed_row {meaning = g.S.RecordRead.meaning} c.args.table c.args.key c.args.index c.args.found.now c.args.row.now
     c.args.store.now c.write_row.new.store c.write_row.result c.requires.table (c.write_row.ensures.runs c.args.table c.args.key))
-    c.in_ok-write_row.was c.remove_entry.ensures.runs) c.in_ok-remove_entry.was c.insert_entry.ensures.runs
+    c.in_ok-write_row.was (c.remove_entry.ensures.runs c.args.found.now.rid)) c.in_ok-remove_entry.was c.insert_entry.ensures.runs

@@ -7,6 +7,8 @@ use Rattle.stored_tables.proofs.Commands.{row_then_index, then_command, plan_cha
 use Rattle.stored_tables.specs.Answers.{IsFound}
 use Rattle.stored_tables.specs.Plan.{moves_to}
 use Rattle.stored_tables.proofs.Runs.{looks_runs, runs_moved, runs_value}
+use Rattle.record_store.proofs.Refusals.{torn_moved}
+use Rattle.stored_tables.proofs.TornChanges.{reads_name}
 use Rattle.stored_tables.proofs.command.change_column.Goals as goal
 
 pub index_of-requires-clause-size : goal.index_of-requires-clause-size
@@ -83,3 +85,13 @@ returns-in-Err-clause-runs g c =
     c.find_row.result c.find_row.ensures.looks (λ v state held agrees stands found. found)) c.in_ok-found.was
     (λ asked state held agrees stands found. (let f = rw c.in-Some.is at found in column_refused held.1 c.args.table c.args.key c.args.column
     c.in-Err.cause c.args.change c.in-Some.found.row f.1 (ap (changed c.args.change) (sym c.column.ensures) ∙ sym c.of.ensures ∙ c.in-Err.is)))
+
+pub returns-in_err-found-clause-tears : goal.returns-in_err-found-clause-tears
+returns-in_err-found-clause-tears g c =
+    torn_moved c.from_residual.result c.find_row.result c.in_err-found.field-0.0 _ c.in_err-found.was c.from_residual.ensures.1
+    (reads_name c.args.table (g.S.RecordRead.meaning c.args.store.now) (g.S.RecordRead.meaning c.find_row.new.store) c.find_row.result c.find_row.ensures.looks.by.only c.find_row.ensures.tears)
+
+pub returns-in_err-index-clause-tears : goal.returns-in_err-index-clause-tears
+returns-in_err-index-clause-tears g c =
+    torn_moved c.from_residual-in_err-index.result c.index_of.result c.in_err-index.field-0.0 _ c.in_err-index.was c.from_residual-in_err-index.ensures.1
+    (reads_name c.args.table (g.S.RecordRead.meaning c.find_row.new.store) (g.S.RecordRead.meaning c.index_of.new.store) c.index_of.result c.index_of.ensures.looks.by.only c.index_of.ensures.tears)

@@ -5,6 +5,8 @@ use Rattle.stored_tables.proofs.Commands.{row_then_index, then_command, plan_ent
 use Rattle.stored_tables.specs.Answers.{IsFound}
 use Rattle.stored_tables.specs.Plan.{moves_to}
 use Rattle.stored_tables.proofs.Runs.{looks_runs, runs_moved, runs_value}
+use Rattle.record_store.proofs.Refusals.{torn_moved}
+use Rattle.stored_tables.proofs.TornChanges.{reads_name}
 use Rattle.stored_tables.proofs.command.insert_row.Goals as goal
 
 pub returns-in_err-_found-clause-runs : goal.returns-in_err-_found-clause-runs
@@ -68,3 +70,13 @@ returns-in-Some-clause-runs g c =
     c.find_row.result c.find_row.ensures.looks (λ v state held agrees stands found. found)) c.in_ok-_found.was
     (λ asked state held agrees stands found. (let f = rw c.in-Some.is at found in ins_exists held.1 c.args.table c.args.key
     c.args.values.now c.in-Some._found.row f.1))
+
+pub returns-in_err-_found-clause-tears : goal.returns-in_err-_found-clause-tears
+returns-in_err-_found-clause-tears g c =
+    torn_moved c.from_residual.result c.find_row.result c.in_err-_found.field-0.0 _ c.in_err-_found.was c.from_residual.ensures.1
+    (reads_name c.args.table (g.S.RecordRead.meaning c.args.store.now) (g.S.RecordRead.meaning c.find_row.new.store) c.find_row.result c.find_row.ensures.looks.by.only c.find_row.ensures.tears)
+
+pub returns-in_err-index-in-None-clause-tears : goal.returns-in_err-index-in-None-clause-tears
+returns-in_err-index-in-None-clause-tears g c =
+    torn_moved c.from_residual-in_err-index-in-None.result c.index_of.result c.in_err-index-in-None.field-0.0 _ c.in_err-index-in-None.was c.from_residual-in_err-index-in-None.ensures.1
+    (reads_name c.args.table (g.S.RecordRead.meaning c.find_row.new.store) (g.S.RecordRead.meaning c.index_of.new.store) c.index_of.result c.index_of.ensures.looks.by.only c.index_of.ensures.tears)

@@ -4,6 +4,8 @@ use Rattle.replay_model.specs.TableMap.{with_value}
 use Rattle.record_store.proofs.Agreement.{size_same}
 use Rattle.stored_tables.proofs.Commands.{index_then_row, then_command, plan_changes, plan_enters}
 use Rattle.stored_tables.proofs.Runs.{looks_runs, runs_moved, runs_value}
+use Rattle.record_store.proofs.Refusals.{torn_moved}
+use Rattle.stored_tables.proofs.TornChanges.{reads_name}
 use Rattle.stored_tables.proofs.command.put_row.Goals as goal
 
 pub find_row-requires-clause-size : goal.find_row-requires-clause-size
@@ -87,3 +89,13 @@ returns-in_ok-enter_row-in-None-clause-runs g c =
     (λ state held stands known. (let k = rw c.in-None.is at known in
     (((stands, k.0), k.1), plan_enters held.1 c.args.table c.args.key c.in_ok-index.index c.args.values.now k.0 k.1.1, refl))))
     c.in_ok-enter_row-in-None.was (λ asked state held agrees stands did. did)
+
+pub returns-in_err-index-clause-tears : goal.returns-in_err-index-clause-tears
+returns-in_err-index-clause-tears g c =
+    torn_moved c.from_residual.result c.index_of.result c.in_err-index.field-0.0 _ c.in_err-index.was c.from_residual.ensures.1
+    (reads_name c.args.table (g.S.RecordRead.meaning c.args.store.now) (g.S.RecordRead.meaning c.index_of.new.store) c.index_of.result c.index_of.ensures.looks.by.only c.index_of.ensures.tears)
+
+pub returns-in_err-found-clause-tears : goal.returns-in_err-found-clause-tears
+returns-in_err-found-clause-tears g c =
+    torn_moved c.from_residual-in_err-found.result c.find_row.result c.in_err-found.field-0.0 _ c.in_err-found.was c.from_residual-in_err-found.ensures.1
+    (reads_name c.args.table (g.S.RecordRead.meaning c.index_of.new.store) (g.S.RecordRead.meaning c.find_row.new.store) c.find_row.result c.find_row.ensures.looks.by.only c.find_row.ensures.tears)

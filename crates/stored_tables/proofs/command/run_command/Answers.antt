@@ -2,6 +2,7 @@ use Rattle.std.proofs.Common.{arith}
 use Rattle.stored_tables.proofs.Finding.{stands_on}
 use Rattle.stored_tables.proofs.ReadingCommands.{not_idle, reads_by, read_does}
 use Rattle.stored_tables.proofs.Runs.{looks_runs, runs_did}
+use Rattle.stored_tables.proofs.TornChanges.{reads_name}
 use Rattle.stored_tables.proofs.command.run_command.Goals as goal
 
 pub returns-in-Get-clause-runs : goal.returns-in-Get-clause-runs
@@ -22,3 +23,8 @@ returns-in_default-clause-idle g c = λ idle. absurd (not_idle c.args.command.no
 
 pub returns-in_default-clause-answered : goal.returns-in_default-clause-answered
 returns-in_default-clause-answered g c = λ idle. absurd (not_idle c.args.command.now c.in_default.not-Scan idle)
+
+pub returns-in-Get-clause-tears : goal.returns-in-Get-clause-tears
+returns-in-Get-clause-tears g c =
+    reads_name _ (g.S.RecordRead.meaning c.args.store.now) (g.S.RecordRead.meaning c.read_command.new.store) c.read_command.result
+    c.read_command.ensures.looks.by.only c.read_command.ensures.tears

@@ -8,6 +8,7 @@ use Rattle.stored_tables.proofs.DeclareRuns.{head_declared, index_then_rows, rea
 use Rattle.stored_tables.proofs.Ending.{looks_torn_tables, on_err}
 use Rattle.stored_tables.proofs.Looking.{no_torn}
 use Rattle.stored_tables.proofs.Runs.{ok_of}
+use Rattle.stored_tables.proofs.TornChanges.{names_after}
 use Rattle.stored_tables.proofs.declare.declare_index.Goals as goal
 
 pub returns-in_err-_index-clause-torn : goal.returns-in_err-_index-clause-torn
@@ -192,3 +193,9 @@ returns-in_err-write-in-None-clause-refused g c = on_err c.from_residual-in_err-
     (index_then_rows {meaning = g.S.RecordRead.meaning} c.args.table c.args.store.now c.index_of.new.store c.has_row.new.store
     c.index_of.result c.has_row.result c.index_of.ensures.looks (c.in_ok-_index.was ∙ ap (λ o. Ok o) c.in-None.is)
     c.has_row.ensures.looks).by.only c.in_err-write-in-None.ensures.err)
+
+pub returns-in_err-has_row-in-None-clause-tears : goal.returns-in_err-has_row-in-None-clause-tears
+returns-in_err-has_row-in-None-clause-tears g c =
+    torn_moved c.from_residual-in_err-has_row-in-None.result c.has_row.result c.in_err-has_row-in-None.field-0.0 _ c.in_err-has_row-in-None.was c.from_residual-in_err-has_row-in-None.ensures.1
+    (names_after c.args.table (g.S.RecordRead.meaning c.args.store.now) (g.S.RecordRead.meaning c.index_of.new.store)
+    (g.S.RecordRead.meaning c.has_row.new.store) c.has_row.result c.index_of.ensures.looks.by.only c.has_row.ensures.tears)

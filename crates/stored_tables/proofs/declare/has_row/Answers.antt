@@ -2,6 +2,8 @@ use Rattle.std.proofs.Common.{◌==◌, length, sym, ap, ◌∙◌, arith}
 use Rattle.stored_tables.proofs.Declaring.{tells_none, tells_some}
 use Rattle.stored_tables.proofs.Runs.{looks_moved, looks_value}
 use Rattle.stored_tables.proofs.ScanRows.{entries_found}
+use Rattle.record_store.proofs.Refusals.{torn_moved}
+use Rattle.stored_tables.proofs.Tearing.{tree_names}
 use Rattle.stored_tables.proofs.declare.has_row.Goals as goal
 
 pub returns-in_err-scan-clause-looks : goal.returns-in_err-scan-clause-looks
@@ -31,3 +33,9 @@ returns-clause-looks g c =
     (λ state held agrees stands is. tells_some c.args.table c.scan.new.out.items (g.S.RecordRead.meaning c.args.store.now) state held
     c.requires.table (sym (ap (λ xs. length xs == 0) c.as_slice.ensures.value) ∙ sym c.is_empty.ensures ∙ c.if-is_empty.false) stands
     is)
+
+pub returns-in_err-scan-clause-tears : goal.returns-in_err-scan-clause-tears
+returns-in_err-scan-clause-tears g c =
+    torn_moved c.from_residual.result c.scan.result c.in_err-scan.field-0.0 _ c.in_err-scan.was c.from_residual.ensures.1
+    (tree_names c.args.table c.root_of.result _ (g.S.RecordRead.meaning c.args.store.now) (g.S.RecordRead.meaning c.scan.new.store) c.scan.result
+    c.root_of.ensures.root c.scan.ensures.torn)

@@ -8,11 +8,11 @@ pub remove_pair-requires-clause-fixed : goal.remove_pair-requires-clause-fixed
 remove_pair-requires-clause-fixed g c = rw c.leave_index.ensures.runs.by.grow.fixed c.requires.fixed
 
 pub remove_entry-requires-clause-fixed : goal.remove_entry-requires-clause-fixed
-remove_entry-requires-clause-fixed g c = rw (c.remove_pair.ensures.runs.by.grow.fixed ∙ c.leave_index.ensures.runs.by.grow.fixed)
+remove_entry-requires-clause-fixed g c = rw ((c.remove_pair.ensures.runs c.args.found.now.rid).by.grow.fixed ∙ c.leave_index.ensures.runs.by.grow.fixed)
     c.requires.fixed
 
 pub drop_row-requires : goal.drop_row-requires
-drop_row-requires g c = rw (c.remove_entry.ensures.runs.by.grow.size ∙ c.remove_pair.ensures.runs.by.grow.size
+drop_row-requires g c = rw ((c.remove_entry.ensures.runs c.args.found.now.rid).by.grow.size ∙ (c.remove_pair.ensures.runs c.args.found.now.rid).by.grow.size
     ∙ c.leave_index.ensures.runs.by.grow.size) c.requires.rid
 
 pub returns-in_err-leave_index-clause-runs : goal.returns-in_err-leave_index-clause-runs
@@ -26,7 +26,7 @@ returns-in_err-remove_pair-clause-runs g c =
     c.in_err-remove_pair.field-0.0
     (left_pair {meaning = g.S.RecordRead.meaning} c.args.table c.args.key c.args.index c.args.found.now c.args.store.now
     c.leave_index.new.store c.remove_pair.new.store c.leave_index.result c.remove_pair.result c.requires.table
-    c.leave_index.ensures.runs c.in_ok-leave_index.was c.remove_pair.ensures.runs)
+    c.leave_index.ensures.runs c.in_ok-leave_index.was (c.remove_pair.ensures.runs c.args.found.now.rid))
     c.in_err-remove_pair.was c.from_residual-in_err-remove_pair.ensures.1
 
 pub returns-in_err-remove_entry-clause-runs : goal.returns-in_err-remove_entry-clause-runs
@@ -37,8 +37,8 @@ returns-in_err-remove_entry-clause-runs g c =
     c.remove_pair.new.store c.remove_entry.new.store c.remove_pair.result c.remove_entry.result c.requires.table
     (left_pair {meaning = g.S.RecordRead.meaning} c.args.table c.args.key c.args.index c.args.found.now c.args.store.now
     c.leave_index.new.store c.remove_pair.new.store c.leave_index.result c.remove_pair.result c.requires.table
-    c.leave_index.ensures.runs c.in_ok-leave_index.was c.remove_pair.ensures.runs)
-    c.in_ok-remove_pair.was c.remove_entry.ensures.runs) c.in_err-remove_entry.was c.from_residual-in_err-remove_entry.ensures.1
+    c.leave_index.ensures.runs c.in_ok-leave_index.was (c.remove_pair.ensures.runs c.args.found.now.rid))
+    c.in_ok-remove_pair.was (c.remove_entry.ensures.runs c.args.found.now.rid)) c.in_err-remove_entry.was c.from_residual-in_err-remove_entry.ensures.1
 
 pub returns-clause-runs : goal.returns-clause-runs
 returns-clause-runs g c =
@@ -48,8 +48,8 @@ returns-clause-runs g c =
     c.remove_pair.new.store c.remove_entry.new.store c.remove_pair.result c.remove_entry.result c.requires.table
     (left_pair {meaning = g.S.RecordRead.meaning} c.args.table c.args.key c.args.index c.args.found.now c.args.store.now
     c.leave_index.new.store c.remove_pair.new.store c.leave_index.result c.remove_pair.result c.requires.table
-    c.leave_index.ensures.runs c.in_ok-leave_index.was c.remove_pair.ensures.runs)
-    c.in_ok-remove_pair.was c.remove_entry.ensures.runs) c.in_ok-remove_entry.was (c.drop_row.ensures.runs c.args.table c.args.key)
+    c.leave_index.ensures.runs c.in_ok-leave_index.was (c.remove_pair.ensures.runs c.args.found.now.rid))
+    c.in_ok-remove_pair.was (c.remove_entry.ensures.runs c.args.found.now.rid)) c.in_ok-remove_entry.was (c.drop_row.ensures.runs c.args.table c.args.key)
 
 pub returns-in_err-leave_index-clause-asks_nothing : goal.returns-in_err-leave_index-clause-asks_nothing
 returns-in_err-leave_index-clause-asks_nothing g c =

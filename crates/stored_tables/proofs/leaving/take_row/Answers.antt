@@ -9,6 +9,8 @@ use Rattle.stored_tables.specs.Answers.{IsFound, Stands}
 use Rattle.stored_tables.specs.Plan.{moves_to}
 use Rattle.stored_tables.proofs.Runs.{looks_runs, runs_moved, runs_value}
 use Rattle.record_store.proofs.Going.{by_calls_reads, by_calls_moved, by_calls_quiet, by_calls_never}
+use Rattle.record_store.proofs.Refusals.{torn_moved}
+use Rattle.stored_tables.proofs.TornChanges.{reads_name}
 use Rattle.stored_tables.proofs.leaving.take_row.Goals as goal
 
 pub index_of-requires-clause-size : goal.index_of-requires-clause-size
@@ -119,3 +121,13 @@ returns-clause-asks_nothing g c =
     (by_calls_reads (λ _. ⊥) c.args.store.now c.find_row.new.store c.find_row.result c.find_row.ensures.looks.by)
     (by_calls_reads (λ _. ⊥) c.find_row.new.store c.index_of.new.store c.index_of.result c.index_of.ensures.looks.by))
     c.leave_row.ensures.asks_nothing)
+
+pub returns-in_err-found-clause-tears : goal.returns-in_err-found-clause-tears
+returns-in_err-found-clause-tears g c =
+    torn_moved c.from_residual.result c.find_row.result c.in_err-found.field-0.0 _ c.in_err-found.was c.from_residual.ensures.1
+    (reads_name c.args.table (g.S.RecordRead.meaning c.args.store.now) (g.S.RecordRead.meaning c.find_row.new.store) c.find_row.result c.find_row.ensures.looks.by.only c.find_row.ensures.tears)
+
+pub returns-in_err-index-clause-tears : goal.returns-in_err-index-clause-tears
+returns-in_err-index-clause-tears g c =
+    torn_moved c.from_residual-in_err-index.result c.index_of.result c.in_err-index.field-0.0 _ c.in_err-index.was c.from_residual-in_err-index.ensures.1
+    (reads_name c.args.table (g.S.RecordRead.meaning c.find_row.new.store) (g.S.RecordRead.meaning c.index_of.new.store) c.index_of.result c.index_of.ensures.looks.by.only c.index_of.ensures.tears)

@@ -2,31 +2,33 @@ use Rattle.std.proofs.Common.{arith}
 use Rattle.stored_tables.proofs.Runs.{runs_moved, runs_value, runs_torn, unlike}
 use Rattle.stored_tables.proofs.StepRuns.{removed_runs}
 use Rattle.record_store.proofs.Going.{by_calls_moved, by_calls_quiet}
+use Rattle.record_store.proofs.Refusals.{torn_moved}
+use Rattle.stored_tables.proofs.TornChanges.{chain_changes, chain_odds}
 use Rattle.stored_tables.proofs.steps.remove_pair.Goals as goal
 
 pub returns-in_err-remove-clause-runs : goal.returns-in_err-remove-clause-runs
-returns-in_err-remove-clause-runs g c =
+returns-in_err-remove-clause-runs g c = λ rid.
     runs_moved _ 1 1 (omega arith) c.args.store.now c.remove.new.store c.from_residual.result c.remove.result c.in_err-remove.field-0.0
-    (removed_runs {meaning = g.S.RecordRead.meaning} c.args.table c.base_of.result c.args.key c.args.rid c.args.store.now
-    c.remove.new.store c.remove.result c.requires.table c.base_of.ensures.base c.requires.fixed c.remove.ensures.ok
+    (removed_runs {meaning = g.S.RecordRead.meaning} c.args.table c.base_of-base.result c.args.key rid c.args.store.now
+    c.remove.new.store c.remove.result c.requires.table c.base_of-base.ensures.base c.requires.fixed c.remove.ensures.ok
     c.remove.ensures.torn
     c.remove.ensures.walk.by c.remove.ensures.few c.remove.ensures.writes)
     c.in_err-remove.was c.from_residual.ensures.1
 
 pub returns-then-branch-clause-runs : goal.returns-then-branch-clause-runs
-returns-then-branch-clause-runs g c =
+returns-then-branch-clause-runs g c = λ rid.
     runs_value _ 1 1 c.args.store.now c.remove.new.store c.remove.result _ _ (omega arith)
-    (removed_runs {meaning = g.S.RecordRead.meaning} c.args.table c.base_of.result c.args.key c.args.rid c.args.store.now
-    c.remove.new.store c.remove.result c.requires.table c.base_of.ensures.base c.requires.fixed c.remove.ensures.ok
+    (removed_runs {meaning = g.S.RecordRead.meaning} c.args.table c.base_of-base.result c.args.key rid c.args.store.now
+    c.remove.new.store c.remove.result c.requires.table c.base_of-base.ensures.base c.requires.fixed c.remove.ensures.ok
     c.remove.ensures.torn
     c.remove.ensures.walk.by c.remove.ensures.few c.remove.ensures.writes) c.in_ok-remove.was
     (λ asked state places agrees has did. did.1)
 
 pub returns-else-branch-clause-runs : goal.returns-else-branch-clause-runs
-returns-else-branch-clause-runs g c =
-    runs_torn _ 1 1 (omega arith) c.args.store.now c.remove.new.store c.remove.result _ c.args.rid
-    (removed_runs {meaning = g.S.RecordRead.meaning} c.args.table c.base_of.result c.args.key c.args.rid c.args.store.now
-    c.remove.new.store c.remove.result c.requires.table c.base_of.ensures.base c.requires.fixed c.remove.ensures.ok
+returns-else-branch-clause-runs g c = λ rid.
+    runs_torn _ 1 1 (omega arith) c.args.store.now c.remove.new.store c.remove.result _ _
+    (removed_runs {meaning = g.S.RecordRead.meaning} c.args.table c.base_of-base.result c.args.key rid c.args.store.now
+    c.remove.new.store c.remove.result c.requires.table c.base_of-base.ensures.base c.requires.fixed c.remove.ensures.ok
     c.remove.ensures.torn
     c.remove.ensures.walk.by c.remove.ensures.few c.remove.ensures.writes) c.in_ok-remove.was
     (λ asked state places agrees has did. unlike _ did.0 c.if-branch.false)
@@ -43,3 +45,16 @@ returns-then-branch-clause-asks_nothing g c =
 pub returns-else-branch-clause-asks_nothing : goal.returns-else-branch-clause-asks_nothing
 returns-else-branch-clause-asks_nothing g c =
     by_calls_quiet _ c.args.store.now c.remove.new.store _ c.remove.result tt c.remove.ensures.walk.by
+
+pub returns-in_err-remove-clause-tears : goal.returns-in_err-remove-clause-tears
+returns-in_err-remove-clause-tears g c =
+    torn_moved c.from_residual.result c.remove.result c.in_err-remove.field-0.0 _ c.in_err-remove.was c.from_residual.ensures.1
+    (chain_changes c.args.table c.base_of-base.result c.args.key (g.S.RecordRead.meaning c.args.store.now) (g.S.RecordRead.meaning c.remove.new.store)
+    c.remove.result c.base_of-base.ensures.base c.remove.ensures.torn c.remove.ensures.unwritten)
+
+pub returns-else-branch-clause-tears : goal.returns-else-branch-clause-tears
+returns-else-branch-clause-tears g c =
+    chain_odds c.args.table c.base_of-base.result c.args.key c.bucket_at.result _ (g.S.RecordRead.meaning c.args.store.now)
+    (g.S.RecordRead.meaning c.remove.new.store) c.base_of-base.ensures.base c.bucket_at.ensures c.if-branch.false
+    (c.in_ok-remove.ensures.ok.unchanged c.if-branch.false) c.remove.ensures.walk.by.grow.size c.in_ok-remove.ensures.walked
+    c.in_ok-remove.ensures.ok.answer

@@ -4,6 +4,7 @@ use Rattle.std.specs.Prelude.{IfOk, IsErrAnd, option_map}
 use Rattle.record_store.specs.Calls.{Reads, ReadFault}
 use Rattle.record_store.specs.Meaning.{Meaning}
 use Rattle.record_store.specs.Walks.{IfTorn, IfStore, OnlyReads}
+use Rattle.record_store.specs.declared.walk.Walk.TheVariants.{Store, Torn, NoMemory}
 use Rattle.record_store.proofs.Refusals.{IfTorn-map}
 use Rattle.replay_model.specs.TableMap.{Row, value_at}
 use Rattle.replay_model.specs.declared.command.Command.TheVariants.{Put}
@@ -28,6 +29,14 @@ Has columns_of table key (Some row) state held = value_at held.1 table key ≡ o
 pub same_refusal : {T E : Type 0} (result : Result T E) (fault : E) → IsErrAnd result (λ e. e ≡ fault) → result ≡ Err fault
 same_refusal (Ok value) fault is = absurd is
 same_refusal (Err other) fault is = ap (λ e. Err e) is
+
+-- which record was torn stays what it is where the value would have another type
+pub torn_on : {T V F : Type 0} (result : Result T (TypedFault F)) (other : Result V (TypedFault F)) (fault : TypedFault F) (P : ℕ → Type 0) → other ≡ Err fault
+    → result ≡ Err fault → IfTorn (walked other) P → IfTorn (walked result) P
+torn_on result other (Foreign key columns) P was is torn = rw is tt
+torn_on result other (Walk (Store fault)) P was is torn = rw is tt
+torn_on result other (Walk (Torn rid)) P was is torn = let at_rid : P rid = rw was at torn in rw is at_rid
+torn_on result other (Walk NoMemory) P was is torn = rw is tt
 
 -- so many asks, behind none
 as_many : (P : ℕ → Type 0) (before asks : ℕ) → before ≡ 0 → P asks → P (before + asks)

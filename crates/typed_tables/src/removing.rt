@@ -3,13 +3,14 @@
 ghost use Rattle.std.specs.Prelude.{◌≡◌, ℕ, ◌<◌, ◌≤◌, false, IfOk};
 ghost use Rattle.std.specs.FinMap.{remove};
 ghost use Rattle.record_store.specs.Goes.{GoesByCalls};
-ghost use Rattle.record_store.specs.Walks.{OnlyReads};
+ghost use Rattle.record_store.specs.Walks.{IfTorn, OnlyReads};
 ghost use Rattle.replay_model.specs.TableMap.{TableMap, without};
 ghost use Rattle.replay_model.specs.declared.command.Command.TheVariants.{Del};
 ghost use Rattle.stored_tables.specs.Answers.{DueBy, Stands};
 ghost use Rattle.stored_tables.specs.Plan.{plan};
 ghost use Rattle.stored_tables.specs.Runs.{Runs};
 ghost use Rattle.stored_tables.specs.Tables.{EachTables};
+ghost use Rattle.stored_tables.specs.Tears.{NamesTornChange};
 ghost use Rattle.typed_tables.specs.Typed.{IfForeign, Removes, TakesTyped, typed_table, walked};
 
 use crate::fault::TypedFault;
@@ -33,6 +34,7 @@ pub fn typed_remove<S: RecordStore>(
 
     // whatever it answers: its calls on the store, where each fault comes from, and how many records it writes
     ensures runs { Runs S.read_gives S.write_gives S.fresh_gives S.meaning (Stands (S.meaning store.old)) (DueBy (plan (Del table key))) (TakesTyped table key (S.meaning store.new)) 4 store.old store.new (walked result) }
+    ensures tears { IfTorn (walked result) (NamesTornChange table (S.meaning store.new)) }
 
     // `fresh` is never asked, whatever the state is
     ensures asks_nothing { GoesByCalls S.read_gives S.write_gives S.fresh_gives S.meaning (λ _. ⊥) 0 store.old store.new (walked result) }

@@ -1,11 +1,12 @@
 //! One row changed.
 
 ghost use Rattle.std.specs.Prelude.{◌≡◌, ◌<◌, ◌≤◌, IfOk, IfNone, IfSome, None, Some};
-ghost use Rattle.record_store.specs.Walks.{OnlyReads};
+ghost use Rattle.record_store.specs.Walks.{IfTorn, OnlyReads};
 ghost use Rattle.replay_model.specs.TableMap.{value_at};
 ghost use Rattle.stored_tables.specs.Answers.{Stands};
 ghost use Rattle.stored_tables.specs.Runs.{Runs};
 ghost use Rattle.stored_tables.specs.Tables.{EachTables};
+ghost use Rattle.stored_tables.specs.Tears.{NamesTornChange};
 ghost use Rattle.typed_tables.specs.Typed.{DueByChange, IfForeign, Updates, UpdatesTyped, walked};
 
 use crate::fault::TypedFault;
@@ -38,6 +39,7 @@ pub fn typed_update<R: Row, S: RecordStore, C: FnOnce(R) -> R>(
     // whatever it answers: its calls on the store, how often it asked for a new record, where each fault comes from, and how many records
     // it writes
     ensures runs { Runs S.read_gives S.write_gives S.fresh_gives S.meaning (Stands (S.meaning store.old)) (DueByChange R.columns_of (C.post change) table key) (UpdatesTyped R.columns_of (C.post change) table key (S.meaning store.new)) 128 store.old store.new (walked result) }
+    ensures tears { IfTorn (walked result) (NamesTornChange table (S.meaning store.new)) }
 
     // nothing is written where there is no row, or a foreign one
     ensures kept { IfOk result (λ row. IfNone row (OnlyReads (S.meaning store.old) (S.meaning store.new))) }

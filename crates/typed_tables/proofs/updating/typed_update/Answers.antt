@@ -2,8 +2,9 @@ use Rattle.std.proofs.Common.{◌≡◌, Option, None, Some, Result, Ok, Err, ap
 use Rattle.record_store.proofs.Agreement.{agrees-extends}
 use Rattle.stored_tables.proofs.Finding.{stands_on}
 use Rattle.stored_tables.proofs.Runs.{runs_value}
+use Rattle.stored_tables.proofs.TornChanges.{reads_name}
 use Rattle.typed_tables.specs.Typed.{UpdatesTyped, walked}
-use Rattle.typed_tables.proofs.Updated.{typed_looks, nothing_changed, put_behind, put_refused, same_refusal}
+use Rattle.typed_tables.proofs.Updated.{typed_looks, nothing_changed, put_behind, put_refused, same_refusal, torn_on}
 use Rattle.typed_tables.proofs.updating.typed_update.Goals as goal
 
 no_row : {T E : Type 0} (got : Result (Option T) E) (fault : E) (row : T) → got ≡ Err fault → got ≡ Ok (Some row) → ⊥
@@ -68,3 +69,15 @@ returns-clause-runs g c =
     c.typed_get.ensures.torn c.typed_get.ensures.fault c.typed_get.ensures.calls c.typed_get.ensures.after)
     c.typed_put.ensures.runs)
     (ap walked c.in_ok-typed_put.was) (λ asked state held agrees stands did. did)
+
+pub returns-in_err-row-clause-tears : goal.returns-in_err-row-clause-tears
+returns-in_err-row-clause-tears g c =
+    rw (same_refusal c.from_residual.result c.in_err-row.field-0.0 c.from_residual.ensures.1 ∙ sym c.in_err-row.was)
+    (reads_name c.args.table (g.S.RecordRead.meaning c.args.store.now) (g.S.RecordRead.meaning c.typed_get.new.store) (walked c.typed_get.result)
+    c.typed_get.ensures.after c.typed_get.ensures.tears)
+
+pub returns-in_err-typed_put-clause-tears : goal.returns-in_err-typed_put-clause-tears
+returns-in_err-typed_put-clause-tears g c =
+    torn_on c.from_residual-in_err-typed_put.result c.typed_put.result c.in_err-typed_put.field-0.0 _ c.in_err-typed_put.was
+    (same_refusal c.from_residual-in_err-typed_put.result c.in_err-typed_put.field-0.0 c.from_residual-in_err-typed_put.ensures.1)
+    c.typed_put.ensures.tears

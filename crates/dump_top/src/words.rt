@@ -8,13 +8,14 @@ use itoa::Buffer;
 use program_io::{Mode, Refusal, read_words};
 use std::alloc::Global;
 
+/// The words of a run with dumps. What asks for help, for a generated input or for a check is refused here, so nothing points to it.
+const USAGE: &str = "Usage: cicada_dump [DUMPS [--workers N] [--tries N] [--clock CLOCK]]";
+
 /// What is said of a first word that is no number of dumps.
-const NO_NUMBER: &str =
-    "error: the first word is the number of dumps, from 0 to 64\n\nUsage: cicada_dump [DUMPS [OPTIONS OF cicada]]\n";
+const NO_NUMBER: &str = "error: the first word is the number of dumps, from 0 to 64";
 
 /// What is said of words that ask for something else than a run of an input that is read.
-const NO_RUN: &str =
-    "error: dumps go with an input that is read, not with --gen or --check\n\nUsage: cicada_dump [DUMPS [OPTIONS OF cicada]]\n";
+const NO_RUN: &str = "error: dumps go with an input that is read, not with --gen or --check";
 
 /// How many dumps are asked for, where the words are taken.
 pub(crate) fn read_dump_words(alloc: Global, words: &[String]) -> Result<u32, Refusal>
@@ -30,7 +31,8 @@ pub(crate) fn read_dump_words(alloc: Global, words: &[String]) -> Result<u32, Re
     }
     let settings = match read_words(alloc, others) {
         Ok(settings) => settings,
-        Err(refused) => return Err(refused),
+        Err(Refusal::Usage(text)) => return Err(refusal(alloc, first_part(&text))),
+        Err(Refusal::NoMemory) => return Err(Refusal::NoMemory),
     };
     match settings.mode {
         Mode::Run => Ok(dumps),
@@ -38,9 +40,17 @@ pub(crate) fn read_dump_words(alloc: Global, words: &[String]) -> Result<u32, Re
     }
 }
 
-/// A refusal with this text, where there is memory for it.
-fn refusal(alloc: Global, text: &str) -> Refusal {
-    match String::from_str(alloc, text) {
+/// What the command of a run says first. Behind it it names options that are refused here.
+fn first_part(text: &str) -> &str {
+    match text.split_once("\n\n") {
+        Some((said, _)) => said,
+        None => text,
+    }
+}
+
+/// A refusal that says this, where there is memory for it.
+fn refusal(alloc: Global, said: &str) -> Refusal {
+    match format!(in alloc; "{said}\n\n{USAGE}\n") {
         Ok(text) => Refusal::Usage(text),
         Err(_) => Refusal::NoMemory,
     }

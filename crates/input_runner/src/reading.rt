@@ -1,9 +1,8 @@
 //! The rows that a log leaves, read by the seat that is alone.
 
-ghost use Rattle.std.specs.Prelude.{◌≡◌, ◌≤◌, Contains, IfOk, Ok};
+ghost use Rattle.std.specs.Prelude.{◌≡◌, ◌≤◌, Contains, IfOk};
 ghost use Rattle.histories.specs.History.{Lawful};
 ghost use Rattle.history_replay.specs.Results.{StandsForSome, LeaveTables};
-ghost use Rattle.record_store.specs.Walks.{IfTorn};
 ghost use Rattle.replay_model.specs.TableMap.{TableMap};
 ghost use Rattle.stamp_base.specs.Limits.{greatest_clock};
 ghost use Rattle.stored_tables.specs.Places.{fixed_records};
@@ -13,10 +12,11 @@ ghost use Rattle.input_runner.specs.Reading.{AddsSnapshot, clock_read};
 ghost use Rattle.lane_runner.specs.Rows.{stands};
 
 use histories::lawful_has_states;
+use lane_runner::untorn;
 use replay_model::{NoMemory, Pairs};
 use std::alloc::Global;
-use stored_tables::{RowsLawful, Walk, fits_records, keeps_tables};
-use txn_engine::{Alone, Engine, NoFault, Seat};
+use stored_tables::{RowsLawful, fits_records, keeps_tables};
+use txn_engine::{Alone, Engine, Seat};
 use typed_tables::list_tables;
 
 /// Reads the rows of the first tables, so many of them, as the log leaves them: by one snapshot behind all transactions. The log is
@@ -49,17 +49,4 @@ pub fn read_tables(
     alone.tell(engine);
     // A kept state agrees with what was read, so the tables are not torn.
     untorn(told)
-}
-
-/// Rows of tables that are not torn: want of memory is the only fault.
-fn untorn(told: Result<Vec<Pairs>, Walk<NoFault>>) -> Result<Vec<Pairs>, NoMemory>
-    requires { IfTorn told (λ _. ⊥) }
-    ensures { IfOk result (λ rows. told ≡ Ok rows) }
-{
-    match told {
-        Ok(rows) => Ok(rows),
-        Err(Walk::NoMemory) => Err(NoMemory),
-        Err(Walk::Torn(_)) => unreachable!(),
-        Err(Walk::Store(fault)) => match fault {},
-    }
 }

@@ -16,7 +16,7 @@ ghost use Rattle.lane_runner.specs.Finishing.{MayFinish};
 ghost use Rattle.lane_runner.specs.Holding.{Holds, Awaits, Enters, HasPlaces, HasRecords, LeavesAfter, CommitsAt, IsBehind, KeepsShared};
 ghost use Rattle.lane_runner.specs.Room.{HasRoom, clock_after};
 
-use crate::snapping::untorn;
+use crate::walks::untorn;
 use histories::next_state_is_overlay;
 use record_store::{RecordStore, Walk};
 use replay_model::{Block, Commands, NoMemory, Outcome, Placed};

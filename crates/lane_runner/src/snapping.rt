@@ -1,7 +1,6 @@
 //! The run of a snapshot block.
 
-ghost use Rattle.std.specs.Prelude.{◌≡◌, ◌+◌, ◌≤◌, [], true, None, Ok, All, IfOk, OnOk, OnErr};
-ghost use Rattle.record_store.specs.Walks.{IfTorn};
+ghost use Rattle.std.specs.Prelude.{◌≡◌, ◌+◌, ◌≤◌, [], true, None, All, IfOk, OnOk, OnErr};
 ghost use Rattle.replay_model.specs.Input.{AreCommands};
 ghost use Rattle.stored_tables.specs.Answers.{IsShort, ReadsAlone};
 ghost use Rattle.txn_engine.specs.Pass.{IsAlone};
@@ -13,24 +12,12 @@ ghost use Rattle.lane_runner.specs.Ready.{IsReady, IsReadyOnceCollected};
 
 use crate::collecting::collect;
 use crate::done::BlockDone;
+use crate::walks::untorn;
 use outside_io::Meets;
-use replay_model::{Block, NoMemory, Outcome, Placed};
+use replay_model::{Block, NoMemory, Placed};
 use std::alloc::Global;
-use stored_tables::{RowsLawful, Walk, exec_snap, fits_more, fits_records, keeps_tables};
-use txn_engine::{Engine, NoFault, Pass, Seat};
-
-/// What commands came to that met no torn tables: want of memory is their only fault.
-pub(crate) fn untorn(told: Result<Outcome, Walk<NoFault>>) -> Result<Outcome, NoMemory>
-    requires { IfTorn told (λ _. ⊥) }
-    ensures { IfOk result (λ outcome. told ≡ Ok outcome) }
-{
-    match told {
-        Ok(outcome) => Ok(outcome),
-        Err(Walk::NoMemory) => Err(NoMemory),
-        Err(Walk::Torn(_)) => unreachable!(),
-        Err(Walk::Store(fault)) => match fault {},
-    }
-}
+use stored_tables::{RowsLawful, exec_snap, fits_more, fits_records, keeps_tables};
+use txn_engine::{Engine, Pass, Seat};
 
 /// Reads a snapshot block at the minimum of the published stamps, after a tick with the clock's reading. Want of memory leaves an
 /// entry that is no block's.

@@ -18,7 +18,7 @@ use Rattle.txn_engine.specs.Snapshot.{Begins, finished, snapshot_begun, meaning_
 use Rattle.typed_tables.specs.Listing.{AreRows}
 use Rattle.lane_runner.proofs.Seen.{Adds-finished, has_seen}
 use Rattle.snap_dump.specs.declared.dump.Dump.{Dump}
-use Rattle.snap_dump.specs.Dumps.{Dumps}
+use Rattle.snap_dump.specs.Dumps.{Dumps, KeepsOthers}
 use Rattle.snap_dump.specs.Tagged.{StandInOrder, TableRows, all_rows, map_of, tagged}
 use Rattle.snap_dump.proofs.Tagged.{in_order, map_of-all_rows, rows_tagged}
 
@@ -69,6 +69,14 @@ module _ (p t s q : PassView) (clock : ℕ) (ticks : t ≡ ticked p clock) (begi
         let at : stamp_of f.clock f.seat ≡ stamp_of clock p.seat = (λ i. stamp_of (ap (λ (x : PassView). x.clock) ends i) (adds.seat i)) in
         let low = begins.below in
         omega (arith, met, as_begun, drawn, at, low)
+
+    -- the spare numbers, the queue and the boost stay
+    pub keeps_seen : KeepsOthers p f
+    keeps_seen =
+        let seen = has_seen p t s q clock ticks begins rest in
+        let ends : f ≡ observing (finished (with_snapshot (snapshot_begun (ticked p clock) seen.0.stamp) (Some seen.0)) seen.0) r.observed =
+        same ∙ subst (λ (x : PassView). IfSome x.snapshot (λ g. r ≡ observing (finished x g) r.observed)) seen.1.same after in
+        record { given = ap (λ (x : PassView). x.given) ends; queue = ap (λ (x : PassView). x.queue) ends; boost = ap (λ (x : PassView). x.boost) ends }
 
     -- the minimum that was met for it is the next number
     met_next : f.met ≡ (has_seen p t s q clock ticks begins rest).0.stamp + 1

@@ -12,7 +12,6 @@ use Rattle.replay_model.specs.declared.outcome.Placed.{Placed}
 use Rattle.replay_model.specs.TableMap.{TableMap}
 use Rattle.stamp_base.specs.Stamp.{stamp_of}
 use Rattle.seat_post.specs.Snapshot.{SnapshotView}
-use Rattle.txn_engine.specs.Alone.{AloneView, with_pass}
 use Rattle.txn_engine.specs.Pass.{PassView, EngineView, IsIdle}
 use Rattle.lane_runner.specs.Adds.{Adds, IsNext}
 use Rattle.lane_runner.specs.Blocks.{AddsOthers, AreOfSeat, IsOfSeat}
@@ -245,12 +244,11 @@ does_lane_dumping lane tries p q s dumps steps =
 
 -- ---- at the seat that is alone
 
-pub keeps_none : (a : AloneView) → KeepsOthers a a
-keeps_none a = record { beside = refl; given = refl; queue = refl; boost = refl }
+pub keeps_none : (p : PassView) → KeepsOthers p p
+keeps_none p = record { given = refl; queue = refl; boost = refl }
 
-pub keeps_then : (a b c : AloneView) → KeepsOthers a b → KeepsOthers b c → KeepsOthers a c
-keeps_then a b c first second = record {
-  beside = second.beside ∙ first.beside;
+pub keeps_then : (p q r : PassView) → KeepsOthers p q → KeepsOthers q r → KeepsOthers p r
+keeps_then p q r first second = record {
   given = second.given ∙ first.given;
   queue = second.queue ∙ first.queue;
   boost = second.boost ∙ first.boost;

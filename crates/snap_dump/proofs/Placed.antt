@@ -22,11 +22,11 @@ none_made [] is = refl
 none_made (d ∷ made) is = cc
 
 -- the dumps that the seat that is alone adds to others
-pub reads_all : (a b : AloneView) (due : ℕ) (old new : List Dump) → AddsOthers a.pass b.pass → KeepsOthers a b → DumpsMade a.pass b.pass old new → length new ≡ due → b.pass.clock ≤ clock_after a.pass.clock (how_many old new)
+pub reads_all : (a b : AloneView) (due : ℕ) (old new : List Dump) → AddsOthers a.pass b.pass → KeepsOthers a.pass b.pass → b.beside ≡ a.beside → DumpsMade a.pass b.pass old new → length new ≡ due → b.pass.clock ≤ clock_after a.pass.clock (how_many old new)
     → ReadsAll due (seen_in old) a b (seen_in new)
-reads_all a b due old new others keeps made count clock = record {
+reads_all a b due old new others keeps beside made count clock = record {
   others = others;
-  beside = keeps.beside;
+  beside = beside;
   given = keeps.given;
   queue = keeps.queue;
   boost = keeps.boost;

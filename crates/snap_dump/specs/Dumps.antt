@@ -3,7 +3,6 @@ use Rattle.std.specs.Prelude.{◌≡◌, ℕ, ◌+◌, ◌-◌, ◌<◌, List, [
 use Rattle.plain_data.specs.declared.entry.Entry.{Entry}
 use Rattle.replay_model.specs.TableMap.{TableMap, loaded}
 use Rattle.stamp_base.specs.Stamp.{stamp_of}
-use Rattle.txn_engine.specs.Alone.{AloneView}
 use Rattle.seat_post.specs.Logs.{IsAbove}
 use Rattle.txn_engine.specs.Pass.{PassView, IsAlone}
 use Rattle.lane_runner.specs.Adds.{Adds}
@@ -42,10 +41,8 @@ pub record DumpsMade (before now : PassView) (old new : List Dump) : Type 0 wher
 abbrev pub how_many : List Dump → List Dump → ℕ
 how_many old new = length new - length old
 
--- What the seat that is alone keeps where it makes dumps: what it has beside its pass, its spare numbers that are given out, its queue and
--- its boost.
-pub record KeepsOthers (before after' : AloneView) : Type 0 where
-  pub beside : after'.beside ≡ before.beside
-  pub given : after'.pass.given ≡ before.pass.given
-  pub queue : after'.pass.queue ≡ before.pass.queue
-  pub boost : after'.pass.boost ≡ before.pass.boost
+-- What a pass keeps where dumps are made at it: its spare numbers that are given out, its queue and its boost.
+pub record KeepsOthers (before after' : PassView) : Type 0 where
+  pub given : after'.given ≡ before.given
+  pub queue : after'.queue ≡ before.queue
+  pub boost : after'.boost ≡ before.boost

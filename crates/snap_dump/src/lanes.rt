@@ -9,7 +9,7 @@ ghost use Rattle.lane_runner.specs.Room.{HasRoom, clock_after};
 ghost use Rattle.snap_dump.specs.Beside.{MadeBeside};
 ghost use Rattle.snap_dump.specs.Dumps.{DumpsMade, how_many};
 
-use crate::at_pass::dump_at_pass;
+use crate::at_seat::dump_at;
 use crate::dump::Dump;
 use lane_queue::Lane;
 use lane_runner::{LaneDone, Session, Turn, give_way};
@@ -46,7 +46,7 @@ fn dump_behind<C: Reads>(
     if turn != Turn::Outcome {
         return Ok(());
     }
-    let dump = dump_at_pass(alloc, engine, pass, clock.reading())?;
+    let dump = dump_at(alloc, engine, pass, clock.reading())?;
     made.push(dump)?;
     Ok(())
 }

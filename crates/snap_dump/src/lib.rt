@@ -2,12 +2,12 @@
 #![tactic(auto)]
 
 mod at_alone;
-mod at_pass;
+mod at_seat;
 mod dump;
 mod dumping;
 mod lanes;
 mod work;
 
-pub use at_pass::dump_at_pass;
+pub use at_seat::dump_at;
 pub use dump::Dump;
 pub use dumping::{Dumping, DumpsDue};

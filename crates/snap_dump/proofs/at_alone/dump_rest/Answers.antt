@@ -1,4 +1,4 @@
-use Rattle.std.proofs.Common.{◌∙◌, arith}
+use Rattle.std.proofs.Common.{refl, ◌∙◌, arith}
 use Rattle.snap_dump.proofs.Made.{made_none, made_one, made_then, none_added, none_others, dump_others, others_some, others_then, keeps_none, keeps_then, count_more}
 use Rattle.snap_dump.proofs.at_alone.dump_rest.Goals as goal
 
@@ -8,22 +8,23 @@ loop-init c = record {
   others = none_others c.args.alone.now.pass c.requires.pass.idle;
   made = made_none c.args.alone.now.pass c.args.alone.now.pass c.args.made.now.items (none_added c.args.alone.now.pass c.requires.pass.idle);
   count = omega arith;
-  keeps = keeps_none c.args.alone.now;
+  keeps = keeps_none c.args.alone.now.pass;
+  beside = refl;
   clock = omega arith;
 }
 
-pub dump_at_alone-requires-clause-pass : goal.dump_at_alone-requires-clause-pass
-dump_at_alone-requires-clause-pass c = record { same = c.loop.invariant.engine; idle = c.loop.invariant.others.adds.idle; fixed = c.requires.pass.fixed }
+pub dump_at-requires-clause-pass : goal.dump_at-requires-clause-pass
+dump_at-requires-clause-pass c = record { same = c.loop.invariant.engine; idle = c.loop.invariant.others.adds.idle; fixed = c.requires.pass.fixed }
 
-pub dump_at_alone-requires-clause-room : goal.dump_at_alone-requires-clause-room
-dump_at_alone-requires-clause-room c = omega (arith, c.loop.invariant.clock, c.requires.room, c.loop-test.true)
+pub dump_at-requires-clause-room : goal.dump_at-requires-clause-room
+dump_at-requires-clause-room c = omega (arith, c.loop.invariant.clock, c.requires.room, c.loop-test.true)
 
 pub loop-preserved : goal.loop-preserved
 loop-preserved c =
     let i = c.loop.invariant in
     let p = c.args.alone.now.pass in
     let q = c.loop.alone.pass in
-    let r = c.dump_at_alone.new.alone.pass in
+    let r = c.dump_at.new.seat.pass in
     let one = c.in_ok-dump.ensures.dumps in
     let more = dump_others q r c.in_ok-dump.dump one in
     let grown = c.in_ok-push.ensures.items in
@@ -33,6 +34,7 @@ loop-preserved c =
       made = made_then p q r c.args.made.now.items c.loop.made.items c.push.new.self.items (others_some p q i.others) (others_some q r more) i.made
           (made_one q r c.loop.made.items c.push.new.self.items c.in_ok-dump.dump one grown);
       count = count_more c.args.made.now.items c.loop.made.items c.push.new.self.items c.in_ok-dump.dump c.loop.counter i.count grown;
-      keeps = keeps_then c.args.alone.now c.loop.alone c.dump_at_alone.new.alone i.keeps c.in_ok-dump.ensures.keeps;
-      clock = (let more_clock = c.in_ok-dump.ensures.clock in let so_far = i.clock in omega (arith, more_clock, so_far));
+      keeps = keeps_then p q r i.keeps c.dump_at.ensures.keeps;
+      beside = c.dump_at.ensures.beside ∙ i.beside;
+      clock = (let more_clock = c.dump_at.ensures.clock in let so_far = i.clock in omega (arith, more_clock, so_far));
     }

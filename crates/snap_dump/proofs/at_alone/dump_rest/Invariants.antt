@@ -12,6 +12,7 @@ invariant-loop l = record {
   others : AddsOthers l.initial.alone.pass l.alone.pass;
   made : DumpsMade l.initial.alone.pass l.alone.pass l.initial.made.items l.made.items;
   count : length l.made.items ≡ length l.initial.made.items + l.counter;
-  keeps : KeepsOthers l.initial.alone l.alone;
+  keeps : KeepsOthers l.initial.alone.pass l.alone.pass;
+  beside : l.alone.beside ≡ l.initial.alone.beside;
   clock : l.alone.pass.clock ≤ clock_after l.initial.alone.pass.clock l.counter;
 }

@@ -11,4 +11,4 @@ dump_rest-requires-clause-room g c = let made = length-seen_in c.args.reader.mad
 pub returns-clause-reads : goal.returns-clause-reads
 returns-clause-reads g c =
     let rest = c.in_ok-dump_rest.ensures in
-    reads_all c.args.alone.now c.dump_rest.new.alone c.args.self.now.dumps c.args.reader.made.items c.dump_rest.new.made.items rest.others rest.keeps rest.made rest.all rest.clock
+    reads_all c.args.alone.now c.dump_rest.new.alone c.args.self.now.dumps c.args.reader.made.items c.dump_rest.new.made.items rest.others rest.keeps rest.beside rest.made rest.all rest.clock

@@ -90,7 +90,7 @@ fn play<R: Threads + Wait + Sync + Abort>(
     let bytes = Vec::from_slice(alloc, text.as_bytes())?;
     let answer = answered(rt, alloc, words, bytes)?;
     same(rt, answer.status, status, 0);
-    same(rt, answer.lanes.len(), blocks, 1);
+    same(rt, answer.order.len(), blocks, 1);
     hold(rt, answer.has_usage == (status == Status::Usage), 2);
     hold(rt, answer.fault.is_some() == (status == Status::Input), 3);
     same(rt, answer.written.as_slice(), output.as_bytes(), 4);

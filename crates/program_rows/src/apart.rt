@@ -155,8 +155,9 @@ struct OthersAhead {
     overdue: AtomicU64,
 }
 
-/// How many outcomes the second lane and the third have before the first lane goes on. Each has one block more.
-const AHEAD: [u64; 2] = [10, 40];
+/// How many outcomes the second lane and the third have before the first lane goes on. Each has one block more. A pass that was refused
+/// draws a clock of 1,024 at least, so both are ahead of that, and the third is ahead of what is heard of the second.
+const AHEAD: [u64; 2] = [1100, 2200];
 
 impl OthersAhead {
     fn new() -> OthersAhead {
@@ -174,12 +175,13 @@ impl OthersAhead {
 
 impl Gate for OthersAhead {
     fn before_commit(&self, lane: u32, number: u32) {
-        match (lane, number) {
-            (1, _) => {
+        match lane {
+            1 => {
                 wait_for(&self.outcomes[0], AHEAD[0], &self.overdue);
                 wait_for(&self.outcomes[1], AHEAD[1], &self.overdue);
             }
-            (2, 11) | (3, 41) => wait_for(&self.first, 1, &self.overdue),
+            2 if u64::from(number) > AHEAD[0] => wait_for(&self.first, 1, &self.overdue),
+            3 if u64::from(number) > AHEAD[1] => wait_for(&self.first, 1, &self.overdue),
             _ => {}
         }
     }

@@ -10,7 +10,7 @@ use Rattle.ordered_index.specs.Tree.{Stand, Follow, UpTo, row_names, row_entries
 use Rattle.ordered_index.proofs.Edits.{rising_from}
 use Rattle.ordered_index.proofs.Rows.{leaves_from, above_row, from_above, row_entries-append}
 
-from_append : (key : Key) (xs ys : List (Key × ℕ)) → From key xs → From key ys → From key (xs ++ ys)
+pub from_append : (key : Key) (xs ys : List (Key × ℕ)) → From key xs → From key ys → From key (xs ++ ys)
 from_append key [] ys first second = second
 from_append key (x ∷ xs) ys first second = (first.0, from_append key xs ys first.1 second)
 

@@ -32,3 +32,8 @@ pub mod Asking
 pub mod Asks
 pub mod Reaching
 pub mod Sides
+pub mod Parents
+pub mod Beside
+pub mod Freeing
+pub mod Joining
+pub mod Reclaiming

@@ -10,3 +10,5 @@ pub mod Enter
 pub mod Written
 pub mod Asks
 pub mod Scan
+pub mod Reclaim
+pub mod Under

@@ -5,13 +5,16 @@
 #![tactic(auto)]
 
 mod enter;
+mod giving;
 mod index;
 mod key;
 mod node;
 mod range;
 mod standing;
+mod under;
 mod walk;
 
+pub use giving::{Freed, reclaim};
 pub use index::{get, insert, remove};
 pub use key::Key;
 pub use range::scan;

@@ -23,6 +23,8 @@ mod outcomes;
 #[cfg(test)]
 mod reads;
 #[cfg(test)]
+mod reclaimed;
+#[cfg(test)]
 mod script;
 #[cfg(test)]
 mod shapes;

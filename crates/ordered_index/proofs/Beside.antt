@@ -1,7 +1,8 @@
 -- A leaf beside another one.
 use Rattle.std.proofs.Common.{◌≡◌, ◌⊎◌, ℕ, ◌-◌, ◌<◌, ◌≤◌, zero, suc, List, [], ◌∷◌, ◌++◌, length, get_or, take, drop, Option, Some, Result, Ok, Err, Contains, refl, sym, ap, ◌∙◌, arith, subst, inl, inr}
-use Rattle.std.specs.Prelude.{remove, IsSome, IfOk, OnOk}
+use Rattle.std.specs.Prelude.{All, remove, IsSome, IfOk, OnOk}
 use Rattle.std.proofs.lemmas.List.{append_assoc, drop_all, take-append-drop}
+use Rattle.std.proofs.lemmas.List.Elements.{All-nil, All-cons}
 use Rattle.std.proofs.lemmas.Option.{same_Some, none-some}
 use Rattle.std.proofs.Math.Seq.{take-suc, drop-cons}
 use Rattle.plain_data.specs.State.{State}
@@ -153,3 +154,10 @@ ok_map (Err e) more holds = tt
 pub on_ok : {T E : Type 0} (result : Result T E) {P : Type 0} → P → OnOk result P
 on_ok (Ok x) holds = holds
 on_ok (Err e) holds = tt
+
+-- one record that lies in the store
+pub one_stored : (size r : ℕ) (rids : List ℕ) → rids ≡ r ∷ [] → r < size → All (λ rid. rid < size) rids
+one_stored size r rids is within = let P : ℕ → Type 0 = λ rid. rid < size in rw is (All-cons P r [] within (All-nil P))
+
+pub none_stored : (size : ℕ) (rids : List ℕ) → rids ≡ [] → All (λ rid. rid < size) rids
+none_stored size rids is = let P : ℕ → Type 0 = λ rid. rid < size in rw is (All-nil P)

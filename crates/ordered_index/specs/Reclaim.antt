@@ -183,4 +183,5 @@ pub record IsNoneBeside (size : ℕ) (entries : List (Key × ℕ)) (before after
 -- a leaf that was read at a record with this fence
 pub record IsLeafAt (size : ℕ) (entry : Key × ℕ) (here : Stored) : Type 0 where
   pub node : IsTreeNode size entry.1 entry.0 here
+  pub within : here.at < size
   pub kind : (content_at here.words).kind ≡ Leaf

@@ -1,6 +1,6 @@
 //! How a tree gives an empty leaf back.
 
-ghost use Rattle.std.specs.Prelude.{◌≡◌, ◌⊎◌, ℕ, ◌+◌, ◌-◌, ◌<◌, ◌≤◌, ◌∷◌, [], length, IfOk, OnOk, OnErr, None};
+ghost use Rattle.std.specs.Prelude.{All, ◌≡◌, ◌⊎◌, ℕ, ◌+◌, ◌-◌, ◌<◌, ◌≤◌, ◌∷◌, [], length, IfOk, OnOk, OnErr, None};
 ghost use Rattle.record_store.specs.Goes.{WalksByReads, WalksByCalls};
 ghost use Rattle.record_store.specs.Limits.{record_limit};
 ghost use Rattle.record_store.specs.Meaning.{after_write};
@@ -38,6 +38,9 @@ pub type Freed = ArrayVec<u32, 1>;
 pub fn reclaim<S: RecordStore>(store: &mut S, root: u32, key: Key) -> Result<Freed, Walk<S::Fault>>
     requires { root < (S.meaning store.old).fixed }
     ensures ok { IfOk result (λ freed. Reclaims root key freed.items (S.meaning store.old) (S.meaning store.new)) }
+
+    // also where no state that agrees has a lawful tree
+    ensures stored { IfOk result (λ freed. All (λ rid. rid < (S.meaning store.old).size) freed.items) }
     ensures walked { OnOk result (EachState (S.meaning store.old) (S.meaning store.new) (DescentEndsWell (S.meaning store.old).size root key)) }
     ensures torn { IfTorn result (IsTornReclaim root key (S.meaning store.old) (S.meaning store.new)) }
 
@@ -82,6 +85,7 @@ fn give_back<S: RecordStore>(
     requires some { 2 ≤ length (content_at under.now.parent.words).entries }
     requires empty { (content_at under.now.leaf.words).entries ≡ [] }
     ensures ok { IfOk result (λ freed. Joins size (node_of under.now.parent) (node_of under.now.leaf) (S.meaning store.old) (S.meaning store.new) freed.items) }
+    ensures stored { IfOk result (λ freed. All (λ rid. rid < size) freed.items) }
     ensures torn { IfTorn result (IsNoneBeside size (content_at under.now.parent.words).entries (S.meaning store.old) (S.meaning store.new)) }
     ensures walk { WalksByCalls S.read_gives S.write_gives S.fresh_gives S.meaning S.rest (λ _. ⊥) 0 store.old store.new result }
     ensures few { WritesOrFrees 3 (S.meaning store.old) (S.meaning store.new) }

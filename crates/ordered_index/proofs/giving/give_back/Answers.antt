@@ -3,7 +3,7 @@ use Rattle.record_store.proofs.Agreement.{writes_same}
 use Rattle.record_store.proofs.Going.{reads_moved, calls_reads, calls_behind}
 use Rattle.record_store.proofs.Refusals.{torn_moved, IfTorn-map}
 use Rattle.ordered_index.specs.Standing.{content_at}
-use Rattle.ordered_index.proofs.Beside.{none_beside_right, none_beside_left, writes_found_right, writes_found_left, joins_right, joins_left, joins_each}
+use Rattle.ordered_index.proofs.Beside.{ok_map, one_stored, none_beside_right, none_beside_left, writes_found_right, writes_found_left, joins_right, joins_left, joins_each}
 use Rattle.ordered_index.proofs.Freeing.{frees-none, frees-weaken}
 use Rattle.ordered_index.proofs.giving.give_back.Goals as goal
 
@@ -42,3 +42,10 @@ returns-clause-writes g c = writes_found_left (g.S.RecordRead.meaning c.args.sto
 
 pub returns-clause-ok : goal.returns-clause-ok
 returns-clause-ok g c = joins_each c.join_leaves-2.result (λ wrote freed gave. joins_left c.args.size c.args.key c.args.under.now c.entry-2.result c.rank_of-rank.result c.in_ok-beside-2.beside (g.S.RecordRead.meaning c.args.store.now) (g.S.RecordRead.meaning c.read_leaf-2.new.store) (g.S.RecordRead.meaning c.join_leaves-2.new.store) freed.items c.requires.under c.entry-2.ensures (rw c.count.ensures at c.if-rank-count.false) c.requires.some c.rank_of-rank.ensures.rank c.read_leaf-2.ensures.walk.by.only c.in_ok-beside-2.ensures.leaf c.in_ok-beside-2.ensures.read wrote gave) c.join_leaves-2.ensures.ok c.join_leaves-2.ensures.freed
+
+-- the record that is freed lies in the store
+pub returns-then-rank-count-clause-stored : goal.returns-then-rank-count-clause-stored
+returns-then-rank-count-clause-stored g c = ok_map c.join_leaves.result (λ freed is. one_stored c.args.size c.in_ok-beside.beside.at freed.items is c.in_ok-beside.ensures.leaf.within) c.join_leaves.ensures.freed
+
+pub returns-clause-stored : goal.returns-clause-stored
+returns-clause-stored g c = ok_map c.join_leaves-2.result (λ freed is. one_stored c.args.size c.args.under.now.leaf.at freed.items is c.requires.under.leaf_at) c.join_leaves-2.ensures.freed

@@ -4,7 +4,7 @@ use Rattle.record_store.proofs.Going.{reads_moved, reads_quiet, calls_reads, cal
 use Rattle.record_store.proofs.Refusals.{torn_moved, IfTorn-map}
 use Rattle.ordered_index.specs.Standing.{content_at}
 use Rattle.ordered_index.specs.Walk.{node_of}
-use Rattle.ordered_index.proofs.Beside.{ok_map, on_ok}
+use Rattle.ordered_index.proofs.Beside.{none_stored, ok_map, on_ok}
 use Rattle.ordered_index.proofs.Reclaiming.{reclaims_low, reclaims_full, reclaims_leaf, has_entries, has_two, no_entries, names_three, torn_early, torn_beside, each_ends, writes_found}
 use Rattle.ordered_index.proofs.giving.reclaim.Goals as goal
 
@@ -58,3 +58,15 @@ returns-then-count-eq2-clause-walk g c = calls_reads _ c.args.store.now c.leaf_u
 
 pub returns-clause-walk : goal.returns-clause-walk
 returns-clause-walk g c = calls_behind (λ _. ⊥) 0 c.args.store.now c.leaf_under.new.store c.give_back.new.store c.leaf_under.result c.give_back.result c.leaf_under.ensures.walk c.give_back.ensures.walk (λ asks never. never)
+
+pub returns-in_default-clause-stored : goal.returns-in_default-clause-stored
+returns-in_default-clause-stored g c = none_stored (g.S.RecordRead.meaning c.args.store.now).size c.new.result.items c.new.ensures
+
+pub returns-then-count-gt0-clause-stored : goal.returns-then-count-gt0-clause-stored
+returns-then-count-gt0-clause-stored g c = none_stored (g.S.RecordRead.meaning c.args.store.now).size c.new-then-count-gt0.result.items c.new-then-count-gt0.ensures
+
+pub returns-then-count-eq2-clause-stored : goal.returns-then-count-eq2-clause-stored
+returns-then-count-eq2-clause-stored g c = none_stored (g.S.RecordRead.meaning c.args.store.now).size c.new-then-count-eq2.result.items c.new-then-count-eq2.ensures
+
+pub returns-clause-stored : goal.returns-clause-stored
+returns-clause-stored g c = rw (← c.size-size.ensures.size) c.give_back.ensures.stored

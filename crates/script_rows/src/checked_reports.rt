@@ -1,18 +1,14 @@
 //! The checker of reports: verdicts on right and on wrong reports, and the order that a report prints.
-//!
-//! Who ends with an input hands it to `drop`: where its name goes out of scope, each field of it is let go in the proof of the function
-//! itself, and once more at each early return, which is dear. So what is done with an input stands in a function that borrows it.
 
 ghost use Rattle.replay_model.specs.Input.{IsWellFormed};
 
 use crate::due::{hold, same};
 use crate::reports::report_in;
-use crate::texts::{
-    append, append_number, append_times, bytes_of, input_from, input_of, order_from, plain_order,
-};
+use crate::texts::{Rounds, bytes_of, long_text, order_from, plain_order};
+use crate::trials::{Trial, try_bytes, try_text};
 use replay_model::{Input, NoMemory, Placed};
 use report_check::{Verdict, check};
-use std::alloc::{AllocError, Global};
+use std::alloc::Global;
 use std::process::Abort;
 use std::test::Fail;
 
@@ -23,13 +19,19 @@ fn verdict_on(alloc: Global, input: &Input, report: &[u8]) -> Result<Verdict, No
     check(alloc, input, report)
 }
 
-/// The verdict on a report of the input that a text spells.
-fn verdict(alloc: Global, text: &str, report: &str) -> Result<Verdict, Fail> {
-    let report = bytes_of(alloc, report)?;
-    let input = input_from(alloc, text)?;
-    let verdict = verdict_on(alloc, &input, &report);
-    drop(input);
-    Ok(verdict?)
+/// Compares the verdict on a report with the one due.
+pub fn try_verdict<R: Abort + AllocGlobal>(
+    rt: &R,
+    input: &Input,
+    report: &str,
+    due: Verdict,
+    step: usize,
+) -> Result<(), Fail>
+    requires { IsWellFormed input.now }
+{
+    let report = bytes_of(rt.alloc(), report)?;
+    same(rt, verdict_on(rt.alloc(), input, &report)?, due, step);
+    Ok(())
 }
 
 const ONE_BLOCK: &str =
@@ -178,22 +180,19 @@ fn reports() -> &'static [Case] {
 #[test]
 fn reports_are_judged(rt: HostRuntime) -> Result<(), Fail> {
     for (i, (text, report, due)) in reports().iter().enumerate() {
-        same(&rt, verdict(rt.alloc(), text, report)?, *due, i);
+        try_text(&rt, text, Trial::Verdict(report, *due), i)?;
     }
     Ok(())
 }
 
-/// The order that these lines of a report print, where the input is the one that a text spells.
-fn order_printed(alloc: Global, text: &str, lines: &str) -> Result<Vec<Placed>, Fail> {
-    let input = input_from(alloc, text)?;
-    let order = order_from(alloc, &input, lines);
-    drop(input);
-    order
-}
-
 /// Compares the order that these lines print with the one due.
-fn try_printed<R: Abort + AllocGlobal>(rt: &R, lines: &str, due: &[Placed]) -> Result<(), Fail> {
-    let order = order_printed(rt.alloc(), FINDS, lines)?;
+pub fn try_printed<R: Abort + AllocGlobal>(
+    rt: &R,
+    input: &Input,
+    lines: &str,
+    due: &[Placed],
+) -> Result<(), Fail> {
+    let order = order_from(rt.alloc(), input, lines)?;
     same(rt, order.as_slice(), due, 0);
     Ok(())
 }
@@ -223,38 +222,27 @@ const PRINTED: [Placed; 3] = [
 #[test]
 fn printed_order_is_read(rt: HostRuntime) -> Result<(), Fail> {
     let lines = "0 1.1 no 1 over/7 1.1 ok /8 1.2 ok/9 3.4 no 2 over/5 1.1 snap";
-    try_printed(&rt, lines, &PRINTED)
-}
-
-/// Appends a row with a number of 20 digits.
-fn append_row(text: &mut Vec<u8>, key: u64) -> Result<(), AllocError> {
-    append(text, "row a ")?;
-    append_number(text, key)?;
-    append(text, " 18446744073709551615/")
-}
-
-/// Appends a lane of blocks with a scan.
-fn append_lane(text: &mut Vec<u8>) -> Result<(), AllocError> {
-    append(text, "lane/")?;
-    append_times(text, "txn/scan a 0 999 256/end/", 256)
-}
-
-/// Appends the rows, and then the lanes.
-fn append_largest(text: &mut Vec<u8>) -> Result<(), AllocError> {
-    for key in 100..260_u64 {
-        append_row(text, key)?;
-    }
-    for _ in 0..64 {
-        append_lane(text)?;
-    }
-    append(text, "done/")
+    try_text(&rt, FINDS, Trial::Printed(lines, &PRINTED), 0)
 }
 
 /// An input at the limits of its lanes, blocks and scans: each of 16,384 blocks in 64 lanes scans 160 rows of a number of 20 digits.
-fn largest(alloc: Global) -> Result<Vec<u8>, AllocError> {
-    let mut text = bytes_of(alloc, "cicada 1/table a/")?;
-    append_largest(&mut text)?;
-    Ok(text)
+const LARGEST: &[Rounds] = &[
+    (
+        1,
+        &[
+            ("cicada 1/table a/", 1, 1),
+            ("row a # 18446744073709551615/", 100, 259),
+        ],
+    ),
+    (
+        64,
+        &[("lane/", 1, 1), ("txn/scan a 0 999 256/end/", 1, 256)],
+    ),
+    (1, &[("done/", 1, 1)]),
+];
+
+fn largest() -> &'static [Rounds] {
+    LARGEST
 }
 
 /// The report of an input, run lane behind lane.
@@ -265,37 +253,22 @@ fn plain_report(alloc: Global, input: &Input) -> Result<Vec<u8>, Fail>
     report_in(alloc, input, &order)
 }
 
-/// The length of that report, and the verdicts on it and on it with a byte behind it.
-fn verdicts(alloc: Global, input: &Input) -> Result<(usize, Verdict, Verdict), Fail>
+/// Compares the length of that report, and the verdicts on it and on it with a byte behind it.
+pub fn try_largest<R: Abort + AllocGlobal>(rt: &R, input: &Input) -> Result<(), Fail>
     requires { IsWellFormed input.now }
 {
+    let alloc = rt.alloc();
     let mut text = plain_report(alloc, input)?;
-    let length = text.len();
-    let whole = verdict_on(alloc, input, &text)?;
+    hold(rt, text.len() > 70_000_000, 0);
+    same(rt, verdict_on(alloc, input, &text)?, Verdict::Yes, 1);
     text.push(b'x')?;
     let longer = verdict_on(alloc, input, &text)?;
-    Ok((length, whole, longer))
-}
-
-/// The same of the input that these bytes spell.
-fn verdicts_of(alloc: Global, text: &[u8]) -> Result<(usize, Verdict, Verdict), Fail> {
-    let input = input_of(alloc, text)?;
-    let verdicts = verdicts(alloc, &input);
-    drop(input);
-    verdicts
-}
-
-/// The same of the largest input.
-fn largest_verdicts(alloc: Global) -> Result<(usize, Verdict, Verdict), Fail> {
-    let text = largest(alloc)?;
-    verdicts_of(alloc, &text)
+    same(rt, longer, Verdict::NoLine(2_637_987), 2);
+    Ok(())
 }
 
 #[test]
 fn largest_report_is_judged(rt: HostRuntime) -> Result<(), Fail> {
-    let (length, whole, longer) = largest_verdicts(rt.alloc())?;
-    hold(&rt, length > 70_000_000, 0);
-    same(&rt, whole, Verdict::Yes, 1);
-    same(&rt, longer, Verdict::NoLine(2_637_987), 2);
-    Ok(())
+    let text = long_text(rt.alloc(), largest())?;
+    try_bytes(&rt, &text, Trial::Largest, 0)
 }

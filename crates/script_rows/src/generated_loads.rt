@@ -3,11 +3,13 @@
 ghost use Rattle.replay_model.specs.Input.{IsWellFormed};
 
 use crate::due::{hold, same};
-use crate::texts::{bytes_of, input_from, plain_order};
+use crate::texts::{bytes_of, plain_order};
+use crate::trials::{Trial, try_text};
 use generated_input::generated;
 use load_gen::{generate, summary};
-use replay_model::{Input, NoMemory, Placed, Tables, are_named, replay};
+use replay_model::{Input, NoMemory, Tables, are_named, replay};
 use std::alloc::{AllocError, Global};
+use std::process::Abort;
 use std::test::Fail;
 
 /// What stands behind the first line of a text; the text, where it has no whole line.
@@ -55,25 +57,18 @@ fn generated_text_begins_so(rt: HostRuntime) -> Result<(), Fail> {
     Ok(())
 }
 
-/// The summary of an input, run in an order.
-fn summary_in(alloc: Global, input: &Input, order: &[Placed]) -> Result<Vec<u8>, Fail>
-    requires { IsWellFormed input.now }
-{
-    if !are_named(input, order) {
-        return Err("the order names what is not there".into());
-    }
-    let replayed = replay(alloc, input, order)?;
-    let text = summary(alloc, input, &replayed.last);
-    drop(replayed);
-    Ok(text?)
-}
-
 /// The summary of an input, run lane behind lane.
 fn summary_of(alloc: Global, input: &Input) -> Result<Vec<u8>, Fail>
     requires { IsWellFormed input.now }
 {
     let order = plain_order(alloc, input)?;
-    summary_in(alloc, input, &order)
+    if !are_named(input, &order) {
+        return Err("the order names what is not there".into());
+    }
+    let replayed = replay(alloc, input, &order)?;
+    let text = summary(alloc, input, &replayed.last);
+    drop(replayed);
+    Ok(text?)
 }
 
 /// The summary of a generated load.
@@ -103,33 +98,41 @@ fn summary_at_load(alloc: Global, input: &Input) -> Result<Vec<u8>, NoMemory>
     text
 }
 
-/// The same of the input that a text spells, in which MOST stands for six times the greatest number.
-fn loaded_summary(alloc: Global, text: &str) -> Result<Vec<u8>, Fail> {
-    let most =
-        "18446744073709551615 18446744073709551615 18446744073709551615 18446744073709551615 18446744073709551615 18446744073709551615";
-    let text = text.replace(alloc, "MOST", most)?;
-    let input = input_from(alloc, &text)?;
-    let summary = summary_at_load(alloc, &input);
-    drop(input);
-    Ok(summary?)
+/// Compares that summary with the one due.
+pub fn try_summary<R: Abort + AllocGlobal>(
+    rt: &R,
+    input: &Input,
+    due: &str,
+    step: usize,
+) -> Result<(), Fail>
+    requires { IsWellFormed input.now }
+{
+    let summary = summary_at_load(rt.alloc(), input)?;
+    hold(rt, summary == bytes_of(rt.alloc(), due)?, step);
+    Ok(())
+}
+
+/// Inputs, and their summaries before any block has run.
+const LOADED: &[(&str, &str)] = &[
+    ("cicada 1/done/", "transactions 0/sum 0/done/"),
+    (
+        "cicada 2/table a 6/row a 1 18446744073709551615 18446744073709551615 18446744073709551615 18446744073709551615 18446744073709551615 18446744073709551615/row a 2 18446744073709551615 18446744073709551615 18446744073709551615 18446744073709551615 18446744073709551615 18446744073709551615/lane/txn/end/snap/end/done/",
+        "transactions 1/sum 221360928884514619380/done/",
+    ),
+    (
+        "cicada 2/table a 1/table b 2/row b 1 3 4/row a 1 5/lane/snap/end/lane/txn/end/txn/end/done/",
+        "transactions 2/sum 12/done/",
+    ),
+];
+
+fn loaded() -> &'static [(&'static str, &'static str)] {
+    LOADED
 }
 
 #[test]
 fn sums_have_128_bits(rt: HostRuntime) -> Result<(), Fail> {
-    let cases = [
-        ("cicada 1/done/", "transactions 0/sum 0/done/"),
-        (
-            "cicada 2/table a 6/row a 1 MOST/row a 2 MOST/lane/txn/end/snap/end/done/",
-            "transactions 1/sum 221360928884514619380/done/",
-        ),
-        (
-            "cicada 2/table a 1/table b 2/row b 1 3 4/row a 1 5/lane/snap/end/lane/txn/end/txn/end/done/",
-            "transactions 2/sum 12/done/",
-        ),
-    ];
-    for (i, (text, due)) in cases.iter().enumerate() {
-        let due = bytes_of(rt.alloc(), due)?;
-        hold(&rt, loaded_summary(rt.alloc(), text)? == due, i);
+    for (i, (text, due)) in loaded().iter().enumerate() {
+        try_text(&rt, text, Trial::Summary(due), i)?;
     }
     Ok(())
 }

@@ -24,3 +24,5 @@ mod reports;
 mod tables;
 #[cfg(test)]
 mod texts;
+#[cfg(test)]
+mod trials;

@@ -1,7 +1,8 @@
 //! Orders of a worked input, and which of the six tests a wrong one fails first.
 
 use crate::due::same;
-use crate::texts::{input_from, order_from};
+use crate::texts::order_from;
+use crate::trials::{Trial, try_text};
 use replay_model::{
     Input, NoMemory, Placed, are_complete, are_named, is_order, lanes_are_kept, snaps_are_placed,
     stand_once, writers_rise,
@@ -129,7 +130,8 @@ fn orders() -> &'static [Case] {
     ORDERS
 }
 
-fn try_orders<R: Abort + AllocGlobal>(rt: &R, input: &Input) -> Result<(), Fail> {
+/// Compares which test each order fails first.
+pub fn try_orders<R: Abort + AllocGlobal>(rt: &R, input: &Input) -> Result<(), Fail> {
     for (i, (_, first, heads)) in orders().iter().enumerate() {
         let order = order_from(rt.alloc(), input, heads)?;
         try_order(rt, input, &order, *first, i)?;
@@ -139,8 +141,5 @@ fn try_orders<R: Abort + AllocGlobal>(rt: &R, input: &Input) -> Result<(), Fail>
 
 #[test]
 fn wrong_orders_fail_at_their_tests(rt: HostRuntime) -> Result<(), Fail> {
-    let input = input_from(rt.alloc(), MIXED)?;
-    let tried = try_orders(&rt, &input);
-    drop(input);
-    tried
+    try_text(&rt, MIXED, Trial::Orders, 0)
 }

@@ -5,7 +5,8 @@ ghost use Rattle.replay_model.specs.Answered.{HasAnswers};
 ghost use Rattle.replay_model.specs.Input.{IsWellFormed};
 
 use crate::due::same;
-use crate::texts::{bytes_of, input_from};
+use crate::texts::bytes_of;
+use crate::trials::{Trial, try_text};
 use replay_model::{
     Answer, Answers, Block, Cause, Columns, Input, NoMemory, Outcome, Placed, block_at, is_named,
 };
@@ -98,7 +99,8 @@ fn try_block<R: Abort + AllocGlobal>(
     Ok(())
 }
 
-fn try_blocks<R: Abort + AllocGlobal>(rt: &R, input: &Input) -> Result<(), Fail>
+/// Compares the lines of the first block, done and refused, with those due.
+pub fn try_blocks<R: Abort + AllocGlobal>(rt: &R, input: &Input) -> Result<(), Fail>
     requires { IsWellFormed input.now }
 {
     let done = answered(rt.alloc())?;
@@ -113,8 +115,5 @@ fn try_blocks<R: Abort + AllocGlobal>(rt: &R, input: &Input) -> Result<(), Fail>
 #[test]
 fn a_block_is_appended_with_its_answers(rt: HostRuntime) -> Result<(), Fail> {
     let text = "cicada 1/table a/lane/txn/get a 1/put a 1 2/get a 3/end/done/";
-    let input = input_from(rt.alloc(), text)?;
-    let tried = try_blocks(&rt, &input);
-    drop(input);
-    tried
+    try_text(&rt, text, Trial::Prints, 0)
 }

@@ -1,13 +1,14 @@
 //! Replays and runs of one block.
 //!
-//! Inputs, tables and what a replay gives are dropped by call, as in the tests of reports that are checked.
+//! Tables and what a replay gives are dropped by call, as inputs are.
 
 ghost use Rattle.replay_model.specs.Input.{IsWellFormed};
 
 use crate::due::hold;
 use crate::orders::try_order;
-use crate::reports::try_text;
-use crate::texts::{bytes_of, input_from};
+use crate::reports::try_report;
+use crate::texts::bytes_of;
+use crate::trials::{Trial, try_text};
 use replay_model::{
     Answer, Block, Blocks, Cause, Columns, Command, Commands, Input, Lanes, NoMemory, Outcome,
     Placed, Replayed, Tables, are_named, block_at, is_well_formed, replay, run_one,
@@ -17,10 +18,19 @@ use std::alloc::Global;
 use std::process::Abort;
 use std::test::Fail;
 
-/// Whether the outcome is Done with these answers of reads, and nothing at the writes.
-fn answers(outcome: &Outcome, wanted: &[Option<u64>]) -> bool {
-    match outcome {
-        Outcome::Done(answers) => {
+/// What a block comes to.
+#[derive(Clone, Copy)]
+enum Due<'a> {
+    /// It is done with these answers of reads, and nothing at the writes.
+    Answers(&'a [Option<u64>]),
+    /// It is refused at this command.
+    Refused(u32, Cause),
+}
+
+/// Whether the outcome is what is due.
+fn comes_to(outcome: &Outcome, due: Due<'_>) -> bool {
+    match (outcome, due) {
+        (Outcome::Done(answers), Due::Answers(wanted)) => {
             let got = answers.as_slice();
             got.len() == wanted.len()
                 && got.iter().zip(wanted).all(|(answer, value)| match answer {
@@ -30,7 +40,10 @@ fn answers(outcome: &Outcome, wanted: &[Option<u64>]) -> bool {
                     Answer::Pairs(_) => false,
                 })
         }
-        Outcome::Refused { .. } => false,
+        (Outcome::Refused { command, cause }, Due::Refused(number, of)) => {
+            *command == number && *cause == of
+        }
+        _ => false,
     }
 }
 
@@ -60,7 +73,8 @@ fn has_replayed(
         return Ok(false);
     }
     let last = replayed.last.pairs(alloc, 0)?;
-    Ok(answers(replayed.outcomes.get(0), wanted) && last.as_slice() == rows)
+    let done = comes_to(replayed.outcomes.get(0), Due::Answers(wanted));
+    Ok(done && last.as_slice() == rows)
 }
 
 /// The same of the replay of an input in an order.
@@ -87,42 +101,43 @@ fn has_row(tables: &Tables, row: Columns) -> bool {
     tables.get(0, 1) == Some(row)
 }
 
-/// Whether the first block has these answers on these tables, and takes the row at key 1 from one value to another.
+/// Whether the block of this number comes to what is due on these tables, and takes the row at key 1 from one value to another.
 fn runs_on(
     alloc: Global,
     input: &Input,
     tables: &mut Tables,
-    wanted: &[Option<u64>],
-    before: u64,
-    behind: u64,
+    block: (u32, Due<'_>),
+    before: Columns,
+    behind: Columns,
 ) -> Result<bool, Fail>
     requires { IsWellFormed input.now }
 {
-    let starts = has_row(tables, row_of(before));
-    let outcome = run_at(alloc, input, 1, tables)?;
-    let answers = answers(&outcome, wanted);
+    let (number, due) = block;
+    let starts = has_row(tables, before);
+    let outcome = run_at(alloc, input, number, tables)?;
+    let comes = comes_to(&outcome, due);
     drop(outcome);
-    Ok(starts && answers && has_row(tables, row_of(behind)))
+    Ok(starts && comes && has_row(tables, behind))
 }
 
 /// The same on the tables as they are loaded.
 fn runs(
     alloc: Global,
     input: &Input,
-    wanted: &[Option<u64>],
-    before: u64,
-    behind: u64,
+    block: (u32, Due<'_>),
+    before: Columns,
+    behind: Columns,
 ) -> Result<bool, Fail>
     requires { IsWellFormed input.now }
 {
     let mut tables = Tables::loaded(alloc, input)?;
-    let runs = runs_on(alloc, input, &mut tables, wanted, before, behind);
+    let runs = runs_on(alloc, input, &mut tables, block, before, behind);
     drop(tables);
     runs
 }
 
 /// Compares the replay and the run of the only block of an input.
-fn try_one_block<R: Abort + AllocGlobal>(rt: &R, input: &Input) -> Result<(), Fail>
+pub fn try_one_block<R: Abort + AllocGlobal>(rt: &R, input: &Input) -> Result<(), Fail>
     requires { IsWellFormed input.now }
 {
     let alloc = rt.alloc();
@@ -139,7 +154,8 @@ fn try_one_block<R: Abort + AllocGlobal>(rt: &R, input: &Input) -> Result<(), Fa
         replays(alloc, input, &order, &wanted, &[(1, row_of(70))])?,
         1,
     );
-    hold(rt, runs(alloc, input, &wanted, 100, 70)?, 2);
+    let block = (1, Due::Answers(&wanted));
+    hold(rt, runs(alloc, input, block, row_of(100), row_of(70))?, 2);
     // The empty order.
     try_order(rt, input, &[], 3, 3)
 }
@@ -147,10 +163,7 @@ fn try_one_block<R: Abort + AllocGlobal>(rt: &R, input: &Input) -> Result<(), Fa
 #[test]
 fn replay_and_run_of_one_block_agree(rt: HostRuntime) -> Result<(), Fail> {
     let text = "cicada 1/table a/row a 1 100/lane/txn/get a 1/sub a 1 30/get a 1/end/done/";
-    let input = input_from(rt.alloc(), text)?;
-    let tried = try_one_block(&rt, &input);
-    drop(input);
-    tried
+    try_text(&rt, text, Trial::OneBlock, 0)
 }
 
 /// Appends each of these commands.
@@ -214,32 +227,6 @@ fn push_lane(alloc: Global, lanes: &mut Lanes) -> Result<(), NoMemory> {
     lanes.push(blocks)
 }
 
-/// Whether the second block is refused at its last command on these tables, and leaves the row as it was.
-fn is_refused_on(alloc: Global, input: &Input, tables: &mut Tables) -> Result<bool, Fail>
-    requires { IsWellFormed input.now }
-{
-    let outcome = run_at(alloc, input, 2, tables)?;
-    let refused = matches!(
-        &outcome,
-        Outcome::Refused {
-            command: 3,
-            cause: Cause::Missing
-        }
-    );
-    drop(outcome);
-    Ok(refused && has_row(tables, Columns::new([100, 7, 0, 0, 0, 0])))
-}
-
-/// The same on the tables as they are loaded.
-fn is_refused(alloc: Global, input: &Input) -> Result<bool, Fail>
-    requires { IsWellFormed input.now }
-{
-    let mut tables = Tables::loaded(alloc, input)?;
-    let refused = is_refused_on(alloc, input, &mut tables);
-    drop(tables);
-    refused
-}
-
 /// Compares the report of an input with the one due, in its order, and runs the second block.
 fn try_changing_nothing<R: Abort + AllocGlobal>(rt: &R, input: &Input) -> Result<(), Fail> {
     let alloc = rt.alloc();
@@ -252,13 +239,15 @@ fn try_changing_nothing<R: Abort + AllocGlobal>(rt: &R, input: &Input) -> Result
     )?;
     let order = printed(alloc, input, &due)?;
     try_order(rt, input, &order, 0, 0)?;
-    try_text(rt, input, &order, &due)?;
-    hold(rt, is_refused(alloc, input)?, 1);
+    try_report(rt, input, &due, 0)?;
+    let row = Columns::new([100, 7, 0, 0, 0, 0]);
+    let block = (2, Due::Refused(3, Cause::Missing));
+    hold(rt, runs(alloc, input, block, row, row)?, 1);
     Ok(())
 }
 
 /// Tries an input without lanes, once it has that lane.
-fn try_with_lane<R: Abort + AllocGlobal>(rt: &R, input: &mut Input) -> Result<(), Fail> {
+pub fn try_unchanged<R: Abort + AllocGlobal>(rt: &R, input: &mut Input) -> Result<(), Fail> {
     push_lane(rt.alloc(), &mut input.lanes)?;
     try_changing_nothing(rt, input)
 }
@@ -266,8 +255,5 @@ fn try_with_lane<R: Abort + AllocGlobal>(rt: &R, input: &mut Input) -> Result<()
 #[test]
 fn snapshots_and_refused_blocks_change_nothing(rt: HostRuntime) -> Result<(), Fail> {
     let text = "cicada 2/table a 2/index a 2/row a 1 100 7/done/";
-    let mut input = input_from(rt.alloc(), text)?;
-    let tried = try_with_lane(&rt, &mut input);
-    drop(input);
-    tried
+    try_text(&rt, text, Trial::Unchanged, 0)
 }

@@ -3,15 +3,19 @@
 ghost use Rattle.replay_model.specs.Input.{IsWellFormed};
 
 use crate::due::{hold, same};
-use crate::texts::{append, append_number, bytes_of, input_of, repeated};
-use replay_model::{Input, Placed, are_named, is_order, is_well_formed, report};
+use crate::texts::{Rounds, bytes_of, long_text};
+use crate::trials::{Trial, try_bytes, try_text};
+use replay_model::{Input, Placed, are_named, is_order, report};
 use report_check::printed;
-use std::alloc::{AllocError, Global};
+use std::alloc::Global;
 use std::process::Abort;
 use std::test::Fail;
 
 /// The text of an input, and its report in the order of the report's head lines.
 type Case = (&'static str, &'static str);
+
+/// The same of long texts.
+type LongCase = (&'static [Rounds], &'static [Rounds]);
 
 /// The report of an input in an order, which has to name what is there.
 pub fn report_in(alloc: Global, input: &Input, order: &[Placed]) -> Result<Vec<u8>, Fail>
@@ -23,39 +27,20 @@ pub fn report_in(alloc: Global, input: &Input, order: &[Placed]) -> Result<Vec<u
     Ok(report(alloc, input, order)?)
 }
 
-/// The same of an input that has to be well formed.
-fn report_of(alloc: Global, input: &Input, order: &[Placed]) -> Result<Vec<u8>, Fail> {
-    if !is_well_formed(alloc, input)? {
-        return Err("the input is well formed".into());
-    }
-    report_in(alloc, input, order)
-}
-
-/// Compares the report of an input in an order with the one due.
-pub fn try_text<R: Abort + AllocGlobal>(
+/// Compares the report of an input, in the order that the one due prints, with it.
+pub fn try_report<R: Abort + AllocGlobal>(
     rt: &R,
     input: &Input,
-    order: &[Placed],
     due: &[u8],
-) -> Result<(), Fail> {
-    let text = report_of(rt.alloc(), input, order)?;
-    same(rt, text.as_slice(), due, 0);
-    Ok(())
-}
-
-/// Compares the report of an input, in the order that the one due prints, with it.
-fn try_input<R: Abort + AllocGlobal>(rt: &R, input: &Input, due: &[u8]) -> Result<(), Fail> {
+    step: usize,
+) -> Result<(), Fail>
+    requires { IsWellFormed input.now }
+{
     let order = printed(rt.alloc(), input, due)?;
-    hold(rt, is_order(rt.alloc(), input, &order)?, 0);
-    try_text(rt, input, &order, due)
-}
-
-/// The same of the input that these bytes spell.
-pub fn try_report<R: Abort + AllocGlobal>(rt: &R, bytes: &[u8], due: &[u8]) -> Result<(), Fail> {
-    let input = input_of(rt.alloc(), bytes)?;
-    let tried = try_input(rt, &input, due);
-    drop(input);
-    tried
+    hold(rt, is_order(rt.alloc(), input, &order)?, step);
+    let text = report_in(rt.alloc(), input, &order)?;
+    same(rt, text.as_slice(), due, step);
+    Ok(())
 }
 
 /// Texts of tables with one column, and with more.
@@ -103,151 +88,131 @@ const CASES: &[Case] = &[
     ),
 ];
 
+/// Scans that list what they ask for, the most commands of a block, and an input at its limits, where each block adds 1 to the row of its
+/// own number.
+const LONG_CASES: &[LongCase] = &[
+    (
+        &[(
+            1,
+            &[
+                ("cicada 1/table a/", 1, 1),
+                ("row a # #0/", 1, 200),
+                ("lane/txn/scan a 5 7 2/end/done/", 1, 1),
+            ],
+        )],
+        &[(
+            1,
+            &[
+                ("51456 1.1 ok/", 1, 1),
+                (": # #0/", 5, 6),
+                ("table a/", 1, 1),
+                ("# #0/", 1, 200),
+                ("done/", 1, 1),
+            ],
+        )],
+    ),
+    (
+        &[(
+            1,
+            &[
+                ("cicada 1/table a/", 1, 1),
+                ("row a # #0/", 1, 200),
+                (
+                    "lane/txn/scan a 198 18446744073709551615 256/end/done/",
+                    1,
+                    1,
+                ),
+            ],
+        )],
+        &[(
+            1,
+            &[
+                ("51456 1.1 ok/", 1, 1),
+                (": # #0/", 198, 200),
+                ("table a/", 1, 1),
+                ("# #0/", 1, 200),
+                ("done/", 1, 1),
+            ],
+        )],
+    ),
+    (
+        &[(
+            1,
+            &[
+                ("cicada 1/table a/", 1, 1),
+                ("row a # #0/", 1, 16_384),
+                ("lane/txn/scan a 1 16384 256/end/done/", 1, 1),
+            ],
+        )],
+        &[(
+            1,
+            &[
+                ("51456 1.1 ok/", 1, 1),
+                (": # #0/", 1, 256),
+                ("table a/", 1, 1),
+                ("# #0/", 1, 16_384),
+                ("done/", 1, 1),
+            ],
+        )],
+    ),
+    (
+        &[(
+            1,
+            &[
+                ("cicada 1/table a/lane/txn/", 1, 1),
+                ("get a 1/", 1, 64),
+                ("end/done/", 1, 1),
+            ],
+        )],
+        &[(
+            1,
+            &[
+                ("256 1.1 ok/", 1, 1),
+                ("= none/", 1, 64),
+                ("table a/done/", 1, 1),
+            ],
+        )],
+    ),
+    (
+        &[
+            (1, &[("cicada 1/table a/", 1, 1), ("row a # 6/", 1, 16_384)]),
+            (64, &[("lane/", 1, 1), ("txn/add a % 1/end/", 1, 256)]),
+            (1, &[("done/", 1, 1)]),
+        ],
+        &[
+            (64, &[("$ @.# ok/", 1, 256)]),
+            (
+                1,
+                &[("table a/", 1, 1), ("# 7/", 1, 16_384), ("done/", 1, 1)],
+            ),
+        ],
+    ),
+];
+
 /// The texts, of which no proof knows more than that they are texts.
 fn cases() -> &'static [Case] {
     CASES
 }
 
+fn long_cases() -> &'static [LongCase] {
+    LONG_CASES
+}
+
 #[test]
 fn worked_texts_are_reported(rt: HostRuntime) -> Result<(), Fail> {
-    for (text, due) in cases() {
-        let bytes = bytes_of(rt.alloc(), text)?;
-        let report = bytes_of(rt.alloc(), due)?;
-        try_report(&rt, &bytes, &report)?;
+    for (i, (text, due)) in cases().iter().enumerate() {
+        let due = bytes_of(rt.alloc(), due)?;
+        try_text(&rt, text, Trial::Report(&due), i)?;
     }
     Ok(())
-}
-
-/// Appends lines of the keys from `from` to `last`, each with ten times its key.
-fn append_pairs(bytes: &mut Vec<u8>, front: &str, from: u64, last: u64) -> Result<(), AllocError> {
-    for key in from..=last {
-        append(bytes, front)?;
-        append_number(bytes, key)?;
-        append(bytes, " ")?;
-        append_number(bytes, key)?;
-        append(bytes, "0/")?;
-    }
-    Ok(())
-}
-
-/// Rows with the keys from 1 on, each with ten times its key, and a scan.
-fn scan_input(alloc: Global, rows: u64, scan: &str) -> Result<Vec<u8>, AllocError> {
-    let mut bytes = Vec::new(alloc);
-    append(&mut bytes, "cicada 1/table a/")?;
-    append_pairs(&mut bytes, "row a ", 1, rows)?;
-    append(&mut bytes, "lane/txn/")?;
-    append(&mut bytes, scan)?;
-    append(&mut bytes, "/end/done/")?;
-    Ok(bytes)
-}
-
-/// The report of that input, where the scan lists the rows from `lo` to `last`.
-fn scan_due(alloc: Global, rows: u64, lo: u64, last: u64) -> Result<Vec<u8>, AllocError> {
-    let mut due = Vec::new(alloc);
-    append(&mut due, "51456 1.1 ok/")?;
-    append_pairs(&mut due, ": ", lo, last)?;
-    append(&mut due, "table a/")?;
-    append_pairs(&mut due, "", 1, rows)?;
-    append(&mut due, "done/")?;
-    Ok(due)
-}
-
-/// Rows from 1 on, and a scan that lists those from `lo` to `last`.
-fn try_scan<R: Abort + AllocGlobal>(
-    rt: &R,
-    rows: u64,
-    scan: &str,
-    lo: u64,
-    last: u64,
-) -> Result<(), Fail> {
-    let bytes = scan_input(rt.alloc(), rows, scan)?;
-    let due = scan_due(rt.alloc(), rows, lo, last)?;
-    try_report(rt, &bytes, &due)
 }
 
 #[test]
-fn a_scan_lists_what_it_asks_for(rt: HostRuntime) -> Result<(), Fail> {
-    let cases = [
-        (200, "scan a 5 7 2", 5, 6),
-        (200, "scan a 198 18446744073709551615 256", 198, 200),
-        (16384, "scan a 1 16384 256", 1, 256),
-    ];
-    for (rows, scan, lo, last) in cases {
-        try_scan(&rt, rows, scan, lo, last)?;
+fn long_texts_are_reported(rt: HostRuntime) -> Result<(), Fail> {
+    for (i, (text, due)) in long_cases().iter().enumerate() {
+        let bytes = long_text(rt.alloc(), text)?;
+        let due = long_text(rt.alloc(), due)?;
+        try_bytes(&rt, &bytes, Trial::Report(&due), i)?;
     }
     Ok(())
-}
-
-/// A block of 64 reads of a row that is not there, and its report.
-#[test]
-fn a_block_may_have_64_commands(rt: HostRuntime) -> Result<(), Fail> {
-    let front = "cicada 1/table a/lane/txn/";
-    let bytes = repeated(rt.alloc(), front, "get a 1/", 64, "end/done/")?;
-    let due = repeated(rt.alloc(), "256 1.1 ok/", "= none/", 64, "table a/done/")?;
-    try_report(&rt, &bytes, &due)
-}
-
-/// Appends lines of each key at the limit of rows.
-fn append_rows(bytes: &mut Vec<u8>, front: &str, behind: &str) -> Result<(), AllocError> {
-    for key in 1..=16384u64 {
-        append(bytes, front)?;
-        append_number(bytes, key)?;
-        append(bytes, behind)?;
-    }
-    Ok(())
-}
-
-/// Appends lanes and blocks at the limits of an input, each block with the number of its row.
-fn append_lanes(bytes: &mut Vec<u8>) -> Result<(), AllocError> {
-    for lane in 0..64u64 {
-        append(bytes, "lane/")?;
-        for number in 1..=256u64 {
-            append(bytes, "txn/add a ")?;
-            append_number(bytes, 256 * lane + number)?;
-            append(bytes, " 1/end/")?;
-        }
-    }
-    Ok(())
-}
-
-/// Appends the head lines of these blocks.
-fn append_heads(bytes: &mut Vec<u8>) -> Result<(), AllocError> {
-    for lane in 0..64u64 {
-        for number in 1..=256u64 {
-            append_number(bytes, 256 * (256 * lane + number))?;
-            append(bytes, " ")?;
-            append_number(bytes, lane + 1)?;
-            append(bytes, ".")?;
-            append_number(bytes, number)?;
-            append(bytes, " ok/")?;
-        }
-    }
-    Ok(())
-}
-
-/// Rows, blocks and lanes at the limits of an input: each block adds 1 to the row of its own number.
-fn greatest(alloc: Global) -> Result<Vec<u8>, AllocError> {
-    let mut bytes = Vec::new(alloc);
-    append(&mut bytes, "cicada 1/table a/")?;
-    append_rows(&mut bytes, "row a ", " 6/")?;
-    append_lanes(&mut bytes)?;
-    append(&mut bytes, "done/")?;
-    Ok(bytes)
-}
-
-/// The report of that input.
-fn greatest_due(alloc: Global) -> Result<Vec<u8>, AllocError> {
-    let mut due = Vec::new(alloc);
-    append_heads(&mut due)?;
-    append(&mut due, "table a/")?;
-    append_rows(&mut due, "", " 7/")?;
-    append(&mut due, "done/")?;
-    Ok(due)
-}
-
-#[test]
-fn an_input_at_its_limits_is_reported(rt: HostRuntime) -> Result<(), Fail> {
-    let bytes = greatest(rt.alloc())?;
-    let due = greatest_due(rt.alloc())?;
-    try_report(&rt, &bytes, &due)
 }

@@ -1,11 +1,11 @@
 //! What an input declares, the calls of tables, and the values of rows and cells.
 //!
-//! Inputs, tables and pairs are dropped by call, as in the tests of reports that are checked.
+//! Tables and pairs are dropped by call, as inputs are.
 
 ghost use Rattle.replay_model.specs.Input.{IsWellFormed};
 
 use crate::due::{hold, same};
-use crate::texts::input_from;
+use crate::trials::{Trial, try_text};
 use replay_model::{Cells, Columns, Input, NoMemory, Pairs, Tables, is_well_formed};
 use std::alloc::Global;
 use std::process::Abort;
@@ -34,20 +34,19 @@ fn has_first(input: &Input, row: (u32, u64, Columns), index: (u32, u32)) -> bool
         && *input.indexes.get(0) == index
 }
 
-fn try_declared<R: Abort>(rt: &R, input: &Input) {
+/// Compares what the worked input declares.
+pub fn try_declared<R: Abort>(rt: &R, input: &Input) -> Result<(), Fail> {
     same(rt, counts(input), [2, 1, 1, 0], 0);
     hold(rt, has_second_table(input, b"two", 3), 1);
     let row = Columns::new([1, 2, 3, 0, 0, 0]);
     hold(rt, has_first(input, (1, 4, row), (1, 3)), 2);
+    Ok(())
 }
 
 #[test]
 fn an_input_keeps_what_it_declares(rt: HostRuntime) -> Result<(), Fail> {
     let text = "cicada 2/table one 1/table two 3/index two 3/row two 4 1 2 3/done/";
-    let input = input_from(rt.alloc(), text)?;
-    try_declared(&rt, &input);
-    drop(input);
-    Ok(())
+    try_text(&rt, text, Trial::Declares, 0)
 }
 
 /// The tables of an input, which has to be well formed.
@@ -58,17 +57,6 @@ fn loaded_from(alloc: Global, input: &Input) -> Result<Tables, Fail>
         return Err("the input is well formed".into());
     }
     Ok(Tables::loaded(alloc, input)?)
-}
-
-/// Three tables, of which the second has an index on its second column.
-fn loaded(alloc: Global) -> Result<Tables, Fail> {
-    let input = input_from(
-        alloc,
-        "cicada 2/table a 1/table b 2/index b 2/table c 1/row a 5 1/row b 3 1 9/row b 4 2 8/row b 6 3 9/row b 8 4 7/row c 5 1/done/",
-    )?;
-    let tables = loaded_from(alloc, &input);
-    drop(input);
-    tables
 }
 
 /// Puts a row at key 5 of the second table and takes out that at key 6; whether both went as they should.
@@ -98,22 +86,6 @@ fn found(alloc: Global, tables: &Tables) -> Result<Vec<u64>, NoMemory> {
     keys_of(alloc, pairs)
 }
 
-#[test]
-fn tables_have_their_indexes(rt: HostRuntime) -> Result<(), Fail> {
-    let tables = loaded(rt.alloc())?;
-    let indexes = (tables.index_of(1), tables.index_of(0));
-    drop(tables);
-    same(&rt, indexes, (Some(2), None), 0);
-    Ok(())
-}
-
-/// The tables, once changed.
-fn changed<R: Abort + AllocGlobal>(rt: &R) -> Result<Tables, Fail> {
-    let mut tables = loaded(rt.alloc())?;
-    hold(rt, change(&mut tables), 0);
-    Ok(tables)
-}
-
 /// How many rows the second table has.
 fn count(alloc: Global, tables: &Tables) -> Result<usize, NoMemory> {
     let pairs = tables.pairs(alloc, 1)?;
@@ -122,26 +94,37 @@ fn count(alloc: Global, tables: &Tables) -> Result<usize, NoMemory> {
     Ok(count)
 }
 
-#[test]
-fn tables_are_changed(rt: HostRuntime) -> Result<(), Fail> {
-    let tables = changed(&rt)?;
+/// Compares which of the tables have indexes, and what the second one has once it is changed.
+fn try_changed<R: Abort + AllocGlobal>(rt: &R, tables: &mut Tables) -> Result<(), Fail> {
+    let indexes = (tables.index_of(1), tables.index_of(0));
+    same(rt, indexes, (Some(2), None), 0);
+    hold(rt, change(tables), 1);
     let row = tables.get(1, 5);
-    let count = count(rt.alloc(), &tables);
-    drop(tables);
-    same(&rt, row, Some(Columns::new([5, 9, 0, 0, 0, 0])), 1);
-    same(&rt, count?, 4, 2);
+    same(rt, row, Some(Columns::new([5, 9, 0, 0, 0, 0])), 2);
+    same(rt, count(rt.alloc(), tables)?, 4, 3);
+    let scanned = scanned(rt.alloc(), tables)?;
+    same(rt, scanned.as_slice(), [4, 5].as_slice(), 4);
+    let found = found(rt.alloc(), tables)?;
+    same(rt, found.as_slice(), [4, 3, 5].as_slice(), 5);
     Ok(())
 }
 
-#[test]
-fn tables_are_scanned_and_searched(rt: HostRuntime) -> Result<(), Fail> {
-    let tables = changed(&rt)?;
-    let scanned = scanned(rt.alloc(), &tables);
-    let found = found(rt.alloc(), &tables);
+/// Tries the tables of an input.
+pub fn try_loaded<R: Abort + AllocGlobal>(rt: &R, input: &Input) -> Result<(), Fail>
+    requires { IsWellFormed input.now }
+{
+    let mut tables = loaded_from(rt.alloc(), input)?;
+    let tried = try_changed(rt, &mut tables);
     drop(tables);
-    same(&rt, scanned?.as_slice(), [4, 5].as_slice(), 1);
-    same(&rt, found?.as_slice(), [4, 3, 5].as_slice(), 2);
-    Ok(())
+    tried
+}
+
+/// Three tables, of which the second has an index on its second column.
+#[test]
+fn tables_are_changed_scanned_and_searched(rt: HostRuntime) -> Result<(), Fail> {
+    let text =
+        "cicada 2/table a 1/table b 2/index b 2/table c 1/row a 5 1/row b 3 1 9/row b 4 2 8/row b 6 3 9/row b 8 4 7/row c 5 1/done/";
+    try_text(&rt, text, Trial::Loads, 0)
 }
 
 #[test]

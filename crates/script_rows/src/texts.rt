@@ -12,43 +12,72 @@ use txn_script::parse;
 /// The greatest length of an input text, in bytes.
 pub const MAX_INPUT: usize = 4_194_304;
 
-pub fn append(bytes: &mut Vec<u8>, text: &str) -> Result<(), AllocError> {
+/// A piece that comes once for each number from one to another. In it `#` stands for that number, `@` for the round, `%` for how many
+/// of the piece there are up to here, those of earlier rounds among them, and `$` for 256 times that.
+pub type Piece = (&'static str, u64, u64);
+
+/// Pieces that come one behind the other in so many rounds.
+pub type Rounds = (u64, &'static [Piece]);
+
+/// Appends a text, in which the four signs stand for these numbers.
+fn append(bytes: &mut Vec<u8>, text: &str, numbers: &[u64; 4]) -> Result<(), AllocError> {
     for byte in text.bytes() {
-        bytes.push(if byte == b'/' { b'\n' } else { byte })?;
+        let number = match byte {
+            b'#' => numbers[0],
+            b'@' => numbers[1],
+            b'%' => numbers[2],
+            b'$' => numbers[3],
+            _ => {
+                bytes.push(if byte == b'/' { b'\n' } else { byte })?;
+                continue;
+            }
+        };
+        bytes.extend_from_slice(itoa::Buffer::new().format(number).as_bytes())?;
     }
     Ok(())
 }
 
-pub fn append_number(bytes: &mut Vec<u8>, number: u64) -> Result<(), AllocError> {
-    bytes.extend_from_slice(itoa::Buffer::new().format(number).as_bytes())
-}
-
-pub fn append_times(bytes: &mut Vec<u8>, text: &str, times: usize) -> Result<(), AllocError> {
-    for _ in 0..times {
-        append(bytes, text)?;
+/// Appends the pieces of a round.
+fn append_round(bytes: &mut Vec<u8>, round: u64, pieces: &[Piece]) -> Result<(), AllocError> {
+    for (text, first, last) in pieces {
+        for number in *first..=*last {
+            let of_round = last.wrapping_sub(*first).wrapping_add(1);
+            let before = round.wrapping_sub(1).wrapping_mul(of_round);
+            let count = before
+                .wrapping_add(number.wrapping_sub(*first))
+                .wrapping_add(1);
+            append(
+                bytes,
+                text,
+                &[number, round, count, count.wrapping_mul(256)],
+            )?;
+        }
     }
     Ok(())
 }
 
-/// The bytes of a text.
-pub fn bytes_of(alloc: Global, text: &str) -> Result<Vec<u8>, AllocError> {
+/// Appends all rounds of some pieces.
+fn append_rounds(bytes: &mut Vec<u8>, part: &Rounds) -> Result<(), AllocError> {
+    let (rounds, pieces) = *part;
+    for round in 1..=rounds {
+        append_round(bytes, round, pieces)?;
+    }
+    Ok(())
+}
+
+/// The bytes of a text of such parts.
+pub fn long_text(alloc: Global, parts: &[Rounds]) -> Result<Vec<u8>, AllocError> {
     let mut bytes = Vec::new(alloc);
-    append(&mut bytes, text)?;
+    for part in parts {
+        append_rounds(&mut bytes, part)?;
+    }
     Ok(bytes)
 }
 
-/// A piece that comes many times, and what stands around it.
-pub fn repeated(
-    alloc: Global,
-    front: &str,
-    piece: &str,
-    times: usize,
-    behind: &str,
-) -> Result<Vec<u8>, AllocError> {
+/// The bytes of a text without signs.
+pub fn bytes_of(alloc: Global, text: &str) -> Result<Vec<u8>, AllocError> {
     let mut bytes = Vec::new(alloc);
-    append(&mut bytes, front)?;
-    append_times(&mut bytes, piece, times)?;
-    append(&mut bytes, behind)?;
+    append(&mut bytes, text, &[0; 4])?;
     Ok(bytes)
 }
 
@@ -63,13 +92,6 @@ pub fn input_of(alloc: Global, bytes: &[u8]) -> Result<Input, Fail>
         Ok(input) => Ok(input),
         Err(_) => Err("the text is no input".into()),
     }
-}
-
-/// The input that a text spells.
-pub fn input_from(alloc: Global, text: &str) -> Result<Input, Fail>
-    ensures { IfOk result IsWellFormed }
-{
-    input_of(alloc, &bytes_of(alloc, text)?)
 }
 
 /// The order that these lines of a report print.

@@ -226,7 +226,7 @@ fn printed_order_is_read(rt: HostRuntime) -> Result<(), Fail> {
 }
 
 /// An input at the limits of its lanes, blocks and scans: each of 16,384 blocks in 64 lanes scans 160 rows of a number of 20 digits.
-const LARGEST: &[Rounds] = &[
+const LARGEST: &[Rounds<'static>] = &[
     (
         1,
         &[
@@ -241,7 +241,7 @@ const LARGEST: &[Rounds] = &[
     (1, &[("done/", 1, 1)]),
 ];
 
-fn largest() -> &'static [Rounds] {
+fn largest() -> &'static [Rounds<'static>] {
     LARGEST
 }
 

@@ -3,8 +3,8 @@
 ghost use Rattle.std.specs.Prelude.{◌≤◌, length};
 
 use crate::due::same;
-use crate::texts::{MAX_INPUT, Rounds, bytes_of, long_text};
-use std::alloc::Global;
+use crate::texts::{MAX_INPUT, bytes_of, long_text};
+use std::alloc::{AllocError, Global};
 use std::process::Abort;
 use std::test::Fail;
 use txn_script::{InputFault, ParseFault, parse};
@@ -12,8 +12,17 @@ use txn_script::{InputFault, ParseFault, parse};
 /// A text, and its first faulty line and kind; none where it is an input.
 type Case = (&'static str, Option<(u64, u32)>);
 
-/// A long text, and the same of it.
-type LongCase = (&'static [Rounds], Option<(u64, u32)>);
+/// A piece, how many times it comes, what stands before and behind, and the fault of the whole.
+type Repeated = (
+    &'static str,
+    &'static str,
+    u64,
+    &'static str,
+    Option<(u64, u32)>,
+);
+
+/// What stands before 16,385 commands, the command, and the fault of the whole.
+type Counted = (&'static str, &'static str, Option<(u64, u32)>);
 
 const FORM: u32 = 1;
 
@@ -251,172 +260,120 @@ fn refusals_name_line_and_kind(rt: HostRuntime) -> Result<(), Fail> {
     Ok(())
 }
 
-/// Texts at limits and past them, and texts of 16,385 commands that count with the rows or do not.
-const LONG_CASES: &[LongCase] = &[
+/// Texts at limits, and past them.
+const AT_LIMITS: &[Repeated] = &[
     (
-        &[(
-            1,
-            &[
-                ("cicada 1/table a/lane/txn/", 1, 1),
-                ("get a 1/", 1, 64),
-                ("end/done/", 1, 1),
-            ],
-        )],
+        "cicada 1/table a/lane/txn/",
+        "get a 1/",
+        64,
+        "end/done/",
         None,
     ),
     (
-        &[(
-            1,
-            &[
-                ("cicada 1/table a/lane/txn/", 1, 1),
-                ("get a 1/", 1, 65),
-                ("end/done/", 1, 1),
-            ],
-        )],
+        "cicada 1/table a/lane/txn/",
+        "get a 1/",
+        65,
+        "end/done/",
         Some((69, LIMIT)),
     ),
     (
-        &[(
-            1,
-            &[
-                ("cicada 1/table a/lane/txn/", 1, 1),
-                ("scan a 0 9 4/", 1, 64),
-                ("end/done/", 1, 1),
-            ],
-        )],
+        "cicada 1/table a/lane/txn/",
+        "scan a 0 9 4/",
+        64,
+        "end/done/",
         None,
     ),
     (
-        &[(
-            1,
-            &[
-                ("cicada 1/table a/lane/txn/", 1, 1),
-                ("scan a 0 9 8/", 1, 32),
-                ("scan a 0 9 1/end/done/", 1, 1),
-            ],
-        )],
+        "cicada 1/table a/lane/txn/",
+        "scan a 0 9 8/",
+        32,
+        "scan a 0 9 1/end/done/",
         Some((37, LIMIT)),
     ),
+    ("cicada 1/", "lane/", 64, "done/", None),
+    ("cicada 1/", "lane/", 65, "done/", Some((66, LIMIT))),
+    ("cicada 1/lane/", "txn/end/", 16_384, "done/", None),
     (
-        &[(1, &[("cicada 1/", 1, 1), ("lane/", 1, 64), ("done/", 1, 1)])],
-        None,
-    ),
-    (
-        &[(1, &[("cicada 1/", 1, 1), ("lane/", 1, 65), ("done/", 1, 1)])],
-        Some((66, LIMIT)),
-    ),
-    (
-        &[(
-            1,
-            &[
-                ("cicada 1/lane/", 1, 1),
-                ("txn/end/", 1, 16_384),
-                ("done/", 1, 1),
-            ],
-        )],
-        None,
-    ),
-    (
-        &[(
-            1,
-            &[
-                ("cicada 1/lane/", 1, 1),
-                ("snap/end/", 1, 16_385),
-                ("done/", 1, 1),
-            ],
-        )],
+        "cicada 1/lane/",
+        "snap/end/",
+        16_385,
+        "done/",
         Some((32_771, LIMIT)),
     ),
     (
-        &[(
-            1,
-            &[
-                ("cicada 2/table a 2/index a 2/lane/txn/", 1, 1),
-                ("get a 1 1/", 1, 64),
-                ("add a 1 3 1/end/done/", 1, 1),
-            ],
-        )],
+        "cicada 2/table a 2/index a 2/lane/txn/",
+        "get a 1 1/",
+        64,
+        "add a 1 3 1/end/done/",
         Some((70, COLUMNS)),
     ),
-    (&[(1, &[("a", 1, 4_194_304)])], Some((1, END))),
-    (
-        &[
-            (1, &[("cicada 1/table a/lane/", 1, 1)]),
-            (
-                256,
-                &[("txn/", 1, 1), ("put a 1 1/", 1, 64), ("end/", 1, 1)],
-            ),
-            (1, &[("txn/put a 1 1/end/done/", 1, 1)]),
-        ],
-        Some((16_901, LIMIT)),
-    ),
-    (
-        &[
-            (1, &[("cicada 1/table a/lane/", 1, 1)]),
-            (
-                256,
-                &[("txn/", 1, 1), ("ins a 1 1/", 1, 64), ("end/", 1, 1)],
-            ),
-            (1, &[("txn/ins a 1 1/end/done/", 1, 1)]),
-        ],
-        Some((16_901, LIMIT)),
-    ),
-    (
-        &[
-            (1, &[("cicada 1/table a/lane/", 1, 1)]),
-            (
-                256,
-                &[("txn/", 1, 1), ("add a 1 1/", 1, 64), ("end/", 1, 1)],
-            ),
-            (1, &[("txn/add a 1 1/end/done/", 1, 1)]),
-        ],
-        None,
-    ),
-    (
-        &[
-            (1, &[("cicada 2/table a 1/lane/", 1, 1)]),
-            (
-                256,
-                &[("txn/", 1, 1), ("sub a 1 1 1/", 1, 64), ("end/", 1, 1)],
-            ),
-            (1, &[("txn/sub a 1 1 1/end/done/", 1, 1)]),
-        ],
-        None,
-    ),
-    (
-        &[
-            (1, &[("cicada 2/table a 1/index a 1/lane/", 1, 1)]),
-            (
-                256,
-                &[("txn/", 1, 1), ("sub a 1 1 1/", 1, 64), ("end/", 1, 1)],
-            ),
-            (1, &[("txn/sub a 1 1 1/end/done/", 1, 1)]),
-        ],
-        Some((16_902, LIMIT)),
-    ),
-    (
-        &[
-            (1, &[("cicada 2/table a 1/table b 1/index b 1/lane/", 1, 1)]),
-            (
-                256,
-                &[("txn/", 1, 1), ("add a 1 1 1/", 1, 64), ("end/", 1, 1)],
-            ),
-            (1, &[("txn/add a 1 1 1/end/done/", 1, 1)]),
-        ],
-        Some((16_903, LIMIT)),
-    ),
+    ("", "a", 4_194_304, "", Some((1, END))),
 ];
 
-fn long_cases() -> &'static [LongCase] {
-    LONG_CASES
+fn at_limits() -> &'static [Repeated] {
+    AT_LIMITS
+}
+
+/// The text of a row.
+fn repeated(alloc: Global, row: &Repeated) -> Result<Vec<u8>, AllocError> {
+    let (front, piece, times, behind, _) = *row;
+    let pieces = [(front, 1, 1), (piece, 1, times), (behind, 1, 1)];
+    long_text(alloc, &[(1, &pieces)])
 }
 
 /// A text with a piece that comes many times is read as it should be.
 #[test]
 fn limits_are_reached_and_not_passed(rt: HostRuntime) -> Result<(), Fail> {
-    for (i, (text, due)) in long_cases().iter().enumerate() {
-        let bytes = long_text(rt.alloc(), text)?;
-        same(&rt, answer(rt.alloc(), &bytes)?, *due, i);
+    for (i, row) in at_limits().iter().enumerate() {
+        let bytes = repeated(rt.alloc(), row)?;
+        same(&rt, answer(rt.alloc(), &bytes)?, row.4, i);
+    }
+    Ok(())
+}
+
+/// Commands that count with the rows, or do not.
+const COUNTED: &[Counted] = &[
+    (
+        "cicada 1/table a/lane/",
+        "put a 1 1/",
+        Some((16_901, LIMIT)),
+    ),
+    (
+        "cicada 1/table a/lane/",
+        "ins a 1 1/",
+        Some((16_901, LIMIT)),
+    ),
+    ("cicada 1/table a/lane/", "add a 1 1/", None),
+    ("cicada 2/table a 1/lane/", "sub a 1 1 1/", None),
+    (
+        "cicada 2/table a 1/index a 1/lane/",
+        "sub a 1 1 1/",
+        Some((16_902, LIMIT)),
+    ),
+    (
+        "cicada 2/table a 1/table b 1/index b 1/lane/",
+        "add a 1 1 1/",
+        Some((16_903, LIMIT)),
+    ),
+];
+
+fn counted() -> &'static [Counted] {
+    COUNTED
+}
+
+/// 16,384 commands, all alike, and one more of them.
+fn commands(alloc: Global, row: &Counted) -> Result<Vec<u8>, AllocError> {
+    let (front, command, _) = *row;
+    let block = [("txn/", 1, 1), (command, 1, 64), ("end/", 1, 1)];
+    let last = [("txn/", 1, 1), (command, 1, 1), ("end/done/", 1, 1)];
+    long_text(alloc, &[(1, &[(front, 1, 1)]), (256, &block), (1, &last)])
+}
+
+#[test]
+fn rows_and_changes_are_counted(rt: HostRuntime) -> Result<(), Fail> {
+    for (i, row) in counted().iter().enumerate() {
+        let bytes = commands(rt.alloc(), row)?;
+        same(&rt, answer(rt.alloc(), &bytes)?, row.2, i);
     }
     Ok(())
 }

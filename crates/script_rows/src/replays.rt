@@ -7,13 +7,12 @@ ghost use Rattle.replay_model.specs.Input.{IsWellFormed};
 use crate::due::hold;
 use crate::orders::try_order;
 use crate::reports::try_report;
-use crate::texts::bytes_of;
+use crate::texts::{bytes_of, order_from};
 use crate::trials::{Trial, try_text};
 use replay_model::{
     Answer, Block, Blocks, Cause, Columns, Command, Commands, Input, Lanes, NoMemory, Outcome,
     Placed, Replayed, Tables, are_named, block_at, is_well_formed, replay, run_one,
 };
-use report_check::printed;
 use std::alloc::Global;
 use std::process::Abort;
 use std::test::Fail;
@@ -228,18 +227,14 @@ fn push_lane(alloc: Global, lanes: &mut Lanes) -> Result<(), NoMemory> {
 }
 
 /// Compares the report of an input with the one due, in its order, and runs the second block.
-fn try_changing_nothing<R: Abort + AllocGlobal>(rt: &R, input: &Input) -> Result<(), Fail> {
+fn try_changing_nothing<R: Abort + AllocGlobal>(rt: &R, input: &Input) -> Result<(), Fail>
+    requires { IsWellFormed input.now }
+{
     let alloc = rt.alloc();
-    if !is_well_formed(alloc, input)? {
-        return Err("the input is well formed".into());
-    }
-    let due = bytes_of(
-        alloc,
-        "256 1.1 snap/= 5/512 1.2 no 3 missing/768 1.3 no 1 unindexed/table a/1 100 7/done/",
-    )?;
-    let order = printed(alloc, input, &due)?;
-    try_order(rt, input, &order, 0, 0)?;
-    try_report(rt, input, &due, 0)?;
+    let lines =
+        "256 1.1 snap/= 5/512 1.2 no 3 missing/768 1.3 no 1 unindexed/table a/1 100 7/done/";
+    try_order(rt, input, &order_from(alloc, input, lines)?, 0, 0)?;
+    try_report(rt, input, &bytes_of(alloc, lines)?, 0)?;
     let row = Columns::new([100, 7, 0, 0, 0, 0]);
     let block = (2, Due::Refused(3, Cause::Missing));
     hold(rt, runs(alloc, input, block, row, row)?, 1);
@@ -249,6 +244,9 @@ fn try_changing_nothing<R: Abort + AllocGlobal>(rt: &R, input: &Input) -> Result
 /// Tries an input without lanes, once it has that lane.
 pub fn try_unchanged<R: Abort + AllocGlobal>(rt: &R, input: &mut Input) -> Result<(), Fail> {
     push_lane(rt.alloc(), &mut input.lanes)?;
+    if !is_well_formed(rt.alloc(), input)? {
+        return Err("the input is well formed".into());
+    }
     try_changing_nothing(rt, input)
 }
 

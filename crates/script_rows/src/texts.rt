@@ -14,31 +14,39 @@ pub const MAX_INPUT: usize = 4_194_304;
 
 /// A piece that comes once for each number from one to another. In it `#` stands for that number, `@` for the round, `%` for how many
 /// of the piece there are up to here, those of earlier rounds among them, and `$` for 256 times that.
-pub type Piece = (&'static str, u64, u64);
+pub type Piece<'a> = (&'a str, u64, u64);
 
 /// Pieces that come one behind the other in so many rounds.
-pub type Rounds = (u64, &'static [Piece]);
+pub type Rounds<'a> = (u64, &'a [Piece<'a>]);
+
+/// The number that a sign stands for, of these four.
+fn number_of(sign: u8, numbers: &[u64; 4]) -> Option<u64> {
+    match sign {
+        b'#' => Some(numbers[0]),
+        b'@' => Some(numbers[1]),
+        b'%' => Some(numbers[2]),
+        b'$' => Some(numbers[3]),
+        _ => None,
+    }
+}
 
 /// Appends a text, in which the four signs stand for these numbers.
 fn append(bytes: &mut Vec<u8>, text: &str, numbers: &[u64; 4]) -> Result<(), AllocError> {
     for byte in text.bytes() {
-        let number = match byte {
-            b'#' => numbers[0],
-            b'@' => numbers[1],
-            b'%' => numbers[2],
-            b'$' => numbers[3],
-            _ => {
-                bytes.push(if byte == b'/' { b'\n' } else { byte })?;
-                continue;
-            }
-        };
-        bytes.extend_from_slice(itoa::Buffer::new().format(number).as_bytes())?;
+        match number_of(byte, numbers) {
+            Some(number) => append_number(bytes, number)?,
+            None => bytes.push(if byte == b'/' { b'\n' } else { byte })?,
+        }
     }
     Ok(())
 }
 
+fn append_number(bytes: &mut Vec<u8>, number: u64) -> Result<(), AllocError> {
+    bytes.extend_from_slice(itoa::Buffer::new().format(number).as_bytes())
+}
+
 /// Appends the pieces of a round.
-fn append_round(bytes: &mut Vec<u8>, round: u64, pieces: &[Piece]) -> Result<(), AllocError> {
+fn append_round(bytes: &mut Vec<u8>, round: u64, pieces: &[Piece<'_>]) -> Result<(), AllocError> {
     for (text, first, last) in pieces {
         for number in *first..=*last {
             let of_round = last.wrapping_sub(*first).wrapping_add(1);
@@ -57,7 +65,7 @@ fn append_round(bytes: &mut Vec<u8>, round: u64, pieces: &[Piece]) -> Result<(),
 }
 
 /// Appends all rounds of some pieces.
-fn append_rounds(bytes: &mut Vec<u8>, part: &Rounds) -> Result<(), AllocError> {
+fn append_rounds(bytes: &mut Vec<u8>, part: &Rounds<'_>) -> Result<(), AllocError> {
     let (rounds, pieces) = *part;
     for round in 1..=rounds {
         append_round(bytes, round, pieces)?;
@@ -66,7 +74,7 @@ fn append_rounds(bytes: &mut Vec<u8>, part: &Rounds) -> Result<(), AllocError> {
 }
 
 /// The bytes of a text of such parts.
-pub fn long_text(alloc: Global, parts: &[Rounds]) -> Result<Vec<u8>, AllocError> {
+pub fn long_text(alloc: Global, parts: &[Rounds<'_>]) -> Result<Vec<u8>, AllocError> {
     let mut bytes = Vec::new(alloc);
     for part in parts {
         append_rounds(&mut bytes, part)?;

@@ -18,6 +18,7 @@ pub mod Taking
 pub mod LeafTaking
 pub mod Entering
 pub mod Tearing
+pub mod ReadBelow
 pub mod Inserted
 pub mod Rooting
 pub mod Depth

@@ -1,4 +1,5 @@
-use Rattle.std.proofs.Common.{◌+◌, ◌<◌, ◌≤◌, ℕ, Some, Ok, Err, refl, ◌∙◌, ap, arith, subst}
+use Rattle.std.proofs.Common.{◌≡◌, ◌+◌, ◌<◌, ◌≤◌, ℕ, Some, Ok, Err, refl, ◌∙◌, ap, arith, subst}
+use Rattle.record_store.specs.Goes.{WalksByCalls}
 use Rattle.record_store.specs.Into.{value_if}
 use Rattle.record_store.proofs.Refusals.{torn_moved, IfTorn-map}
 use Rattle.record_store.proofs.Known.{tries, known-reads, known-behind, known-fixed, known-then-fixed}
@@ -18,11 +19,43 @@ use Rattle.ordered_index.specs.Walk.{IsTreeNode}
 use Rattle.ordered_index.proofs.Order.{first_not_after}
 use Rattle.ordered_index.proofs.Passed.{at_some}
 use Rattle.ordered_index.proofs.Tearing.{rank_some, child_at, from_reads, top_torn}
+use Rattle.ordered_index.specs.declared.enter.Entering.{Entering}
+use Rattle.ordered_index.specs.declared.enter.Entering.TheVariants.{There, Done, Takes}
+use Rattle.ordered_index.proofs.ReadBelow.{Met, met, met_first, Entered, entered}
 use Rattle.ordered_index.proofs.Entering.{enter_there, enter_done}
-use Rattle.ordered_index.proofs.Inserted.{inserts_first, inserts_nothing, inserts_done, inserts_takes, present_by, root_child}
+use Rattle.ordered_index.proofs.Inserted.{inserts_first, inserts_nothing, inserts_done, inserts_takes, present_by, root_child, root_rank}
 use Rattle.ordered_index.proofs.Paths.{root_tears}
 use Rattle.record_store.proofs.Going.{reads_moved, calls_reads, calls_moved, calls_quiet, calls_behind, calls_then}
 use Rattle.ordered_index.proofs.index.insert.Goals as goal
+use Rattle.ordered_index.proofs.index.insert.Goals.{After-enter, In_ok-enter}
+
+-- the root that was read, as the child of an entry above it
+met_here : (g : _) (c : After-enter g) → Met c.size-size.result c.args.key ((first_key, c.args.root) ∷ []) 1 (first_key, c.args.root) c.read_node.new.here (g.S.RecordRead.meaning c.args.store.now) (g.S.RecordRead.meaning c.read_node.new.store)
+met_here g c =
+    met c.size-size.result c.args.key ((first_key, c.args.root) ∷ []) 1 (first_key, c.args.root) c.read_node.new.here (g.S.RecordRead.meaning c.args.store.now) (g.S.RecordRead.meaning c.read_node.new.store) c.in_ok-read_node.field-0
+    (root_rank c.args.root c.args.key) (omega arith) refl c.if-not-branch.false c.in_ok-read_node.ensures.node c.in_ok-read_node.ensures.read
+
+met_at_first : (g : _) (c : After-enter g) → Met (g.S.RecordRead.meaning c.args.store.now).size c.args.key ((first_key, c.args.root) ∷ []) 1 (first_key, c.args.root) c.read_node.new.here (g.S.RecordRead.meaning c.args.store.now) (g.S.RecordRead.meaning c.read_node.new.store)
+met_at_first g c = met_first c.size-size.result c.args.key ((first_key, c.args.root) ∷ []) 1 (first_key, c.args.root) c.read_node.new.here (g.S.RecordRead.meaning c.args.store.now) (g.S.RecordRead.meaning c.read_node.new.store) c.size-size.ensures.size (met_here g c)
+
+root_here : (g : _) (c : After-enter g) → EachState (g.S.RecordRead.meaning c.args.store.now) (g.S.RecordRead.meaning c.read_node.new.store) (λ state. IsAt c.size-size.result state (c.args.root, content_at c.read_node.new.here.words))
+root_here g c =
+    let m = met_here g c in
+    let A : ℕ → Type 0 = λ r. EachState (g.S.RecordRead.meaning c.args.store.now) (g.S.RecordRead.meaning c.read_node.new.store) (λ state. IsAt c.size-size.result state (r, content_at c.read_node.new.here.words)) in subst A m.rid m.at
+
+root_at_first : (g : _) (c : After-enter g) → EachState (g.S.RecordRead.meaning c.args.store.now) (g.S.RecordRead.meaning c.read_node.new.store) (λ state. IsAt (g.S.RecordRead.meaning c.args.store.now).size state (c.args.root, content_at c.read_node.new.here.words))
+root_at_first g c =
+    let m = met_at_first g c in
+    let A : ℕ → Type 0 = λ r. EachState (g.S.RecordRead.meaning c.args.store.now) (g.S.RecordRead.meaning c.read_node.new.store) (λ state. IsAt (g.S.RecordRead.meaning c.args.store.now).size state (r, content_at c.read_node.new.here.words)) in subst A m.rid m.at
+
+went_below : (g : _) (c : After-enter g) → WalksByCalls g.S.RecordRead.read_gives g.S.RecordStore.write_gives g.S.RecordStore.fresh_gives g.S.RecordRead.meaning g.S.RecordRead.rest
+    (λ _. Unit {0}) c.enter.ensures.walk.asked c.args.store.now c.enter.new.store c.enter.result
+went_below g c = calls_behind (λ _. Unit {0}) c.enter.ensures.walk.asked c.args.store.now c.read_node.new.store c.enter.new.store c.read_node.result c.enter.result c.read_node.ensures.walk c.enter.ensures.walk.walk (λ asks later. tt)
+
+entered_as : (g : _) (c : In_ok-enter g) (entering : Entering) → c.in_ok-enter.field-0 ≡ entering
+    → Entered c.args.key c.args.rid (content_at c.read_node.new.here.words) c.rank_of-rank.result (g.S.RecordRead.meaning c.args.store.now) (g.S.RecordRead.meaning c.read_node.new.store) (g.S.RecordRead.meaning c.enter.new.store) entering
+entered_as g c entering is = entered c.args.key c.args.rid (content_at c.read_node.new.here.words) c.rank_of-rank.result (g.S.RecordRead.meaning c.args.store.now) (g.S.RecordRead.meaning c.read_node.new.store) (g.S.RecordRead.meaning c.enter.new.store) c.in_ok-enter.field-0 entering
+    c.in_ok-read_node.ensures.walk.by.only is c.in_ok-enter.ensures.leaf c.in_ok-enter.ensures.inner
 
 pub returns-in_err-read_node-clause-torn : goal.returns-in_err-read_node-clause-torn
 returns-in_err-read_node-clause-torn g c =
@@ -70,104 +103,107 @@ enter-requires-clause-low g c =
 
 pub returns-in_err-enter-clause-torn : goal.returns-in_err-enter-clause-torn
 returns-in_err-enter-clause-torn g c =
-    let link = at_some (IsTreeNode c.size-size.result c.args.root first_key) c.read_node.new.here (ap (λ present. value_if present c.read_node.new.here) c.if-not-branch.false) c.in_ok-read_node.ensures.node in
-    let A : ℕ → Type 0 = λ r. EachState (g.S.RecordRead.meaning c.args.store.now) (g.S.RecordRead.meaning c.read_node.new.store) (λ state. IsAt c.size-size.result state (r, content_at c.read_node.new.here.words)) in
-    let at = subst A link.at (child_at c.size-size.result c.args.root (g.S.RecordRead.meaning c.args.store.now) (g.S.RecordRead.meaning c.read_node.new.store) c.read_node.new.here (value_if c.in_ok-read_node.field-0 c.read_node.new.here) (ap (λ present. value_if present c.read_node.new.here) c.if-not-branch.false) c.in_ok-read_node.ensures.read) in
+    let a = (goal.at.returns-in_err-enter-clause-torn g c).After-enter in
+    let m = met_here g a in
+    let at = root_here g a in
     torn_moved c.from_residual-in_err-enter.result c.enter.result c.in_err-enter.field-0.0 _ c.in_err-enter.was c.from_residual-in_err-enter.ensures.1
     (IfTorn-map c.enter.result
-    (λ rid torn. is_torn c.args.root c.size-size.result rid c.args.key (g.S.RecordRead.meaning c.args.store.now) (g.S.RecordRead.meaning c.enter.new.store) c.size-size.ensures.size (top_torn c.size-size.result c.args.root rid c.args.key (content_at c.read_node.new.here.words) (g.S.RecordRead.meaning c.args.store.now) (g.S.RecordRead.meaning c.read_node.new.store) (g.S.RecordRead.meaning c.enter.new.store) c.in_ok-read_node.ensures.walk.by.only c.enter.ensures.walk.walk.by.grow link.low at torn.0 torn.1))
+    (λ rid torn. is_torn c.args.root c.size-size.result rid c.args.key (g.S.RecordRead.meaning c.args.store.now) (g.S.RecordRead.meaning c.enter.new.store) c.size-size.ensures.size (top_torn c.size-size.result c.args.root rid c.args.key (content_at c.read_node.new.here.words) (g.S.RecordRead.meaning c.args.store.now) (g.S.RecordRead.meaning c.read_node.new.store) (g.S.RecordRead.meaning c.enter.new.store) c.in_ok-read_node.ensures.walk.by.only c.enter.ensures.walk.walk.by.grow m.low at torn.0 torn.1))
     c.enter.ensures.torn)
 
 pub returns-in_err-enter-clause-walk : goal.returns-in_err-enter-clause-walk
 returns-in_err-enter-clause-walk g c =
-    let link = at_some (IsTreeNode c.size-size.result c.args.root first_key) c.read_node.new.here (ap (λ present. value_if present c.read_node.new.here) c.if-not-branch.false) c.in_ok-read_node.ensures.node in
-    let A : ℕ → ℕ → Type 0 = λ n r. EachState (g.S.RecordRead.meaning c.args.store.now) (g.S.RecordRead.meaning c.read_node.new.store) (λ state. IsAt n state (r, content_at c.read_node.new.here.words)) in
-    let at = subst (λ r. A (g.S.RecordRead.meaning c.args.store.now).size r) link.at (subst (λ n. A n c.read_node.new.here.at) c.size-size.ensures.size (child_at c.size-size.result c.args.root (g.S.RecordRead.meaning c.args.store.now) (g.S.RecordRead.meaning c.read_node.new.store) c.read_node.new.here (value_if c.in_ok-read_node.field-0 c.read_node.new.here) (ap (λ present. value_if present c.read_node.new.here) c.if-not-branch.false) c.in_ok-read_node.ensures.read)) in
+    let a = (goal.at.returns-in_err-enter-clause-walk g c).After-enter in
+    let m = met_at_first g a in
+    let at = root_at_first g a in
     record {
       asked = c.enter.ensures.walk.asked;
-      walk = calls_moved c.args.store.now c.enter.new.store c.from_residual-in_err-enter.result c.enter.result c.in_err-enter.field-0.0 c.in_err-enter.was c.from_residual-in_err-enter.ensures.1 (calls_behind _ c.enter.ensures.walk.asked c.args.store.now c.read_node.new.store c.enter.new.store c.read_node.result c.enter.result c.read_node.ensures.walk c.enter.ensures.walk.walk (λ asks later. top_behind c.args.root c.args.key (content_at c.read_node.new.here.words) (g.S.RecordRead.meaning c.args.store.now) (g.S.RecordRead.meaning c.read_node.new.store) (g.S.RecordRead.meaning c.enter.new.store) asks c.in_ok-read_node.ensures.walk.by.only c.enter.ensures.walk.walk.by.grow.reads link.low at later));
-      asks = top_err c.args.root c.args.key (content_at c.read_node.new.here.words) (g.S.RecordRead.meaning c.args.store.now) (g.S.RecordRead.meaning c.read_node.new.store) (g.S.RecordRead.meaning c.enter.new.store) (g.S.RecordRead.meaning c.enter.new.store) c.enter.ensures.walk.asked c.in_ok-read_node.ensures.walk.by.only c.enter.ensures.walk.walk.by.grow.reads (extends-refl (g.S.RecordRead.meaning c.enter.new.store).reads) link.low at c.enter.result c.enter.ensures.walk.asks c.from_residual-in_err-enter.result (Err c.in_err-enter.field-0.0) c.from_residual-in_err-enter.ensures.0 refl refl;
+      walk = calls_moved c.args.store.now c.enter.new.store c.from_residual-in_err-enter.result c.enter.result c.in_err-enter.field-0.0 c.in_err-enter.was c.from_residual-in_err-enter.ensures.1 (calls_behind _ c.enter.ensures.walk.asked c.args.store.now c.read_node.new.store c.enter.new.store c.read_node.result c.enter.result c.read_node.ensures.walk c.enter.ensures.walk.walk (λ asks later. top_behind c.args.root c.args.key (content_at c.read_node.new.here.words) (g.S.RecordRead.meaning c.args.store.now) (g.S.RecordRead.meaning c.read_node.new.store) (g.S.RecordRead.meaning c.enter.new.store) asks c.in_ok-read_node.ensures.walk.by.only c.enter.ensures.walk.walk.by.grow.reads m.low at later));
+      asks = top_err c.args.root c.args.key (content_at c.read_node.new.here.words) (g.S.RecordRead.meaning c.args.store.now) (g.S.RecordRead.meaning c.read_node.new.store) (g.S.RecordRead.meaning c.enter.new.store) (g.S.RecordRead.meaning c.enter.new.store) c.enter.ensures.walk.asked c.in_ok-read_node.ensures.walk.by.only c.enter.ensures.walk.walk.by.grow.reads (extends-refl (g.S.RecordRead.meaning c.enter.new.store).reads) m.low at c.enter.result c.enter.ensures.walk.asks c.from_residual-in_err-enter.result (Err c.in_err-enter.field-0.0) c.from_residual-in_err-enter.ensures.0 refl refl;
     }
 
 pub returns-in-There-clause-ok : goal.returns-in-There-clause-ok
 returns-in-There-clause-ok g c =
-    let link = at_some (IsTreeNode c.size-size.result c.args.root first_key) c.read_node.new.here (ap (λ present. value_if present c.read_node.new.here) c.if-not-branch.false) c.in_ok-read_node.ensures.node in
-    let A : ℕ → ℕ → Type 0 = λ n r. EachState (g.S.RecordRead.meaning c.args.store.now) (g.S.RecordRead.meaning c.read_node.new.store) (λ state. IsAt n state (r, content_at c.read_node.new.here.words)) in
-    let at = subst (λ r. A (g.S.RecordRead.meaning c.args.store.now).size r) link.at (subst (λ n. A n c.read_node.new.here.at) c.size-size.ensures.size (child_at c.size-size.result c.args.root (g.S.RecordRead.meaning c.args.store.now) (g.S.RecordRead.meaning c.read_node.new.store) c.read_node.new.here (value_if c.in_ok-read_node.field-0 c.read_node.new.here) (ap (λ present. value_if present c.read_node.new.here) c.if-not-branch.false) c.in_ok-read_node.ensures.read)) in
-    let child = root_child (g.S.RecordRead.meaning c.args.store.now).size c.args.root c.args.key (content_at c.read_node.new.here.words) link.low in
+    let a = (goal.at.returns-in-There-clause-ok g c).After-enter in
+    let m = met_at_first g a in
+    let at = root_at_first g a in
+    let e = entered_as g (goal.at.returns-in-There-clause-ok g c).In_ok-enter There c.in-There.is in
+    let child = root_child (g.S.RecordRead.meaning c.args.store.now).size c.args.root c.args.key (content_at c.read_node.new.here.words) m.low in
     inserts_nothing c.args.root c.args.key c.args.rid (g.S.RecordRead.meaning c.args.store.now) (g.S.RecordRead.meaning c.enter.new.store) (present_by (g.S.RecordRead.meaning c.args.store.now).size c.args.root (content_at c.read_node.new.here.words) (g.S.RecordRead.meaning c.args.store.now) (g.S.RecordRead.meaning c.read_node.new.store) (g.S.RecordRead.meaning c.enter.new.store) c.enter.ensures.walk.walk.by.grow.reads at) (OnlyReads-trans (g.S.RecordRead.meaning c.args.store.now) (g.S.RecordRead.meaning c.read_node.new.store) (g.S.RecordRead.meaning c.enter.new.store) c.in_ok-read_node.ensures.walk.by.only (rw c.in-There.is at c.in_ok-enter.ensures.there))
     (enter_there (g.S.RecordRead.meaning c.args.store.now) (g.S.RecordRead.meaning c.read_node.new.store) (g.S.RecordRead.meaning c.enter.new.store) c.args.key c.args.rid ((first_key, c.args.root) ∷ []) 1 (first_key, c.args.root) (content_at c.read_node.new.here.words) c.rank_of-rank.result c.enter.ensures.walk.walk.by.grow.reads child at
-    (λ leaf. (let l = c.in_ok-enter.ensures.leaf leaf in (rw c.in-There.is at l).0))
-    (λ inner. from_reads (g.S.RecordRead.meaning c.args.store.now) (g.S.RecordRead.meaning c.read_node.new.store) (g.S.RecordRead.meaning c.enter.new.store) c.args.key c.args.rid (content_at c.read_node.new.here.words).entries c.rank_of-rank.result c.in_ok-enter.field-0 _ c.in_ok-read_node.ensures.walk.by.only c.in-There.is (c.in_ok-enter.ensures.inner inner)))
+    (λ leaf. (e.leaf leaf).0)
+    e.inner)
 
 pub returns-in-There-clause-walk : goal.returns-in-There-clause-walk
 returns-in-There-clause-walk g c =
-    let link = at_some (IsTreeNode c.size-size.result c.args.root first_key) c.read_node.new.here (ap (λ present. value_if present c.read_node.new.here) c.if-not-branch.false) c.in_ok-read_node.ensures.node in
-    let A : ℕ → ℕ → Type 0 = λ n r. EachState (g.S.RecordRead.meaning c.args.store.now) (g.S.RecordRead.meaning c.read_node.new.store) (λ state. IsAt n state (r, content_at c.read_node.new.here.words)) in
-    let at = subst (λ r. A (g.S.RecordRead.meaning c.args.store.now).size r) link.at (subst (λ n. A n c.read_node.new.here.at) c.size-size.ensures.size (child_at c.size-size.result c.args.root (g.S.RecordRead.meaning c.args.store.now) (g.S.RecordRead.meaning c.read_node.new.store) c.read_node.new.here (value_if c.in_ok-read_node.field-0 c.read_node.new.here) (ap (λ present. value_if present c.read_node.new.here) c.if-not-branch.false) c.in_ok-read_node.ensures.read)) in
+    let a = (goal.at.returns-in-There-clause-walk g c).After-enter in
+    let m = met_at_first g a in
+    let at = root_at_first g a in
     record {
       asked = c.enter.ensures.walk.asked;
-      walk = calls_quiet _ c.args.store.now c.enter.new.store _ c.enter.result (tt, tt) (calls_behind (λ _. Unit {0}) c.enter.ensures.walk.asked c.args.store.now c.read_node.new.store c.enter.new.store c.read_node.result c.enter.result c.read_node.ensures.walk c.enter.ensures.walk.walk (λ asks later. tt));
-      asks = top_there c.args.root c.args.key (content_at c.read_node.new.here.words) (g.S.RecordRead.meaning c.args.store.now) (g.S.RecordRead.meaning c.read_node.new.store) (g.S.RecordRead.meaning c.enter.new.store) (g.S.RecordRead.meaning c.enter.new.store) c.enter.ensures.walk.asked c.in_ok-read_node.ensures.walk.by.only c.enter.ensures.walk.walk.by.grow.reads (extends-refl (g.S.RecordRead.meaning c.enter.new.store).reads) link.low at c.enter.result c.enter.ensures.walk.asks (c.in_ok-enter.was ∙ ap (λ e. Ok e) c.in-There.is) refl;
+      walk = calls_quiet _ c.args.store.now c.enter.new.store _ c.enter.result (tt, tt) (went_below g a);
+      asks = top_there c.args.root c.args.key (content_at c.read_node.new.here.words) (g.S.RecordRead.meaning c.args.store.now) (g.S.RecordRead.meaning c.read_node.new.store) (g.S.RecordRead.meaning c.enter.new.store) (g.S.RecordRead.meaning c.enter.new.store) c.enter.ensures.walk.asked c.in_ok-read_node.ensures.walk.by.only c.enter.ensures.walk.walk.by.grow.reads (extends-refl (g.S.RecordRead.meaning c.enter.new.store).reads) m.low at c.enter.result c.enter.ensures.walk.asks (c.in_ok-enter.was ∙ ap (λ e. Ok e) c.in-There.is) refl;
     }
 
 pub returns-in-Done-clause-ok : goal.returns-in-Done-clause-ok
 returns-in-Done-clause-ok g c =
-    let link = at_some (IsTreeNode c.size-size.result c.args.root first_key) c.read_node.new.here (ap (λ present. value_if present c.read_node.new.here) c.if-not-branch.false) c.in_ok-read_node.ensures.node in
-    let A : ℕ → ℕ → Type 0 = λ n r. EachState (g.S.RecordRead.meaning c.args.store.now) (g.S.RecordRead.meaning c.read_node.new.store) (λ state. IsAt n state (r, content_at c.read_node.new.here.words)) in
-    let at = subst (λ r. A (g.S.RecordRead.meaning c.args.store.now).size r) link.at (subst (λ n. A n c.read_node.new.here.at) c.size-size.ensures.size (child_at c.size-size.result c.args.root (g.S.RecordRead.meaning c.args.store.now) (g.S.RecordRead.meaning c.read_node.new.store) c.read_node.new.here (value_if c.in_ok-read_node.field-0 c.read_node.new.here) (ap (λ present. value_if present c.read_node.new.here) c.if-not-branch.false) c.in_ok-read_node.ensures.read)) in
-    let child = root_child (g.S.RecordRead.meaning c.args.store.now).size c.args.root c.args.key (content_at c.read_node.new.here.words) link.low in
+    let a = (goal.at.returns-in-Done-clause-ok g c).After-enter in
+    let m = met_at_first g a in
+    let at = root_at_first g a in
+    let e = entered_as g (goal.at.returns-in-Done-clause-ok g c).In_ok-enter Done c.in-Done.is in
+    let child = root_child (g.S.RecordRead.meaning c.args.store.now).size c.args.root c.args.key (content_at c.read_node.new.here.words) m.low in
     inserts_done c.args.root c.args.key c.args.rid (g.S.RecordRead.meaning c.args.store.now) (g.S.RecordRead.meaning c.enter.new.store) (present_by (g.S.RecordRead.meaning c.args.store.now).size c.args.root (content_at c.read_node.new.here.words) (g.S.RecordRead.meaning c.args.store.now) (g.S.RecordRead.meaning c.read_node.new.store) (g.S.RecordRead.meaning c.enter.new.store) c.enter.ensures.walk.walk.by.grow.reads at)
     (enter_done (g.S.RecordRead.meaning c.args.store.now) (g.S.RecordRead.meaning c.read_node.new.store) (g.S.RecordRead.meaning c.enter.new.store) c.args.key c.args.rid ((first_key, c.args.root) ∷ []) 1 (first_key, c.args.root) (content_at c.read_node.new.here.words) c.rank_of-rank.result c.enter.ensures.walk.walk.by.grow.reads child at
-    (λ leaf. (let l = c.in_ok-enter.ensures.leaf leaf in (rw c.in-Done.is at l).0))
-    (λ inner. from_reads (g.S.RecordRead.meaning c.args.store.now) (g.S.RecordRead.meaning c.read_node.new.store) (g.S.RecordRead.meaning c.enter.new.store) c.args.key c.args.rid (content_at c.read_node.new.here.words).entries c.rank_of-rank.result c.in_ok-enter.field-0 _ c.in_ok-read_node.ensures.walk.by.only c.in-Done.is (c.in_ok-enter.ensures.inner inner)))
+    (λ leaf. (e.leaf leaf).0)
+    e.inner)
 
 pub returns-in-Done-clause-walk : goal.returns-in-Done-clause-walk
 returns-in-Done-clause-walk g c =
-    let link = at_some (IsTreeNode c.size-size.result c.args.root first_key) c.read_node.new.here (ap (λ present. value_if present c.read_node.new.here) c.if-not-branch.false) c.in_ok-read_node.ensures.node in
-    let A : ℕ → ℕ → Type 0 = λ n r. EachState (g.S.RecordRead.meaning c.args.store.now) (g.S.RecordRead.meaning c.read_node.new.store) (λ state. IsAt n state (r, content_at c.read_node.new.here.words)) in
-    let at = subst (λ r. A (g.S.RecordRead.meaning c.args.store.now).size r) link.at (subst (λ n. A n c.read_node.new.here.at) c.size-size.ensures.size (child_at c.size-size.result c.args.root (g.S.RecordRead.meaning c.args.store.now) (g.S.RecordRead.meaning c.read_node.new.store) c.read_node.new.here (value_if c.in_ok-read_node.field-0 c.read_node.new.here) (ap (λ present. value_if present c.read_node.new.here) c.if-not-branch.false) c.in_ok-read_node.ensures.read)) in
+    let a = (goal.at.returns-in-Done-clause-walk g c).After-enter in
+    let m = met_at_first g a in
+    let at = root_at_first g a in
     record {
       asked = c.enter.ensures.walk.asked;
-      walk = calls_quiet _ c.args.store.now c.enter.new.store _ c.enter.result (tt, tt) (calls_behind (λ _. Unit {0}) c.enter.ensures.walk.asked c.args.store.now c.read_node.new.store c.enter.new.store c.read_node.result c.enter.result c.read_node.ensures.walk c.enter.ensures.walk.walk (λ asks later. tt));
-      asks = top_done c.args.root c.args.key (content_at c.read_node.new.here.words) (g.S.RecordRead.meaning c.args.store.now) (g.S.RecordRead.meaning c.read_node.new.store) (g.S.RecordRead.meaning c.enter.new.store) (g.S.RecordRead.meaning c.enter.new.store) c.enter.ensures.walk.asked c.in_ok-read_node.ensures.walk.by.only c.enter.ensures.walk.walk.by.grow.reads (extends-refl (g.S.RecordRead.meaning c.enter.new.store).reads) link.low at c.enter.result c.enter.ensures.walk.asks (c.in_ok-enter.was ∙ ap (λ e. Ok e) c.in-Done.is) (λ leaf. (let l = c.in_ok-enter.ensures.leaf leaf in (rw c.in-Done.is at l).0)) refl;
+      walk = calls_quiet _ c.args.store.now c.enter.new.store _ c.enter.result (tt, tt) (went_below g a);
+      asks = top_done c.args.root c.args.key (content_at c.read_node.new.here.words) (g.S.RecordRead.meaning c.args.store.now) (g.S.RecordRead.meaning c.read_node.new.store) (g.S.RecordRead.meaning c.enter.new.store) (g.S.RecordRead.meaning c.enter.new.store) c.enter.ensures.walk.asked c.in_ok-read_node.ensures.walk.by.only c.enter.ensures.walk.walk.by.grow.reads (extends-refl (g.S.RecordRead.meaning c.enter.new.store).reads) m.low at c.enter.result c.enter.ensures.walk.asks (c.in_ok-enter.was ∙ ap (λ e. Ok e) c.in-Done.is) (λ leaf. (let l = c.in_ok-enter.ensures.leaf leaf in (rw c.in-Done.is at l).0)) refl;
     }
 
 pub returns-in_err-put_root-in-Takes-clause-walk : goal.returns-in_err-put_root-in-Takes-clause-walk
 returns-in_err-put_root-in-Takes-clause-walk g c =
-    let link = at_some (IsTreeNode c.size-size.result c.args.root first_key) c.read_node.new.here (ap (λ present. value_if present c.read_node.new.here) c.if-not-branch.false) c.in_ok-read_node.ensures.node in
-    let A : ℕ → ℕ → Type 0 = λ n r. EachState (g.S.RecordRead.meaning c.args.store.now) (g.S.RecordRead.meaning c.read_node.new.store) (λ state. IsAt n state (r, content_at c.read_node.new.here.words)) in
-    let at = subst (λ r. A (g.S.RecordRead.meaning c.args.store.now).size r) link.at (subst (λ n. A n c.read_node.new.here.at) c.size-size.ensures.size (child_at c.size-size.result c.args.root (g.S.RecordRead.meaning c.args.store.now) (g.S.RecordRead.meaning c.read_node.new.store) c.read_node.new.here (value_if c.in_ok-read_node.field-0 c.read_node.new.here) (ap (λ present. value_if present c.read_node.new.here) c.if-not-branch.false) c.in_ok-read_node.ensures.read)) in
+    let a = (goal.at.returns-in_err-put_root-in-Takes-clause-walk g c).After-enter in
+    let m = met_at_first g a in
+    let at = root_at_first g a in
+    let e = entered_as g (goal.at.returns-in_err-put_root-in-Takes-clause-walk g c).In_ok-enter (Takes c.in-Takes.entry) c.in-Takes.is in
     record {
       asked = c.enter.ensures.walk.asked + c.put_root.ensures.walk.asked;
-      walk = calls_moved c.args.store.now c.put_root.new.store c.from_residual-in_err-put_root-in-Takes.result c.put_root.result c.in_err-put_root-in-Takes.field-0.0 c.in_err-put_root-in-Takes.was c.from_residual-in_err-put_root-in-Takes.ensures.1 (calls_then _ c.enter.ensures.walk.asked c.put_root.ensures.walk.asked c.args.store.now c.enter.new.store c.put_root.new.store c.enter.result c.put_root.result (calls_behind (λ _. Unit {0}) c.enter.ensures.walk.asked c.args.store.now c.read_node.new.store c.enter.new.store c.read_node.result c.enter.result c.read_node.ensures.walk c.enter.ensures.walk.walk (λ asks later. tt)) c.put_root.ensures.walk.walk (λ asks few. top_may c.args.root c.args.key (content_at c.read_node.new.here.words) (g.S.RecordRead.meaning c.args.store.now) (g.S.RecordRead.meaning c.read_node.new.store) (g.S.RecordRead.meaning c.enter.new.store) (g.S.RecordRead.meaning c.put_root.new.store) c.enter.ensures.walk.asked c.in_ok-read_node.ensures.walk.by.only c.enter.ensures.walk.walk.by.grow.reads c.put_root.ensures.walk.walk.by.grow.reads link.low at c.enter.result c.enter.ensures.walk.asks c.args.rid c.rank_of-rank.result c.in-Takes.entry (c.in_ok-enter.was ∙ ap (λ e. Ok e) c.in-Takes.is) (λ leaf. (let l = rw c.in-Takes.is at (c.in_ok-enter.ensures.leaf leaf) in l.0.1)) (λ inner. from_reads (g.S.RecordRead.meaning c.args.store.now) (g.S.RecordRead.meaning c.read_node.new.store) (g.S.RecordRead.meaning c.enter.new.store) c.args.key c.args.rid (content_at c.read_node.new.here.words).entries c.rank_of-rank.result c.in_ok-enter.field-0 _ c.in_ok-read_node.ensures.walk.by.only c.in-Takes.is (c.in_ok-enter.ensures.inner inner)) asks few));
-      asks = root_err c.args.root c.args.key (content_at c.read_node.new.here.words) (g.S.RecordRead.meaning c.args.store.now) (g.S.RecordRead.meaning c.read_node.new.store) (g.S.RecordRead.meaning c.enter.new.store) (g.S.RecordRead.meaning c.put_root.new.store) c.enter.ensures.walk.asked c.in_ok-read_node.ensures.walk.by.only c.enter.ensures.walk.walk.by.grow.reads c.put_root.ensures.walk.walk.by.grow.reads link.low at c.enter.result c.enter.ensures.walk.asks c.args.rid c.rank_of-rank.result c.in-Takes.entry (c.in_ok-enter.was ∙ ap (λ e. Ok e) c.in-Takes.is) (λ leaf. (let l = rw c.in-Takes.is at (c.in_ok-enter.ensures.leaf leaf) in l.0.1)) (λ inner. from_reads (g.S.RecordRead.meaning c.args.store.now) (g.S.RecordRead.meaning c.read_node.new.store) (g.S.RecordRead.meaning c.enter.new.store) c.args.key c.args.rid (content_at c.read_node.new.here.words).entries c.rank_of-rank.result c.in_ok-enter.field-0 _ c.in_ok-read_node.ensures.walk.by.only c.in-Takes.is (c.in_ok-enter.ensures.inner inner)) c.put_root.result c.from_residual-in_err-put_root-in-Takes.result c.put_root.ensures.walk.asked c.from_residual-in_err-put_root-in-Takes.ensures.0 c.put_root.ensures.walk.asks;
+      walk = calls_moved c.args.store.now c.put_root.new.store c.from_residual-in_err-put_root-in-Takes.result c.put_root.result c.in_err-put_root-in-Takes.field-0.0 c.in_err-put_root-in-Takes.was c.from_residual-in_err-put_root-in-Takes.ensures.1 (calls_then _ c.enter.ensures.walk.asked c.put_root.ensures.walk.asked c.args.store.now c.enter.new.store c.put_root.new.store c.enter.result c.put_root.result (went_below g a) c.put_root.ensures.walk.walk (λ asks few. top_may c.args.root c.args.key (content_at c.read_node.new.here.words) (g.S.RecordRead.meaning c.args.store.now) (g.S.RecordRead.meaning c.read_node.new.store) (g.S.RecordRead.meaning c.enter.new.store) (g.S.RecordRead.meaning c.put_root.new.store) c.enter.ensures.walk.asked c.in_ok-read_node.ensures.walk.by.only c.enter.ensures.walk.walk.by.grow.reads c.put_root.ensures.walk.walk.by.grow.reads m.low at c.enter.result c.enter.ensures.walk.asks c.args.rid c.rank_of-rank.result c.in-Takes.entry (c.in_ok-enter.was ∙ ap (λ e. Ok e) c.in-Takes.is) (λ leaf. (e.leaf leaf).0.1) e.inner asks few));
+      asks = root_err c.args.root c.args.key (content_at c.read_node.new.here.words) (g.S.RecordRead.meaning c.args.store.now) (g.S.RecordRead.meaning c.read_node.new.store) (g.S.RecordRead.meaning c.enter.new.store) (g.S.RecordRead.meaning c.put_root.new.store) c.enter.ensures.walk.asked c.in_ok-read_node.ensures.walk.by.only c.enter.ensures.walk.walk.by.grow.reads c.put_root.ensures.walk.walk.by.grow.reads m.low at c.enter.result c.enter.ensures.walk.asks c.args.rid c.rank_of-rank.result c.in-Takes.entry (c.in_ok-enter.was ∙ ap (λ e. Ok e) c.in-Takes.is) (λ leaf. (e.leaf leaf).0.1) e.inner c.put_root.result c.from_residual-in_err-put_root-in-Takes.result c.put_root.ensures.walk.asked c.from_residual-in_err-put_root-in-Takes.ensures.0 c.put_root.ensures.walk.asks;
     }
 
 pub returns-in_ok-put_root-in-Takes-clause-ok : goal.returns-in_ok-put_root-in-Takes-clause-ok
 returns-in_ok-put_root-in-Takes-clause-ok g c =
-    let link = at_some (IsTreeNode c.size-size.result c.args.root first_key) c.read_node.new.here (ap (λ present. value_if present c.read_node.new.here) c.if-not-branch.false) c.in_ok-read_node.ensures.node in
-    let A : ℕ → ℕ → Type 0 = λ n r. EachState (g.S.RecordRead.meaning c.args.store.now) (g.S.RecordRead.meaning c.read_node.new.store) (λ state. IsAt n state (r, content_at c.read_node.new.here.words)) in
-    let at = subst (λ r. A (g.S.RecordRead.meaning c.args.store.now).size r) link.at (subst (λ n. A n c.read_node.new.here.at) c.size-size.ensures.size (child_at c.size-size.result c.args.root (g.S.RecordRead.meaning c.args.store.now) (g.S.RecordRead.meaning c.read_node.new.store) c.read_node.new.here (value_if c.in_ok-read_node.field-0 c.read_node.new.here) (ap (λ present. value_if present c.read_node.new.here) c.if-not-branch.false) c.in_ok-read_node.ensures.read)) in
-    let child = root_child (g.S.RecordRead.meaning c.args.store.now).size c.args.root c.args.key (content_at c.read_node.new.here.words) link.low in
+    let a = (goal.at.returns-in_ok-put_root-in-Takes-clause-ok g c).After-enter in
+    let m = met_at_first g a in
+    let e = entered_as g (goal.at.returns-in_ok-put_root-in-Takes-clause-ok g c).In_ok-enter (Takes c.in-Takes.entry) c.in-Takes.is in
+    let at = root_at_first g a in
     let within = rw c.in-Takes.is at c.in_ok-enter.ensures.within in
     let N : ℕ → Type 0 = λ n. c.in-Takes.entry.1 < n in
-    let S : ℕ → Type 0 = λ n. IsSound n (content_at c.read_node.new.here.words) in
-    inserts_takes (g.S.RecordRead.meaning c.args.store.now) (g.S.RecordRead.meaning c.read_node.new.store) (g.S.RecordRead.meaning c.enter.new.store) (g.S.RecordRead.meaning c.put_root.new.store) c.args.root c.args.key c.args.rid (content_at c.read_node.new.here.words) c.rank_of-rank.result c.in-Takes.entry (subst (λ n. n ≤ 200000) c.size-size.ensures.size c.size-size.ensures.at_most) (omega (arith, c.size-size.ensures.size, c.size-size.ensures.fixed)) c.requires.root c.in_ok-read_node.ensures.walk.by.only c.enter.ensures.walk.walk.by.grow c.put_root.ensures.walk.walk.by.grow c.requires.rid (subst N c.size-size.ensures.size within) link.low (subst S c.size-size.ensures.size link.node.sound) c.rank_of-rank.ensures.rank
-    (λ inner. rank_some c.size-size.result (content_at c.read_node.new.here.words) c.args.key c.rank_of-rank.result link.node.sound inner (rw link.low (first_not_after c.args.key)) c.rank_of-rank.ensures.rank) at
-    (λ leaf. (let l = rw c.in-Takes.is at (c.in_ok-enter.ensures.leaf leaf) in (l.0.0, l.0.1, l.1)))
-    (λ inner. from_reads (g.S.RecordRead.meaning c.args.store.now) (g.S.RecordRead.meaning c.read_node.new.store) (g.S.RecordRead.meaning c.enter.new.store) c.args.key c.args.rid (content_at c.read_node.new.here.words).entries c.rank_of-rank.result c.in_ok-enter.field-0 _ c.in_ok-read_node.ensures.walk.by.only c.in-Takes.is (c.in_ok-enter.ensures.inner inner))
-    (rw link.at at c.in_ok-put_root-in-Takes.ensures.ok)
+    inserts_takes (g.S.RecordRead.meaning c.args.store.now) (g.S.RecordRead.meaning c.read_node.new.store) (g.S.RecordRead.meaning c.enter.new.store) (g.S.RecordRead.meaning c.put_root.new.store) c.args.root c.args.key c.args.rid (content_at c.read_node.new.here.words) c.rank_of-rank.result c.in-Takes.entry (subst (λ n. n ≤ 200000) c.size-size.ensures.size c.size-size.ensures.at_most) (omega (arith, c.size-size.ensures.size, c.size-size.ensures.fixed)) c.requires.root c.in_ok-read_node.ensures.walk.by.only c.enter.ensures.walk.walk.by.grow c.put_root.ensures.walk.walk.by.grow c.requires.rid (subst N c.size-size.ensures.size within) m.low m.node.sound c.rank_of-rank.ensures.rank
+    (λ inner. rank_some (g.S.RecordRead.meaning c.args.store.now).size (content_at c.read_node.new.here.words) c.args.key c.rank_of-rank.result m.node.sound inner (rw m.low (first_not_after c.args.key)) c.rank_of-rank.ensures.rank) at
+    (λ leaf. (let l = e.leaf leaf in (l.0.0, l.0.1, l.1)))
+    e.inner
+    (rw m.rid at c.in_ok-put_root-in-Takes.ensures.ok)
 
 pub returns-in_ok-put_root-in-Takes-clause-walk : goal.returns-in_ok-put_root-in-Takes-clause-walk
 returns-in_ok-put_root-in-Takes-clause-walk g c =
-    let link = at_some (IsTreeNode c.size-size.result c.args.root first_key) c.read_node.new.here (ap (λ present. value_if present c.read_node.new.here) c.if-not-branch.false) c.in_ok-read_node.ensures.node in
-    let A : ℕ → ℕ → Type 0 = λ n r. EachState (g.S.RecordRead.meaning c.args.store.now) (g.S.RecordRead.meaning c.read_node.new.store) (λ state. IsAt n state (r, content_at c.read_node.new.here.words)) in
-    let at = subst (λ r. A (g.S.RecordRead.meaning c.args.store.now).size r) link.at (subst (λ n. A n c.read_node.new.here.at) c.size-size.ensures.size (child_at c.size-size.result c.args.root (g.S.RecordRead.meaning c.args.store.now) (g.S.RecordRead.meaning c.read_node.new.store) c.read_node.new.here (value_if c.in_ok-read_node.field-0 c.read_node.new.here) (ap (λ present. value_if present c.read_node.new.here) c.if-not-branch.false) c.in_ok-read_node.ensures.read)) in
+    let a = (goal.at.returns-in_ok-put_root-in-Takes-clause-walk g c).After-enter in
+    let m = met_at_first g a in
+    let at = root_at_first g a in
+    let e = entered_as g (goal.at.returns-in_ok-put_root-in-Takes-clause-walk g c).In_ok-enter (Takes c.in-Takes.entry) c.in-Takes.is in
     record {
       asked = c.enter.ensures.walk.asked + c.put_root.ensures.walk.asked;
-      walk = calls_quiet _ c.args.store.now c.put_root.new.store _ c.put_root.result (tt, tt) (calls_then (λ _. Unit {0}) c.enter.ensures.walk.asked c.put_root.ensures.walk.asked c.args.store.now c.enter.new.store c.put_root.new.store c.enter.result c.put_root.result (calls_behind (λ _. Unit {0}) c.enter.ensures.walk.asked c.args.store.now c.read_node.new.store c.enter.new.store c.read_node.result c.enter.result c.read_node.ensures.walk c.enter.ensures.walk.walk (λ asks later. tt)) c.put_root.ensures.walk.walk (λ asks later. tt));
-      asks = root_ok c.args.root c.args.key (content_at c.read_node.new.here.words) (g.S.RecordRead.meaning c.args.store.now) (g.S.RecordRead.meaning c.read_node.new.store) (g.S.RecordRead.meaning c.enter.new.store) (g.S.RecordRead.meaning c.put_root.new.store) c.enter.ensures.walk.asked c.in_ok-read_node.ensures.walk.by.only c.enter.ensures.walk.walk.by.grow.reads c.put_root.ensures.walk.walk.by.grow.reads link.low at c.enter.result c.enter.ensures.walk.asks c.args.rid c.rank_of-rank.result c.in-Takes.entry (c.in_ok-enter.was ∙ ap (λ e. Ok e) c.in-Takes.is) (λ leaf. (let l = rw c.in-Takes.is at (c.in_ok-enter.ensures.leaf leaf) in l.0.1)) (λ inner. from_reads (g.S.RecordRead.meaning c.args.store.now) (g.S.RecordRead.meaning c.read_node.new.store) (g.S.RecordRead.meaning c.enter.new.store) c.args.key c.args.rid (content_at c.read_node.new.here.words).entries c.rank_of-rank.result c.in_ok-enter.field-0 _ c.in_ok-read_node.ensures.walk.by.only c.in-Takes.is (c.in_ok-enter.ensures.inner inner)) c.put_root.result c.put_root.ensures.walk.asked (rw c.in_ok-put_root-in-Takes.was at c.put_root.ensures.walk.asks.exact) c.put_root.ensures.walk.asks;
+      walk = calls_quiet _ c.args.store.now c.put_root.new.store _ c.put_root.result (tt, tt) (calls_then (λ _. Unit {0}) c.enter.ensures.walk.asked c.put_root.ensures.walk.asked c.args.store.now c.enter.new.store c.put_root.new.store c.enter.result c.put_root.result (went_below g a) c.put_root.ensures.walk.walk (λ asks later. tt));
+      asks = root_ok c.args.root c.args.key (content_at c.read_node.new.here.words) (g.S.RecordRead.meaning c.args.store.now) (g.S.RecordRead.meaning c.read_node.new.store) (g.S.RecordRead.meaning c.enter.new.store) (g.S.RecordRead.meaning c.put_root.new.store) c.enter.ensures.walk.asked c.in_ok-read_node.ensures.walk.by.only c.enter.ensures.walk.walk.by.grow.reads c.put_root.ensures.walk.walk.by.grow.reads m.low at c.enter.result c.enter.ensures.walk.asks c.args.rid c.rank_of-rank.result c.in-Takes.entry (c.in_ok-enter.was ∙ ap (λ e. Ok e) c.in-Takes.is) (λ leaf. (e.leaf leaf).0.1) e.inner c.put_root.result c.put_root.ensures.walk.asked (rw c.in_ok-put_root-in-Takes.was at c.put_root.ensures.walk.asks.exact) c.put_root.ensures.walk.asks;
     }
 
 pub returns-in_err-read_node-clause-few : goal.returns-in_err-read_node-clause-few
@@ -208,24 +244,24 @@ returns-in_ok-put_root-in-Takes-clause-few g c =
 
 pub returns-in-There-clause-walked : goal.returns-in-There-clause-walked
 returns-in-There-clause-walked g c =
-    let link = at_some (IsTreeNode c.size-size.result c.args.root first_key) c.read_node.new.here (ap (λ present. value_if present c.read_node.new.here) c.if-not-branch.false) c.in_ok-read_node.ensures.node in
-    let A : ℕ → ℕ → Type 0 = λ n r. EachState (g.S.RecordRead.meaning c.args.store.now) (g.S.RecordRead.meaning c.read_node.new.store) (λ state. IsAt n state (r, content_at c.read_node.new.here.words)) in
-    let at = subst (λ r. A (g.S.RecordRead.meaning c.args.store.now).size r) link.at (subst (λ n. A n c.read_node.new.here.at) c.size-size.ensures.size (child_at c.size-size.result c.args.root (g.S.RecordRead.meaning c.args.store.now) (g.S.RecordRead.meaning c.read_node.new.store) c.read_node.new.here (value_if c.in_ok-read_node.field-0 c.read_node.new.here) (ap (λ present. value_if present c.read_node.new.here) c.if-not-branch.false) c.in_ok-read_node.ensures.read)) in
-    each_ends_well (g.S.RecordRead.meaning c.args.store.now).size c.args.root c.args.key (content_at c.read_node.new.here.words) (g.S.RecordRead.meaning c.args.store.now) (g.S.RecordRead.meaning c.read_node.new.store) (g.S.RecordRead.meaning c.enter.new.store) (g.S.RecordRead.meaning c.enter.new.store) c.in_ok-read_node.ensures.walk.by.only c.enter.ensures.walk.walk.by.grow.reads (extends-refl (g.S.RecordRead.meaning c.enter.new.store).reads) link.low at (λ inner. rw c.size-size.ensures.size at (c.in_ok-enter.ensures.walked inner))
+    let a = (goal.at.returns-in-There-clause-walked g c).After-enter in
+    let m = met_at_first g a in
+    let at = root_at_first g a in
+    each_ends_well (g.S.RecordRead.meaning c.args.store.now).size c.args.root c.args.key (content_at c.read_node.new.here.words) (g.S.RecordRead.meaning c.args.store.now) (g.S.RecordRead.meaning c.read_node.new.store) (g.S.RecordRead.meaning c.enter.new.store) (g.S.RecordRead.meaning c.enter.new.store) c.in_ok-read_node.ensures.walk.by.only c.enter.ensures.walk.walk.by.grow.reads (extends-refl (g.S.RecordRead.meaning c.enter.new.store).reads) m.low at (λ inner. rw c.size-size.ensures.size at (c.in_ok-enter.ensures.walked inner))
 
 pub returns-in-Done-clause-walked : goal.returns-in-Done-clause-walked
 returns-in-Done-clause-walked g c =
-    let link = at_some (IsTreeNode c.size-size.result c.args.root first_key) c.read_node.new.here (ap (λ present. value_if present c.read_node.new.here) c.if-not-branch.false) c.in_ok-read_node.ensures.node in
-    let A : ℕ → ℕ → Type 0 = λ n r. EachState (g.S.RecordRead.meaning c.args.store.now) (g.S.RecordRead.meaning c.read_node.new.store) (λ state. IsAt n state (r, content_at c.read_node.new.here.words)) in
-    let at = subst (λ r. A (g.S.RecordRead.meaning c.args.store.now).size r) link.at (subst (λ n. A n c.read_node.new.here.at) c.size-size.ensures.size (child_at c.size-size.result c.args.root (g.S.RecordRead.meaning c.args.store.now) (g.S.RecordRead.meaning c.read_node.new.store) c.read_node.new.here (value_if c.in_ok-read_node.field-0 c.read_node.new.here) (ap (λ present. value_if present c.read_node.new.here) c.if-not-branch.false) c.in_ok-read_node.ensures.read)) in
-    each_ends_well (g.S.RecordRead.meaning c.args.store.now).size c.args.root c.args.key (content_at c.read_node.new.here.words) (g.S.RecordRead.meaning c.args.store.now) (g.S.RecordRead.meaning c.read_node.new.store) (g.S.RecordRead.meaning c.enter.new.store) (g.S.RecordRead.meaning c.enter.new.store) c.in_ok-read_node.ensures.walk.by.only c.enter.ensures.walk.walk.by.grow.reads (extends-refl (g.S.RecordRead.meaning c.enter.new.store).reads) link.low at (λ inner. rw c.size-size.ensures.size at (c.in_ok-enter.ensures.walked inner))
+    let a = (goal.at.returns-in-Done-clause-walked g c).After-enter in
+    let m = met_at_first g a in
+    let at = root_at_first g a in
+    each_ends_well (g.S.RecordRead.meaning c.args.store.now).size c.args.root c.args.key (content_at c.read_node.new.here.words) (g.S.RecordRead.meaning c.args.store.now) (g.S.RecordRead.meaning c.read_node.new.store) (g.S.RecordRead.meaning c.enter.new.store) (g.S.RecordRead.meaning c.enter.new.store) c.in_ok-read_node.ensures.walk.by.only c.enter.ensures.walk.walk.by.grow.reads (extends-refl (g.S.RecordRead.meaning c.enter.new.store).reads) m.low at (λ inner. rw c.size-size.ensures.size at (c.in_ok-enter.ensures.walked inner))
 
 pub returns-in_ok-put_root-in-Takes-clause-walked : goal.returns-in_ok-put_root-in-Takes-clause-walked
 returns-in_ok-put_root-in-Takes-clause-walked g c =
-    let link = at_some (IsTreeNode c.size-size.result c.args.root first_key) c.read_node.new.here (ap (λ present. value_if present c.read_node.new.here) c.if-not-branch.false) c.in_ok-read_node.ensures.node in
-    let A : ℕ → ℕ → Type 0 = λ n r. EachState (g.S.RecordRead.meaning c.args.store.now) (g.S.RecordRead.meaning c.read_node.new.store) (λ state. IsAt n state (r, content_at c.read_node.new.here.words)) in
-    let at = subst (λ r. A (g.S.RecordRead.meaning c.args.store.now).size r) link.at (subst (λ n. A n c.read_node.new.here.at) c.size-size.ensures.size (child_at c.size-size.result c.args.root (g.S.RecordRead.meaning c.args.store.now) (g.S.RecordRead.meaning c.read_node.new.store) c.read_node.new.here (value_if c.in_ok-read_node.field-0 c.read_node.new.here) (ap (λ present. value_if present c.read_node.new.here) c.if-not-branch.false) c.in_ok-read_node.ensures.read)) in
-    each_ends_well (g.S.RecordRead.meaning c.args.store.now).size c.args.root c.args.key (content_at c.read_node.new.here.words) (g.S.RecordRead.meaning c.args.store.now) (g.S.RecordRead.meaning c.read_node.new.store) (g.S.RecordRead.meaning c.enter.new.store) (g.S.RecordRead.meaning c.put_root.new.store) c.in_ok-read_node.ensures.walk.by.only c.enter.ensures.walk.walk.by.grow.reads c.put_root.ensures.walk.walk.by.grow.reads link.low at (λ inner. rw c.size-size.ensures.size at (c.in_ok-enter.ensures.walked inner))
+    let a = (goal.at.returns-in_ok-put_root-in-Takes-clause-walked g c).After-enter in
+    let m = met_at_first g a in
+    let at = root_at_first g a in
+    each_ends_well (g.S.RecordRead.meaning c.args.store.now).size c.args.root c.args.key (content_at c.read_node.new.here.words) (g.S.RecordRead.meaning c.args.store.now) (g.S.RecordRead.meaning c.read_node.new.store) (g.S.RecordRead.meaning c.enter.new.store) (g.S.RecordRead.meaning c.put_root.new.store) c.in_ok-read_node.ensures.walk.by.only c.enter.ensures.walk.walk.by.grow.reads c.put_root.ensures.walk.walk.by.grow.reads m.low at (λ inner. rw c.size-size.ensures.size at (c.in_ok-enter.ensures.walked inner))
 
 -- what is written
 pub returns-in_err-read_node-clause-writes : goal.returns-in_err-read_node-clause-writes
@@ -256,10 +292,10 @@ returns-in-Done-clause-writes g c =
 
 pub returns-in_err-put_root-in-Takes-clause-writes : goal.returns-in_err-put_root-in-Takes-clause-writes
 returns-in_err-put_root-in-Takes-clause-writes g c =
-    let link = at_some (IsTreeNode c.size-size.result c.args.root first_key) c.read_node.new.here (ap (λ present. value_if present c.read_node.new.here) c.if-not-branch.false) c.in_ok-read_node.ensures.node in
-    known-then-fixed c.put_root.ensures.walk.asked (g.S.RecordRead.meaning c.args.store.now) (g.S.RecordRead.meaning c.enter.new.store) (g.S.RecordRead.meaning c.put_root.new.store) c.read_node.new.here.at (known-behind (g.S.RecordRead.meaning c.args.store.now) (g.S.RecordRead.meaning c.read_node.new.store) (g.S.RecordRead.meaning c.enter.new.store) c.in_ok-read_node.ensures.walk.by.only c.enter.ensures.writes) c.put_root.ensures.walk.walk.by.grow.reads c.put_root.ensures.walk.walk.by.given c.put_root.ensures.writes (rw link.at c.requires.root)
+    let m = met_here g (goal.at.returns-in_err-put_root-in-Takes-clause-writes g c).After-enter in
+    known-then-fixed c.put_root.ensures.walk.asked (g.S.RecordRead.meaning c.args.store.now) (g.S.RecordRead.meaning c.enter.new.store) (g.S.RecordRead.meaning c.put_root.new.store) c.read_node.new.here.at (known-behind (g.S.RecordRead.meaning c.args.store.now) (g.S.RecordRead.meaning c.read_node.new.store) (g.S.RecordRead.meaning c.enter.new.store) c.in_ok-read_node.ensures.walk.by.only c.enter.ensures.writes) c.put_root.ensures.walk.walk.by.grow.reads c.put_root.ensures.walk.walk.by.given c.put_root.ensures.writes (rw m.rid c.requires.root)
 
 pub returns-in_ok-put_root-in-Takes-clause-writes : goal.returns-in_ok-put_root-in-Takes-clause-writes
 returns-in_ok-put_root-in-Takes-clause-writes g c =
-    let link = at_some (IsTreeNode c.size-size.result c.args.root first_key) c.read_node.new.here (ap (λ present. value_if present c.read_node.new.here) c.if-not-branch.false) c.in_ok-read_node.ensures.node in
-    known-then-fixed c.put_root.ensures.walk.asked (g.S.RecordRead.meaning c.args.store.now) (g.S.RecordRead.meaning c.enter.new.store) (g.S.RecordRead.meaning c.put_root.new.store) c.read_node.new.here.at (known-behind (g.S.RecordRead.meaning c.args.store.now) (g.S.RecordRead.meaning c.read_node.new.store) (g.S.RecordRead.meaning c.enter.new.store) c.in_ok-read_node.ensures.walk.by.only c.enter.ensures.writes) c.put_root.ensures.walk.walk.by.grow.reads c.put_root.ensures.walk.walk.by.given c.put_root.ensures.writes (rw link.at c.requires.root)
+    let m = met_here g (goal.at.returns-in_ok-put_root-in-Takes-clause-writes g c).After-enter in
+    known-then-fixed c.put_root.ensures.walk.asked (g.S.RecordRead.meaning c.args.store.now) (g.S.RecordRead.meaning c.enter.new.store) (g.S.RecordRead.meaning c.put_root.new.store) c.read_node.new.here.at (known-behind (g.S.RecordRead.meaning c.args.store.now) (g.S.RecordRead.meaning c.read_node.new.store) (g.S.RecordRead.meaning c.enter.new.store) c.in_ok-read_node.ensures.walk.by.only c.enter.ensures.writes) c.put_root.ensures.walk.walk.by.grow.reads c.put_root.ensures.walk.walk.by.given c.put_root.ensures.writes (rw m.rid c.requires.root)

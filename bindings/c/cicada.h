@@ -29,7 +29,7 @@ enum {
     CICADA_TABLES = 8,             /* tables are 0 to 7 */
     CICADA_COLUMNS = 6,            /* of a row, each a number of 64 bits */
     CICADA_MOST_CONNECTIONS = 64,
-    CICADA_MOST_ROWS = 195888,     /* records for rows: two a row, up to six where rows come and go */
+    CICADA_MOST_ROWS = 193840,     /* records for rows, and 32 more for each connection below 64: two a row, up to six where rows come and go */
     CICADA_MOST_SPARE = 262144
 };
 
@@ -41,8 +41,8 @@ typedef enum {
                                 the one call that is left. Then hear what cicada_conflict tells, collect, pause, and begin again. */
     CICADA_PLACES_OUT = 3,   /* No place is left for a version; the transaction leaves nothing, and nothing is open. Collect, let other threads go on,
                                 and begin again. Where it stays so: open with more spare places, or have resting connections call cicada_rest. */
-    CICADA_RECORDS_OUT = 4,  /* No record is left for a row; the transaction leaves nothing, and abort is the one call that is left. Other connections
-                                may have some. Remove rows there, or open with more. */
+    CICADA_RECORDS_OUT = 4,  /* No record is left for a row, at any connection; the transaction leaves nothing, and abort is the one call that is left.
+                                Where others have removed rows since it began, begin again; else remove rows, or open with more. */
     CICADA_NO_MEMORY = 5,    /* malloc answered null. From open, begin and in a snapshot: as before. From a call on rows in a transaction: it leaves
                                 nothing, and abort is the one call that is left. */
     CICADA_CLOCK_OUT = 6,    /* The clock of the connection has come to its end. As before. Close the connection; others go on. */
@@ -73,9 +73,10 @@ typedef struct cicada_connection {
 } cicada_connection;
 
 /* Makes an engine of eight empty tables, with so many connections (1 to 64), records for rows (0 to CICADA_MOST_ROWS) and spare places for versions (1
- * to CICADA_MOST_SPARE; 0: as many as is advised, one for each record and 10,000 for each connection). All memory of the engine is taken here: 312
- * bytes for each record and for 4,112 more, 288 for each spare place, and as much again while it opens. Nothing is written where it does not answer
- * OK. NO_MEMORY, RANGE. */
+ * to CICADA_MOST_SPARE; 0: as many as is advised, one for each record and 10,000 for each connection). Records are there for whichever connection puts
+ * rows; beside those asked for there are 32 for each connection, since it may keep so many to itself. All memory of the engine is taken here: 344 bytes
+ * for each record and for 4,112 more, 288 for each spare place, and as much again while it opens. Nothing is written where it does not answer OK.
+ * NO_MEMORY, RANGE. */
 int32_t cicada_open(uint32_t rows, uint32_t spare, cicada_connection *connections, size_t count);
 
 /* Ends what is open, without a trace of a transaction, and the connection; gives back its memory, and with the last one that of the engine. OK also
@@ -103,7 +104,7 @@ int32_t cicada_begin(cicada_connection *connection, uint64_t reading);
  * next try, and is in the way at `record`. `record` may be null. CONFLICT, PLACES_OUT. */
 int32_t cicada_commit(cicada_connection *connection, uint64_t *stamp, uint32_t *record);
 
-/* Ends the transaction without a trace. */
+/* Ends the transaction without a trace. What records it has too many of go to other connections, as behind commit and collect. */
 int32_t cicada_abort(cicada_connection *connection);
 
 /* The last CONFLICT of this connection: the stamp to be heard, and the record. `record` may be null. ABSENT: there was none. */
@@ -183,7 +184,7 @@ int32_t cicada_rest(cicada_connection *connection, uint64_t reading, uint64_t *s
 typedef struct cicada_counts {
     uint64_t commits;   /* transactions of this connection that committed */
     uint64_t refusals;  /* and that were refused */
-    uint64_t records;   /* records that it has left for new rows, without those of other connections; a row that it removes gives some back */
+    uint64_t records;   /* records that it has at hand for new rows: it takes more where it has fewer than 12, and keeps up to 32 between transactions */
     uint64_t queued;    /* versions that it has committed, and below which collect has not come yet: they hold places */
 } cicada_counts;
 int32_t cicada_count(cicada_connection *connection, cicada_counts *counts);

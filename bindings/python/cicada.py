@@ -47,7 +47,7 @@ class Counts(NamedTuple):
     refusals: int
     """Tries that were refused."""
     records: int
-    """Records that the seat has left for new rows, without those of other seats."""
+    """Records that the seat has at hand for new rows: it takes more where it has fewer than 12, and keeps up to 32 between transactions."""
     queued: int
     """Versions that it has committed, and below which `collect` has not come yet: they hold places."""
 
@@ -76,7 +76,7 @@ class PlacesOutError(CicadaError):
 
 
 class RecordsOutError(CicadaError):
-    """No record is left for a row."""
+    """No record is left for a row, at any seat."""
 
     status = 4
 
@@ -533,8 +533,8 @@ class Seat:
 
 
 class Engine:
-    """An engine of eight empty tables: `seats` (1 to 64), records for `rows` (0 to 195,888; two a row, where rows come and go up to four, six with an
-    index), and `spare` places for versions (up to 262,144; 0: as many as is advised). The seats of an engine that is let go are closed."""
+    """An engine of eight empty tables: `seats` (1 to 64), records for `rows` (0 to 195,888 less 32 for each seat; two a row, where rows come and go up to
+    four, six with an index), and `spare` places for versions (up to 262,144; 0: as many as is advised). The seats of an engine that is let go are closed."""
 
     def __init__(self, seats: int = 1, rows: int = 10_000, spare: int = 0) -> None:
         self.seats: list[Seat] = []

@@ -7,7 +7,7 @@ use std::{cell::UnsafeCell, fmt, mem::MaybeUninit, ptr::null_mut, sync::Arc};
 pub struct Sizes {
     /// Seats, 1 to 64: so many threads work at once.
     pub seats: usize,
-    /// Records for rows, 0 to 195,888: two a row; where rows come and go up to four, six with an index.
+    /// Records for rows, 0 to 195,888 less 32 for each seat: two a row; where rows come and go up to four, six with an index.
     pub rows: u32,
     /// Spare places for versions, 1 to 262,144; 0 stands for as many as is advised.
     pub spare: u32,

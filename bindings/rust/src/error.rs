@@ -16,7 +16,7 @@ pub enum Error {
     /// No place for versions is left. `transact` begins again here too. Where it stays so, open with more spare places, or have seats that rest
     /// [`rest`](crate::Seat::rest).
     PlacesOut,
-    /// No record is left for a row.
+    /// No record is left for a row, at any seat.
     RecordsOut,
     /// The allocator had no room.
     NoMemory,

@@ -110,7 +110,7 @@ pub struct Counts {
     pub commits: u64,
     /// Tries that were refused.
     pub refusals: u64,
-    /// Records that the seat has left for new rows, without those of other seats.
+    /// Records that the seat has at hand for new rows: it takes more where it has fewer than 12, and keeps up to 32 between transactions.
     pub records: u64,
     /// Versions that it has committed, and below which `collect` has not come yet: they hold places.
     pub queued: u64,

@@ -74,7 +74,7 @@ pub struct CicadaCounts {
     pub commits: u64,
     /// Transactions of the connection that were refused.
     pub refusals: u64,
-    /// Numbers of records that the connection has left for new rows.
+    /// Numbers of records that the connection has at hand for new rows.
     pub records: u64,
     /// Versions that it has committed, and below which nothing was taken back yet.
     pub queued: u64,

@@ -76,13 +76,14 @@ fn stamps_that_are_heard(rt: HostRuntime) {
     walk(&rt, rt.alloc(), &mut connections, &steps);
 }
 
-// Seats from 1 to 64, rows up to 195,888, places up to 262,144.
+// Seats from 1 to 64, rows up to 195,888 less 32 for each seat, places up to 262,144.
 #[test]
 fn sizes_of_an_engine(rt: HostRuntime) {
-    let out: [(u32, u32, u32); 6] = [
+    let out: [(u32, u32, u32); 7] = [
         (0, 1, 1),
         (65, 1, 1),
-        (1, 195_889, 1),
+        (1, 195_857, 1),
+        (64, 193_841, 1),
         (1, u32::MAX, 0),
         (1, 1, 262_145),
         (u32::MAX, 1, 1),
@@ -91,7 +92,8 @@ fn sizes_of_an_engine(rt: HostRuntime) {
         let fault = open(rt.alloc(), seats, rows, spare).err();
         assert_eq!(rt; fault, Some(CallFault::Range), "{seats} {rows} {spare}");
     }
-    opened(&rt, rt.alloc(), 64, 195_888, 262_144);
+    opened(&rt, rt.alloc(), 64, 193_840, 262_144);
+    opened(&rt, rt.alloc(), 1, 195_856, 1);
     opened(&rt, rt.alloc(), 64, 0, 0);
     opened(&rt, rt.alloc(), 1, 0, 1);
 }

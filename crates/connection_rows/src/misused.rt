@@ -5,7 +5,7 @@ use crate::acts::Act::{
     Put, Refusals, Remove, Tick,
 };
 use crate::told::Told::{self, Done, Fault, Number};
-use crate::walk::{Step, opened, walk};
+use crate::walk::{Step, fill, opened, walk};
 use Opened::{Closed, Nothing, Spoiled, Transaction};
 use connections::{CallFault, Connection, Opened};
 use std::alloc::Global;
@@ -74,10 +74,15 @@ fn a_transaction_is_open(rt: HostRuntime) {
 #[test]
 fn a_fault_has_ended_a_transaction(rt: HostRuntime) {
     let mut connections = opened(&rt, rt.alloc(), 1, 0, 4);
-    let steps: [Step; 2] = [
-        (0, Begin(10), Done, Transaction),
-        (0, Put(0, 1, (70, 0)), Fault(CallFault::RecordsOut), Spoiled),
-    ];
+    let begins: [Step; 1] = [(0, Begin(10), Done, Transaction)];
+    walk(&rt, rt.alloc(), &mut connections, &begins);
+    fill(&rt, rt.alloc(), &mut connections, 27);
+    let steps: [Step; 1] = [(
+        0,
+        Put(0, 28, (70, 0)),
+        Fault(CallFault::RecordsOut),
+        Spoiled,
+    )];
     walk(&rt, rt.alloc(), &mut connections, &steps);
     are_misused(&rt, rt.alloc(), &mut connections, &AT_ROWS, Spoiled);
     are_misused(&rt, rt.alloc(), &mut connections, &BEGINS, Spoiled);

@@ -37,6 +37,14 @@ fn step<R: Abort>(rt: &R, alloc: Global, connection: &mut Connection, step: &Ste
     assert_eq!(rt; connection.opened(), open, "behind step {number}");
 }
 
+/// Puts so many rows of the first table, from key 1 on, in the transaction that is open at the first connection: so many find room.
+pub fn fill<R: Abort>(rt: &R, alloc: Global, connections: &mut [Connection], rows: u64) {
+    for key in 0..rows {
+        let put = Act::Put(0, key + 1, (70, 0));
+        walk(rt, alloc, connections, &[(0, put, Told::Done, Opened::Transaction)]);
+    }
+}
+
 /// Makes each step.
 pub fn walk<R: Abort>(rt: &R, alloc: Global, connections: &mut [Connection], steps: &[Step]) {
     for (number, it) in steps.iter().enumerate() {

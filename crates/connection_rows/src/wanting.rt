@@ -3,18 +3,25 @@
 use crate::acts::Act::{Abort, Begin, Collect, Commit, Commits, Get, Hear, Put, Refusals, Tick};
 use crate::told::Told::{Done, Fault, Number, Row};
 use crate::told::{collected, has};
-use crate::walk::{Step, opened, walk};
+use crate::walk::{Step, fill, opened, walk};
 use Opened::{Nothing, Spoiled, Transaction};
 use connections::{CallFault, Opened};
 
+// A connection that is alone has 32 records more than were asked for, and of these 33 each row takes one; five are for the leaves of the tree.
 // A transaction that a fault has ended takes `abort` alone; a new one sees nothing of it.
 #[test]
 fn no_record_is_left(rt: HostRuntime) {
     let mut connections = opened(&rt, rt.alloc(), 1, 1, 4);
-    let steps: [Step; 10] = [
-        (0, Begin(10), Done, Transaction),
-        (0, Put(0, 1, (70, 0)), Done, Transaction),
-        (0, Put(0, 2, (71, 0)), Fault(CallFault::RecordsOut), Spoiled),
+    let begins: [Step; 1] = [(0, Begin(10), Done, Transaction)];
+    walk(&rt, rt.alloc(), &mut connections, &begins);
+    fill(&rt, rt.alloc(), &mut connections, 28);
+    let steps: [Step; 8] = [
+        (
+            0,
+            Put(0, 29, (71, 0)),
+            Fault(CallFault::RecordsOut),
+            Spoiled,
+        ),
         (0, Get(0, 1), Fault(CallFault::Misused), Spoiled),
         (0, Commit, Fault(CallFault::Misused), Spoiled),
         (0, Abort, Done, Nothing),

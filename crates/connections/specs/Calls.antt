@@ -1,11 +1,12 @@
 -- Which calls fit what is open, and what each call of a connection promises: when it is refused, and that nothing has changed then.
 use Rattle.std.specs.Prelude.{◌≡◌, ◌↔◌, ◌⊎◌, Bool, true, false, Some, Result, Ok, Err, OnErr, IfOk}
+use Rattle.number_queue.specs.Passes.{NumberPassView}
 use Rattle.txn_engine.specs.Pass.{PassView}
 use Rattle.connections.specs.declared.fault.CallFault.{CallFault}
 use Rattle.connections.specs.declared.fault.CallFault.TheVariants.{Conflict, PlacesOut, RecordsOut, NoMemory, ClockOut, Range, Misused}
 use Rattle.connections.specs.declared.opened.Opened.{Opened}
 use Rattle.connections.specs.declared.opened.Opened.TheVariants.{Nothing, Transaction, Spoiled, Snapshot, Closed}
-use Rattle.connections.specs.Connection.{ConnectionView, with_pass}
+use Rattle.connections.specs.Connection.{ConnectionView, with_pass, with_seat}
 
 -- whether nothing is open, and whether the seat is still there
 abbrev pub is_at_rest : Opened → Bool
@@ -70,14 +71,22 @@ pub record Goes (Does : PassView → PassView → Type 0) (opened : Opened) (bef
   pub is : after' ≡ with_pass before opened to
   pub does : Does from to
 
+-- the same of the pass and of the numbers that are handed round
+pub record Hands (Does : (p q : PassView) → (v w : NumberPassView) → Type 0) (opened : Opened) (before after' : ConnectionView) : Type 0 where
+  pub from : PassView
+  pub to : PassView
+  pub was : before.pass ≡ Some from
+  pub is : after' ≡ with_seat before opened to after'.numbers
+  pub does : Does from to before.numbers after'.numbers
+
 -- A call that fits where this is true of what is open, and whose numbers are in range where this holds. It answers `Misused` exactly where it
--- does not fit, and `Range` exactly where it fits and a number is out of range; all is as before then. Else it goes on at the pass.
-pub record Calls {T : Type 0} (fits : Bool) (InRange : Type 0) (Does : PassView → PassView → Type 0) (opened : Opened) (before after' : ConnectionView) (answer : Result T CallFault) : Type 0
+-- does not fit, and `Range` exactly where it fits and a number is out of range; all is as before then. Else this is what it does.
+pub record Calls {T : Type 0} (fits : Bool) (InRange Does : Type 0) (before after' : ConnectionView) (answer : Result T CallFault) : Type 0
   where
     pub misused : (answer ≡ Err Misused) ↔ (fits ≡ false)
     pub range : (answer ≡ Err Range) ↔ ((fits ≡ true) × (InRange → ⊥))
     pub refused : (fits ≡ false) ⊎ (InRange → ⊥) → after' ≡ before
-    pub goes : fits ≡ true → InRange → Goes Does opened before after'
+    pub goes : fits ≡ true → InRange → Does
 
 -- one of these, by the answer
 abbrev pub by_answer : {T : Type 0} → Result T CallFault → Opened → Opened → Opened

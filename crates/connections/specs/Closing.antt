@@ -6,6 +6,7 @@ use Rattle.txn_engine.specs.Snapshot.{Finishes}
 use Rattle.connections.specs.declared.opened.Opened.{Opened}
 use Rattle.connections.specs.declared.opened.Opened.TheVariants.{Nothing, Transaction, Spoiled, Snapshot, Closed}
 use Rattle.connections.specs.Connection.{ConnectionView, StandsForRows, at_end}
+use Rattle.connections.specs.Handing.{GivesAll}
 use Rattle.connections.specs.Transactions.{AbortsTxn}
 
 -- what is open ends: a transaction without an entry, a snapshot with its own
@@ -16,9 +17,10 @@ EndsOpened Spoiled p q = q ≡ p
 EndsOpened Snapshot p q = (stamp : ℕ) × Finishes StandsForRows p q stamp
 EndsOpened Closed p q = ⊥
 
--- then the seat retires
+-- then its numbers are given, and the seat retires
 abbrev pub Retires : ConnectionView → ConnectionView → PassView → Type 0
-Retires before after' p = (last : PassView) × EndsOpened before.opened p last × (after' ≡ at_end before.engine (retired last))
+Retires before after' p =
+    (ended last : PassView) × EndsOpened before.opened p ended × GivesAll ended last before.numbers after'.numbers × (after' ≡ at_end before.engine after'.numbers (retired last))
 
 -- one that is closed stays as it is
 abbrev pub Closes : ConnectionView → ConnectionView → Type 0

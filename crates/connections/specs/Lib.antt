@@ -1,8 +1,9 @@
 pub mod Connection
+pub mod Handing
 pub mod Calls
-pub mod Opening
 pub mod Transactions
 pub mod Resting
 pub mod Rows
-pub mod EachCall
 pub mod Closing
+pub mod Opening
+pub mod EachCall

@@ -6,6 +6,7 @@ ghost use Rattle.connections.specs.Connection.{IsAt};
 ghost use Rattle.txn_engine.specs.Pass.{IsIdleOf};
 
 use crate::connection::Connection;
+use crate::handing::give_all;
 use crate::opened::Opened;
 use crate::snapshots::finish_at;
 use crate::transactions::abort_at;
@@ -13,7 +14,8 @@ use stored_tables::RowsLawful;
 use txn_engine::{Engine, Pass};
 
 impl Connection {
-    /// Ends whatever is open, without a trace of a transaction, and the seat: the others of the engine do not wait for it any more. Each
+    /// Ends whatever is open, without a trace of a transaction, and the seat: the others of the engine do not wait for it any more, and have its
+    /// numbers of records. Each
     /// later call answers `Misused`; to close it again changes nothing.
     pub fn close(&mut self)
         ensures { Closes self.old self.new }
@@ -22,6 +24,7 @@ impl Connection {
             return;
         };
         end_at(&mut pass, &self.engine, self.opened);
+        give_all(&mut pass, &mut self.numbers);
         self.retired = Some(pass.retire(&self.engine));
         self.opened = Opened::Closed;
     }

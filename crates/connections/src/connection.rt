@@ -6,6 +6,7 @@ ghost use Rattle.connections.specs.Connection.{IsConnection};
 
 use crate::fault::CallFault;
 use crate::opened::Opened;
+use number_queue::NumberPass;
 use std::marker::Model;
 use std::sync::Arc;
 use stored_tables::RowsLawful;
@@ -24,6 +25,8 @@ pub struct Connection {
     /// What it leaves, from then on.
     pub(crate) retired: Option<Retired<RowsLawful>>,
     pub(crate) opened: Opened,
+    /// What it hands record numbers round with.
+    pub(crate) numbers: NumberPass,
 }
 
 impl Model for Connection {
@@ -32,9 +35,9 @@ impl Model for Connection {
 
     ghost Value = { ConnectionView };
 
-    ghost view = { λ c. record { engine = arc_value c.engine; opened = c.opened; pass = c.pass; retired = c.retired } };
+    ghost view = { λ c. record { engine = arc_value c.engine; numbers = c.numbers; opened = c.opened; pass = c.pass; retired = c.retired } };
 
-    ghost invariant = { λ c. IsConnection (record { engine = arc_value c.engine; opened = c.opened; pass = c.pass; retired = c.retired }) };
+    ghost invariant = { λ c. IsConnection (record { engine = arc_value c.engine; numbers = c.numbers; opened = c.opened; pass = c.pass; retired = c.retired }) };
 }
 
 impl Connection {
@@ -66,7 +69,8 @@ impl Connection {
         }
     }
 
-    /// How many numbers of records it has left for new rows. Those of other connections are not among them.
+    /// How many numbers of records it has for new rows. Those of other connections, and those that lie between them for whoever needs some, are
+    /// not among them.
     pub fn spare_records(&self) -> Result<u32, CallFault>
         ensures { Tells (is_there self.now.opened) (λ p. length p.spare) self.now result }
     {

@@ -2,7 +2,9 @@
 
 ghost use Rattle.std.specs.Prelude.{◌≡◌, ◌⊎◌, ◌<◌, OnOk, OnErr, IfErr};
 ghost use Rattle.connections.specs.Calls.{IsOfCall};
-ghost use Rattle.connections.specs.Connection.{HoldsTables, IsOpenOf};
+ghost use Rattle.connections.specs.Connection.{AreNumbersOf, HoldsTables, IsOpenOf};
+ghost use Rattle.connections.specs.Handing.{TakesFirst};
+ghost use Rattle.number_queue.specs.Passes.{AreSameLimits};
 ghost use Rattle.connections.specs.Rows.{DeclaresAt, GoesOn, InTxn, IsDoomed, IsOvertaken, LooksAt, PutsAt, RemovesAt};
 ghost use Rattle.record_store.specs.Walks.{IfTorn};
 ghost use Rattle.seat_post.specs.declared.phase.Phase.TheVariants.{Open};
@@ -13,6 +15,8 @@ ghost use Rattle.replay_model.specs.Input.{IsColumn};
 ghost use Rattle.txn_engine.specs.Pass.{IsIdleOf, engine_of};
 
 use crate::fault::CallFault;
+use crate::handing::take_in;
+use number_queue::NumberPass;
 use record_store::{RecordStore, Walk};
 use replay_model::{Columns, Pairs};
 use std::alloc::Global;
@@ -43,8 +47,31 @@ pub(crate) fn get_in_txn(
     go_on(pass, engine, told)
 }
 
+// Takes numbers of records where there are few, and sets the row of a table at a key.
+pub(crate) fn take_and_put(
+    pass: &mut Pass<RowsLawful>,
+    engine: &Engine<RowsLawful>,
+    numbers: &mut NumberPass,
+    table: u32,
+    key: u64,
+    row: &Columns,
+) -> Result<(), CallFault>
+    requires pass { IsOpenOf engine.now pass.old }
+    requires tables { HoldsTables engine.now }
+    requires numbers { AreNumbersOf engine.now numbers.old }
+    requires table { table < 8 }
+    ensures did { TakesFirst (InTxn (PutsAt table key row.now) result) pass.old pass.new numbers.old numbers.new }
+    ensures open_there { OnOk result (IsOpenOf engine.now pass.new) }
+    ensures idle { OnErr result (IsIdleOf engine.now pass.new) }
+    ensures fault { IfErr result IsOfCall }
+    ensures limits { AreSameLimits numbers.old numbers.new }
+{
+    take_in(pass, engine, numbers);
+    put_in_txn(pass, engine, table, key, row)
+}
+
 // Sets the row of a table at a key.
-pub(crate) fn put_in_txn(
+fn put_in_txn(
     pass: &mut Pass<RowsLawful>,
     engine: &Engine<RowsLawful>,
     table: u32,

@@ -5,6 +5,7 @@
 mod closing;
 mod connection;
 mod fault;
+mod handing;
 mod in_snapshot;
 mod in_txn;
 mod opened;

@@ -2,13 +2,17 @@
 
 ghost use Rattle.std.specs.Prelude.{Ok};
 ghost use Rattle.connections.specs.EachCall.{Collect, Hear, Tick};
-ghost use Rattle.connections.specs.Resting.{Hears, Ticks};
+ghost use Rattle.connections.specs.Handing.{ThenGives};
+ghost use Rattle.number_queue.specs.Passes.{AreSameLimits};
+ghost use Rattle.connections.specs.Resting.{Collects, Hears, Ticks};
 ghost use Rattle.txn_engine.specs.Collecting.{CollectsPass};
 ghost use Rattle.txn_engine.specs.Pass.{IsIdleOf};
 
 use crate::connection::Connection;
 use crate::fault::CallFault;
+use crate::handing::{KEPT, give};
 use crate::opened::Opened;
+use number_queue::NumberPass;
 use stamp_base::{Stamp, is_stamp};
 use stored_tables::RowsLawful;
 use txn_engine::{Collected, Engine, Pass, Seat};
@@ -24,7 +28,7 @@ impl Connection {
         let Some(pass) = &mut self.pass else {
             unreachable!();
         };
-        Ok(collect_at(pass, &self.engine))
+        Ok(collect_and_give(pass, &self.engine, &mut self.numbers))
     }
 
     /// Hears a stamp, as a number: each later stamp of this connection is above it. `Range`: the number is that of no stamp.
@@ -57,6 +61,22 @@ impl Connection {
         };
         tick_at(pass, &self.engine, reading)
     }
+}
+
+// Collects at a pass, and gives the numbers that it has too many of.
+fn collect_and_give(
+    pass: &mut Pass<RowsLawful>,
+    engine: &Engine<RowsLawful>,
+    numbers: &mut NumberPass,
+) -> Collected
+    requires pass { IsIdleOf engine.now pass.old }
+    ensures collects { ThenGives (Collects (Ok result)) pass.old pass.new numbers.old numbers.new }
+    ensures idle { IsIdleOf engine.now pass.new }
+    ensures limits { AreSameLimits numbers.old numbers.new }
+{
+    let collected = collect_at(pass, engine);
+    give(pass, numbers, KEPT);
+    collected
 }
 
 // Collects at a pass.

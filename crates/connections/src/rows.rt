@@ -6,7 +6,8 @@ use crate::connection::Connection;
 use crate::fault::CallFault;
 use crate::in_snapshot::{find_in_snapshot, get_in_snapshot, list_in_snapshot};
 use crate::in_txn::{
-    declare_in_txn, find_in_txn, get_in_txn, list_in_txn, put_in_txn, remove_in_txn,
+    declare_in_txn, find_in_txn, get_in_txn, list_in_txn, remove_in_txn,
+    take_and_put,
 };
 use crate::opened::Opened;
 use replay_model::{Columns, Pairs};
@@ -55,7 +56,8 @@ impl Connection {
         }
     }
 
-    /// Sets the row of a table at a key, whether there is one or not, in a transaction.
+    /// Sets the row of a table at a key, whether there is one or not, in a transaction. Where it has few numbers of records left it takes
+    /// some first that other connections have given. `RecordsOut`: neither it nor they have one.
     pub fn put(&mut self, table: u32, key: u64, row: &Columns) -> Result<(), CallFault>
         ensures { Put table key row.now self.old self.new result }
     {
@@ -68,7 +70,7 @@ impl Connection {
         let Some(pass) = &mut self.pass else {
             unreachable!();
         };
-        match put_in_txn(pass, &self.engine, table, key, row) {
+        match take_and_put(pass, &self.engine, &mut self.numbers, table, key, row) {
             Ok(()) => Ok(()),
             Err(fault) => {
                 self.opened = Opened::Spoiled;

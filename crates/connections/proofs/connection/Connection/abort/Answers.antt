@@ -1,15 +1,21 @@
-use Rattle.std.proofs.Common.{sym, ap, subst}
+use Rattle.std.proofs.Common.{sym, ap, subst, refl}
+use Rattle.number_queue.specs.Passes.{NumberPassView}
+use Rattle.txn_engine.specs.Pass.{PassView}
 use Rattle.connections.specs.Calls.{has_transaction}
+use Rattle.connections.specs.Handing.{ThenGives}
 use Rattle.connections.specs.Transactions.{GivesUp}
 use Rattle.connections.specs.declared.opened.Opened.{Opened}
 use Rattle.connections.specs.declared.opened.Opened.TheVariants as opened
-use Rattle.connections.proofs.Seats.{gives_up_spoiled}
-use Rattle.connections.proofs.Testing.{calls_at}
+use Rattle.connections.proofs.Testing.{hands_at}
 use Rattle.connections.proofs.connection.Connection.abort.Goals as goal
 
-pub returns-in-Some : goal.returns-in-Some
-returns-in-Some c = calls_at has_transaction (Unit {0}) GivesUp c.self.inside.opened opened.Nothing _ _ _ c.in-Some.pass c.abort_at.new.pass _ _ c.self.view_is c.in-Some.is (ap has_transaction c.in-Transaction.is) tt tt
-    (subst (λ (o : Opened). GivesUp o c.in-Some.pass c.abort_at.new.pass) (sym c.in-Transaction.is) c.abort_at.ensures.aborts)
+gives_up : Opened → (p q : PassView) → (v w : NumberPassView) → Type 0
+gives_up o = ThenGives (GivesUp o)
 
-pub returns-in-Spoiled : goal.returns-in-Spoiled
-returns-in-Spoiled c = gives_up_spoiled c.self.inside.opened _ _ c.self.inside.pass _ c.self.view_is c.in-Spoiled.is c.self.invariant
+pub returns-in-Some : goal.returns-in-Some
+returns-in-Some c = hands_at has_transaction (Unit {0}) gives_up c.self.inside.opened opened.Nothing _ _ _ _ _ c.in-Some.pass c.give.new.pass _ _ c.self.view_is c.in-Some.is (ap has_transaction c.in-Transaction.is) tt tt
+    (subst (λ (o : Opened). gives_up o c.in-Some.pass c.give.new.pass _ _) (sym c.in-Transaction.is) (record { ran = c.abort_at.new.pass; does = c.abort_at.ensures.aborts; gives = c.give.ensures.gives }))
+
+pub returns-in-Some-2 : goal.returns-in-Some-2
+returns-in-Some-2 c = hands_at has_transaction (Unit {0}) gives_up c.self.inside.opened opened.Nothing _ _ _ _ _ c.in-Some-2.pass c.give-2.new.pass _ _ c.self.view_is c.in-Some-2.is (ap has_transaction c.in-Spoiled.is) tt tt
+    (subst (λ (o : Opened). gives_up o c.in-Some-2.pass c.give-2.new.pass _ _) (sym c.in-Spoiled.is) (record { ran = c.in-Some-2.pass; does = refl; gives = c.give-2.ensures.gives }))

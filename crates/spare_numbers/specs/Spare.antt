@@ -58,7 +58,6 @@ pub record PartsWith (before after' : NumbersView) (answer : Option ℕ) : Type 
   pub last : before.spare ≡ after'.spare ++ option_to_list answer
   pub none : IfNone answer (before.spare ≡ [])
   pub only : after' ≡ record before { spare = after'.spare }
-  pub whole : before.given ++ before.spare ≡ (after'.given ++ after'.spare) ++ option_to_list answer
   pub from : IfSome answer (λ rid. before.fixed ≤ rid)
   pub within : IfSome answer (λ rid. rid < before.records)
   pub gone : IfSome answer (λ rid. is_on (after'.given ++ after'.spare) rid ≡ false)

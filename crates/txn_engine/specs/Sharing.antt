@@ -1,5 +1,5 @@
 -- What becomes of the seat that is alone where it is shared: one pass for each seat.
-use Rattle.std.specs.Prelude.{◌≡◌, ◌⊎◌, ℕ, None, ◌+◌, ◌-◌, ◌*◌, ◌/◌, nat_lt, false, List, [], ◌∷◌, ◌++◌, map, if◌then◌else◌, All}
+use Rattle.std.specs.Prelude.{◌≡◌, ◌⊎◌, ℕ, None, ◌+◌, ◌-◌, ◌*◌, ◌/◌, ◌≤◌, nat_lt, false, List, [], ◌∷◌, ◌++◌, map, if◌then◌else◌, All}
 use Rattle.std.specs.List.{range_with_len}
 use Rattle.word_layout.specs.Name.{published_write, min_write}
 use Rattle.word_layout.specs.Size.{Size}
@@ -7,7 +7,7 @@ use Rattle.core_rule.specs.View.{Load, sharing}
 use Rattle.version_pool.specs.Takes.{IsLostOn}
 use Rattle.txn_engine.specs.Pass.{PassView, bare, observing}
 use Rattle.seat_post.specs.Observing.{RaisesTo, with_loss}
-use Rattle.seat_post.specs.Seats.{Others, Bounds, Placed, nothing_observed}
+use Rattle.seat_post.specs.Seats.{Others, Bounds, Observed, Placed, nothing_observed}
 use Rattle.seat_post.specs.Sharing.{no_bounds, announced_at, made_next}
 use Rattle.spare_numbers.specs.Spare.{every}
 
@@ -64,16 +64,21 @@ shares p = shares_of (announced p)
 abbrev pub before_share : Size → (seat : ℕ) → ℕ
 before_share z seat = z.records + seat * (z.spare / z.seats) - 1
 
+-- where three seats or more share the places, the one before its share was met not free, by an exchange that was lost
+pub record MeetsTaken (p : PassView) (before after' : Observed) : Type 0 where
+  pub three : 3 ≤ p.shared.size.seats
+  pub exchange : Load
+  pub not_free : IsLostOn (before_share p.shared.size p.seat) exchange
+  pub lost : after' ≡ with_loss before exchange
+
 -- it looks for places from its share on: the place before was taken and given back, or was left, and all is as before; or it was met not
--- free, by an exchange that was lost
+-- free
 abbrev pub LooksInShare : PassView → PassView → Type 0
-LooksInShare p q = (q ≡ p) ⊎ ((exchange : Load) × IsLostOn (before_share p.shared.size p.seat) exchange × (q ≡ observing p (with_loss p.observed exchange)))
+LooksInShare p q = (q ≡ p) ⊎ (MeetsTaken p p.observed q.observed × (q ≡ observing p q.observed))
 
 -- its steps came upon nothing, or upon the place before its share, which was not free
 abbrev pub SawAtMost : PassView → Type 0
-SawAtMost p =
-    (p.observed ≡ nothing_observed)
-    ⊎ ((exchange : Load) × IsLostOn (before_share p.shared.size p.seat) exchange × (p.observed ≡ with_loss nothing_observed exchange))
+SawAtMost p = (p.observed ≡ nothing_observed) ⊎ MeetsTaken p nothing_observed p.observed
 
 -- the steps of seat 0 have raised `min_wts` by the published write words, the own one among them as it was published before, and those of the
 -- others came upon no more than the place before their share

@@ -13,6 +13,7 @@ use Rattle.engine_answers.specs.declared.committed.Committed.{Committed}
 use Rattle.txn_engine.specs.Commits as calls
 use Rattle.txn_engine.specs.Lists.{IsFull}
 use Rattle.txn_engine.specs.Pass.{PassView, frame, IsAlone, begun, refused, with_bounds, entry_of, engine_of, desk_of, observing, placing}
+use Rattle.txn_engine.proofs.Committing.{done_of, refused_of}
 use Rattle.lane_runner.specs.declared.done.BlockDone.{BlockDone}
 use Rattle.lane_runner.specs.Rows.{stands}
 use Rattle.lane_runner.specs.Blocks.{IsRefused, IsTried}
@@ -49,22 +50,24 @@ module _ (p q r r' : PassView) (same : r' ≡ r) (clock : ℕ) (later : p.clock 
       → FitsRecords → FitsMore → p.shared.size.records ≤ record_limit → HasRun p.shared.size.records block.commands outcome q.reads q.writes → WeighsAtMost p.shared.size.records block.commands (entry_of q) → block.snap ≡ false → IsTried block p r' answer
   tried_ended block outcome answer ends fits more few run weighs kind = subst (λ (x : PassView). IsTried block p x answer) (sym same) (subst (λ (a : Option BlockDone). IsTried block p r a) (sym ends.answers) (by_told ends.told ends.commits)) where
     by_told : (told : Result Committed CommitFault) → calls.Commits (StandsForSome stands) q r told → IsTried block p r (done_at block outcome (first_record q.reads) told)
-    by_told (Err fault) commits = refused_at commits.err
-    by_told (Ok told) commits = record {
-      ran = record {
-        commits = commits_at p q r r clock r.bounds block.commands outcome _ later above kept commits.ok refl fits more few run (sym commits.stamp) refl weighs;
-        place = record { snap = sym kind; lane = refl; number = refl };
-      };
-      once = counted_once p q r r clock r.bounds kept commits.ok refl;
-      first = subst (λ (n : ℕ). IfSome (first_record q.reads) (λ rid. rid < n)) (ap (λ (f : PassView). f.shared.size.records) kept)
-          (first_below _ q.shared.size.records q.log (entry_of q) (first_record q.reads) commits.stood refl);
-    }
+    by_told (Err fault) commits = refused_at (refused_of commits.ends)
+    by_told (Ok told) commits =
+        let is = done_of commits.ends in
+        record {
+          ran = record {
+            commits = commits_at p q r r clock r.bounds block.commands outcome _ later above kept is.after refl fits more few run (sym is.stamp) refl weighs;
+            place = record { snap = sym kind; lane = refl; number = refl };
+          };
+          once = counted_once p q r r clock r.bounds kept is.after refl;
+          first = subst (λ (n : ℕ). IfSome (first_record q.reads) (λ rid. rid < n)) (ap (λ (f : PassView). f.shared.size.records) kept)
+              (first_below _ q.shared.size.records q.log (entry_of q) (first_record q.reads) is.stood refl);
+        }
 
   pub clock_ended : (block : Block) (outcome : Outcome) (answer : Option BlockDone) → EndsBlock block outcome q r answer → (most : ℕ) → clock ≤ most → r'.clock ≤ most
   clock_ended block outcome answer ends most within = omega (arith, is, within) where
     by_told : (told : Result Committed CommitFault) → calls.Commits (StandsForSome stands) q r told → r.clock ≡ q.clock
-    by_told (Ok told) commits = ap (λ (x : PassView). x.clock) commits.ok
-    by_told (Err fault) commits = ap (λ (x : PassView). x.clock) commits.err
+    by_told (Ok told) commits = ap (λ (x : PassView). x.clock) (done_of commits.ends).after
+    by_told (Err fault) commits = ap (λ (x : PassView). x.clock) (refused_of commits.ends)
 
     is : r'.clock ≡ clock
     is = ap (λ (x : PassView). x.clock) same ∙ by_told ends.told ends.commits ∙ ap (λ (f : PassView). f.clock) kept
@@ -74,7 +77,7 @@ module _ (p q r r' : PassView) (same : r' ≡ r) (clock : ℕ) (later : p.clock 
   granted_ended block outcome answer ends alone roomy = subst (λ (a : Option BlockDone). IsSome a) (sym ends.answers) (by_told ends.told ends.commits) where
     by_told : (told : Result Committed CommitFault) → calls.Commits (StandsForSome stands) q r told → IsSome (done_at block outcome (first_record q.reads) told)
     by_told (Ok told) commits = refl
-    by_told (Err fault) commits = absurd (only_full q fault _ alone commits.cause (λ is written. roomy (commits.full is alone)))
+    by_told (Err fault) commits = absurd (roomy ((only_full alone commits.ends).full alone))
 
   pub ready_ended : (block : Block) (outcome : Outcome) (answer : Option BlockDone) → EndsBlock block outcome q r answer → (b : PassView) → (IsReady p → Opened p b q) → IfSome answer (λ _. IsReady p → IsReadyOnceCollected r')
   ready_ended block outcome answer ends b opened = subst (λ (x : PassView). IfSome answer (λ _. IsReady p → IsReadyOnceCollected x)) (sym same) (subst (λ (a : Option BlockDone). IfSome a (λ _. IsReady p → IsReadyOnceCollected r)) (sym ends.answers) (by_told ends.told ends.commits)) where
@@ -82,4 +85,5 @@ module _ (p q r r' : PassView) (same : r' ≡ r) (clock : ℕ) (later : p.clock 
     by_told (Err fault) commits = tt
     by_told (Ok told) commits = λ ready.
         let o = opened ready in
-        ready_committed p b q r r r.bounds o ready.alone commits.ok (commits.absent o.absent) (commits.roomy (roomy_once q o.roomy)) refl
+        let is = done_of commits.ends in
+        ready_committed p b q r r r.bounds o ready.alone is.after (commits.absent o.absent) (is.roomy (roomy_once q o.roomy)) refl

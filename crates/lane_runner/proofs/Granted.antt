@@ -1,9 +1,10 @@
 -- A block is granted where the seat is alone and has room for it.
-use Rattle.std.proofs.Common.{◌≡◌, ℕ, ◌+◌, ◌<◌, ◌≤◌, max, Bool, true, false, List, [], ◌∷◌, ◌++◌, Option, None, Some, IsSome, append-nil, append_assoc, refl, sym, ap, subst, ◌∙◌, inl, inr, arith, All, if◌then◌else◌}
+use Rattle.std.proofs.Common.{◌≡◌, ℕ, ◌+◌, ◌<◌, ◌≤◌, max, Bool, true, false, List, [], ◌∷◌, ◌++◌, Option, None, Some, Err, IsSome, append-nil, append_assoc, refl, sym, ap, subst, ◌∙◌, inl, inr, arith, All, if◌then◌else◌}
 use Rattle.std.specs.Prelude.{IfSome, IfNone}
 use Rattle.std.proofs.lemmas.List.Elements.{All-tail}
 use Rattle.std.proofs.lemmas.List.Sums.{sum_by-cons, sum_by-append}
 use Rattle.plain_data.specs.declared.entry.Entry.{Entry}
+use Rattle.plain_data.specs.State.{State}
 use Rattle.core_rule.specs.Views.{Among}
 use Rattle.histories.specs.History.{Lawful}
 use Rattle.history_replay.specs.Results.{StandsForSome}
@@ -18,12 +19,13 @@ use Rattle.seat_post.specs.Snapshot.{entry_of_snapshot}
 use Rattle.seat_post.specs.Logs.{IsAbove}
 use Rattle.seat_post.specs.Seats.{Bounds, IsAloneAt}
 use Rattle.engine_answers.specs.declared.faults.CommitFault.{CommitFault}
-use Rattle.engine_answers.specs.declared.faults.CommitFault.TheVariants as commit
 use Rattle.txn_engine.specs.Collecting.{collected}
-use Rattle.txn_engine.specs.Faults.{IsShown, IsPending, MatchStopped}
+use Rattle.txn_engine.specs.Commits.{EndsCommit}
+use Rattle.txn_engine.specs.Faults.{IsShown, IsPending}
 use Rattle.txn_engine.specs.Leaves.{HoldsAbsent}
 use Rattle.txn_engine.specs.Lists.{IsRoomy, IsRoomyOnceCollected}
 use Rattle.txn_engine.specs.Pass.{EngineView, PassView, frame, IsIdle, IsAlone, begun, committed, with_bounds, entry_of, engine_of, desk_of, observing, removing, placing, with_met}
+use Rattle.txn_engine.specs.Staged.{HasNoPlace}
 use Rattle.lane_runner.specs.Rows.{stands}
 use Rattle.lane_runner.specs.Adds.{IsNext}
 use Rattle.lane_runner.specs.Blocks.{IsPlaceOf, Commits, IsRefused, AddsOthers}
@@ -146,9 +148,10 @@ none_shown : (p : PassView) (conflict : Conflict) → IsAlone p → IsShown p co
 none_shown p conflict alone shown = shown.1.not_alone alone
 
 -- so its commit is refused only for want of a place
-pub only_full : (p : PassView) (fault : CommitFault) (P : Type 0) → IsAlone p → MatchStopped fault (IsShown p) P → (fault ≡ commit.PlacesOut → P → ⊥) → ⊥
-only_full p (commit.Conflict conflict) P alone cause full = none_shown p conflict alone cause
-only_full p commit.PlacesOut P alone cause full = full refl cause
+pub only_full : {kept : State → Type 0} {p q : PassView} {why : CommitFault} → IsAlone p → EndsCommit kept p q (Err why) → HasNoPlace p q
+only_full {kept} {p} alone (EndsCommit.doomed conflict was) = absurd (none_shown p conflict alone was.shown)
+only_full {kept} {p} alone (EndsCommit.stopped conflict is) = absurd (none_shown p conflict alone is.meets.shown)
+only_full alone (EndsCommit.no_place has) = has
 
 pub alone_open : (p q : PassView) (clock : ℕ) → frame q ≡ frame (begun p clock) → IsAlone p → IsAlone q
 alone_open p q clock kept alone = subst (λ (f : PassView). IsAloneAt f.shared.size f.seat f.others) (sym kept) alone

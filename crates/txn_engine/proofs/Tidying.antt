@@ -1,5 +1,5 @@
 -- Which records of a pass have one version, or one at most outside their inline places, and will once what is queued is collected.
-use Rattle.std.proofs.Common.{◌≡◌, ℕ, true, false, Bool, cond, List, [], ◌∷◌, Option, None, Some, refl, sym, ap, ◌∙◌, subst, inl, inr, ◌⊎◌, arith, take_all, length}
+use Rattle.std.proofs.Common.{◌≡◌, ℕ, true, false, Bool, cond, List, [], ◌∷◌, Option, None, Some, refl, sym, ap, ◌∙◌, subst, inl, inr, ◌⊎◌, arith}
 use Rattle.std.specs.Prelude.{IsSome}
 use Rattle.std.proofs.lemmas.Bool.Decides.{eqb_tells}
 use Rattle.core_rule.specs.View.{Bound}
@@ -7,16 +7,10 @@ use Rattle.core_rule.specs.Views.{Among}
 use Rattle.core_rule.specs.Searching.{known_of}
 use Rattle.record_store.specs.Meaning.{value_at}
 use Rattle.seat_post.specs.Seats.{Bounds}
-use Rattle.seat_post.specs.Lists.{HasLinked, HasOutside, AreLinked, AreSomeLinked}
+use Rattle.seat_post.specs.Lists.{HasLinked, HasOutside, AreLinked}
 use Rattle.txn_engine.specs.Lists.{IsQueuedNewest, IsTidy, IsRoomy, IsTidyOnceCollected, IsRoomyOnceCollected}
 use Rattle.txn_engine.specs.Pass.{PassView, EngineView, first_pass, with_bounds, queued, decided, published, committed}
 use Rattle.core_rule.proofs.Among.{Among-left, Among-right}
-
--- ---- at a post
-
--- all of them are some
-pub all_linked : (writes : List (ℕ × Option (List ℕ))) (stamp : ℕ) (before after' : Bounds) → AreLinked writes stamp before after' → AreSomeLinked writes stamp before after'
-all_linked writes stamp before after' are = record { count = length writes; linked = subst (λ ws. AreLinked ws stamp before after') (sym (take_all (length writes) writes (omega arith))) are }
 
 -- ---- what is queued
 

@@ -1,5 +1,5 @@
 -- What becomes of a transaction in its stages: its versions are linked, it is decided, and they are published; or it is refused.
-use Rattle.std.specs.Prelude.{◌≡◌, ◌≢◌, ◌+◌, List, [], None, IfSome, length}
+use Rattle.std.specs.Prelude.{◌≡◌, ◌≢◌, ℕ, ◌+◌, List, [], Option, None, Some, IfSome, length}
 use Rattle.plain_data.specs.State.{State}
 use Rattle.core_rule.specs.View.{Load}
 use Rattle.validate_core.specs.Checked.{Validates}
@@ -8,12 +8,11 @@ use Rattle.validate_core.specs.OneByOne.{OneByOne}
 use Rattle.validate_core.specs.declared.conflict.Conflict.{Conflict}
 use Rattle.seat_post.specs.Ends.{Stood}
 use Rattle.seat_post.specs.Leaves.{AreLeft}
-use Rattle.seat_post.specs.Lists.{AreLinked, AreSomeLinked, bounds_before, AreBounded, count_raised}
+use Rattle.seat_post.specs.Lists.{AreLinked, bounds_before, AreBounded, count_raised}
 use Rattle.seat_post.specs.Logs.{IsAbove}
-use Rattle.seat_post.specs.Observing.{Grows}
-use Rattle.seat_post.specs.Placing.{HavePlaces, Puts, CountsPlaces}
+use Rattle.seat_post.specs.Placing.{HavePlaces, Puts, count_inline}
 use Rattle.seat_post.specs.Post.{rids_written}
-use Rattle.seat_post.specs.Seats.{Bounds}
+use Rattle.seat_post.specs.Seats.{Bounds, Placed}
 use Rattle.engine_answers.specs.declared.faults.CommitFault.{CommitFault}
 use Rattle.engine_answers.specs.declared.faults.CommitFault.TheVariants as fault
 use Rattle.engine_answers.specs.declared.committed.Committed.{Committed}
@@ -41,15 +40,35 @@ pub record MayRefuseInstall (before : PassView) (why : CommitFault) : Type 0 whe
   pub read_left : IsAlone before → AreLeft before.log before.stamp before.reads
   pub full : why ≡ fault.PlacesOut → IsAlone before → IsFull before
 
--- and what that leaves: the transaction has ended
+-- The transaction has ended as a refused one. Beside that, only what is known of lists, where versions were linked, and what its steps came upon may be
+-- other than before.
+abbrev pub EndsRefused : (before after' : PassView) → Type 0
+EndsRefused before after' = after' ≡ observing (placing (refused (with_bounds before after'.bounds)) after'.placed) after'.observed
+
+-- it had met this conflict before: nothing was linked, loaded or lost
+pub record WasDoomed (before after' : PassView) (conflict : Conflict) : Type 0 where
+  pub dead : before.dead ≡ Some conflict
+  pub shown : IsShown before conflict
+  pub after : after' ≡ refused before
+
+-- There was no place for one of its writes, after versions of those before it were linked. A seat that is alone is full then, by the bounds that it
+-- knows.
+pub record HasNoPlace (before after' : PassView) : Type 0 where
+  pub alive : before.dead ≡ None
+  pub after : EndsRefused before after'
+  pub written : before.writes ≢ []
+  pub wants : WantsPlace before after'
+  pub full : IsAlone before → IsFull before
+
+-- in which of these two ways they are not
+pub data StopsInstall (before after' : PassView) : CommitFault → Type 0 where
+  doomed : (conflict : Conflict) → WasDoomed before after' conflict → StopsInstall before after' (fault.Conflict conflict)
+  no_place : HasNoPlace before after' → StopsInstall before after' fault.PlacesOut
+
+-- they are not linked, and the transaction has ended
 pub record RefusesInstall (before after' : PassView) (why : CommitFault) : Type 0 where
-  pub may : MayRefuseInstall before why
-  pub open may use *
-  pub after : after' ≡ observing (placing (refused (with_bounds before after'.bounds)) after'.placed) after'.observed
-  pub grows : Grows before.observed after'.observed
-  pub still : IfSome before.dead (λ conflict. after' ≡ refused before)
-  pub some_linked : AreSomeLinked before.writes before.stamp before.bounds after'.bounds
-  pub places : why ≡ fault.PlacesOut → WantsPlace before after'
+  pub stops : StopsInstall before after' why
+  pub read_left : IsAlone before → AreLeft before.log before.stamp before.reads
 
 -- what was known of lists before its versions were linked
 abbrev pub bounds_first : PassView → Bounds
@@ -70,19 +89,29 @@ pub record Decides (kept : State → Type 0) (before after' : PassView) : Type 0
   pub lost : after'.observed.lost ≡ before.observed.lost
   pub stood : Stood kept before.shared.size.records before.log (entry_of before)
 
--- it is not, since a load showed a conflict with what it has read or written, and has ended
+-- loads of the call showed this conflict with what it has read or written
+pub record MeetsConflict (before after' : PassView) (conflict : Conflict) : Type 0 where
+  pub shown : IsShown before conflict
+  pub touched : IsTouched before conflict
+  pub loaded : WasLoaded before after' conflict
+
+-- it is not valid, since it met a conflict, and has ended
 pub record RefusesDecision (before after' : PassView) (conflict : Conflict) : Type 0 where
   pub after : after' ≡ observing (refused before) after'.observed
   pub halts : IsHaltedBy before conflict before.observed.loads after'.observed.loads
   pub lost : after'.observed.lost ≡ before.observed.lost
-  pub shown : IsShown before conflict
-  pub touched : IsTouched before conflict
-  pub loaded : WasLoaded before after' conflict
+  pub meets : MeetsConflict before after' conflict
+
+-- So many versions of these writes stand in the inline places of their records, and the others in usable pool places. Where a bound is known of
+-- each record that is written, the others are as many as by the new bounds may lie outside inline places, and by the earlier ones did not.
+pub record AreCounted (bounds known : Bounds) (writes : List (ℕ × Option (List ℕ))) (placed : List Placed) (told : Committed) : Type 0 where
+  pub all : told.inlined + told.pooled ≡ length writes
+  pub inlined : told.inlined ≡ count_inline placed
+  pub pooled : AreBounded bounds writes → told.pooled ≡ count_raised bounds known writes
 
 -- its versions are published, and counted by the places that they took
 pub record Publishes (before after' : PassView) (told : Committed) : Type 0 where
   pub after : after' ≡ published before
   pub stamp : told.stamp ≡ before.stamp
-  pub counts : told.inlined + told.pooled ≡ length before.writes
-  pub inlined : CountsPlaces before.shared.size before.writes before.placed told.inlined
-  pub pooled : AreBounded (bounds_first before) before.writes → told.pooled ≡ count_raised (bounds_first before) before.bounds before.writes
+  pub have : HavePlaces before.shared.size before.writes before.placed
+  pub counted : AreCounted (bounds_first before) before.bounds before.writes before.placed told

@@ -6,8 +6,12 @@ use Rattle.txn_engine.specs.Alone.{AloneView}
 use Rattle.txn_engine.specs.Commits.{Commits}
 use Rattle.txn_engine.specs.Faults.{told_by}
 use Rattle.txn_engine.specs.Pass.{PassView}
+use Rattle.txn_engine.proofs.Committing.{alone_after}
 use Rattle.txn_engine.proofs.at_alone.AloneSeatCalls.commit.Goals.{in-Ok, in-Err-PlacesOut}
 use Rattle.txn_engine.proofs.at_alone.AloneSeatCalls.commit.Goals as goal
+
+pub invariant_of-self : goal.invariant_of-self
+invariant_of-self g c = alone_after c.self.inside.earlier c.self.inside.parts c.commit.ensures.commits.ends c.self.invariant
 
 pub returns-clause-commits : goal.returns-clause-commits
 returns-clause-commits g c =

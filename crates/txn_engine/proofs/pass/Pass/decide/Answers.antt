@@ -34,7 +34,5 @@ returns-in-Err-clause-err g c =
       after = search rules;
       halts = subst (λ (r : PostView). IsHaltedBy p c.in-Err.conflict p.observed.loads r.observed.loads) same (subst (λ (p : PassView). IsHaltedBy p c.in-Err.conflict p.observed.loads after'.loads) c.self.view_is d.halts);
       lost = ap (λ (r : PostView). r.observed.lost) (sym same) ∙ d.lost ∙ ap (λ (p : PassView). p.observed.lost) c.self.view_is;
-      shown = search rules;
-      touched = search rules;
-      loaded = search rules;
+      meets = record { shown = search rules; touched = search rules; loaded = search rules };
     }

@@ -41,7 +41,12 @@ fn step<R: Abort>(rt: &R, alloc: Global, connection: &mut Connection, step: &Ste
 pub fn fill<R: Abort>(rt: &R, alloc: Global, connections: &mut [Connection], rows: u64) {
     for key in 0..rows {
         let put = Act::Put(0, key + 1, (70, 0));
-        walk(rt, alloc, connections, &[(0, put, Told::Done, Opened::Transaction)]);
+        walk(
+            rt,
+            alloc,
+            connections,
+            &[(0, put, Told::Done, Opened::Transaction)],
+        );
     }
 }
 

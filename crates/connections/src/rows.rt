@@ -6,8 +6,7 @@ use crate::connection::Connection;
 use crate::fault::CallFault;
 use crate::in_snapshot::{find_in_snapshot, get_in_snapshot, list_in_snapshot};
 use crate::in_txn::{
-    declare_in_txn, find_in_txn, get_in_txn, list_in_txn, remove_in_txn,
-    take_and_put,
+    declare_in_txn, find_in_txn, get_in_txn, list_in_txn, remove_in_txn, take_and_put,
 };
 use crate::opened::Opened;
 use replay_model::{Columns, Pairs};

@@ -1,5 +1,5 @@
 -- What is known of the records' lists of versions: after versions were linked, and where there is no place for one more.
-use Rattle.std.specs.Prelude.{◌≡◌, ℕ, suc, ◌+◌, ◌<◌, ◌≤◌, Bool, false, nat_lt, List, drop, count_by, Option, None, Some, IsSome}
+use Rattle.std.specs.Prelude.{◌≡◌, ℕ, suc, ◌+◌, ◌<◌, ◌≤◌, Bool, false, nat_lt, List, take, drop, count_by, Option, None, Some, IsSome}
 use Rattle.word_layout.specs.Size.{Size, usable_places}
 use Rattle.core_rule.specs.View.{Bound}
 use Rattle.core_rule.specs.Searching.{known_of, newest_stamp}
@@ -26,6 +26,11 @@ IsOneMore (Some b) (Some c) = (c.linked ≤ suc b.linked) × (c.outside ≤ suc 
 pub record AreLinked (writes : List (ℕ × Option (List ℕ))) (stamp : ℕ) (before after' : Bounds) : Type 0 where
   pub written : (r : ℕ) → IsSome (value_at writes r) → IsOneMore (known_of before.counts r) (known_of after'.counts r) × (newest_stamp after'.tops r ≡ Some stamp)
   pub others : (r : ℕ) → value_at writes r ≡ None → (known_of after'.counts r ≡ known_of before.counts r) × (newest_stamp after'.tops r ≡ newest_stamp before.tops r)
+
+-- versions of the first few of these writes were
+pub record AreSomeLinked (writes : List (ℕ × Option (List ℕ))) (stamp : ℕ) (before after' : Bounds) : Type 0 where
+  pub count : ℕ
+  pub linked : AreLinked (take count writes) stamp before after'
 
 -- what was known before the last so many versions were linked
 abbrev pub bounds_before : ℕ → Bounds → Bounds

@@ -13,7 +13,7 @@ use Rattle.engine_answers.specs.declared.committed.Committed.{Committed}
 use Rattle.txn_engine.specs.Commits as calls
 use Rattle.txn_engine.specs.Lists.{IsFull}
 use Rattle.txn_engine.specs.Pass.{PassView, frame, IsAlone, begun, refused, with_bounds, entry_of, engine_of, desk_of, observing, placing}
-use Rattle.txn_engine.proofs.Committing.{done_of, refused_of}
+use Rattle.txn_engine.specs.Commits.{done_of, refused_of}
 use Rattle.lane_runner.specs.declared.done.BlockDone.{BlockDone}
 use Rattle.lane_runner.specs.Rows.{stands}
 use Rattle.lane_runner.specs.Blocks.{IsRefused, IsTried}

@@ -1,5 +1,5 @@
--- What the ways in which a commit ends show, by its answer.
-use Rattle.std.proofs.Common.{◌≡◌, ◌⊎◌, ◌∙◌, ℕ, ◌*◌, ◌≤◌, Result, Ok, Err, Option, Some, None, refl, sym, ap, subst, inl, inr}
+-- What the ways in which a commit, and an install, end show of the pass.
+use Rattle.std.proofs.Common.{◌≡◌, ◌∙◌, ℕ, ◌*◌, ◌≤◌, Result, Err, Option, Some, None, refl, sym, ap, subst}
 use Rattle.std.specs.Prelude.{IfSome}
 use Rattle.plain_data.specs.State.{State}
 use Rattle.core_rule.specs.Hands.{Shared}
@@ -11,39 +11,13 @@ use Rattle.engine_answers.specs.declared.faults.CommitFault.{CommitFault}
 use Rattle.engine_answers.specs.declared.faults.CommitFault.TheVariants as fault
 use Rattle.engine_answers.specs.declared.committed.Committed.{Committed}
 use Rattle.txn_engine.specs.Alone.{PartsView, HasParts, IsUnshared, IsAloneSeat}
-use Rattle.txn_engine.specs.Faults.{IsShown}
 use Rattle.txn_engine.specs.Pass.{PassView, IsIdleOf, engine_of, desk_of, with_bounds, observing, placing, refused}
-use Rattle.txn_engine.specs.Staged.{EndsRefused, WasDoomed, HasNoPlace, StopsInstall, RefusesInstall, MayRefuseInstall}
-use Rattle.txn_engine.specs.Commits.{IsCommitted, IsStopped, EndsCommit}
-
--- one that was doomed before has ended as a refused one
-pub doomed_refused : (p q : PassView) (conflict : Conflict) → WasDoomed p q conflict → EndsRefused p q
-doomed_refused p q conflict was = subst (λ (x : PassView). x ≡ observing (placing (refused (with_bounds p x.bounds)) x.placed) x.observed) (sym was.after) refl
+use Rattle.txn_engine.specs.Staged.{EndsRefused, WasDoomed, StopsInstall, RefusesInstall, MayRefuseInstall}
+use Rattle.txn_engine.specs.Commits.{EndsCommit, doomed_refused}
 
 -- nothing is in flight then
 pub refused_idle : (p q : PassView) → EndsRefused p q → IsIdleOf (engine_of p) q
 refused_idle p q ends = (ap engine_of ends, ap desk_of ends)
-
--- ---- a commit
-
-pub done_of : {kept : State → Type 0} {p q : PassView} {told : Committed} → EndsCommit kept p q (Ok told) → IsCommitted kept p q told
-done_of (EndsCommit.done told is) = is
-
-pub no_place_of : {kept : State → Type 0} {p q : PassView} → EndsCommit kept p q (Err fault.PlacesOut) → HasNoPlace p q
-no_place_of (EndsCommit.no_place has) = has
-
-pub conflict_of : {kept : State → Type 0} {p q : PassView} {conflict : Conflict} → EndsCommit kept p q (Err (fault.Conflict conflict)) → WasDoomed p q conflict ⊎ IsStopped p q conflict
-conflict_of (EndsCommit.doomed conflict was) = inl was
-conflict_of (EndsCommit.stopped conflict is) = inr is
-
-pub shown_of : {kept : State → Type 0} {p q : PassView} {conflict : Conflict} → EndsCommit kept p q (Err (fault.Conflict conflict)) → IsShown p conflict
-shown_of (EndsCommit.doomed conflict was) = was.shown
-shown_of (EndsCommit.stopped conflict is) = is.meets.shown
-
-pub refused_of : {kept : State → Type 0} {p q : PassView} {why : CommitFault} → EndsCommit kept p q (Err why) → EndsRefused p q
-refused_of (EndsCommit.doomed conflict was) = doomed_refused _ _ conflict was
-refused_of (EndsCommit.stopped conflict is) = is.after
-refused_of (EndsCommit.no_place has) = has.after
 
 -- ---- the seat that is alone
 

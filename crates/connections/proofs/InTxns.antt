@@ -14,12 +14,16 @@ use Rattle.stored_tables.specs.Kept.{KeepsTables}
 use Rattle.stored_tables.specs.OneRow.{SetsRow, TakesRow}
 use Rattle.stored_tables.specs.Places.{with_head}
 use Rattle.stored_tables.specs.Tables.{EachTables}
+use Rattle.engine_answers.specs.declared.committed.Committed.{Committed}
+use Rattle.engine_answers.specs.declared.faults.CommitFault.{CommitFault}
 use Rattle.engine_answers.specs.declared.faults.CommitFault.TheVariants as commit
 use Rattle.engine_answers.specs.declared.faults.TxnFault.{TxnFault}
 use Rattle.validate_core.specs.declared.conflict.Conflict.{Conflict as Met}
-use Rattle.txn_engine.specs.Commits.{Commits}
+use Rattle.txn_engine.specs.Commits.{Commits, EndsCommit}
+use Rattle.txn_engine.specs.Faults.{told_by}
 use Rattle.txn_engine.specs.Pass.{EngineView, PassView, IsIdle, IsIdleOf, engine_of, entry_of, frame, meaning_of_pass, store_of}
 use Rattle.txn_engine.specs.Txn.{Undoes}
+use Rattle.txn_engine.proofs.Committing.{done_of, no_place_of, refused_of}
 use Rattle.connections.specs.declared.fault.CallFault.{CallFault}
 use Rattle.connections.specs.Connection.{IsOpenOf, LeavesTables, StandsForRows}
 use Rattle.connections.specs.Rows.{GoesOn, InTxn, IsDoomed, IsOvertaken}
@@ -120,6 +124,15 @@ module _ (p p' u : PassView) (here : p' ≡ p) (opened : p.phase ≡ Open) (rest
 
   pub undone_never : IsDoomed p → Stood StandsForRows u.shared.size.records u.log (entry_of u) → ⊥
   undone_never doomed stood = never_stood p u doomed (ap (λ (f : PassView). f.shared.size.records) rest ∙ ap (λ (x : PassView). x.shared.size.records) here) (ap (λ (m : Meaning). m.reads) undone_store) stood
+
+  -- so its commit is refused by a conflict, and leaves no entry
+  pub met_conflict : {q : PassView} (answer : Result Committed CommitFault) → IsDoomed p → EndsCommit StandsForRows u q (told_by (λ f. f) answer) → (conflict : Met) × (answer ≡ Err (commit.Conflict conflict))
+  met_conflict (Ok told) doomed ends = absurd (undone_never doomed (done_of ends).stood)
+  met_conflict (Err (commit.Conflict conflict)) doomed ends = (conflict, refl)
+  met_conflict (Err commit.PlacesOut) doomed ends = absurd ((no_place_of ends).written undone_writes)
+
+  pub no_entry : {q : PassView} {why : CommitFault} → EndsCommit StandsForRows u q (Err why) → q.log ≡ p.log
+  no_entry ends = ap (λ (x : PassView). x.log) (refused_of ends) ∙ ap (λ (f : PassView). f.log) rest ∙ ap (λ (x : PassView). x.log) here
 
   pub overtaken : (q q' : PassView) (conflict : Met) → q' ≡ q → Undoes p' u → Commits StandsForRows u q (Err (commit.Conflict conflict)) → IsOvertaken p q' conflict
   overtaken q q' conflict there undoes commits = at_passes (λ x y. IsOvertaken x y conflict) p p' q q' here there (record { undone = u; undoes = undoes; commits = commits })

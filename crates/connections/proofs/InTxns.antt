@@ -23,7 +23,7 @@ use Rattle.txn_engine.specs.Commits.{Commits, EndsCommit}
 use Rattle.txn_engine.specs.Faults.{told_by}
 use Rattle.txn_engine.specs.Pass.{EngineView, PassView, IsIdle, IsIdleOf, engine_of, entry_of, frame, meaning_of_pass, store_of}
 use Rattle.txn_engine.specs.Txn.{Undoes}
-use Rattle.txn_engine.proofs.Committing.{done_of, no_place_of, refused_of}
+use Rattle.txn_engine.specs.Commits.{done_of, no_place_of, refused_of}
 use Rattle.connections.specs.declared.fault.CallFault.{CallFault}
 use Rattle.connections.specs.Connection.{IsOpenOf, LeavesTables, StandsForRows}
 use Rattle.connections.specs.Rows.{GoesOn, InTxn, IsDoomed, IsOvertaken}

@@ -48,7 +48,7 @@ module _ (keep : ℕ) (p q q' : PassView) (v w w' : NumberPassView) (rid : ℕ) 
   stays_off false b is = (refl, is)
 
   taken_back : (given spare : List ℕ) → (is_on given rid ≡ false) × (is_on spare rid ≡ false) → taken_in given spare rid ≡ spare ++ rid ∷ []
-  taken_back given spare off = rw off.0, off.1 in refl
+  taken_back given spare off = rw (off.0, off.1) refl
 
   pub one_refused : (r : PassView) → r ≡ with_spare q' (taken_in q'.given q'.spare rid) → Offers (number_of p rid) w w' false → Gives keep p r v w'
   one_refused r took offers =

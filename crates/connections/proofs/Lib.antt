@@ -1,6 +1,7 @@
 pub mod Testing
 pub mod Seats
 pub mod Giving
+pub mod Taking
 pub mod Connected
 pub mod Stores
 pub mod Laws

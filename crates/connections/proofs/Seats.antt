@@ -1,12 +1,14 @@
 -- What a connection keeps, from one of its states to another.
-use Rattle.std.proofs.Common.{◌≡◌, Option, None, Some, sym, subst, ◌∙◌}
+use Rattle.std.specs.Prelude.{MatchOption}
+use Rattle.std.proofs.Common.{◌≡◌, Option, None, Some, refl, sym, subst, ◌∙◌}
 use Rattle.number_queue.specs.Passes.{AreSameLimits, NumberPassView}
 use Rattle.txn_engine.specs.Pass.{EngineView, PassView, IsIdleOf}
-use Rattle.txn_engine.specs.Retired.{RetiredView}
+use Rattle.txn_engine.specs.Retired.{RetiredView, retired}
 use Rattle.connections.specs.declared.opened.Opened.{Opened}
 use Rattle.connections.specs.declared.opened.Opened.TheVariants.{Nothing, Transaction, Spoiled, Snapshot, Closed}
-use Rattle.connections.specs.Connection.{AreNumbersOf, ConnectionView, HoldsTables, IsConnection, IsAt, IsOpenOf}
-use Rattle.connections.specs.Handing.{with_spare}
+use Rattle.connections.specs.Closing.{Closes, EndsOpened, Retires}
+use Rattle.connections.specs.Connection.{AreNumbersOf, ConnectionView, HoldsTables, IsConnection, IsAt, IsOpenOf, at_end}
+use Rattle.connections.specs.Handing.{GivesAll, with_spare}
 
 -- it has a pass, where this is so of it
 pub connection_at : (e : EngineView) (n : NumberPassView) (o : Opened) (p : PassView) (r : Option RetiredView) → IsConnection (record { engine = e; numbers = n; opened = o; pass = Some p; retired = r }) → IsAt o e p
@@ -46,3 +48,15 @@ idle_spare e p q is idle = subst (IsIdleOf e) (sym is) (idle.0, idle.1)
 
 pub open_spare : (e : EngineView) (p q : PassView) → q ≡ with_spare p q.spare → IsOpenOf e p → IsOpenOf e q
 open_spare e p q is opened = subst (IsOpenOf e) (sym is) (record { of = opened.of; open_there = opened.open_there; lawful = opened.lawful })
+
+-- it is closed: its pass has ended what was open, given its numbers and retired
+pub closes_at : (e : EngineView) (o : Opened) (n m : NumberPassView) (r : Option RetiredView) (pass pass' : Option PassView) (left : RetiredView) (p ended last : PassView) (before : ConnectionView)
+    → record { engine = e; numbers = n; opened = o; pass = pass; retired = r } ≡ before → pass ≡ Some p → EndsOpened o p ended → GivesAll ended last n m → pass' ≡ None → left ≡ retired last
+    → Closes before (record { engine = e; numbers = m; opened = Closed; pass = pass'; retired = Some left })
+closes_at e o n m r pass pass' left p ended last before seen is ends gives gone told =
+    let was : ConnectionView = record { engine = e; numbers = n; opened = o; pass = pass; retired = r } in
+    let now : ConnectionView = at_end e m (retired last) in
+    let closes : Closes was now = subst (λ (x : Option PassView). MatchOption x ((o ≡ Closed) × (now ≡ was)) (Retires was now)) (sym is) (ended, last, ends, gives, refl) in
+    subst (λ (x : Option PassView). Closes before (record { engine = e; numbers = m; opened = Closed; pass = x; retired = Some left })) (sym gone)
+    (subst (λ (x : RetiredView). Closes before (record { engine = e; numbers = m; opened = Closed; pass = None; retired = Some x })) (sym told)
+    (subst (λ (c : ConnectionView). Closes c now) seen closes))

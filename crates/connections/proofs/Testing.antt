@@ -55,6 +55,14 @@ calls_at {T} fits InRange Does o o' e n r pass p q before answer seen is fit wit
     subst (λ (c : ConnectionView). Calls (fits c.opened) InRange (Goes (Does c) o' c now) c now answer) seen
     (calls_goes (fits o) InRange (Goes (Does was) o' was now) was now answer fit within of_call (record { from = p; to = q; was = is; is = refl; does = does }))
 
+-- the same where what is open stays as it is
+pub calls_kept : {T : Type 0} (fits : Opened → Bool) (InRange : Type 0) (Does : ConnectionView → PassView → PassView → Type 0) (o o' : Opened) (e : EngineView) (n : NumberPassView) (r : Option RetiredView) (pass : Option PassView) (p q : PassView) (before : ConnectionView) (answer : Result T CallFault)
+    → record { engine = e; numbers = n; opened = o; pass = pass; retired = r } ≡ before → pass ≡ Some p → o ≡ o' → fits o ≡ true → InRange → IfErr answer IsOfCall → Does (record { engine = e; numbers = n; opened = o; pass = pass; retired = r }) p q
+    → Calls (fits before.opened) InRange (Goes (Does before) o' before (record { engine = e; numbers = n; opened = o; pass = Some q; retired = r })) before (record { engine = e; numbers = n; opened = o; pass = Some q; retired = r }) answer
+calls_kept {T} fits InRange Does o o' e n r pass p q before answer seen is kept fit within of_call does =
+    subst (λ (x : Opened). Calls (fits before.opened) InRange (Goes (Does before) o' before (record { engine = e; numbers = n; opened = x; pass = Some q; retired = r })) before (record { engine = e; numbers = n; opened = x; pass = Some q; retired = r }) answer) (sym kept)
+    (calls_at fits InRange Does o o' e n r pass p q before answer seen is fit within of_call does)
+
 -- the same where numbers are handed round
 pub hands_at : {T : Type 0} (fits : Opened → Bool) (InRange : Type 0) (Does : Opened → (p q : PassView) → (v w : NumberPassView) → Type 0) (o o' : Opened) (e : EngineView) (n m : NumberPassView) (r : Option RetiredView) (pass : Option PassView) (p q : PassView) (before : ConnectionView) (answer : Result T CallFault)
     → record { engine = e; numbers = n; opened = o; pass = pass; retired = r } ≡ before → pass ≡ Some p → fits o ≡ true → InRange → IfErr answer IsOfCall → Does o p q n m

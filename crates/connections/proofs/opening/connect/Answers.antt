@@ -2,7 +2,7 @@ use Rattle.std.proofs.Common.{rules, ◌≡◌, All, List, ◌∷◌, [], ◌++�
 use Rattle.std.proofs.lemmas.List.Elements.{All-contains, All-take, Contains-push}
 use Rattle.std.specs.Arc.{arc_value}
 use Rattle.txn_engine.specs.Pass.{EngineView, PassView, IsIdleOf}
-use Rattle.connections.proofs.Connected.{connected_more}
+use Rattle.connections.proofs.Connected.{connected_more, connected_none}
 use Rattle.connections.proofs.opening.connect.Goals as goal
 
 pub connect_one-requires-clause-pass : goal.connect_one-requires-clause-pass
@@ -16,6 +16,5 @@ loop-pass-preserved c = record {
   passes = subst (λ (ps : List PassView). All (IsIdleOf (arc_value c.args.engine)) ps) (sym c.pop.ensures.rest)
       (All-take (IsIdleOf (arc_value c.args.engine)) _ c.loop-pass.remaining.items c.loop-pass.invariant.passes);
   tables = c.requires.tables;
-  limits = c.loop-pass.invariant.limits;
-  connected = connected_more (arc_value c.args.engine) c.args.passes.items c.loop-pass.remaining.items c.pop.new.self.items c.in-Some.pass c.loop-pass.connections.items c.push.new.self.items _ c.loop-pass.invariant.connected c.in-Some.ensures.items (search rules) (search rules);
+  connected = connected_more (arc_value c.args.engine) c.args.passes.items c.loop-pass.remaining.items c.pop.new.self.items c.in-Some.pass c.loop-pass.connections.items c.push.new.self.items _ c.loop-pass.invariant.connected c.in-Some.ensures.items (rw c.in-Ok-push.is at c.push.ensures.items) c.in_ok-connection.ensures.connected;
 }

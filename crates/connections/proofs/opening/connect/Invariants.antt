@@ -1,6 +1,6 @@
 use Rattle.std.proofs.Common.{All, List, length, reverse, ◌++◌}
 use Rattle.std.specs.Arc.{arc_value}
-use Rattle.connections.specs.Connection.{AreNumbersOf, ConnectionView, HoldsTables}
+use Rattle.connections.specs.Connection.{ConnectionView, HoldsTables}
 use Rattle.connections.specs.Opening.{AreConnected}
 use Rattle.txn_engine.specs.Pass.{IsIdleOf}
 use Rattle.connections.proofs.opening.connect.Given as goal
@@ -10,7 +10,6 @@ abbrev pub invariant-loop-pass : goal.invariant-loop-pass
 invariant-loop-pass l = record {
   passes : All (IsIdleOf (arc_value l.engine)) l.remaining.items;
   tables : HoldsTables (arc_value l.engine);
-  limits : AreNumbersOf (arc_value l.engine) l.first;
   connected : (cs : List ConnectionView) → AreConnected (arc_value l.engine) l.remaining.items cs → AreConnected (arc_value l.engine) l.fn.passes.items (cs ++ reverse l.connections.items);
 }
 

@@ -1,6 +1,5 @@
 -- Connections that are made one after another, from the last pass on.
-use Rattle.std.proofs.Common.{◌≡◌, List, [], ◌∷◌, ◌++◌, Result, Ok, Err, reverse, refl, sym, ap, subst, ◌∙◌, append_assoc}
-use Rattle.std.specs.Prelude.{IfOk}
+use Rattle.std.proofs.Common.{◌≡◌, ℕ, ◌-◌, List, [], ◌∷◌, ◌++◌, reverse, take, sym, ap, subst, ◌∙◌, append_assoc}
 use Rattle.std.proofs.lemmas.List.{append-nil, reverse-append}
 use Rattle.txn_engine.specs.Pass.{EngineView, PassView}
 use Rattle.connections.specs.Connection.{ConnectionView}
@@ -24,3 +23,11 @@ connected_more e all before rest p done done' c so_far split more is cs connecte
 -- at first none has
 pub connected_none : (e : EngineView) (all : List PassView) (cs : List ConnectionView) → AreConnected e all cs → AreConnected e all (cs ++ [])
 connected_none e all cs connected = subst (λ (ds : List ConnectionView). AreConnected e all ds) (sym (append-nil cs)) connected
+
+-- behind the first pass all have
+pub connected_all : (e : EngineView) (all rest : List PassView) (done now : List ConnectionView) → ((cs : List ConnectionView) → AreConnected e rest cs → AreConnected e all (cs ++ reverse done)) → rest ≡ [] → now ≡ reverse done → AreConnected e all now
+connected_all e all rest done now so_far none is = subst (λ (ds : List ConnectionView). AreConnected e all ds) (sym is) (so_far [] (subst (λ (ps : List PassView). AreConnected e ps []) (sym none) tt))
+
+-- where no last one comes, none is left
+pub none_left : {A : Type 0} (xs ys : List A) (long : ℕ) → xs ≡ ys ++ [] → ys ≡ take (long - 1) xs → long ≡ 0 → xs ≡ []
+none_left xs ys long all rest none = all ∙ append-nil ys ∙ rest ∙ ap (λ (n : ℕ). take (n - 1) xs) none

@@ -1,8 +1,8 @@
 -- How numbers are taken out of the queue, one after another.
-use Rattle.std.proofs.Common.{◌≡◌, ◌⊎◌, ℕ, zero, suc, ◌<◌, ◌≤◌, ◌-◌, None, Some, length, inl, inr, refl, sym, ap, subst, ◌∙◌, arith}
+use Rattle.std.proofs.Common.{◌≡◌, ◌⊎◌, ℕ, zero, suc, ◌<◌, ◌≤◌, ◌-◌, None, Some, length, inl, inr, refl, subst, arith}
 use Rattle.number_queue.specs.Passes.{NumberPassView, TakesFor}
 use Rattle.txn_engine.specs.Pass.{PassView}
-use Rattle.connections.specs.Handing.{TakesIn, with_number, with_spare}
+use Rattle.connections.specs.Handing.{TakesIn, with_number}
 
 -- no more are wanted, or enough are spare
 pub takes_enough : (stamp most : ℕ) (p : PassView) (v : NumberPassView) → (most ≡ 0) ⊎ (12 ≤ length p.spare) → TakesIn stamp most p p v v

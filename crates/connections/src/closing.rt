@@ -14,9 +14,8 @@ use stored_tables::RowsLawful;
 use txn_engine::{Engine, Pass};
 
 impl Connection {
-    /// Ends whatever is open, without a trace of a transaction, and the seat: the others of the engine do not wait for it any more, and have its
-    /// numbers of records. Each
-    /// later call answers `Misused`; to close it again changes nothing.
+    /// Ends whatever is open, without a trace of a transaction, and the seat: the others of the engine do not wait for it any more, and
+    /// may take its numbers of records. Each later call answers `Misused`; to close it again changes nothing.
     pub fn close(&mut self)
         ensures { Closes self.old self.new }
     {

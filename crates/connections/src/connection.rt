@@ -69,8 +69,8 @@ impl Connection {
         }
     }
 
-    /// How many numbers of records it has for new rows. Those of other connections, and those that lie between them for whoever needs some, are
-    /// not among them.
+    /// How many numbers of records it has for new rows. Those of other connections, and those that lie between them for
+    /// whoever needs some, are not among them.
     pub fn spare_records(&self) -> Result<u32, CallFault>
         ensures { Tells (is_there self.now.opened) (λ p. length p.spare) self.now result }
     {

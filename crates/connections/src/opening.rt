@@ -23,8 +23,9 @@ use word_layout::{MAX_RECORDS, MAX_SEATS, MAX_SPARE};
 const PLACES_FOR_SEAT: u32 = 10_000;
 
 /// Connections to a new engine of eight empty tables, by rising seat number: so many `seats` (1 to 64), with room for so many records of
-/// `rows` (at most 195,888 without 32 for each seat; two a row, where rows come and go up to four, six with an index), and `spare` places for versions beside one for each
-/// record (at most 262,144). Where `spare` is 0 it is as advised: one for each row, and 10,000 for each seat, or the most that there may be.
+/// `rows` (at most 195,888 less 32 for each seat; two a row, where rows come and go up to four, six with an index), and `spare` places
+/// for versions beside one for each record (at most 262,144). Where `spare` is 0 it is as advised: one for each row, and 10,000 for each
+/// seat, or the most that there may be.
 ///
 /// All memory of the engine is taken here. `Range`: a number is out of its range.
 pub fn open(alloc: Global, seats: u32, rows: u32, spare: u32) -> Result<Vec<Connection>, CallFault>

@@ -18,8 +18,7 @@ use txn_engine::{BeginFault, CommitFault, Engine, Pass, Seat, TxnOver};
 
 impl Connection {
     /// Begins a transaction, with the next clock at this reading, in any unit, or at a later one where a number of a record waits for it.
-    /// `ClockOut`: no clock is left. `NoMemory`: there was no
-    /// room to note one more version. Nothing has changed then.
+    /// `ClockOut`: no clock is left. `NoMemory`: there was no room to note one more version. Nothing has changed then.
     pub fn begin(&mut self, reading: u64) -> Result<(), CallFault>
         ensures { Begin reading self.old self.new result }
     {

@@ -1,4 +1,4 @@
-use Rattle.std.proofs.Common.{rules, arith}
+use Rattle.std.proofs.Common.{rules}
 use Rattle.connections.proofs.Taking.{takes_more, takes_none}
 use Rattle.connections.proofs.handing.+take.Goals as goal
 

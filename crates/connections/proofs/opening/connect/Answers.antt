@@ -1,7 +1,7 @@
-use Rattle.std.proofs.Common.{rules, ◌≡◌, All, List, ◌∷◌, [], ◌++◌, sym, subst}
+use Rattle.std.proofs.Common.{◌≡◌, All, List, ◌∷◌, [], ◌++◌, sym, subst}
 use Rattle.std.proofs.lemmas.List.Elements.{All-contains, All-take, Contains-push}
 use Rattle.std.specs.Arc.{arc_value}
-use Rattle.txn_engine.specs.Pass.{EngineView, PassView, IsIdleOf}
+use Rattle.txn_engine.specs.Pass.{PassView, IsIdleOf}
 use Rattle.connections.proofs.Connected.{connected_all, connected_more, connected_none, none_left}
 use Rattle.connections.proofs.opening.connect.Goals as goal
 

@@ -11,9 +11,8 @@ use plain_data::NoMemory;
 use std::alloc::Global;
 use std::marker::Model;
 use std::sync::Arc;
-use std::thread;
 
-/// So often one call tries, where others are in its way.
+/// So often one call tries, where others are in its way. It does not yield to them: a static library may not.
 const TURNS: u32 = 64;
 
 /// The right of one thread at a time to offer numbers to a queue and to take some of it.
@@ -95,7 +94,6 @@ impl NumberPass {
             if let Ok(()) = self.queue.try_push_as::<Puts>(&mut self.pass, number) {
                 return true;
             }
-            thread::yield_now();
         }
         self.refuse();
         false
@@ -112,7 +110,6 @@ impl NumberPass {
             if self.queue.is_empty_as::<Takes>(&mut self.pass) {
                 return None;
             }
-            thread::yield_now();
         }
         None
     }

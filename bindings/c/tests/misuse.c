@@ -381,21 +381,21 @@ static void what_is_left(void) {
     cicada_counts now, before;
     if (cicada_open(100, 100, two, 2) != CICADA_OK) return;
     before = counts_of(&two[0]);
-    holds(before.commits == 0 && before.refusals == 0 && before.records == 50 && before.queued == 0, "half of the records are those of each of two");
+    holds(before.commits == 0 && before.refusals == 0 && before.records == 32 && before.queued == 0, "each of two has 32 records at hand");
     cicada_begin(&two[0], 0), cicada_put(&two[0], 0, 1, row);
-    holds(counts_of(&two[0]).records < 50, "a row that is put takes records at once");
+    holds(counts_of(&two[0]).records < 32, "a row that is put takes records at once");
     cicada_abort(&two[0]);
     now = counts_of(&two[0]);
-    holds(now.records == 50 && now.queued == 0 && now.commits == 0 && now.refusals == 0, "an abort leaves all as it was");
+    holds(now.records == 32 && now.queued == 0 && now.commits == 0 && now.refusals == 0, "an abort leaves all as it was");
     cicada_begin(&two[0], 0), cicada_put(&two[0], 0, 1, row);
     holds(commit(&two[0]) == CICADA_OK, "a put commits");
     before = counts_of(&two[0]);
-    holds(before.commits == 1 && before.records < 50 && before.queued > 0, "a commit takes records, and queues what it wrote");
+    holds(before.commits == 1 && before.records < 32 && before.queued > 0, "a commit takes records, and queues what it wrote");
     cicada_begin(&two[0], 0), cicada_remove(&two[0], 0, 1);
     holds(commit(&two[0]) == CICADA_OK, "a removal commits");
     now = counts_of(&two[0]);
     holds(now.commits == 2 && now.records > before.records && now.queued > before.queued, "a removal gives records back");
-    holds(counts_of(&two[1]).records == 50, "of another connection nothing is told");
+    holds(counts_of(&two[1]).records == 32, "of another connection nothing is told");
     for (uint64_t reading = 1000; reading < 1003; reading++)
         for (int i = 0; i < 2; i++) holds(cicada_rest(&two[i], reading, NULL) == CICADA_OK, "a connection rests");
     holds(counts_of(&two[0]).queued == 0, "once all have rested nothing is queued");

@@ -48,7 +48,7 @@ static enum role roles[THREADS];
 static struct queue queues[QUEUES];
 static uint64_t ring = 1000;
 static _Atomic int ends;
-static _Atomic uint64_t wrong;
+static _Atomic uint64_t wrong, working = THREADS;
 
 /* One clock for all threads, in nanoseconds since the process began. */
 static uint64_t began;
@@ -198,10 +198,16 @@ static int32_t take_entry(cicada_connection *it, void *of) {
     return cicada_remove(it, entry->table, entry->key);
 }
 
+/* What a thread does that waits for another one: a connection that makes no call would hold all others back. */
+static void idle(cicada_connection *it) {
+    need(cicada_rest(it, now(), NULL), "rest");
+    sched_yield();
+}
+
 static void produce(cicada_connection *it, size_t queue) {
     struct queue *own = &queues[queue];
     for (uint64_t number = 0;; number++) {
-        while (number - atomic_load(&own->taken) >= BEHIND && !atomic_load(&ends)) sched_yield();
+        while (number - atomic_load(&own->taken) >= BEHIND && !atomic_load(&ends)) idle(it);
         if (atomic_load(&ends)) return;
         need(cicada_hear(it, atomic_load(&own->taken_stamp)), "hear");
         struct entry entry = entry_of(queue, number);
@@ -217,7 +223,7 @@ static void consume(cicada_connection *it, size_t queue) {
     for (uint64_t number = 0;; number++) {
         while (number >= atomic_load(&own->put)) {
             if (atomic_load(&own->ended) && number >= atomic_load(&own->put)) return;
-            sched_yield();
+            idle(it);
         }
         need(cicada_hear(it, atomic_load(&own->put_stamp)), "hear");
         struct entry entry = entry_of(queue, number);
@@ -281,6 +287,9 @@ static void *work(void *me) {
     case READER: read_all(me); break;
     default: rest(me, &x);
     }
+    /* (what is queued at a connection that is closed is not taken back, while others may still want its places) */
+    atomic_fetch_sub(&working, 1);
+    while (atomic_load(&working) != 0) idle(me);
     need(cicada_close(me), "close");
     return NULL;
 }

@@ -80,7 +80,8 @@ typedef struct cicada_connection {
 int32_t cicada_open(uint32_t rows, uint32_t spare, cicada_connection *connections, size_t count);
 
 /* Ends what is open, without a trace of a transaction, and the connection; gives back its memory, and with the last one that of the engine. OK also
- * where it is closed already. RANGE, MISUSED (a copy, or never opened), BUSY. */
+ * where it is closed already. Versions that are queued at it are not taken back until their rows are written again: where others go on, call cicada_rest
+ * first, until none is queued. RANGE, MISUSED (a copy, in a pool, or never opened), BUSY. */
 int32_t cicada_close(cicada_connection *connection);
 
 /* What is open at a connection. */

@@ -12,10 +12,10 @@ use Rattle.lane_runner.specs.Lanes.{AddsSome}
 use Rattle.lane_runner.specs.declared.turn.Turn.{Turn}
 use Rattle.lane_runner.specs.Room.{HasRoom, clock_after}
 use Rattle.lane_threads.specs.Merges.IsMerge.{none as none_merged}
-use Rattle.lane_runner.specs.Session.{SessionView, to_try, done_of, Attempts, drawn_by, tries_left, draws_left, GoesOn}
+use Rattle.lane_runner.specs.Session.{SessionView, to_try, done_of, Attempts, LeadsOn, drawn_by, tries_left, draws_left, draws_next, GoesOn}
 use Rattle.lane_runner.proofs.Adding.{Adds-none, Adds-trans}
 use Rattle.lane_threads.proofs.Merging.{merge_append, merge_behind_first, merge_behind_second}
-use Rattle.lane_runner.proofs.Attempted.{Steps, steps_none, room_for_try, goes_none, goes_trans, steps_attempt, tries_attempt}
+use Rattle.lane_runner.proofs.Attempted.{goes_none, goes_trans}
 use Rattle.lane_futures.specs.Lanes.{LanesView, HasRoomLeft, HasOne, all_tries, all_tries_left, all_draws_left, all_refused, IsInTurn, TakesTurn, MakesTurn, TurnsLast, AreOfSessions, Leads, ComeTo}
 use Rattle.lane_futures.specs.Lanes.AreOfSessions.{none, next}
 
@@ -55,25 +55,20 @@ leads_none l idle = record {
   refusals = omega arith;
 }
 
--- one session goes on by some steps
-pub leads_steps : (l m : LanesView) (i : ℕ) (s t : SessionView) → slice_get l.sessions i ≡ Some s → Steps l.pass m.pass s t → m.sessions ≡ set l.sessions i t → Leads l m
-leads_steps l m i s t there steps is = record {
-  entries = steps.entries;
-  adds = steps.adds;
-  are_of_sessions = subst (λ (ss : List SessionView). AreOfSessions l.pass.shared.size.records l.pass.seat steps.entries l.sessions ss) (sym is)
-      (sessions_step l.pass.shared.size.records l.pass.seat [] steps.entries l.sessions l.sessions i s t (sessions_none l.pass.shared.size.records l.pass.seat l.sessions) there steps.goes);
-  clock = omega (arith, steps.clock, sum_step draws_left l.sessions i s t there, ap all_draws_left is);
-  refusals = omega (arith, steps.refusals, sum_step (λ (x : SessionView). x.refused) l.sessions i s t there, ap all_refused is);
+-- one session goes on
+pub leads_one : (l m : LanesView) (i : ℕ) (s t : SessionView) → slice_get l.sessions i ≡ Some s → LeadsOn 0 l.pass m.pass s t → m.sessions ≡ set l.sessions i t → Leads l m
+leads_one l m i s t there on is = record {
+  entries = on.entries;
+  adds = on.adds;
+  are_of_sessions = subst (λ (ss : List SessionView). AreOfSessions l.pass.shared.size.records l.pass.seat on.entries l.sessions ss) (sym is)
+      (sessions_step l.pass.shared.size.records l.pass.seat [] on.entries l.sessions l.sessions i s t (sessions_none l.pass.shared.size.records l.pass.seat l.sessions) there on.goes);
+  clock = omega (arith, on.clock, sum_step draws_left l.sessions i s t there, ap all_draws_left is);
+  refusals = omega (arith, on.refusals, sum_step (λ (x : SessionView). x.refused) l.sessions i s t there, ap all_refused is);
 }
 
-pub leads_attempt : (l m : LanesView) (i : ℕ) (s t : SessionView) (answer : Turn) → IsIdle l.pass → slice_get l.sessions i ≡ Some s → Attempts answer s t l.pass m.pass → m.pass.clock ≤ clock_after l.pass.clock (drawn_by answer) → m.sessions ≡ set l.sessions i t → Leads l m
-leads_attempt l m i s t answer idle there attempts clock is = leads_steps l m i s t there (steps_attempt answer l.pass m.pass s t idle attempts clock) is
-
 -- there are fewer tries then
-pub fewer_attempt : (l m : LanesView) (i : ℕ) (s t : SessionView) (answer : Turn) → slice_get l.sessions i ≡ Some s → to_try s ≢ [] → Attempts answer s t l.pass m.pass → m.sessions ≡ set l.sessions i t → all_tries_left m.sessions < all_tries_left l.sessions
-fewer_attempt l m i s t answer there some attempts is =
-    let fewer : tries_left t < tries_left s = tries_attempt answer l.pass m.pass s t some attempts in
-    omega (arith, fewer, sum_step tries_left l.sessions i s t there, ap all_tries_left is)
+pub fewer_one : (l m : LanesView) (i : ℕ) (s t : SessionView) → slice_get l.sessions i ≡ Some s → tries_left t < tries_left s → m.sessions ≡ set l.sessions i t → all_tries_left m.sessions < all_tries_left l.sessions
+fewer_one l m i s t there fewer is = omega (arith, fewer, sum_step tries_left l.sessions i s t there, ap all_tries_left is)
 
 -- what sessions went on by, behind what they went on by before
 sessions_trans : (records seat : ℕ) (es fs : List Entry) (ss ts us : List SessionView) → AreOfSessions records seat es ss ts → AreOfSessions records seat fs ts us → AreOfSessions records seat (es ++ fs) ss us
@@ -102,8 +97,8 @@ part_of_sum f [] i s there = absurd (cc)
 part_of_sum f (x ∷ ss) zero s there = let same : f x ≡ f s = ap f (same_Some x s there) in omega (arith, same, sum_by-cons f x ss)
 part_of_sum f (x ∷ ss) (suc i) s there = let rest : f s ≤ sum_by f ss = part_of_sum f ss i s there in omega (arith, rest, sum_by-cons f x ss)
 
-pub room_turn : (l : LanesView) (i : ℕ) (s : SessionView) → IsIdle l.pass → slice_get l.sessions i ≡ Some s → to_try s ≢ [] → HasRoomLeft l → HasRoom l.pass.clock 2
-room_turn l i s idle there some room = room_for_try l.pass l.pass s s (all_draws_left l.sessions) (steps_none l.pass s idle) some (part_of_sum draws_left l.sessions i s there) room
+room_turn : (l : LanesView) (i : ℕ) (s : SessionView) → slice_get l.sessions i ≡ Some s → HasRoomLeft l → HasRoom l.pass.clock (draws_next s)
+room_turn l i s there room = omega (arith, part_of_sum draws_left l.sessions i s there, room)
 
 -- ---- the session in turn
 
@@ -122,8 +117,8 @@ module _ (u l : LanesView) (place : ℕ) (s : SessionView) (same : u ≡ l) (tur
   session_is : s ≡ turn_here.session
   session_is = is ∙ get_or_from_slice_get u.sessions place turn_here.session s turn_here.there
 
-  pub room_in_turn : IsIdle u.pass → HasRoomLeft l → HasRoom u.pass.clock 2
-  room_in_turn idle room = room_turn u place turn_here.session idle turn_here.there turn_here.has_block (subst HasRoomLeft (sym same) room)
+  pub room_in_turn : HasRoomLeft l → HasRoom u.pass.clock (draws_next s)
+  room_in_turn room = subst (λ (x : SessionView). HasRoom u.pass.clock (draws_next x)) (sym session_is) (room_turn u place turn_here.session turn_here.there (subst HasRoomLeft (sym same) room))
 
   pub takes_turn : (m : LanesView) (t : SessionView) (answer : Turn) → Attempts answer s t u.pass m.pass → m.pass.clock ≤ clock_after u.pass.clock (drawn_by answer)
       → m.sessions ≡ set u.sessions place t → m.next ≡ place + 1 → TakesTurn l m
@@ -138,16 +133,17 @@ module _ (u l : LanesView) (place : ℕ) (s : SessionView) (same : u ≡ l) (tur
     next_is = next_is;
   })
 
+  pub leads_in_turn : (m : LanesView) (t : SessionView) → LeadsOn 0 u.pass m.pass s t → m.sessions ≡ set u.sessions place t → Leads l m
+  leads_in_turn m t on sessions = subst (λ (x : LanesView). Leads x m) same
+      (leads_one u m place turn_here.session t turn_here.there (subst (λ (x : SessionView). LeadsOn 0 u.pass m.pass x t) session_is on) sessions)
+
+  pub fewer_in_turn : (m : LanesView) (t : SessionView) → (to_try s ≢ [] → tries_left t < tries_left s) → m.sessions ≡ set u.sessions place t → all_tries_left m.sessions < all_tries_left l.sessions
+  fewer_in_turn m t fewer sessions = subst (λ (x : LanesView). all_tries_left m.sessions < all_tries_left x.sessions) same
+      (fewer_one u m place turn_here.session t turn_here.there
+      (subst (λ (x : SessionView). (to_try x ≢ [] → tries_left t < tries_left x)) session_is fewer turn_here.has_block) sessions)
+
 pub adds_turn : (u l : LanesView) (q : PassView) → u ≡ l → AddsSome u.pass q → AddsSome l.pass q
 adds_turn u l q same adds = subst (λ (x : LanesView). AddsSome x.pass q) same adds
-
--- what holds of all sessions, behind a turn
-pub leads_turn : (l m : LanesView) → IsIdle l.pass → MakesTurn l m → Leads l m
-leads_turn l m idle (inl turn) = leads_attempt l m turn.place turn.in_turn.session turn.session turn.answer idle turn.in_turn.there turn.attempts turn.clock turn.sessions_are
-leads_turn l m idle (inr over) = subst (λ (x : LanesView). Leads l x) (sym over.1) (leads_none l idle)
-
-pub fewer_turn : (l m : LanesView) → TakesTurn l m → all_tries_left m.sessions < all_tries_left l.sessions
-fewer_turn l m turn = fewer_attempt l m turn.place turn.in_turn.session turn.session turn.answer turn.in_turn.there turn.in_turn.has_block turn.attempts turn.sessions_are
 
 pub has_one : (from place : ℕ) (sessions : List SessionView) → IsInTurn from sessions place → HasOne sessions
 has_one from place sessions turn = record { place = place; session = turn.session; there = turn.there; has_block = turn.has_block }

@@ -1,5 +1,5 @@
 -- Several lanes on one pass: whose turn it is, what a turn makes of them, and what they come to.
-use Rattle.std.specs.Prelude.{◌≡◌, ◌≢◌, ◌⊎◌, ℕ, ◌+◌, ◌*◌, ◌<◌, ◌≤◌, List, [], ◌∷◌, All, length, map, sum_by, slice_get, slice_set, Option, Some}
+use Rattle.std.specs.Prelude.{◌≡◌, ◌≢◌, ◌⊎◌, ℕ, ◌+◌, ◌*◌, ◌<◌, ◌≤◌, List, [], ◌∷◌, All, length, map, sum_by, slice_get, slice_set, Option, None, Some}
 use Rattle.std.specs.Option.{IsSomeAnd}
 use Rattle.plain_data.specs.declared.entry.Entry.{Entry}
 use Rattle.txn_engine.specs.Pass.{PassView}
@@ -39,6 +39,11 @@ all_tries_left sessions = sum_by tries_left sessions
 
 abbrev pub all_draws_left : List SessionView → ℕ
 all_draws_left sessions = sum_by draws_left sessions
+
+-- how many tries there may still be of lanes, once they are given up none
+abbrev pub tries_there : Option LanesView → ℕ
+tries_there None = 0
+tries_there (Some l) = all_tries_left l.sessions
 
 -- the pass has room for these
 abbrev pub HasRoomLeft : LanesView → Type 0
@@ -101,6 +106,10 @@ pub record ComeTo (lanes : LanesView) (pass : PassView) (done : List LaneDone) :
   pub over : AreOver last
   pub pass_is : pass ≡ last.pass
   pub done_is : done ≡ map done_of last.sessions
+
+-- what the later lanes come to, the earlier ones come to; so it is of turn behind turn
+abbrev pub ComeToTheSame : (before after' : Option LanesView) → Type 0
+ComeToTheSame before after' = (pass : PassView) (done : List LaneDone) → IsSomeAnd after' (λ l. ComeTo l pass done) → IsSomeAnd before (λ l. ComeTo l pass done)
 
 -- one turn was made, behind which no session has a block to try, and this is what the lanes come to
 pub record TurnsLast (lanes : LanesView) (pass : PassView) (done : List LaneDone) : Type 0 where

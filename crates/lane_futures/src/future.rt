@@ -4,7 +4,7 @@ ghost use Rattle.std.specs.Prelude.{◌≡◌, ◌<◌, true, IfOk};
 ghost use Rattle.std.specs.Option.{IsSomeAnd};
 ghost use Rattle.futures.specs.Poll.{IfReady, OnPending};
 ghost use Rattle.futures.specs.Task.{Covers, Keeps};
-ghost use Rattle.lane_futures.specs.Lanes.{HasOne, HasRoomLeft, BothThere, all_tries_left, MakesTurn, TurnsLast, ComeTo};
+ghost use Rattle.lane_futures.specs.Lanes.{HasOne, HasRoomLeft, BothThere, tries_there, MakesTurn, TurnsLast, ComeTo};
 ghost use Rattle.lane_futures.specs.Outputs.{EachOutput};
 
 use crate::lanes::Lanes;
@@ -35,7 +35,7 @@ impl<'a, C: Reads + Drop, G: Meets> Future for Lanes<'a, C, G> {
         // One turn. It is pending where a session has a block to try behind it, and its own task is woken then.
         ensures turns { OnPending result (BothThere MakesTurn self.old self.new) }
         ensures pending { OnPending result (IsSomeAnd self.new (λ l. HasOne l.sessions)) }
-        ensures fewer { OnPending result (BothThere (λ l m. all_tries_left m.sessions < all_tries_left l.sessions) self.old self.new) }
+        ensures fewer { OnPending result (tries_there self.new < tries_there self.old) }
         ensures woken { OnPending result (cx.new.is_woken ≡ true) }
 
         // Else it is ready with what the lanes have come to, or with `NoMemory`.

@@ -6,7 +6,7 @@ ghost use Rattle.lane_runner.specs.Using.{MayUse};
 ghost use Rattle.lane_runner.specs.Room.{HasRoom};
 ghost use Rattle.lane_runner.specs.Session.{done_of};
 ghost use Rattle.lane_runner.specs.Lanes.{AddsSome};
-ghost use Rattle.lane_futures.specs.Lanes.{AreOver, HasOne, HasRoomLeft, BothThere, all_draws_left, all_tries, all_tries_left, MakesTurn, Leads};
+ghost use Rattle.lane_futures.specs.Lanes.{AreOver, HasOne, HasRoomLeft, BothThere, all_draws_left, all_tries, all_tries_left, MakesTurn, Leads, ComeTo, ComeToTheSame, tries_there};
 
 use crate::running::Running;
 use crate::seat::Seat;
@@ -69,6 +69,9 @@ impl<'a, C: Reads + Drop, G: Meets> Lanes<'a, C, G> {
     /// One try, of the first session that has a block to try, from the one behind that which was tried last and round; where there is
     /// none, nothing is done. Says whether a session then has a block to try.
     ///
+    /// A loop over turns needs room for all that the sessions may draw, once: a turn keeps room for the next one. The tries that are left get
+    /// fewer, and what the lanes come to in the end stays the same.
+    ///
     /// `NoMemory` gives the run up.
     pub fn turn(&mut self) -> Result<bool, NoMemory>
         requires { IsSomeAnd self.old HasRoomLeft }
@@ -77,8 +80,9 @@ impl<'a, C: Reads + Drop, G: Meets> Lanes<'a, C, G> {
         ensures adds { BothThere (λ l m. AddsSome l.pass m.pass) self.old self.new }
         ensures more { IfOk result (λ more. more ≡ true → IsSomeAnd self.new (λ l. HasOne l.sessions)) }
         ensures over { IfOk result (λ more. more ≡ false → IsSomeAnd self.new AreOver) }
-        ensures fewer { IfOk result (λ more. more ≡ true → BothThere (λ l m. all_tries_left m.sessions < all_tries_left l.sessions) self.old self.new) }
+        ensures fewer { IfOk result (λ more. more ≡ true → tries_there self.new < tries_there self.old) }
         ensures room { OnOk result (IsSomeAnd self.new HasRoomLeft) }
+        ensures same { OnOk result (ComeToTheSame self.old self.new) }
     {
         let Some(running) = &mut self.running else {
             unreachable!()
@@ -89,7 +93,8 @@ impl<'a, C: Reads + Drop, G: Meets> Lanes<'a, C, G> {
     /// The pass and the clock, and what each lane has come to, in the order of the sessions.
     pub fn finish(self) -> (Pass<RowsLawful>, C, Vec<LaneDone>)
         requires { IsSomeAnd self AreOver }
-        ensures { IsSomeAnd self.entry (λ l. (result.0 ≡ l.pass) × (result.2.items ≡ map done_of l.sessions)) }
+        ensures done { IsSomeAnd self.entry (λ l. (result.0 ≡ l.pass) × (result.2.items ≡ map done_of l.sessions)) }
+        ensures come { IsSomeAnd self.entry (λ l. ComeTo l result.0 result.2.items) }
     {
         let Some(running) = self.running else {
             unreachable!()

@@ -3,7 +3,7 @@
 ghost use Rattle.std.specs.Prelude.{◌≡◌, ◌≢◌, ◌<◌, ◌≤◌, true, false, All, IfOk, IfSome, IfNone, OnOk, map};
 ghost use Rattle.lane_runner.specs.Session.{done_of};
 ghost use Rattle.lane_runner.specs.Lanes.{AddsSome};
-ghost use Rattle.lane_futures.specs.Lanes.{AreOver, HasOne, HasRoomLeft, IsInTurn, TakesTurn, MakesTurn, Leads, all_tries_left};
+ghost use Rattle.lane_futures.specs.Lanes.{AreOver, HasOne, HasRoomLeft, IsInTurn, TakesTurn, MakesTurn, Leads, ComeTo, all_tries_left};
 
 use crate::seat::Seat;
 use lane_runner::{LaneDone, Session};
@@ -63,7 +63,9 @@ impl<'a, C: Reads + Drop, G: Meets> Running<'a, C, G> {
         requires in_turn { IsInTurn self.old.next self.old.sessions place }
         requires room { HasRoomLeft self.old }
         ensures takes { OnOk result (TakesTurn self.old self.new) }
+        ensures leads { OnOk result (Leads self.old self.new) }
         ensures adds { AddsSome self.old.pass self.new.pass }
+        ensures fewer { OnOk result (all_tries_left self.new.sessions < all_tries_left self.old.sessions) }
     {
         self.sessions[place].attempt(
             self.engine,
@@ -106,6 +108,7 @@ impl<'a, C: Reads + Drop, G: Meets> Running<'a, C, G> {
     pub(crate) fn finish(self) -> (Seat<C>, Vec<LaneDone>)
         ensures pass { result.0.pass ≡ self.entry.pass }
         ensures done { result.1.items ≡ map done_of self.entry.sessions }
+        ensures come { AreOver self.entry → ComeTo self.entry result.0.pass result.1.items }
     {
         let mut done = self.done;
         for session in self.sessions {

@@ -1,5 +1,5 @@
 -- A try of the next block of a session: the block, and what is left behind its outcome.
-use Rattle.std.proofs.Common.{◌≡◌, ℕ, suc, ◌+◌, ◌-◌, ◌<◌, ◌≤◌, List, [], ◌∷◌, ◌++◌, Option, Some, None, Bor, length, take, get_or, refl, sym, ap, subst, ◌∙◌, arith}
+use Rattle.std.proofs.Common.{◌≡◌, ◌≢◌, ℕ, suc, ◌+◌, ◌-◌, ◌<◌, ◌≤◌, List, [], ◌∷◌, ◌++◌, Option, Some, None, Bor, length, take, get_or, refl, sym, ap, subst, ◌∙◌, arith}
 use Rattle.std.specs.Prelude.{All, reverse, IfSome}
 use Rattle.std.specs.Slice.{IsGetResult}
 use Rattle.std.proofs.lemmas.Bool.{ltb-true}
@@ -46,9 +46,13 @@ next_block s items slice (Some block) left few may same is =
     let back : reverse items ≡ block.now ∷ more = ap (λ (xs : List Block). reverse xs) (sym same) ∙ turned slice (length slice - 1) block.now (some_length slice some) ∙ ap (λ (x : Block). x ∷ more) (sym there) in
     (more, to_try_all s few ∙ left ∙ back, All-head MayRun block.now more (subst (All MayRun) back may))
 
+-- there is one
+pub has_next : (s : SessionView) (block : Block) (more : List Block) → to_try s ≡ block ∷ more → to_try s ≢ []
+has_next s block more next none = let both : block ∷ more ≡ [] = sym next ∙ none in cc
+
 -- the blocks of which it is the first
 pub left_is : (s : SessionView) (items : List Block) (block : Block) (more : List Block) → s.left ≡ reverse items → to_try s ≡ block ∷ more → reverse items ≡ block ∷ more
-left_is s items block more left next = sym left ∙ sym (to_try_all s (tried_below s (λ none. let both : block ∷ more ≡ [] = sym next ∙ none in cc))) ∙ next
+left_is s items block more left next = sym left ∙ sym (to_try_all s (tried_below s (has_next s block more next))) ∙ next
 
 -- what is left behind it
 pub left_behind : (items popped : List Block) (n : ℕ) (block : Block) (more : List Block) → n ≡ length items → popped ≡ take (n - 1) items → reverse items ≡ block ∷ more → reverse popped ≡ more

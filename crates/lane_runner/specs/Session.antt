@@ -1,5 +1,5 @@
 -- A lane of which one block after another is tried, a try at a time: how far it is, and what a try makes of it.
-use Rattle.std.specs.Prelude.{◌≡◌, ◌≢◌, ℕ, ◌+◌, ◌-◌, ◌*◌, ◌≤◌, nat_le, if◌then◌else◌, List, [], ◌∷◌, ◌++◌, length}
+use Rattle.std.specs.Prelude.{◌≡◌, ◌≢◌, ℕ, ◌+◌, ◌-◌, ◌*◌, ◌≤◌, min, nat_le, if◌then◌else◌, List, [], ◌∷◌, ◌++◌, length}
 use Rattle.plain_data.specs.declared.entry.Entry.{Entry}
 use Rattle.replay_model.specs.declared.input.Block.{Block}
 use Rattle.replay_model.specs.declared.outcome.Outcome.{Outcome}
@@ -10,6 +10,7 @@ use Rattle.lane_runner.specs.declared.done.LaneDone.{LaneDone}
 use Rattle.lane_runner.specs.declared.turn.Turn.{Turn as Answer}
 use Rattle.lane_runner.specs.declared.turn.Turn.TheVariants.{Outcome as HasEnded, Again, Kept, Over}
 use Rattle.lane_runner.specs.Adds.{Adds}
+use Rattle.lane_runner.specs.Room.{clock_after}
 use Rattle.lane_runner.specs.Blocks.{AreOfSeat, IsOfSeat, IsRefused}
 use Rattle.lane_runner.specs.Lanes.{AreEntries}
 
@@ -79,6 +80,10 @@ tries_left s = length (to_try s) * s.tries - s.refused
 abbrev pub draws_left : SessionView → ℕ
 draws_left s = length (to_try s) * (s.tries + 2) - s.refused
 
+-- how many the next try draws at most: two where there is a block to try, and else none
+abbrev pub draws_next : SessionView → ℕ
+draws_next s = min 2 (draws_left s)
+
 -- the first of the blocks that were left have their results, behind the earlier ones and at this seat, with these entries in their order
 pub record GoesOn (records seat : ℕ) (entries : List Entry) (before after' : SessionView) : Type 0 where
   pub lane : after'.lane ≡ before.lane
@@ -89,3 +94,13 @@ pub record GoesOn (records seat : ℕ) (entries : List Entry) (before after' : S
   pub results_are : after'.results ≡ before.results ++ more
   pub are_entries : AreEntries records entries done more
   pub seats : AreOfSeat seat more
+
+-- From one pass and one session to another: these entries were added, no more stamps were drawn than the tries between them may draw and so many
+-- beside, and the pass was refused as often as the session. Where there was room for all draws that were left and for those beside, there is
+-- room for those that are left.
+pub record LeadsOn (beside : ℕ) (p q : PassView) (before after' : SessionView) : Type 0 where
+  pub entries : List Entry
+  pub adds : Adds p q entries
+  pub goes : GoesOn p.shared.size.records p.seat entries before after'
+  pub clock : clock_after q.clock (draws_left after') ≤ clock_after p.clock (draws_left before + beside)
+  pub refusals : p.refusals + after'.refused ≤ q.refusals + before.refused

@@ -14,17 +14,14 @@ use Rattle.stamp_base.specs.Stamp.{stamp_of}
 use Rattle.seat_post.specs.Snapshot.{SnapshotView}
 use Rattle.txn_engine.specs.Pass.{PassView, EngineView, IsIdle}
 use Rattle.lane_runner.specs.Adds.{Adds, IsNext}
-use Rattle.lane_runner.specs.Blocks.{AddsOthers, AreOfSeat, IsOfSeat}
-use Rattle.lane_queue.specs.declared.lane.Lane.{Lane}
-use Rattle.lane_runner.specs.Done.{DoesLane}
-use Rattle.lane_runner.specs.Lanes.{AddsSome, AreEntries, KeepOrder}
+use Rattle.lane_runner.specs.Blocks.{AddsOthers, IsOfSeat}
+use Rattle.lane_runner.specs.Lanes.{AddsSome}
 use Rattle.lane_runner.specs.Room.{HasRoom, clock_after}
 use Rattle.lane_runner.specs.Rows.{stands}
-use Rattle.lane_runner.specs.Session.{SessionView, GoesOn, done_of, draws_left, new_session, to_try}
+use Rattle.lane_runner.specs.Session.{SessionView, LeadsOn, draws_left}
 use Rattle.lane_runner.specs.Weighs.{LeavesTables}
 use Rattle.lane_runner.proofs.Adding.{Adds-none, Adds-trans}
-use Rattle.lane_runner.proofs.Attempted.{Steps, goes_trans, room_for_try, steps_none}
-use Rattle.lane_runner.proofs.Results.{keep_order}
+use Rattle.lane_runner.proofs.Attempted.{leads_trans}
 use Rattle.lane_runner.proofs.Run.{AreEntries-others}
 use Rattle.lane_threads.specs.Seen.{AreEntered, IsRead, IsReadingOf, NeverFall}
 use Rattle.lane_threads.proofs.Owned.{entered_none, entered_one, entered_then}
@@ -156,27 +153,9 @@ count_more old mid new dump n so_far grown =
 
 -- ---- tries of a session, with dumps between them
 
--- from one pass and one session to another: these entries, no more draws than the tries and so many dumps allow, and as many refusals
-pub record StepsDumping (p q : PassView) (before after' : SessionView) (dumps : ℕ) : Type 0 where
-  pub entries : List Entry
-  pub adds : Adds p q entries
-  pub goes : GoesOn p.shared.size.records p.seat entries before after'
-  pub clock : clock_after q.clock (draws_left after') ≤ clock_after p.clock (draws_left before + dumps)
-  pub refusals : p.refusals + after'.refused ≤ q.refusals + before.refused
-
--- tries alone
-pub steps_alone : (p q : PassView) (s t : SessionView) → Steps p q s t → StepsDumping p q s t 0
-steps_alone p q s t steps = record {
-  entries = steps.entries;
-  adds = steps.adds;
-  goes = steps.goes;
-  clock = (let to = steps.clock in omega (arith, to));
-  refusals = steps.refusals;
-}
-
--- dumps alone
-pub steps_dumps : (p q : PassView) (s : SessionView) (dumps : ℕ) → AddsOthers p q → q.clock ≤ clock_after p.clock dumps → StepsDumping p q s s dumps
-steps_dumps p q s dumps others clock = record {
+-- dumps alone, or nothing
+pub leads_dumps : (p q : PassView) (s : SessionView) (dumps : ℕ) → AddsOthers p q → q.clock ≤ clock_after p.clock dumps → LeadsOn dumps p q s s
+leads_dumps p q s dumps others clock = record {
   entries = others.entries;
   adds = others.adds;
   goes = record {
@@ -193,54 +172,18 @@ steps_dumps p q s dumps others clock = record {
   refusals = (let grows = others.adds.refusals in omega (arith, grows));
 }
 
-pub steps_then : (p q r : PassView) (s t u : SessionView) (m n : ℕ) → StepsDumping p q s t m → StepsDumping q r t u n → StepsDumping p r s u (m + n)
-steps_then p q r s t u m n first second = record {
-  entries = first.entries ++ second.entries;
-  adds = Adds-trans p q r first.entries second.entries first.adds second.adds;
-  goes = goes_trans p.shared.size.records p.seat first.entries second.entries s t u first.goes
-      (subst (λ (y : EngineView × ℕ). GoesOn y.0.size.records y.1 second.entries t u) (λ i. (first.adds.engine i, first.adds.seat i)) second.goes);
-  clock = (let a = first.clock in let b = second.clock in omega (arith, a, b));
-  refusals = (let a = first.refusals in let b = second.refusals in omega (arith, a, b));
-}
-
 -- a try, and the dumps behind it
-pub steps_more : (p q r v : PassView) (s t u : SessionView) (old mid new : List Dump) → length old ≤ length mid → length mid ≤ length new
-    → StepsDumping p q s t (how_many old mid) → Steps q r t u → AddsOthers r v → v.clock ≤ clock_after r.clock (how_many mid new) → StepsDumping p v s u (how_many old new)
-steps_more p q r v s t u old mid new low high so_far try others clock =
-    let sum : how_many old mid + how_many mid new ≡ how_many old new = omega (arith, low, high) in
-    let none_more : 0 + how_many mid new ≡ how_many mid new = omega arith in
-    subst (StepsDumping p v s u) sum
-    (steps_then p q v s t u (how_many old mid) (how_many mid new) so_far
-    (subst (StepsDumping q v t u) none_more (steps_then q r v t u u 0 (how_many mid new) (steps_alone q r t u try) (steps_dumps r v u (how_many mid new) others clock))))
+pub leads_more : (p q r v : PassView) (s t u : SessionView) (old mid new : List Dump) → length old ≤ length mid → length mid ≤ length new
+    → LeadsOn (how_many old mid) p q s t → LeadsOn 0 q r t u → AddsOthers r v → v.clock ≤ clock_after r.clock (how_many mid new) → LeadsOn (how_many old new) p v s u
+leads_more p q r v s t u old mid new low high so_far try others clock =
+    let sum : how_many old mid + (0 + how_many mid new) ≡ how_many old new = omega (arith, low, high) in
+    subst (λ (n : ℕ). LeadsOn n p v s u) sum
+    (leads_trans (how_many old mid) (0 + how_many mid new) p q v s t u so_far (leads_trans 0 (how_many mid new) q r v t u u try (leads_dumps r v u (how_many mid new) others clock)))
 
 -- there is room for the draws that are left, and for the dumps that are
-pub room_left : (p q : PassView) (s t : SessionView) (old mid : List Dump) (draws due : ℕ) → StepsDumping p q s t (how_many old mid) → draws_left s ≤ draws → length old ≤ length mid → length mid ≤ due
+pub room_left : (p q : PassView) (s t : SessionView) (old mid : List Dump) (draws due : ℕ) → LeadsOn (how_many old mid) p q s t → draws_left s ≤ draws → length old ≤ length mid → length mid ≤ due
     → HasRoom p.clock (draws + (due - length old)) → HasRoom q.clock (draws_left t + (due - length mid))
 room_left p q s t old mid draws due so_far few low high room = let to = so_far.clock in omega (arith, to, few, low, high, room)
-
-pub room_to_try : (q : PassView) (t : SessionView) (more : ℕ) → IsIdle q → to_try t ≢ [] → HasRoom q.clock (draws_left t + more) → HasRoom q.clock 2
-room_to_try q t more idle some room = room_for_try q q t t (draws_left t) (steps_none q t idle) some (omega arith) (omega (arith, room))
-
--- behind a try
-pub room_behind : (q r : PassView) (t u : SessionView) (more : ℕ) → Steps q r t u → HasRoom q.clock (draws_left t + more) → HasRoom r.clock more
-room_behind q r t u more try room = let to = try.clock in omega (arith, to, room)
-
--- a whole lane
-pub does_lane_dumping : (lane : Lane) (tries : ℕ) (p q : PassView) (s : SessionView) (dumps : ℕ) → StepsDumping p q (new_session lane tries) s dumps → DoesLane lane (done_of s) p q
-does_lane_dumping lane tries p q s dumps steps =
-    let done_is : steps.goes.more ≡ s.results = sym steps.goes.results_are in
-    record {
-      lane_is = steps.goes.lane;
-      runs = record {
-        done = steps.goes.done;
-        blocks_are = steps.goes.left_is;
-        entries = steps.entries;
-        are_entries = subst (λ (xs : List (Placed × Outcome)). AreEntries p.shared.size.records steps.entries steps.goes.done xs) done_is steps.goes.are_entries;
-        adds = steps.adds;
-      };
-      order = subst KeepOrder done_is (keep_order p.shared.size.records steps.entries steps.goes.done steps.goes.more steps.goes.are_entries steps.adds.in_order);
-      seats = subst (AreOfSeat p.seat) done_is steps.goes.seats;
-    }
 
 -- ---- at the seat that is alone
 

@@ -1,4 +1,4 @@
-use Rattle.std.proofs.Common.{◌≡◌, ◌≢◌, ◌+◌, ◌-◌, ◌<◌, ◌≤◌, List, [], ◌++◌, length, sym, ap, subst, ◌∙◌, arith}
+use Rattle.std.proofs.Common.{◌≡◌, ◌≢◌, ℕ, ◌+◌, ◌-◌, ◌<◌, ◌≤◌, List, [], ◌++◌, length, sym, ap, subst, ◌∙◌, arith}
 use Rattle.std.proofs.lemmas.List.{length-append}
 use Rattle.txn_engine.specs.Pass.{EngineView}
 use Rattle.lane_runner.specs.declared.turn.Turn.TheVariants.{Outcome as HasEnded}
@@ -8,33 +8,33 @@ use Rattle.snap_dump.proofs.Beside.{beside_next, beside_none}
 use Rattle.lane_runner.specs.declared.done.LaneDone.{LaneDone}
 use Rattle.lane_runner.specs.Done.{DoesLane}
 use Rattle.lane_runner.specs.Lanes.{lane_draws}
-use Rattle.lane_runner.specs.Session.{SessionView, draws_left}
-use Rattle.lane_runner.proofs.Attempted.{steps_none, steps_attempt, tries_attempt, draws_new}
+use Rattle.lane_runner.proofs.Attempted.{does_lane}
+use Rattle.lane_runner.specs.Session.{SessionView, LeadsOn}
 use Rattle.snap_dump.specs.Dumps.{how_many}
-use Rattle.snap_dump.proofs.Made.{StepsDumping, does_lane_dumping, made_more, made_none, made_then, none_added, room_behind, room_left, room_to_try, some_then, steps_alone, steps_more}
+use Rattle.snap_dump.proofs.Made.{leads_dumps, leads_more, made_more, made_none, made_then, none_added, none_others, room_left, some_then}
 use Rattle.snap_dump.proofs.lanes.run_lane_dumping.Goals as goal
 
 pub attempts-init : goal.attempts-init
 attempts-init g c = record {
   engine = c.requires.pass.same;
-  steps = subst (StepsDumping c.args.pass.now c.args.pass.now c.new-session.result c.new-session.result) (omega arith)
-      (steps_alone c.args.pass.now c.args.pass.now c.new-session.result c.new-session.result (steps_none c.args.pass.now c.new-session.result c.requires.pass.idle));
+  leads = subst (λ (n : ℕ). LeadsOn n c.args.pass.now c.args.pass.now c.new-session.result c.new-session.result) (omega arith)
+      (leads_dumps c.args.pass.now c.args.pass.now c.new-session.result 0 (none_others c.args.pass.now c.requires.pass.idle) (omega arith));
   made = made_none c.args.pass.now c.args.pass.now c.args.made.now.items (none_added c.args.pass.now c.requires.pass.idle);
-  beside = subst (λ (s : SessionView). AreBeside c.args.due c.args.made.now.items [] s.results) (sym c.new-session.ensures) (beside_none c.args.due c.args.made.now.items);
+  beside = subst (λ (s : SessionView). AreBeside c.args.due c.args.made.now.items [] s.results) (sym c.new-session.ensures.new) (beside_none c.args.due c.args.made.now.items);
   within = c.requires.within;
 }
 
 pub attempt-requires-clause-pass : goal.attempt-requires-clause-pass
-attempt-requires-clause-pass g c = record { same = c.attempts.invariant.engine; idle = c.attempts.invariant.steps.adds.idle; fixed = c.requires.pass.fixed }
+attempt-requires-clause-pass g c = record { same = c.attempts.invariant.engine; idle = c.attempts.invariant.leads.adds.idle; fixed = c.requires.pass.fixed }
 
 pub attempt-requires-clause-room : goal.attempt-requires-clause-room
 attempt-requires-clause-room g c =
     let i = c.attempts.invariant in
-    let few : draws_left c.new-session.result ≤ lane_draws c.args.lane.blocks c.args.tries = subst (λ (s : SessionView). draws_left s ≤ lane_draws c.args.lane.blocks c.args.tries) (sym c.new-session.ensures) (draws_new c.args.lane c.args.tries) in
-    let room = room_left c.args.pass.now c.attempts.pass c.new-session.result c.attempts.session c.args.made.now.items c.attempts.made.items (lane_draws c.args.lane.blocks c.args.tries) c.args.due i.steps few
-    (made_more c.args.pass.now c.attempts.pass c.args.made.now.items c.attempts.made.items i.made) i.within c.requires.room in
-    let left = c.args.due - length c.attempts.made.items in
-    room_to_try c.attempts.pass c.attempts.session left i.steps.adds.idle (c.has_next.ensures.yes c.attempts-test.true) room
+    omega (
+      arith,
+      room_left c.args.pass.now c.attempts.pass c.new-session.result c.attempts.session c.args.made.now.items c.attempts.made.items (lane_draws c.args.lane.blocks c.args.tries) c.args.due i.leads c.new-session.ensures.draws
+          (made_more c.args.pass.now c.attempts.pass c.args.made.now.items c.attempts.made.items i.made) i.within c.requires.room,
+    )
 
 pub dump_behind-requires-clause-pass : goal.dump_behind-requires-clause-pass
 dump_behind-requires-clause-pass g c = record { same = c.attempt.ensures.adds.1.engine ∙ c.attempts.invariant.engine; idle = c.attempt.ensures.adds.1.idle; fixed = c.requires.pass.fixed }
@@ -42,15 +42,9 @@ dump_behind-requires-clause-pass g c = record { same = c.attempt.ensures.adds.1.
 pub dump_behind-requires-clause-room : goal.dump_behind-requires-clause-room
 dump_behind-requires-clause-room g c =
     let i = c.attempts.invariant in
-    let few : draws_left c.new-session.result ≤ lane_draws c.args.lane.blocks c.args.tries = subst (λ (s : SessionView). draws_left s ≤ lane_draws c.args.lane.blocks c.args.tries) (sym c.new-session.ensures) (draws_new c.args.lane c.args.tries) in
-    let room = room_left c.args.pass.now c.attempts.pass c.new-session.result c.attempts.session c.args.made.now.items c.attempts.made.items (lane_draws c.args.lane.blocks c.args.tries) c.args.due i.steps few
+    let room = room_left c.args.pass.now c.attempts.pass c.new-session.result c.attempts.session c.args.made.now.items c.attempts.made.items (lane_draws c.args.lane.blocks c.args.tries) c.args.due i.leads c.new-session.ensures.draws
     (made_more c.args.pass.now c.attempts.pass c.args.made.now.items c.attempts.made.items i.made) i.within c.requires.room in
-    let left = c.args.due - length c.attempts.made.items in
-    let try = steps_attempt c.in_ok-turn.turn c.attempts.pass c.attempt.new.pass c.attempts.session c.attempt.new.self i.steps.adds.idle c.in_ok-turn.ensures.attempts c.in_ok-turn.ensures.clock in
-    room_behind c.attempts.pass c.attempt.new.pass c.attempts.session c.attempt.new.self left try room
-
-pub attempts-smaller : goal.attempts-smaller
-attempts-smaller g c = tries_attempt c.in_ok-turn.turn c.attempts.pass c.attempt.new.pass c.attempts.session c.attempt.new.self (c.has_next.ensures.yes c.attempts-test.true) c.in_ok-turn.ensures.attempts
+    omega (arith, c.in_ok-turn.ensures.leads.clock, room)
 
 pub attempts-preserved : goal.attempts-preserved
 attempts-preserved g c =
@@ -62,18 +56,17 @@ attempts-preserved g c =
     let old = c.args.made.now.items in
     let mid = c.attempts.made.items in
     let new = c.dump_behind.new.made.items in
-    let try = steps_attempt c.in_ok-turn.turn c.attempts.pass c.attempt.new.pass c.attempts.session c.attempt.new.self i.steps.adds.idle c.in_ok-turn.ensures.attempts c.in_ok-turn.ensures.clock in
     let dumped = c.in_ok-dump_behind.ensures in
     let fresh = made_then q r v mid mid new c.attempt.ensures.adds c.dump_behind.ensures.adds (made_none q r mid c.attempt.ensures.adds) dumped.made in
     let grown = ap (λ (ds : List Dump). length ds) dumped.made.grown in
     let sum = length-append mid dumped.made.more in
     let front = ap (λ (ds : List Dump). length ds) i.made.grown in
     let size : p.shared.size.seats ≡ c.args.engine.now.size.seats = ap (λ (e : EngineView). e.size.seats) c.requires.pass.same in
-    let same_seat = i.steps.adds.seat in
+    let same_seat = i.leads.adds.seat in
     record {
       engine = c.dump_behind.ensures.adds.1.engine ∙ c.attempt.ensures.adds.1.engine ∙ i.engine;
-      steps = steps_more p q r v c.new-session.result c.attempts.session c.attempt.new.self old mid new (made_more p q old mid i.made) (made_more q v mid new fresh) i.steps try dumped.others dumped.clock;
-      made = made_then p q v old mid new (i.steps.entries, i.steps.adds) (some_then q r v c.attempt.ensures.adds c.dump_behind.ensures.adds) i.made fresh;
+      leads = leads_more p q r v c.new-session.result c.attempts.session c.attempt.new.self old mid new (made_more p q old mid i.made) (made_more q v mid new fresh) i.leads c.in_ok-turn.ensures.leads dumped.others dumped.clock;
+      made = made_then p q v old mid new (i.leads.entries, i.leads.adds) (some_then q r v c.attempt.ensures.adds c.dump_behind.ensures.adds) i.made fresh;
       beside = beside_next c.in_ok-turn.turn p.met c.args.due q r c.attempts.session c.attempt.new.self old i.made.more dumped.made.more
           (omega (arith, c.seat.ensures.within, c.seats.ensures.in_range.seats_in_range, size, same_seat)) c.in_ok-turn.ensures.attempts i.made.each
           (λ outcome few. let one = dumped.one outcome (omega (arith, few, front)) in omega (arith, one, grown, sum))
@@ -85,19 +78,19 @@ attempts-preserved g c =
 
 pub returns-in_err-turn-clause-adds : goal.returns-in_err-turn-clause-adds
 returns-in_err-turn-clause-adds g c =
-    some_then c.args.pass.now c.attempts.pass c.attempt.new.pass (c.attempts.invariant.steps.entries, c.attempts.invariant.steps.adds) c.attempt.ensures.adds
+    some_then c.args.pass.now c.attempts.pass c.attempt.new.pass (c.attempts.invariant.leads.entries, c.attempts.invariant.leads.adds) c.attempt.ensures.adds
 
 pub returns-in_err-dump_behind-clause-adds : goal.returns-in_err-dump_behind-clause-adds
 returns-in_err-dump_behind-clause-adds g c =
-    some_then c.args.pass.now c.attempts.pass c.dump_behind.new.pass (c.attempts.invariant.steps.entries, c.attempts.invariant.steps.adds)
+    some_then c.args.pass.now c.attempts.pass c.dump_behind.new.pass (c.attempts.invariant.leads.entries, c.attempts.invariant.leads.adds)
     (some_then c.attempts.pass c.attempt.new.pass c.dump_behind.new.pass c.attempt.ensures.adds c.dump_behind.ensures.adds)
 
 pub returns-clause-does : goal.returns-clause-does
 returns-clause-does g c =
     let dumps = how_many c.args.made.now.items c.attempts.made.items in
     subst (λ (done : LaneDone). DoesLane c.args.lane done c.args.pass.now c.attempts.pass) (sym c.finish.ensures)
-    (does_lane_dumping c.args.lane c.args.tries c.args.pass.now c.attempts.pass c.attempts.session dumps
-    (subst (λ (s : SessionView). StepsDumping c.args.pass.now c.attempts.pass s c.attempts.session dumps) c.new-session.ensures c.attempts.invariant.steps))
+    (does_lane c.args.lane c.args.tries dumps c.args.pass.now c.attempts.pass c.attempts.session
+    (subst (λ (s : SessionView). LeadsOn dumps c.args.pass.now c.attempts.pass s c.attempts.session) c.new-session.ensures.new c.attempts.invariant.leads))
 
 pub returns-clause-beside : goal.returns-clause-beside
 returns-clause-beside g c =

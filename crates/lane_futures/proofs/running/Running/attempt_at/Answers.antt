@@ -1,6 +1,6 @@
 use Rattle.std.proofs.Common.{◌∙◌, refl, arith}
 use Rattle.std.proofs.lemmas.List.{length-set}
-use Rattle.lane_futures.proofs.Turned.{place_within, room_in_turn, takes_turn, adds_turn}
+use Rattle.lane_futures.proofs.Turned.{place_within, room_in_turn, takes_turn, leads_in_turn, fewer_in_turn, adds_turn}
 use Rattle.lane_futures.proofs.running.Running.attempt_at.Goals as goal
 
 pub overflow_add-self : goal.overflow_add-self
@@ -13,11 +13,19 @@ pub attempt-requires-clause-pass : goal.attempt-requires-clause-pass
 attempt-requires-clause-pass g c = c.self.invariant.0
 
 pub attempt-requires-clause-room : goal.attempt-requires-clause-room
-attempt-requires-clause-room g c = room_in_turn _ c.args.self.now c.args.place c.index_mut.result.now c.self.view_is c.requires.in_turn c.index_mut.ensures.value c.self.invariant.0.idle c.requires.room
+attempt-requires-clause-room g c = room_in_turn _ c.args.self.now c.args.place c.index_mut.result.now c.self.view_is c.requires.in_turn c.index_mut.ensures.value c.requires.room
 
 pub returns-clause-takes : goal.returns-clause-takes
 returns-clause-takes g c =
     takes_turn _ c.args.self.now c.args.place c.index_mut.result.now c.self.view_is c.requires.in_turn c.index_mut.ensures.value _ c.attempt.new.self c.in_ok-attempt.field-0 c.in_ok-attempt.ensures.attempts c.in_ok-attempt.ensures.clock refl refl
+
+pub returns-clause-leads : goal.returns-clause-leads
+returns-clause-leads g c =
+    leads_in_turn _ c.args.self.now c.args.place c.index_mut.result.now c.self.view_is c.requires.in_turn c.index_mut.ensures.value _ c.attempt.new.self c.in_ok-attempt.ensures.leads refl
+
+pub returns-clause-fewer : goal.returns-clause-fewer
+returns-clause-fewer g c =
+    fewer_in_turn _ c.args.self.now c.args.place c.index_mut.result.now c.self.view_is c.requires.in_turn c.index_mut.ensures.value _ c.attempt.new.self c.in_ok-attempt.ensures.fewer refl
 
 pub returns-clause-adds : goal.returns-clause-adds
 returns-clause-adds g c = adds_turn _ c.args.self.now _ c.self.view_is c.attempt.ensures.adds

@@ -5,7 +5,7 @@ ghost use Rattle.record_store.specs.Goes.{WalksByReads, WalksByCalls};
 ghost use Rattle.record_store.specs.Limits.{record_limit};
 ghost use Rattle.record_store.specs.Meaning.{after_write};
 ghost use Rattle.record_store.specs.States.{EachState};
-ghost use Rattle.record_store.specs.Walks.{IfTorn};
+ghost use Rattle.record_store.specs.Walks.{IfTorn, OnlyReads};
 ghost use Rattle.record_store.specs.Writes.{WritesOnly, EachWritesKnown};
 ghost use Rattle.ordered_index.specs.declared.node.Kind.TheVariants.{Leaf, Inner};
 ghost use Rattle.ordered_index.specs.Held.{content_of};
@@ -43,6 +43,7 @@ pub fn reclaim<S: RecordStore>(store: &mut S, root: u32, key: Key) -> Result<Fre
     ensures stored { IfOk result (λ freed. All (λ rid. rid < (S.meaning store.old).size) freed.items) }
     ensures walked { OnOk result (EachState (S.meaning store.old) (S.meaning store.new) (DescentEndsWell (S.meaning store.old).size root key)) }
     ensures torn { IfTorn result (IsTornReclaim root key (S.meaning store.old) (S.meaning store.new)) }
+    ensures unwritten { IfTorn result (λ _. OnlyReads (S.meaning store.old) (S.meaning store.new)) }
 
     // `fresh` is never asked
     ensures walk { WalksByCalls S.read_gives S.write_gives S.fresh_gives S.meaning S.rest (λ _. ⊥) 0 store.old store.new result }
@@ -87,6 +88,7 @@ fn give_back<S: RecordStore>(
     ensures ok { IfOk result (λ freed. Joins size (node_of under.now.parent) (node_of under.now.leaf) (S.meaning store.old) (S.meaning store.new) freed.items) }
     ensures stored { IfOk result (λ freed. All (λ rid. rid < size) freed.items) }
     ensures torn { IfTorn result (IsNoneBeside size (content_at under.now.parent.words).entries (S.meaning store.old) (S.meaning store.new)) }
+    ensures unwritten { IfTorn result (λ _. OnlyReads (S.meaning store.old) (S.meaning store.new)) }
     ensures walk { WalksByCalls S.read_gives S.write_gives S.fresh_gives S.meaning S.rest (λ _. ⊥) 0 store.old store.new result }
     ensures few { WritesOrFrees 3 (S.meaning store.old) (S.meaning store.new) }
     ensures writes { WritesOnly (IsFound (S.meaning store.old) (S.meaning store.new) under.now.parent.at under.now.leaf.at) (S.meaning store.old) (S.meaning store.new) }

@@ -32,7 +32,7 @@ leads_framed size state state' position from to (node ∷ row) same leads = (
 start_at : (value : Option (List ℕ)) (state state' : State) (bucket : ℕ) → state bucket ≡ value → state' bucket ≡ value → start_of state' bucket ≡ start_of state bucket
 start_at value state state' bucket was now = rw (was, now) refl
 
-bucket_in : (size bucket : ℕ) (state : State) (row : List (ℕ × List ℕ)) → Leads size state 0 (Some bucket) row None → Contains (records_of row) bucket
+pub bucket_in : (size bucket : ℕ) (state : State) (row : List (ℕ × List ℕ)) → Leads size state 0 (Some bucket) row None → Contains (records_of row) bucket
 bucket_in size bucket state [] leads = absurd (none-some bucket (sym leads))
 bucket_in size bucket state (node ∷ row) leads = (0, omega arith, sym (same_Some bucket node.0 leads.0))
 
@@ -100,7 +100,7 @@ first_in root [] names = cc
 first_in root (x ∷ row) names = inl (ap first_of names)
 
 -- the root of a tree is one of its records
-root_in : (size root : ℕ) (state : State) (levels : List (List (ℕ × Content))) (leaves : List (ℕ × Content)) → Descends size state ((first_key, root) ∷ []) levels leaves → In root (tree_records levels leaves)
+pub root_in : (size root : ℕ) (state : State) (levels : List (List (ℕ × Content))) (leaves : List (ℕ × Content)) → Descends size state ((first_key, root) ∷ []) levels leaves → In root (tree_records levels leaves)
 root_in size root state [] leaves descends = first_in root leaves descends.0
 root_in size root state (level ∷ levels) leaves descends =
     in_left root (records_of level) (tree_records levels leaves) (first_in root level descends.0)

@@ -33,6 +33,9 @@ pub mod RowSteps
 pub mod RowAdding
 pub mod Stepped
 pub mod StepRuns
+pub mod FixedPlaces
+pub mod Reclaimed
+pub mod ReclaimRuns
 pub mod Midway
 pub mod Rowing
 pub mod RowLeaves

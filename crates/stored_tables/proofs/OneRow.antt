@@ -1,5 +1,5 @@
 -- A row that is read, set or taken out by itself.
-use Rattle.std.proofs.Common.{◌≡◌, ℕ, true, false, Option, None, Some, Result, Ok, Err, refl, sym, ap, subst}
+use Rattle.std.proofs.Common.{◌≡◌, ℕ, Bool, true, false, Option, None, Some, Result, Ok, Err, refl, sym, ap, subst}
 use Rattle.std.specs.Prelude.{IsSome, is_some, if◌then◌else◌}
 use Rattle.plain_data.specs.State.{State}
 use Rattle.record_store.specs.Meaning.{Meaning}
@@ -9,9 +9,10 @@ use Rattle.replay_model.specs.declared.outcome.Answer.TheVariants.{Nothing}
 use Rattle.replay_model.specs.declared.outcome.Cause.{Cause}
 use Rattle.replay_model.specs.declared.outcome.Cause.TheVariants.{Missing}
 use Rattle.replay_model.specs.TableMap.{TableMap, Row, value_at, with_value, without}
-use Rattle.stored_tables.specs.Answers.{Held, Becomes, Does, IsFound}
+use Rattle.stored_tables.specs.Answers.{Held, Becomes, Does, IsFound, IsIndexed}
 use Rattle.stored_tables.specs.Plan.{plan}
-use Rattle.stored_tables.specs.OneRow.{IsRowAt, SetsRow, TakesRow}
+use Rattle.stored_tables.specs.OneRow.{IsRowAt, SetsRow, TakesOut, TakesRow}
+use Rattle.stored_tables.specs.declared.leaving.Taken.{Taken}
 use Rattle.stored_tables.specs.declared.reading.Found.{Found}
 use Rattle.stored_tables.proofs.Commands.{del_missing}
 
@@ -64,6 +65,24 @@ row_taken_by table key now asked state held did =
     let both = took held.1 did.0 table key (value_at held.1 table key) did.1 in
     let P : TableMap → Type 0 = λ t. Becomes (plan (Del table key) held.1) t now asked state held in
     (both.0, subst P (sym both.1) did.2)
+
+-- told of what was there
+pub taken_out : (table key : ℕ) (now : Meaning) (taken : Taken) (rid asked : ℕ) (state : State) (held : Held)
+    → Does (Del table key) now (Ok Nothing) asked state held → IsIndexed table taken.index state held × ((held.0.row_at table key ≡ Some rid) × (value_at held.1 table key ≡ Some taken.row))
+    → TakesOut table key now (Some taken) asked state held
+taken_out table key now taken rid asked state held did known = (row_taken_by table key now asked state held did, known.1.1, known.0)
+
+-- and whether there was one
+pub out_taken : (table key : ℕ) (now : Meaning) (taken : Option Taken) (asked : ℕ) (state : State) (held : Held)
+    → TakesOut table key now taken asked state held → TakesRow table key now (is_some taken) asked state held
+out_taken table key now None asked state held out = out
+out_taken table key now (Some taken) asked state held out = out.0
+
+pub told_as : (table key : ℕ) (now : Meaning) (taken : Option Taken) (there : Bool) (asked : ℕ) (state : State) (held : Held)
+    → is_some taken ≡ there → TakesOut table key now taken asked state held → TakesRow table key now there asked state held
+told_as table key now taken there asked state held is out =
+    let P : Bool → Type 0 = λ b. TakesRow table key now b asked state held in
+    subst P is (out_taken table key now taken asked state held out)
 
 gone : (tables : TableMap) (table key : ℕ) (found : Option Row) → IsSome found
     → taken_step tables table key found ≡ Ok (Nothing, without tables table key)

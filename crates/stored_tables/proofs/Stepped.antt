@@ -146,7 +146,7 @@ module _ (number : ℕ) (key : Key) (rid : ℕ) (before now : Meaning) (state : 
     (levels' : List (List (ℕ × Content))) (leaves' : List (ℕ × Content)) (low : number < tree_limit)
     (enough : fixed_records ≤ before.fixed) (same : now.size ≡ before.size) (declared : IsDeclared places number)
     (shape : Shaped before state places) where
-  tree_stays : (fixed first : ℕ) → IsShape before.size (overlay now.writes state) (with_tree places number levels' leaves')
+  pub tree_stays : (fixed first : ℕ) → IsShape before.size (overlay now.writes state) (with_tree places number levels' leaves')
       → IsMoved fixed first (λ r. In r (tree_records (places.levels number) (places.leaves number)))
       (λ r. In r (tree_records levels' leaves')) (overlay before.writes state) (overlay now.writes state)
       → RowsStay before now state places

@@ -14,6 +14,7 @@ use Rattle.hash_index.specs.Answers.{IsTornChain}
 use Rattle.hash_index.specs.Chain.{EachChain, IsChain, Rows, RowEndsWell, RowTears, bucket_of, record_of}
 use Rattle.ordered_index.specs.declared.key.Key.{Key}
 use Rattle.ordered_index.specs.Node.{Content}
+use Rattle.ordered_index.specs.Reclaim.{IsTornReclaim, ReclaimTears, TearsBeside}
 use Rattle.ordered_index.specs.Tree.{EachTree, IsTree, record_of_key}
 use Rattle.ordered_index.specs.Walk.{DescentEndsWell, DescentTears, IsTornTree}
 use Rattle.replay_model.specs.Report.{table_named}
@@ -21,7 +22,7 @@ use Rattle.replay_model.specs.declared.command.Command.{Command}
 use Rattle.stored_tables.specs.Places.{base_of, index_tree, root_of}
 use Rattle.stored_tables.specs.Tears.{IsTreeOf, LacksPair, NamesTorn, NamesTornChange, OfCommand, TearsChange, TearsTable, TellsEntry}
 use Rattle.stored_tables.specs.Tears.TearsTable.{in_chain, in_tree, in_index}
-use Rattle.stored_tables.specs.Tears.TearsChange.{on_a_walk, chain_at_odds, tree_at_odds}
+use Rattle.stored_tables.specs.Tears.TearsChange.{on_a_walk, beside_a_leaf, chain_at_odds, tree_at_odds}
 use Rattle.stored_tables.proofs.Tearing.{names_behind}
 
 -- where nothing more was written, what was told of where a call began holds of where it ends
@@ -41,6 +42,14 @@ on_tree : (table number root size rid : ℕ) (key : Key) (state : State) → IsT
 on_tree table number root size rid key state of is torn = elim of as (λ _. TearsTable size table state rid) [
   | inl by_keys ↦ in_tree key (inl (let P : ℕ → Type 0 = λ r. DescentTears size r key state rid in subst P (is ∙ ap root_of by_keys) torn))
   | inr by_index ↦ in_index key (inl (let P : ℕ → Type 0 = λ r. DescentTears size r key state rid in subst P (is ∙ ap root_of by_index) torn))
+]
+
+-- a walk is torn, or a leaf beside the one that it comes to
+beside_walk : (table number root size rid : ℕ) (key : Key) (state : State) → IsTreeOf table number → root ≡ root_of number
+    → ReclaimTears size root key rid state → TearsChange size table state rid
+beside_walk table number root size rid key state of is torn = elim torn as (λ _. TearsChange size table state rid) [
+  | inl walk ↦ on_a_walk (on_tree table number root size rid key state of is walk)
+  | inr beside ↦ (let P : ℕ → Type 0 = λ r. TearsBeside size r key state rid in beside_a_leaf number key of (subst P is beside))
 ]
 
 both_torn : {T F : Type 0} (result : Result T (Walk F)) (P Q : ℕ → Type 0) → IfTorn result P → IfTorn result Q → IfTorn result (λ rid. P rid × Q rid)
@@ -74,6 +83,13 @@ module _ {T F : Type 0} where
   tree_changes table number root key first last result of is torn unwritten = IfTorn-map result
       (λ rid both. reads_change table rid first last both.1
       (λ state agrees. on_tree table number root first.size rid key (overlay first.writes state) of is (both.0.tears state agrees)))
+      (both_torn result _ _ torn unwritten)
+
+  pub leaf_changes : (table number root : ℕ) (key : Key) (first last : Meaning) (result : Result T (Walk F)) → IsTreeOf table number → root ≡ root_of number
+      → IfTorn result (IsTornReclaim root key first last) → IfTorn result (λ _. OnlyReads first last) → IfTorn result (NamesTornChange table last)
+  leaf_changes table number root key first last result of is torn unwritten = IfTorn-map result
+      (λ rid both. told_now (λ size s. TearsChange size table s rid) first last (writes_same first last both.1) (size_same first last both.1)
+      (λ state agrees. beside_walk table number root first.size rid key (overlay first.writes state) of is (both.0.tears state agrees)))
       (both_torn result _ _ torn unwritten)
 
   -- a command of a block

@@ -20,3 +20,4 @@ pub mod Packed
 pub mod Change
 pub mod RowLists
 pub mod Tears
+pub mod Reclaim

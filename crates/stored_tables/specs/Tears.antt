@@ -9,6 +9,7 @@ use Rattle.record_store.specs.Meaning.{Meaning}
 use Rattle.record_store.specs.States.{EachState}
 use Rattle.hash_index.specs.Chain.{IsChain, Rows, RowEndsWell, RowTears, bucket_of, record_of}
 use Rattle.ordered_index.specs.declared.key.Key.{Key}
+use Rattle.ordered_index.specs.Reclaim.{TearsBeside}
 use Rattle.ordered_index.specs.Scan.{ScanTears}
 use Rattle.replay_model.specs.Input.{IsColumn}
 use Rattle.replay_model.specs.Report.{table_named}
@@ -69,11 +70,12 @@ pub record TellsEntry (size root : ℕ) (key : Key) (there : Bool) (state : Stat
 abbrev pub IsTreeOf : ℕ → ℕ → Type 0
 IsTreeOf table number = (number ≡ table) ⊎ (number ≡ index_tree table)
 
--- A table that is changed is torn at a record: there a walk is torn. Or no walk is, but two parts of the table are at odds about a row: a key
+-- A table that is changed is torn at a record: there a walk is torn; or a leaf beside the one that a walk comes to is none. Or no walk is, but two parts of the table are at odds about a row: a key
 -- that the chain told before is not there, and the record is the key's bucket; or a tree lacks the entry of a row, or has one of a row that was
 -- not there, and the record is its root.
 pub data TearsChange (size table : ℕ) (state : State) (rid : ℕ) : Type 0 where
   on_a_walk : TearsTable size table state rid → TearsChange size table state rid
+  beside_a_leaf : (number : ℕ) (key : Key) → IsTreeOf table number → TearsBeside size (root_of number) key state rid → TearsChange size table state rid
   chain_at_odds : (key : ℕ) → rid ≡ base_of table + bucket_of key → LacksPair size (base_of table) key state → TearsChange size table state rid
   tree_at_odds : (number : ℕ) (key : Key) (there : Bool) → IsTreeOf table number → rid ≡ root_of number → TellsEntry size rid key there state
       → TearsChange size table state rid

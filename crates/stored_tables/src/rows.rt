@@ -1,13 +1,15 @@
 //! Rows of a table by themselves, for callers that run no block: no call takes anything back, so what was written before stays, also
 //! where a call has no answer.
 
-ghost use Rattle.std.specs.Prelude.{◌≡◌, ◌⊎◌, ℕ, ◌-◌, ◌^◌, ◌<◌, ◌≤◌, nat_le, false, IfOk, IfNone, IfSome, Some};
+ghost use Rattle.std.specs.Prelude.{◌≡◌, ◌⊎◌, ℕ, ◌-◌, ◌^◌, ◌<◌, ◌≤◌, [], All, nat_le, false, IfOk, IfNone, IfSome, Some};
 ghost use Rattle.record_store.specs.Goes.{GoesByCalls};
 ghost use Rattle.record_store.specs.Walks.{IfNoMemory, IfTorn, OnlyReads};
 ghost use Rattle.replay_model.specs.declared.command.Command.TheVariants.{Put, Del};
 ghost use Rattle.stored_tables.specs.Answers.{DueBy, IsScanned, Stands};
 ghost use Rattle.stored_tables.specs.OneRow.{IsRowAt, SetsRow, TakesRow};
+ghost use Rattle.stored_tables.specs.Places.{index_tree};
 ghost use Rattle.stored_tables.specs.Plan.{plan};
+ghost use Rattle.stored_tables.specs.Reclaim.{Clears, GivesLeaf};
 ghost use Rattle.stored_tables.specs.RowLists.{IsPage, comes_behind};
 ghost use Rattle.stored_tables.specs.Runs.{Looks, Runs};
 ghost use Rattle.stored_tables.specs.Tears.{NamesTorn, NamesTornChange};
@@ -15,6 +17,8 @@ ghost use Rattle.stored_tables.specs.Tears.{NamesTorn, NamesTornChange};
 use crate::command;
 use crate::leaving::take_row;
 use crate::reading::{find_row, scan_rows};
+use crate::reclaiming::{reclaim_leaf, reclaim_leaves};
+use ordered_index::{Freed, Key};
 use record_store::{RecordRead, RecordStore, Walk};
 use replay_model::{Columns, Pairs, Sequence};
 use std::alloc::Global;
@@ -131,5 +135,77 @@ pub fn remove_row<S: RecordStore>(
 {
     // The records that are never given out lie in the store: its size says so.
     let _size = store.size();
-    take_row(store, table, key)
+    let taken = take_row(store, table, key)?;
+    Ok(taken.is_some())
+}
+
+/// Takes the row at a key out, and answers whether there was one, as `remove_row` does; then it gives the leaves back that the row left
+/// empty. Without a row nothing is written. It asks for no new record.
+pub fn remove_and_reclaim<S: RecordStore>(
+    store: &mut S,
+    table: u32,
+    key: u64,
+) -> Result<bool, Walk<S::Fault>>
+    requires table { table < 8 }
+    requires fixed { 4112 ≤ (S.meaning store.old).fixed }
+    ensures runs { Runs S.read_gives S.write_gives S.fresh_gives S.meaning (Stands (S.meaning store.old)) (DueBy (plan (Del table key))) (Clears table key (S.meaning store.new)) 10 store.old store.new result }
+    ensures tears { IfTorn result (NamesTornChange table (S.meaning store.new)) }
+    ensures asks_nothing { GoesByCalls S.read_gives S.write_gives S.fresh_gives S.meaning (λ _. ⊥) 0 store.old store.new result }
+
+    // nothing is written where there is no row
+    ensures kept { IfOk result (λ taken. taken ≡ false → OnlyReads (S.meaning store.old) (S.meaning store.new)) }
+    ensures rest { S.rest store.new ≡ S.rest store.old }
+{
+    // The records that are never given out lie in the store: its size says so.
+    let _size = store.size();
+    let Some(taken) = take_row(store, table, key)? else {
+        return Ok(false);
+    };
+    reclaim_leaves(store, table, key, &taken)?;
+    Ok(true)
+}
+
+/// Gives the leaf back where the entry of a key is, or would be, in a table's tree by keys, if it is empty and the node above it names three
+/// leaves or more. It answers the records that are absent from then on. No row changes, and it asks for no new record.
+pub fn reclaim_row<S: RecordStore>(
+    store: &mut S,
+    table: u32,
+    key: u64,
+) -> Result<Freed, Walk<S::Fault>>
+    requires table { table < 8 }
+    requires fixed { 4112 ≤ (S.meaning store.old).fixed }
+    ensures runs { Runs S.read_gives S.write_gives S.fresh_gives S.meaning (Stands (S.meaning store.old)) (λ _ _ _. ⊥) (λ freed asked state held. (asked ≡ 0) × GivesLeaf table (record { high = key; low = 0 }) freed.items (S.meaning store.old) (S.meaning store.new) state held) 3 store.old store.new result }
+    ensures tears { IfTorn result (NamesTornChange table (S.meaning store.new)) }
+    ensures asks_nothing { GoesByCalls S.read_gives S.write_gives S.fresh_gives S.meaning (λ _. ⊥) 0 store.old store.new result }
+    ensures stored { IfOk result (λ freed. All (λ rid. rid < (S.meaning store.old).size) freed.items) }
+    ensures kept { IfOk result (λ freed. freed.items ≡ [] → OnlyReads (S.meaning store.old) (S.meaning store.new)) }
+    ensures rest { S.rest store.new ≡ S.rest store.old }
+{
+    reclaim_leaf(store, table, Key { high: key, low: 0 })
+}
+
+/// The same of the entry of a row with this value in the index of its table. Without an index nothing is written.
+pub fn reclaim_entry<S: RecordStore>(
+    store: &mut S,
+    table: u32,
+    value: u64,
+    key: u64,
+) -> Result<Freed, Walk<S::Fault>>
+    requires table { table < 8 }
+    requires fixed { 4112 ≤ (S.meaning store.old).fixed }
+    ensures runs { Runs S.read_gives S.write_gives S.fresh_gives S.meaning (Stands (S.meaning store.old)) (λ _ _ _. ⊥) (λ freed asked state held. (asked ≡ 0) × GivesLeaf (index_tree table) (record { high = value; low = key }) freed.items (S.meaning store.old) (S.meaning store.new) state held) 3 store.old store.new result }
+    ensures tears { IfTorn result (NamesTornChange table (S.meaning store.new)) }
+    ensures asks_nothing { GoesByCalls S.read_gives S.write_gives S.fresh_gives S.meaning (λ _. ⊥) 0 store.old store.new result }
+    ensures stored { IfOk result (λ freed. All (λ rid. rid < (S.meaning store.old).size) freed.items) }
+    ensures kept { IfOk result (λ freed. freed.items ≡ [] → OnlyReads (S.meaning store.old) (S.meaning store.new)) }
+    ensures rest { S.rest store.new ≡ S.rest store.old }
+{
+    reclaim_leaf(
+        store,
+        table + 8,
+        Key {
+            high: value,
+            low: key,
+        },
+    )
 }

@@ -1,13 +1,13 @@
 use Rattle.std.proofs.Common.{◌≡◌, Some, Ok, ap, ◌∙◌, refl, arith}
 use Rattle.replay_model.specs.declared.command.Command.TheVariants.{Del}
 use Rattle.replay_model.specs.TableMap.{without}
-use Rattle.record_store.proofs.Agreement.{size_same}
+use Rattle.record_store.proofs.Agreement.{agrees-extends, size_same}
 use Rattle.stored_tables.proofs.Commands.{row_then_index, then_command, plan_leaves, del_leaves}
 use Rattle.stored_tables.proofs.Finding.{stands_on}
-use Rattle.stored_tables.proofs.OneRow.{row_taken_by}
+use Rattle.stored_tables.proofs.OneRow.{taken_out}
 use Rattle.stored_tables.specs.Answers.{IsFound, Stands}
 use Rattle.stored_tables.specs.Plan.{moves_to}
-use Rattle.stored_tables.proofs.Runs.{looks_runs, runs_moved, runs_value}
+use Rattle.stored_tables.proofs.Runs.{looks_runs, ok_of, runs_moved, runs_value}
 use Rattle.record_store.proofs.Going.{by_calls_reads, by_calls_moved, by_calls_quiet, by_calls_never}
 use Rattle.record_store.proofs.Refusals.{torn_moved}
 use Rattle.stored_tables.proofs.TornChanges.{reads_name}
@@ -69,8 +69,14 @@ returns-clause-runs g c =
       del_leaves held.1
           c.args.table c.args.key c.in-Some.found.row known.1.1,
     ))) c.in_ok-leave_row.was
-    (λ asked state held agrees stands did. row_taken_by c.args.table c.args.key (g.S.RecordRead.meaning c.leave_row.new.store) asked state
-    held did)
+    (λ asked state held agrees stands did. taken_out c.args.table c.args.key
+    (g.S.RecordRead.meaning c.leave_row.new.store) (record { row = c.in-Some.found.row; index = c.in_ok-index.index }) c.in-Some.found.rid asked state held did
+    (ok_of c.index_of.result _ c.in_ok-index.index c.in_ok-index.was
+    (row_then_index {meaning = g.S.RecordRead.meaning} c.args.table c.args.key
+    (Some c.in-Some.found) c.args.store.now c.find_row.new.store c.index_of.new.store c.find_row.result c.index_of.result
+    c.find_row.ensures.looks (c.in_ok-found.was ∙ ap Ok c.in-Some.is) c.index_of.ensures.looks).found state held
+    (agrees-extends (g.S.RecordRead.meaning c.index_of.new.store).reads (g.S.RecordRead.meaning c.leave_row.new.store).reads state
+    c.leave_row.ensures.runs.by.grow.reads agrees) stands))
 
 pub returns-in_default-clause-runs : goal.returns-in_default-clause-runs
 returns-in_default-clause-runs g c =

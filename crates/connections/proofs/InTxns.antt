@@ -1,18 +1,19 @@
 -- Calls of tables in a transaction, told of the pass before and after: how it goes on.
-use Rattle.std.proofs.Common.{◌≡◌, ℕ, Bool, true, false, List, [], Option, Result, Ok, Err, OnOk, OnErr, IfOk, refl, sym, ap, subst, ◌∙◌}
+use Rattle.std.proofs.Common.{◌≡◌, ℕ, Bool, true, false, List, [], Option, None, Some, Result, Ok, Err, OnOk, OnErr, IfOk, refl, sym, ap, subst, ◌∙◌}
 use Rattle.plain_data.specs.State.{State, Fits, overlay}
 use Rattle.record_store.specs.Meaning.{Meaning, after_undo}
 use Rattle.record_store.specs.States.{Each}
 use Rattle.record_store.specs.Walks.{IfTorn, OnlyReads, ReadsGrow}
 use Rattle.record_store.specs.declared.walk.Walk.{Walk}
-use Rattle.replay_model.specs.TableMap.{Row, with_value, without}
+use Rattle.replay_model.specs.TableMap.{Row, index_of, with_value, without}
 use Rattle.seat_post.specs.Ends.{Stood}
 use Rattle.seat_post.specs.declared.phase.Phase.TheVariants.{Open}
 use Rattle.stored_tables.specs.Answers.{Held, Stands}
 use Rattle.stored_tables.specs.Declare.{Declares, with_index}
 use Rattle.stored_tables.specs.Kept.{KeepsTables}
-use Rattle.stored_tables.specs.OneRow.{SetsRow, TakesRow}
+use Rattle.stored_tables.specs.OneRow.{SetsRow}
 use Rattle.stored_tables.specs.Places.{with_head}
+use Rattle.stored_tables.specs.Reclaim.{Clears, GivesEntry}
 use Rattle.stored_tables.specs.Tables.{EachTables}
 use Rattle.engine_answers.specs.declared.committed.Committed.{Committed}
 use Rattle.engine_answers.specs.declared.faults.CommitFault.{CommitFault}
@@ -51,12 +52,16 @@ module _ (e : EngineView) (p p' q : PassView) (here : p' ≡ p) (opened : IsOpen
   leaves_put table key asked row (Ok value) grow each = leaves_each grow (λ state held agrees stands. let became = each state held agrees stands in ((became.0, with_value held.1 table key row), became.1))
   leaves_put table key asked row (Err why) grow each = tt
 
-  taken_stands : (table key asked : ℕ) (taken : Bool) (state : State) (held : Held) → TakesRow table key (meaning_of_pass q) taken asked state held → (after' : Held) × Stands (meaning_of_pass q) state after'
-  taken_stands table key asked true state held takes = ((takes.1.0, without held.1 table key), takes.1.1)
-  taken_stands table key asked false state held takes = (held, takes.2)
+  entry_stands : (table key : ℕ) (index : Option ℕ) (row : Row) (between : Meaning) (state : State) (held : Held) → GivesEntry table key index row between (meaning_of_pass q) state held → (after' : Held) × Stands (meaning_of_pass q) state after'
+  entry_stands table key None row between state held gives = (held, gives.1)
+  entry_stands table key (Some column) row between state held gives = ((gives.1.after, held.1), gives.1.stands)
+
+  taken_stands : (table key asked : ℕ) (taken : Bool) (state : State) (held : Held) → Clears table key (meaning_of_pass q) taken asked state held → (after' : Held) × Stands (meaning_of_pass q) state after'
+  taken_stands table key asked true state held clears = entry_stands table key (index_of table held.1) clears.row clears.given.between state (clears.given.by_key.after, without held.1 table key) clears.given.by_index
+  taken_stands table key asked false state held clears = (held, clears.2)
 
   pub leaves_remove : (table key asked : ℕ) (told : Result Bool (Walk TxnFault)) → ReadsGrow (meaning_of_pass p') (meaning_of_pass q)
-      → IfOk told (λ taken. Each (Stands (meaning_of_pass p')) (meaning_of_pass q) (λ state held. TakesRow table key (meaning_of_pass q) taken asked state held)) → OnOk told (LeavesTables q)
+      → IfOk told (λ taken. Each (Stands (meaning_of_pass p')) (meaning_of_pass q) (λ state held. Clears table key (meaning_of_pass q) taken asked state held)) → OnOk told (LeavesTables q)
   leaves_remove table key asked (Ok taken) grow each = leaves_each grow (λ state held agrees stands. taken_stands table key asked taken state held (each state held agrees stands))
   leaves_remove table key asked (Err why) grow each = tt
 

@@ -12,8 +12,9 @@ use Rattle.replay_model.specs.declared.command.Command.TheVariants.{Put, Del}
 use Rattle.replay_model.specs.TableMap.{Row}
 use Rattle.stored_tables.specs.Answers.{Held, Stands, DueBy}
 use Rattle.stored_tables.specs.Declare.{Declares}
-use Rattle.stored_tables.specs.OneRow.{SetsRow, TakesRow}
+use Rattle.stored_tables.specs.OneRow.{SetsRow}
 use Rattle.stored_tables.specs.Plan.{plan}
+use Rattle.stored_tables.specs.Reclaim.{Clears}
 use Rattle.stored_tables.specs.Runs.{Looks, Runs}
 use Rattle.stored_tables.specs.Tables.{EachTables}
 use Rattle.validate_core.specs.declared.conflict.Conflict.{Conflict as Met}
@@ -57,9 +58,10 @@ RunsAt Due Did most p q told = Runs ReadGives WriteGives FreshGives meaning_of_p
 abbrev pub PutsAt : (table key : ℕ) → Row → PassView → PassView → Result (Unit {0}) (Walk TxnFault) → Type 0
 PutsAt table key row p q told = RunsAt (DueBy (plan (Put table key row))) (λ now u. SetsRow table key row now) 128 p q told
 
--- a row is taken out: no new record is asked for, and where there is none nothing is written
+-- A row is taken out, and the leaves that it left empty are given back. No new record is asked for, and where there is no row nothing is
+-- written.
 pub record RemovesAt (table key : ℕ) (p q : PassView) (told : Result Bool (Walk TxnFault)) : Type 0 where
-  pub runs : RunsAt (DueBy (plan (Del table key))) (λ now taken. TakesRow table key now taken) 4 p q told
+  pub runs : RunsAt (DueBy (plan (Del table key))) (λ now taken. Clears table key now taken) 10 p q told
   pub asks_nothing : GoesByCalls ReadGives WriteGives FreshGives meaning_of_pass (λ asks. ⊥) 0 p q told
   pub kept : IfOk told (λ taken. taken ≡ false → OnlyReads (meaning_of_pass p) (meaning_of_pass q))
 

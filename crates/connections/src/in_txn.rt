@@ -21,7 +21,8 @@ use record_store::{RecordStore, Walk};
 use replay_model::{Columns, Pairs};
 use std::alloc::Global;
 use stored_tables::{
-    RowsLawful, declare_index, find_rows, get_row, keeps_tables, list_rows, put_row, remove_row,
+    RowsLawful, declare_index, find_rows, get_row, keeps_tables, list_rows, put_row,
+    remove_and_reclaim,
 };
 use txn_engine::{CommitFault, Conflict, Engine, Pass, TxnFault, TxnOver};
 
@@ -110,7 +111,7 @@ pub(crate) fn remove_in_txn(
 {
     keeps_tables();
     let mut txn = TxnOver::resume(pass, engine);
-    let told = remove_row(&mut txn, table, key);
+    let told = remove_and_reclaim(&mut txn, table, key);
     txn.leave();
     go_on(pass, engine, told)
 }

@@ -67,6 +67,22 @@ static long queue(uint32_t records, size_t count, long rows, uint64_t ring, uint
     return in;
 }
 
+/* One connection puts rows under keys that rise without end, or fall, and takes each out when so many stand behind it. The number of those that were put. */
+static long rising(uint32_t records, long live, long rows, int indexed, int falling) {
+    cicada_connection it;
+    if (cicada_open(records, 0, &it, 1) != CICADA_OK) return -1;
+    long in = 0;
+    if (indexed && (cicada_begin(&it, 0) != CICADA_OK || cicada_declare_index(&it, 0, 1) != CICADA_OK || cicada_commit(&it, &committed, NULL) != CICADA_OK)) return -1;
+    for (; in < rows; in++) {
+        const long out = in - live;
+        if (change(&it, 1, 0, (uint64_t)(falling ? rows - in : in), 0) != CICADA_OK) break;
+        if (out >= 0 && change(&it, 0, 0, (uint64_t)(falling ? rows - out : out), 0) != CICADA_OK) break;
+        if (in % 16 == 15) cicada_rest(&it, 0, NULL);
+    }
+    cicada_close(&it);
+    return in;
+}
+
 /* ---- threads */
 
 enum { MOST_THREADS = 8 };
@@ -193,6 +209,14 @@ int main(int argc, char **argv) {
     holds(put == rows / 10, "two connections without a clock: %ld rows of %ld", put, rows / 10);
     put = queue(120, 8, rows / 10, 20, 0);
     holds(put == rows / 10, "eight connections without a clock, few records: %ld rows of %ld", put, rows / 10);
+    put = rising(1000, 10, rows / 2, 0, 0);
+    holds(put == rows / 2, "keys that rise, ten rows at any time: %ld rows of %ld", put, rows / 2);
+    put = rising(1000, 10, rows / 2, 1, 0);
+    holds(put == rows / 2, "keys and an index that rise: %ld rows of %ld", put, rows / 2);
+    put = rising(1000, 10, rows / 2, 0, 1);
+    holds(put == rows / 2, "keys that fall: %ld rows of %ld", put, rows / 2);
+    put = rising(1000, 30, rows / 2, 0, 0);
+    holds(put == rows / 2, "keys that rise, thirty rows at any time: %ld rows of %ld", put, rows / 2);
     holds(pairs(1000, 1, rows, 200, 20), "two threads");
     holds(pairs(20000, 4, rows / 10, 2000, 500), "eight threads");
     holds(pairs(600, 4, rows / 10, 30, 10), "eight threads with few records");

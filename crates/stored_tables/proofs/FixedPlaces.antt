@@ -1,5 +1,5 @@
 -- A record below the new ones that a tree has is its root.
-use Rattle.std.proofs.Common.{◌≡◌, ◌⊎◌, ℕ, ◌+◌, ◌-◌, ◌*◌, ◌<◌, ◌≤◌, List, [], ◌∷◌, Option, None, Some, refl, sym, ap, subst, ◌∙◌, arith, inl, inr}
+use Rattle.std.proofs.Common.{◌≡◌, ℕ, ◌+◌, ◌-◌, ◌*◌, ◌<◌, ◌≤◌, List, [], ◌∷◌, Option, None, Some, refl, sym, ap, subst, ◌∙◌, arith, inl, inr}
 use Rattle.std.specs.Prelude.{◌/◌, ◌%◌, Contains, IsSome, MatchOption}
 use Rattle.std.proofs.lemmas.Bool.{cases_lt}
 use Rattle.std.proofs.lemmas.Option.{none-some}
@@ -9,7 +9,7 @@ use Rattle.hash_index.specs.Chain.{Leads, start_of}
 use Rattle.ordered_index.specs.Keys.{first_key}
 use Rattle.ordered_index.specs.Node.{Content}
 use Rattle.ordered_index.specs.Tree.{Descends, In, IsTree, tree_records}
-use Rattle.stored_tables.specs.Places.{Places, Spot, holds, base_of, head_of, root_of, index_tree, table_limit, tree_limit, fixed_records}
+use Rattle.stored_tables.specs.Places.{Places, holds, base_of, head_of, root_of, table_limit, tree_limit, fixed_records}
 use Rattle.stored_tables.specs.Places.Spot.{bucket, tree, head}
 use Rattle.stored_tables.specs.Shape.{IsShape}
 use Rattle.stored_tables.proofs.Frames.{bucket_in, root_in}

@@ -1,24 +1,24 @@
 -- What giving leaves back promises, as parts of a run.
-use Rattle.std.proofs.Common.{◌≡◌, ℕ, ◌+◌, ◌<◌, ◌≤◌, Bool, true, false, List, Option, None, Some, Result, Ok, Err, refl, sym, ap, subst, ◌∙◌, arith, zero}
+use Rattle.std.proofs.Common.{◌≡◌, ℕ, ◌+◌, ◌<◌, ◌≤◌, Bool, true, false, List, Option, None, Some, Result, Ok, refl, sym, subst, arith}
 use Rattle.std.specs.Prelude.{IfOk}
 use Rattle.plain_data.specs.State.{State, Agrees, overlay}
 use Rattle.record_store.specs.Goes.{GoesByCalls}
 use Rattle.record_store.specs.Meaning.{Meaning}
-use Rattle.record_store.specs.Walks.{IfTorn, ReadsGrow}
+use Rattle.record_store.specs.Walks.{IfTorn}
 use Rattle.record_store.specs.Writes.{EachWritesKnown}
 use Rattle.record_store.specs.declared.walk.Walk.{Walk}
 use Rattle.record_store.proofs.Refusals.{IfTorn-map}
 use Rattle.record_store.proofs.Going.{by_calls_map}
 use Rattle.ordered_index.specs.declared.key.Key.{Key}
-use Rattle.ordered_index.specs.Reclaim.{IsReclaimed, IsTornReclaim, Reclaims, WritesOrFrees, can_give, frees}
+use Rattle.ordered_index.specs.Reclaim.{IsReclaimed, IsTornReclaim, Reclaims, WritesOrFrees, frees}
 use Rattle.ordered_index.specs.Tree.{IsTree}
 use Rattle.replay_model.specs.declared.command.Command.TheVariants.{Del}
-use Rattle.replay_model.specs.TableMap.{Row, column_in, index_of, without}
-use Rattle.stored_tables.specs.Answers.{Becomes, DueBy, Held, Stands}
+use Rattle.replay_model.specs.TableMap.{Row, column_in, without}
+use Rattle.stored_tables.specs.Answers.{DueBy, Held, Stands}
 use Rattle.stored_tables.specs.OneRow.{TakesOut}
 use Rattle.stored_tables.specs.Places.{index_tree, root_of, tree_limit, fixed_records}
 use Rattle.stored_tables.specs.Plan.{Follows, plan}
-use Rattle.stored_tables.specs.Reclaim.{Clears, ClearsRow, GivesEntry, GivesLeaf, GivesLeaves}
+use Rattle.stored_tables.specs.Reclaim.{ClearsRow, GivesLeaf, GivesLeaves}
 use Rattle.stored_tables.specs.Runs.{Runs}
 use Rattle.stored_tables.specs.declared.leaving.Taken.{Taken}
 use Rattle.stored_tables.proofs.Reclaimed.{gives_leaf, gives_none}

@@ -1,9 +1,8 @@
 -- A leaf of a tree was given back: the shape stands, and what it says of the tables.
-use Rattle.std.proofs.Common.{◌≡◌, ◌⊎◌, ℕ, ◌+◌, ◌<◌, ◌≤◌, Bool, true, false, List, [], ◌∷◌, ◌++◌, length, Option, None, Some, refl, sym, ap, subst, ◌∙◌, arith, inl, inr, ne_eqb}
+use Rattle.std.proofs.Common.{◌≡◌, ℕ, ◌<◌, ◌≤◌, true, false, List, [], ◌∷◌, length, Option, None, Some, refl, sym, ap, subst, ◌∙◌, arith, inl, inr, ne_eqb}
 use Rattle.std.specs.Prelude.{IsSome, is_some}
 use Rattle.std.proofs.lemmas.Bool.{cases_eq, cases_lt}
 use Rattle.std.proofs.lemmas.List.{length-append}
-use Rattle.std.proofs.lemmas.Option.{none-some}
 use Rattle.plain_data.specs.State.{State, overlay}
 use Rattle.record_store.specs.Meaning.{Meaning}
 use Rattle.record_store.specs.Walks.{OnlyReads}
@@ -12,12 +11,12 @@ use Rattle.ordered_index.specs.declared.key.Key.{Key}
 use Rattle.ordered_index.specs.Keys.{entry_at}
 use Rattle.ordered_index.specs.Node.{Content}
 use Rattle.ordered_index.specs.Reclaim.{IsReclaimed, can_give, frees, joined_of}
-use Rattle.ordered_index.specs.Tree.{In, IsTree, record_of_key, row_entries, tree_records}
+use Rattle.ordered_index.specs.Tree.{In, record_of_key, row_entries}
 use Rattle.replay_model.specs.TableMap.{Row}
 use Rattle.stored_tables.specs.Answers.{Held, Stands}
-use Rattle.stored_tables.specs.Places.{Places, head_of, root_of, index_tree, with_tree, table_limit, tree_limit, fixed_records}
+use Rattle.stored_tables.specs.Places.{Places, root_of, index_tree, with_tree, table_limit, tree_limit, fixed_records}
 use Rattle.stored_tables.specs.Places.Spot.{tree}
-use Rattle.stored_tables.specs.Reclaim.{Frees, GivesLeaf, HasSameEntries}
+use Rattle.stored_tables.specs.Reclaim.{GivesLeaf, HasSameEntries}
 use Rattle.stored_tables.specs.Shape.{IsShape}
 use Rattle.stored_tables.specs.Steps.{IsDeclared}
 use Rattle.stored_tables.specs.Tables.{IsRow, IsTied, StandsFor}

@@ -19,7 +19,7 @@ use Rattle.stored_tables.specs.Places.{base_of, head_of, index_tree, root_of}
 use Rattle.stored_tables.specs.Rows.{entry_records}
 use Rattle.stored_tables.specs.Shape.{head_words}
 use Rattle.stored_tables.specs.Tables.{row_words}
-use Rattle.stored_tables.specs.Tears.{IsNoHead, IsNoRow, NamesTorn, TearsTable, TreeNames}
+use Rattle.stored_tables.specs.Tears.{IsNoRow, NamesTorn, TearsTable, TreeNames}
 use Rattle.stored_tables.specs.Tears.TearsTable.{in_chain, in_tree, in_index, chain_row, tree_row, index_row, at_head}
 
 -- ---- one record

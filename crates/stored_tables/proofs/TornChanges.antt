@@ -11,15 +11,14 @@ use Rattle.record_store.specs.declared.walk.Walk.TheVariants.{Store, Torn, NoMem
 use Rattle.record_store.proofs.Agreement.{writes_same, size_same}
 use Rattle.record_store.proofs.Refusals.{IfTorn-map}
 use Rattle.hash_index.specs.Answers.{IsTornChain}
-use Rattle.hash_index.specs.Chain.{EachChain, IsChain, Rows, RowEndsWell, RowTears, bucket_of, record_of}
+use Rattle.hash_index.specs.Chain.{EachChain, RowEndsWell, RowTears, bucket_of, record_of}
 use Rattle.ordered_index.specs.declared.key.Key.{Key}
-use Rattle.ordered_index.specs.Node.{Content}
 use Rattle.ordered_index.specs.Reclaim.{IsTornReclaim, ReclaimTears, TearsBeside}
-use Rattle.ordered_index.specs.Tree.{EachTree, IsTree, record_of_key}
+use Rattle.ordered_index.specs.Tree.{EachTree, record_of_key}
 use Rattle.ordered_index.specs.Walk.{DescentEndsWell, DescentTears, IsTornTree}
 use Rattle.replay_model.specs.Report.{table_named}
 use Rattle.replay_model.specs.declared.command.Command.{Command}
-use Rattle.stored_tables.specs.Places.{base_of, index_tree, root_of}
+use Rattle.stored_tables.specs.Places.{base_of, root_of}
 use Rattle.stored_tables.specs.Tears.{IsTreeOf, LacksPair, NamesTorn, NamesTornChange, OfCommand, TearsChange, TearsTable, TellsEntry}
 use Rattle.stored_tables.specs.Tears.TearsTable.{in_chain, in_tree, in_index}
 use Rattle.stored_tables.specs.Tears.TearsChange.{on_a_walk, beside_a_leaf, chain_at_odds, tree_at_odds}

@@ -18,7 +18,7 @@ use Rattle.stored_tables.specs.Answers.{DueBy, Held, Stands}
 use Rattle.stored_tables.specs.OneRow.{TakesOut}
 use Rattle.stored_tables.specs.Places.{index_tree, root_of, tree_limit, fixed_records}
 use Rattle.stored_tables.specs.Plan.{Follows, plan}
-use Rattle.stored_tables.specs.Reclaim.{ClearsRow, GivesLeaf, GivesLeaves}
+use Rattle.stored_tables.specs.Reclaim.{ClearsBy, ClearsRow, GivesLeaf, GivesLeaves}
 use Rattle.stored_tables.specs.Runs.{Runs}
 use Rattle.stored_tables.specs.declared.leaving.Taken.{Taken}
 use Rattle.stored_tables.proofs.Reclaimed.{gives_leaf, gives_none}
@@ -153,3 +153,18 @@ module _ {S F : Type 0} {read_gives : S → ℕ → Result (Option (List ℕ)) F
           given = rw did.2 does.1;
         },
       ))
+
+  -- told of the store between
+  pub halves : (table key : ℕ) (first middle last : S) (early : Result (Option Taken) (Walk F)) (taken : Taken)
+      (result : Result (Unit {0}) (Walk F))
+      → Runs read_gives write_gives fresh_gives meaning (Stands (meaning first)) (DueBy (plan (Del table key)))
+      (TakesOut table key (meaning middle)) 4 first middle early → early ≡ Ok (Some taken)
+      → Runs read_gives write_gives fresh_gives meaning (Stands (meaning middle)) (λ _ _ _. ⊥)
+      (λ _. Leaves table key taken.index taken.row (meaning middle) (meaning last)) 6 middle last result → result ≡ Ok (tt {0})
+      → ClearsBy {F = F} read_gives write_gives fresh_gives meaning table key first last
+  halves table key first middle last early taken result a was b done =
+      let P : Result (Option Taken) (Walk F) → Type 0 = λ told. Runs read_gives write_gives fresh_gives meaning (Stands (meaning first))
+      (DueBy (plan (Del table key))) (TakesOut table key (meaning middle)) 4 first middle told in
+      let Q : Result (Unit {0}) (Walk F) → Type 0 = λ told. Runs read_gives write_gives fresh_gives meaning (Stands (meaning middle))
+      (λ _ _ _. ⊥) (λ _. Leaves table key taken.index taken.row (meaning middle) (meaning last)) 6 middle last told in
+      record { middle = middle; taken = taken; took = subst P was a; gave = subst Q done b }

@@ -1,5 +1,5 @@
 -- How the trees of tables give empty leaves back.
-use Rattle.std.specs.Prelude.{◌≡◌, ℕ, ◌≤◌, Bool, true, false, List, Option, None, Some, IsSome, is_some}
+use Rattle.std.specs.Prelude.{◌≡◌, ℕ, ◌≤◌, Bool, true, false, List, Option, None, Some, Result, Ok, IsSome, is_some}
 use Rattle.plain_data.specs.State.{State, overlay}
 use Rattle.record_store.specs.Meaning.{Meaning}
 use Rattle.replay_model.specs.declared.command.Command.TheVariants.{Del}
@@ -7,10 +7,12 @@ use Rattle.replay_model.specs.TableMap.{Row, value_at, index_of, without}
 use Rattle.ordered_index.specs.declared.key.Key.{Key}
 use Rattle.ordered_index.specs.Reclaim.{can_give, frees}
 use Rattle.ordered_index.specs.Tree.{In, row_entries}
-use Rattle.stored_tables.specs.Answers.{Held, Stands, Becomes}
-use Rattle.stored_tables.specs.OneRow.{TakesRow}
+use Rattle.stored_tables.specs.Answers.{Held, Stands, Becomes, DueBy}
+use Rattle.stored_tables.specs.OneRow.{TakesOut, TakesRow}
 use Rattle.stored_tables.specs.Places.{Places, fixed_records, index_tree}
 use Rattle.stored_tables.specs.Plan.{index_key, plan}
+use Rattle.stored_tables.specs.Runs.{Runs}
+use Rattle.stored_tables.specs.declared.leaving.Taken.{Taken}
 
 -- Records were freed: they are new ones, were present, and are absent now. Each other record is present or absent as it was.
 pub record Frees (freed : List ℕ) (state state' : State) : Type 0 where
@@ -59,3 +61,15 @@ pub record ClearsRow (table key : ℕ) (now : Meaning) (asked : ℕ) (state : St
 abbrev pub Clears : ℕ → ℕ → Meaning → Bool → ℕ → State → Held → Type 0
 Clears table key now true asked state held = ClearsRow table key now asked state held
 Clears table key now false asked state held = TakesRow table key now false asked state held
+
+-- The two halves of a removal that gives leaves back, told of the store between them: there the row was taken out, and no leaf was given back.
+pub record ClearsBy {S F : Type 0} (read_gives : S → ℕ → Result (Option (List ℕ)) F → S → Type 0) (write_gives : S → ℕ → Option (List ℕ)
+    → Result (Unit {0}) F → S → Type 0) (fresh_gives : S → Result ℕ F → S → Type 0) (meaning : S → Meaning) (table key : ℕ) (first last : S)
+    : Type 0 where
+  pub middle : S
+  pub taken : Taken
+  pub took : Runs {F = F} read_gives write_gives fresh_gives meaning (Stands (meaning first)) (DueBy (plan (Del table key)))
+      (TakesOut table key (meaning middle)) 4 first middle (Ok (Some taken))
+  pub gave : Runs {F = F} read_gives write_gives fresh_gives meaning (Stands (meaning middle)) (λ _ _ _. ⊥)
+      (λ _ asked state held. (asked ≡ 0) × GivesLeaves table key taken.index taken.row (meaning middle) (meaning last) state held) 6 middle
+      last (Ok (tt {0}))

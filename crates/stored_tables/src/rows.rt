@@ -1,7 +1,7 @@
 //! Rows of a table by themselves, for callers that run no block: no call takes anything back, so what was written before stays, also
 //! where a call has no answer.
 
-ghost use Rattle.std.specs.Prelude.{◌≡◌, ◌⊎◌, ℕ, ◌-◌, ◌^◌, ◌<◌, ◌≤◌, [], All, nat_le, false, IfOk, IfNone, IfSome, Some};
+ghost use Rattle.std.specs.Prelude.{◌≡◌, ◌⊎◌, ℕ, ◌-◌, ◌^◌, ◌<◌, ◌≤◌, [], All, nat_le, true, false, IfOk, IfNone, IfSome, Some};
 ghost use Rattle.record_store.specs.Goes.{GoesByCalls};
 ghost use Rattle.record_store.specs.Walks.{IfNoMemory, IfTorn, OnlyReads};
 ghost use Rattle.replay_model.specs.declared.command.Command.TheVariants.{Put, Del};
@@ -9,7 +9,7 @@ ghost use Rattle.stored_tables.specs.Answers.{DueBy, IsScanned, Stands};
 ghost use Rattle.stored_tables.specs.OneRow.{IsRowAt, SetsRow, TakesRow};
 ghost use Rattle.stored_tables.specs.Places.{index_tree};
 ghost use Rattle.stored_tables.specs.Plan.{plan};
-ghost use Rattle.stored_tables.specs.Reclaim.{Clears, GivesLeaf};
+ghost use Rattle.stored_tables.specs.Reclaim.{Clears, ClearsBy, GivesLeaf};
 ghost use Rattle.stored_tables.specs.RowLists.{IsPage, comes_behind};
 ghost use Rattle.stored_tables.specs.Runs.{Looks, Runs};
 ghost use Rattle.stored_tables.specs.Tears.{NamesTorn, NamesTornChange};
@@ -149,6 +149,9 @@ pub fn remove_and_reclaim<S: RecordStore>(
     requires table { table < 8 }
     requires fixed { 4112 ≤ (S.meaning store.old).fixed }
     ensures runs { Runs S.read_gives S.write_gives S.fresh_gives S.meaning (Stands (S.meaning store.old)) (DueBy (plan (Del table key))) (Clears table key (S.meaning store.new)) 10 store.old store.new result }
+
+    // what `remove_row` does, and then what the two calls below do
+    ensures halves { IfOk result (λ taken. taken ≡ true → ClearsBy S.read_gives S.write_gives S.fresh_gives S.meaning table key store.old store.new) }
     ensures tears { IfTorn result (NamesTornChange table (S.meaning store.new)) }
     ensures asks_nothing { GoesByCalls S.read_gives S.write_gives S.fresh_gives S.meaning (λ _. ⊥) 0 store.old store.new result }
 

@@ -1,5 +1,5 @@
 -- Calls over the transaction that is open at a pass, told of that pass.
-use Rattle.std.proofs.Common.{◌≡◌, ℕ, List, Option, Result, Ok, Err, refl, subst}
+use Rattle.std.proofs.Common.{◌≡◌, ℕ, Bool, true, List, Option, Some, Result, Ok, Err, IfOk, refl, subst}
 use Rattle.plain_data.specs.State.{State}
 use Rattle.record_store.specs.Calls.{Calls, CallFault}
 use Rattle.record_store.specs.Goes.{GoesByCalls}
@@ -7,6 +7,7 @@ use Rattle.record_store.specs.Meaning.{Meaning}
 use Rattle.record_store.specs.Walks.{IfNoMemory, IfStore}
 use Rattle.record_store.specs.declared.walk.Walk.{Walk}
 use Rattle.stored_tables.specs.Answers.{Held, Stands}
+use Rattle.stored_tables.specs.Reclaim.{ClearsBy}
 use Rattle.stored_tables.specs.Runs.{Looks, Runs}
 use Rattle.engine_answers.specs.declared.faults.TxnFault.{TxnFault}
 use Rattle.txn_engine.specs.Faults.{told_by}
@@ -62,3 +63,19 @@ module _ {S : Type 0} (first last : S) (see : S → PassView) where
 
   pub fault_there : {T : Type 0} (May : ℕ → Type 0) (told : Result T (Walk TxnFault)) → IfStore told (CallFault reads writes gives May first last) → IfStore told (CallFault ReadGives WriteGives FreshGives May (see first) (see last))
   fault_there May told fault = store_map told (λ f is. see_call_fault sees_reads sees_writes sees_gives May first last f is) fault
+
+-- the two halves of a removal that gives leaves back
+halves_at : {S : Type 0} (first last : S) (see : S → PassView) (table key : ℕ) → ClearsBy (reads first last see) (writes first last see) (gives first last see) (meaning first last see) table key first last
+    → ClearsBy ReadGives WriteGives FreshGives meaning_of_pass table key (see first) (see last)
+halves_at first last see table key by = record {
+  middle = see by.middle;
+  taken = by.taken;
+  took = runs_there first by.middle see (Ok (Some by.taken)) by.took;
+  gave = runs_there by.middle last see (Ok (tt {0})) by.gave;
+}
+
+pub halves_there : {S : Type 0} (first last : S) (see : S → PassView) (table key : ℕ) (told : Result Bool (Walk TxnFault))
+    → IfOk told (λ taken. taken ≡ true → ClearsBy (reads first last see) (writes first last see) (gives first last see) (meaning first last see) table key first last)
+    → IfOk told (λ taken. taken ≡ true → ClearsBy ReadGives WriteGives FreshGives meaning_of_pass table key (see first) (see last))
+halves_there first last see table key (Ok taken) by = λ yes. halves_at first last see table key (by yes)
+halves_there first last see table key (Err why) by = tt

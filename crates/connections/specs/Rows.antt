@@ -1,5 +1,5 @@
 -- What calls on rows do at the pass of a connection: in a transaction, and in a snapshot.
-use Rattle.std.specs.Prelude.{◌≡◌, ℕ, Bool, false, List, Option, Result, Ok, Err, OnErr, IfOk, IfErr}
+use Rattle.std.specs.Prelude.{◌≡◌, ℕ, Bool, true, false, List, Option, Result, Ok, Err, OnErr, IfOk, IfErr}
 use Rattle.plain_data.specs.State.{State, IsState, Agrees}
 use Rattle.record_store.specs.Calls.{Calls as StoreCalls, CallFault as StoreFault}
 use Rattle.record_store.specs.Goes.{GoesByCalls}
@@ -14,7 +14,7 @@ use Rattle.stored_tables.specs.Answers.{Held, Stands, DueBy}
 use Rattle.stored_tables.specs.Declare.{Declares}
 use Rattle.stored_tables.specs.OneRow.{SetsRow}
 use Rattle.stored_tables.specs.Plan.{plan}
-use Rattle.stored_tables.specs.Reclaim.{Clears}
+use Rattle.stored_tables.specs.Reclaim.{Clears, ClearsBy}
 use Rattle.stored_tables.specs.Runs.{Looks, Runs}
 use Rattle.stored_tables.specs.Tables.{EachTables}
 use Rattle.validate_core.specs.declared.conflict.Conflict.{Conflict as Met}
@@ -62,6 +62,7 @@ PutsAt table key row p q told = RunsAt (DueBy (plan (Put table key row))) (λ no
 -- written.
 pub record RemovesAt (table key : ℕ) (p q : PassView) (told : Result Bool (Walk TxnFault)) : Type 0 where
   pub runs : RunsAt (DueBy (plan (Del table key))) (λ now taken. Clears table key now taken) 10 p q told
+  pub halves : IfOk told (λ taken. taken ≡ true → ClearsBy ReadGives WriteGives FreshGives meaning_of_pass table key p q)
   pub asks_nothing : GoesByCalls ReadGives WriteGives FreshGives meaning_of_pass (λ asks. ⊥) 0 p q told
   pub kept : IfOk told (λ taken. taken ≡ false → OnlyReads (meaning_of_pass p) (meaning_of_pass q))
 

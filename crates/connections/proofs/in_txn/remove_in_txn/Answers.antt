@@ -1,6 +1,6 @@
 use Rattle.std.proofs.Common.{rules}
 use Rattle.connections.proofs.InTxns.{in_txn, leaves_remove, open_on, torn_doomed}
-use Rattle.connections.proofs.TxnStores.{goes_there, pass_frame, runs_there}
+use Rattle.connections.proofs.TxnStores.{goes_there, halves_there, pass_frame, runs_there}
 use Rattle.connections.proofs.in_txn.remove_in_txn.Goals as goal
 
 pub go_on-requires-clause-torn : goal.go_on-requires-clause-torn
@@ -11,7 +11,7 @@ go_on-requires-clause-torn c =
 pub returns-clause-did : goal.returns-clause-did
 returns-clause-did c =
     let told = c.remove_and_reclaim-told in
-    in_txn c.args.engine.now c.args.pass.now c.resume-txn.result.seat.now told.new.store.seat.now _ c.resume-txn.ensures.seat (search rules) c.requires.pass (pass_frame told.ensures.rest) _ told.result c.go_on.result c.go_on.new.pass (record { runs = runs_there c.resume-txn.result told.new.store (λ t. t.seat.now) told.result told.ensures.runs; asks_nothing = goes_there c.resume-txn.result told.new.store (λ t. t.seat.now) told.result told.ensures.asks_nothing; kept = told.ensures.kept }) c.go_on.ensures.goes_on c.go_on.ensures.idle c.go_on.ensures.no_entry
+    in_txn c.args.engine.now c.args.pass.now c.resume-txn.result.seat.now told.new.store.seat.now _ c.resume-txn.ensures.seat (search rules) c.requires.pass (pass_frame told.ensures.rest) _ told.result c.go_on.result c.go_on.new.pass (record { runs = runs_there c.resume-txn.result told.new.store (λ t. t.seat.now) told.result told.ensures.runs; asks_nothing = goes_there c.resume-txn.result told.new.store (λ t. t.seat.now) told.result told.ensures.asks_nothing; halves = halves_there c.resume-txn.result told.new.store (λ t. t.seat.now) c.args.table c.args.key told.result told.ensures.halves; kept = told.ensures.kept }) c.go_on.ensures.goes_on c.go_on.ensures.idle c.go_on.ensures.no_entry
 
 pub returns-clause-open_there : goal.returns-clause-open_there
 returns-clause-open_there c =

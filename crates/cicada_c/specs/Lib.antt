@@ -1,3 +1,4 @@
 pub mod Heap
 pub mod Lending
 pub mod Status
+pub mod Writing

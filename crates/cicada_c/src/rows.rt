@@ -2,11 +2,12 @@
 ghost use Rattle.std.specs.Prelude.{◌≡◌, length};
 ghost use Rattle.connections.specs.EachCall.{DeclareIndex, FindRows, Get, ListRows, Put, Remove};
 ghost use Rattle.cicada_c.specs.Status.{Answers, coded, coded_bool, coded_option, counted_or, counted_option, noted, some_or};
+ghost use Rattle.cicada_c.specs.Writing.{WritesRows, found_or_none, rows_or_none};
 
 use crate::handle::CicadaHandle;
 use crate::status::{ABSENT, CicadaConflict, OK, status, status_of};
 use connections::CallFault;
-use replay_model::{Columns, Pairs};
+use replay_model::Columns;
 use std::alloc::Global;
 
 /// The row of a table at a key, in the transaction or the snapshot that is open.
@@ -73,12 +74,12 @@ pub extern "C" fn cicada_proved_list(
     count: &mut usize,
     beside: &mut CicadaConflict,
 ) -> i32
-    ensures { Answers (ListRows table low high limit) coded (λ answer. (beside.new ≡ noted beside.old answer) × (count.new ≡ counted_or count.old answer)) handle.old handle.new result }
+    ensures { Answers (ListRows table low high limit) coded (λ answer. (beside.new ≡ noted beside.old answer) × (count.new ≡ counted_or count.old answer) × WritesRows (rows_or_none answer) keys.old keys.new rows.old rows.new) handle.old handle.new result }
 {
     match handle.connection().list(alloc, table, low, high, limit) {
         Ok(found) => {
             *count = found.as_slice().len();
-            write_rows(&found, keys, rows);
+            write_rows(found.as_slice(), keys, rows);
             OK
         }
         Err(fault) => status_of(fault, beside),
@@ -100,7 +101,7 @@ pub extern "C" fn cicada_proved_find(
     count: &mut usize,
     beside: &mut CicadaConflict,
 ) -> i32
-    ensures { Answers (FindRows table column low high limit) coded_option (λ answer. (beside.new ≡ noted beside.old answer) × (count.new ≡ counted_option count.old answer)) handle.old handle.new result }
+    ensures { Answers (FindRows table column low high limit) coded_option (λ answer. (beside.new ≡ noted beside.old answer) × (count.new ≡ counted_option count.old answer) × WritesRows (found_or_none answer) keys.old keys.new rows.old rows.new) handle.old handle.new result }
 {
     match handle
         .connection()
@@ -108,7 +109,7 @@ pub extern "C" fn cicada_proved_find(
     {
         Ok(Some(found)) => {
             *count = found.as_slice().len();
-            write_rows(&found, keys, rows);
+            write_rows(found.as_slice(), keys, rows);
             OK
         }
         Ok(None) => ABSENT,
@@ -145,10 +146,14 @@ fn status_of_bool(answer: Result<bool, CallFault>, beside: &mut CicadaConflict) 
     }
 }
 
-// Writes as many rows as there is room for.
-fn write_rows(found: &Pairs, keys: &mut [u64], rows: &mut [[u64; 6]]) {
-    for ((place, into), (key, row)) in keys.iter_mut().zip(rows.iter_mut()).zip(found.as_slice()) {
-        *place = *key;
-        *into = row.values();
+// Writes the first of these rows, as many as there is room for.
+fn write_rows(found: &[(u64, Columns)], keys: &mut [u64], rows: &mut [[u64; 6]])
+    ensures { WritesRows found.now keys.old keys.new rows.old rows.new }
+{
+    let most = found.len().min(keys.len()).min(rows.len());
+    for i in 0..most {
+        let (key, row) = &found[i];
+        keys[i] = *key;
+        rows[i] = row.values();
     }
 }

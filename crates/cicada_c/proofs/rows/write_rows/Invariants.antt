@@ -1,4 +1,4 @@
-use Rattle.std.proofs.Common.{◌≡◌, length, map}
+use Rattle.std.proofs.Common.{◌≡◌, map}
 use Rattle.cicada_c.specs.Writing.{written}
 use Rattle.cicada_c.proofs.rows.write_rows.Given as goal
 

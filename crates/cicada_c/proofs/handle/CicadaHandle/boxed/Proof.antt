@@ -11,7 +11,6 @@ use prog.Wp.{WpFn}
 use contract.Monad.{fact, fact_i}
 use contract.BorrowLft.{◌⊑◌, ⊑_refl}
 use contract.Running.{tables}
-use types.Logic.{sem}
 use types.Kit.{‵, raw, ◌⊛◌, some, later, at_ret, prop, ◌$◌, ◌∵◌, !, qed, by, move, keep, drop, split, split3, join, regoal, rewrite, fsplit, fjoin, fjoin3, feq_i, pick, use0, use1, await}
 use types.Part.{whole, sub}
 use types.Run.{stop, fld, of_opd, and_then, no_more, first, blocks, exec, returns, enter}
@@ -21,7 +20,7 @@ use denote.Param.Laws.{Laws, arg_laws}
 use denote.Param.NoDrop.{glues}
 use denote.Exit.{no}
 use denote.RattleType.{RattleType, owns}
-use denote.RawPtr.{Ptr, block_ptr, ptr_val}
+use denote.RawPtr.{Ptr, block_ptr}
 use denote.Signature.{plain}
 use denote.Steps.{nothing, only, heard}
 use denote.Triple.Clauses.{Lasts, lasts}

@@ -1,37 +1,33 @@
 -- `connection` lends what stands behind the pointer, and the handle follows it. A walk by hand, after `Box::as_mut` of the kit.
-use Rattle.std.proofs.Common.{◌≡◌, ℕ, List, [], ◌∷◌, ◌++◌, refl, sym, ap, subst}
+use Rattle.std.proofs.Common.{◌≡◌, ℕ, List, [], ◌∷◌, refl}
 use seplogic.Ra.Ura.{Ura}
 use base.Fraction.{full_share}
 use mir.Syntax.{named}
 use mir.Raw.{raw as bare}
-use mir.Val.{Val, vptr, vstruct, vcons, vnil, of_list}
-use base.Logic.{ent, sep, never, fst∗, id⊢}
+use mir.Val.{Val, vptr}
+use base.Logic.{ent, sep, id⊢}
 use base.Fml.{GName, Fml, ftrue, flft, fsep}
 use types.Logic.{Logic, sem}
-use types.Kit.{Goal, Item, Seq, Step, step, ‵, ◌⊛◌, some, at_ret, ◌$◌, ◌∵◌, !, qed, move, keep, use1, drop, split, split3, join, pick, rewrite, fsplit, fsplit3, fjoin, fpick, fpack, feq_l, feq_i, suffices, frame, done, raw, later, await, group}
+use types.Kit.{‵, ◌⊛◌, some, at_ret, ◌$◌, ◌∵◌, !, qed, move, keep, use1, drop, split, split3, join, pick, rewrite, fsplit, fsplit3, fjoin, fpack, suffices, frame, done, raw, later, await, group}
 use types.Part.{whole, sub, look_in}
 use types.Run.{stop, fld, load, of_opd, first, blocks, exec, returns, enter, addr}
 use types.ByLocal.{alloc_all, pass_all, free_all, look_at, get, through, sets, env, sets_last}
 use contract.Running.{tables}
 use denote.Exit.{no}
-use denote.Builtin.{RawPtr}
-use denote.RattleType.{Valss, owns}
+use denote.RattleType.{owns}
 use denote.Memory.{part_at, mem, cell_at, part_of, lone}
-use denote.RawPtr.{Ptr, block_ptr, null_ptr, ptr_val, in_a_block}
+use denote.RawPtr.{block_ptr}
 use denote.Ref.{MutRef, mut_vals, mut_Tells}
 use denote.Signature.{plain, mut_ref_to}
 use denote.Steps.{nothing, opens}
-use denote.Struct.Struct.{within}
-use denote.Struct.Owning.{shape}
 use denote.Triple.Walked.{says, Stays, stay_dropped, walk_of, ends_at, Goes-spent_ref}
 use denote.Follow.{follows, Part, lends_Part}
 use Rattle.std.proofs.raw_atomic.Walks.{proved}
 use Rattle.std.proofs.VecSteps.Shapes.{after}
 use Rattle.cicada_c.proofs.Owning.{word, handle_out, handle_in}
 use Rattle.cicada_c.specs.Heap.{heap_token as chunk}
-use Rattle.std.specs.Box.Ownership.{box_owns}
 use Rattle.cicada_c.specs.Lending.{with_value}
-use Rattle.cicada_c.specs.contracts.handle.CicadaHandle.{the_row as H, the_type}
+use Rattle.cicada_c.specs.contracts.handle.CicadaHandle.{the_row as H}
 use Rattle.connections.specs.contracts.connection.Connection.{the_row as W}
 use Rattle.cicada_c.specs.contracts.handle.CicadaHandle.connection as f
 use Rattle.cicada_c.proofs.handle.CicadaHandle.connection.Statement.{statement}

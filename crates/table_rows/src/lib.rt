@@ -13,17 +13,13 @@ mod filled;
 #[cfg(test)]
 mod generated;
 #[cfg(test)]
-mod hash;
-#[cfg(test)]
 mod indexed;
 #[cfg(test)]
-mod map;
+mod nodes;
 #[cfg(test)]
 mod outcomes;
 #[cfg(test)]
 mod reads;
-#[cfg(test)]
-mod reclaimed;
 #[cfg(test)]
 mod script;
 #[cfg(test)]
@@ -31,10 +27,6 @@ mod shapes;
 #[cfg(test)]
 mod store;
 #[cfg(test)]
-mod tree;
-#[cfg(test)]
 mod typed;
-#[cfg(test)]
-mod words;
 #[cfg(test)]
 mod worked;

@@ -1,5 +1,5 @@
 use Rattle.std.proofs.Common.{◌≡◌}
-use Rattle.table_rows.proofs.map.write_all.Given as goal
+use Rattle.table_rows.proofs.nodes.write_all.Given as goal
 
 -- the store keeps its size
 abbrev pub invariant-loop-rid : goal.invariant-loop-rid

@@ -1,7 +1,7 @@
 use Rattle.std.proofs.Common.{◌≡◌}
-use Rattle.table_rows.proofs.hash.count_held.Given as goal
+use Rattle.table_rows.proofs.nodes.count_held.Given as goal
 
--- the store keeps its size, and so many calls were made
+-- the store keeps its size
 abbrev pub invariant-loop-i : goal.invariant-loop-i
 invariant-loop-i l = record {
   size : l.store.size ≡ 600;

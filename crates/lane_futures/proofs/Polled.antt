@@ -1,6 +1,6 @@
 -- What lanes come to, turn behind turn and poll behind poll.
 use Rattle.std.proofs.Common.{List, Option, None, Some, Result, Ok, Err}
-use Rattle.std.specs.Prelude.{IfOk}
+use Rattle.std.specs.Prelude.{IfOk, OnOk}
 use Rattle.std.specs.Option.{IsSomeAnd}
 use Rattle.futures.specs.Poll.{OnPending}
 use Rattle.futures.specs.declared.task.Poll.{Poll}
@@ -13,6 +13,10 @@ use Rattle.lane_futures.proofs.Turned.{come_later}
 pub on_pending : {A : Type 0} (poll : Poll A) (P : Type 0) → P → OnPending poll P
 on_pending (Ready x) P holds = tt
 on_pending Pending P holds = holds
+
+pub on_ok : {A E : Type 0} (result : Result A E) (P Q : Type 0) → (P → Q) → OnOk result P → OnOk result Q
+on_ok (Ok x) P Q leads holds = leads holds
+on_ok (Err e) P Q leads holds = holds
 
 -- what lanes come to that others led to, these come to
 pub come_there : (before after' : Option LanesView) → BothThere Leads before after' → ComeToTheSame before after'

@@ -1,6 +1,7 @@
 //! The sessions of a pass, as they run.
 
-ghost use Rattle.std.specs.Prelude.{◌≡◌, ◌≢◌, ◌<◌, ◌≤◌, true, false, All, IfOk, IfSome, IfNone, OnOk, map};
+ghost use Rattle.std.specs.Prelude.{◌≡◌, ◌≢◌, ◌<◌, ◌≤◌, [], length, true, false, All, IfOk, IfSome, IfNone, OnOk, map};
+ghost use Rattle.std.specs.Vec.{vec_capacity};
 ghost use Rattle.lane_runner.specs.Session.{done_of};
 ghost use Rattle.lane_runner.specs.Lanes.{AddsSome};
 ghost use Rattle.lane_futures.specs.Lanes.{AreOver, HasOne, HasRoomLeft, IsInTurn, TakesTurn, MakesTurn, Leads, ComeTo, all_tries_left};
@@ -110,12 +111,21 @@ impl<'a, C: Reads + Drop, G: Meets> Running<'a, C, G> {
         ensures done { result.1.items ≡ map done_of self.entry.sessions }
         ensures come { AreOver self.entry → ComeTo self.entry result.0.pass result.1.items }
     {
-        let mut done = self.done;
-        for session in self.sessions {
-            let Ok(()) = done.push(session.finish()) else {
-                unreachable!()
-            };
-        }
+        let done = all_done(self.sessions, self.done);
         (self.seat, done)
     }
+}
+
+/// What each session has come to, in their order, in a list that has room for it.
+fn all_done(sessions: Vec<Session>, mut done: Vec<LaneDone>) -> Vec<LaneDone>
+    requires none { done.items ≡ [] }
+    requires room { length sessions.items ≤ vec_capacity done }
+    ensures { result.items ≡ map done_of sessions.items }
+{
+    for session in sessions {
+        let Ok(()) = done.push(session.finish()) else {
+            unreachable!()
+        };
+    }
+    done
 }

@@ -1,4 +1,4 @@
-use Rattle.std.proofs.Common.{◌∙◌, refl, arith}
+use Rattle.std.proofs.Common.{◌+◌, set, ◌∙◌, refl, arith}
 use Rattle.std.proofs.lemmas.List.{length-set}
 use Rattle.lane_futures.proofs.Turned.{place_within, room_in_turn, takes_turn, leads_in_turn, fewer_in_turn, adds_turn}
 use Rattle.lane_futures.proofs.running.Running.attempt_at.Goals as goal
@@ -25,7 +25,8 @@ returns-clause-leads g c =
 
 pub returns-clause-fewer : goal.returns-clause-fewer
 returns-clause-fewer g c =
-    fewer_in_turn _ c.args.self.now c.args.place c.index_mut.result.now c.self.view_is c.requires.in_turn c.index_mut.ensures.value _ c.attempt.new.self c.in_ok-attempt.ensures.fewer refl
+    fewer_in_turn _ c.args.self.now c.args.place c.index_mut.result.now c.self.view_is c.requires.in_turn c.index_mut.ensures.value
+    (record { pass = c.attempt.new.pass; sessions = set c.self.inside.sessions.items c.args.place c.attempt.new.self; next = c.args.place + 1 }) c.attempt.new.self c.in_ok-attempt.ensures.fewer refl
 
 pub returns-clause-adds : goal.returns-clause-adds
 returns-clause-adds g c = adds_turn _ c.args.self.now _ c.self.view_is c.attempt.ensures.adds

@@ -1,4 +1,4 @@
-use Rattle.std.proofs.Common.{rules, ◌≡◌, ◌<◌, List, ◌∷◌, ◌++◌, reverse, refl, sym, ap, subst, ◌∙◌, arith}
+use Rattle.std.proofs.Common.{rules, ◌≡◌, ◌+◌, ◌<◌, List, ◌∷◌, ◌++◌, reverse, refl, sym, ap, subst, ◌∙◌, arith}
 use Rattle.std.specs.Prelude.{IfSome}
 use Rattle.replay_model.specs.declared.input.Block.{Block}
 use Rattle.txn_engine.specs.Pass.{EngineView}
@@ -31,7 +31,9 @@ returns-in_default-2-clause-leads g c =
 
 pub returns-in_default-2-clause-fewer : goal.returns-in_default-2-clause-fewer
 returns-in_default-2-clause-fewer g c = λ some.
-    tries_again c.args.pass.now c.try_block.new.pass c.args.self.now _ (record { had_block = some; session_is = search rules; refused = search rules })
+    tries_again c.args.pass.now c.try_block.new.pass c.args.self.now
+    (record { lane = c.self.inside.lane; tries = c.self.inside.tries; results = c.self.inside.results; left = reverse c.self.inside.blocks.items; refused = c.self.inside.refused + 1 })
+    (record { had_block = some; session_is = search rules; refused = search rules })
 
 pub returns-in_default-2-clause-granted : goal.returns-in_default-2-clause-granted
 returns-in_default-2-clause-granted g c = λ none tried more ample.

@@ -41,7 +41,7 @@ fn turn_to_the_end(
     mut lanes: Lanes<'_, CountClock, OpenGate>,
 ) -> Result<(Pass<RowsLawful>, Vec<LaneDone>), NoMemory>
     requires { IsSomeAnd lanes HasRoomLeft }
-    ensures { IfOk result (λ ran. IsSomeAnd lanes (λ l. ComeTo l ran.0 ran.1.items)) }
+    ensures { IfOk result (λ ran. IsSomeAnd lanes.entry (λ l. ComeTo l ran.0 ran.1.items)) }
 {
     while lanes.turn()? {}
     let (pass, _clock, done) = lanes.finish();

@@ -7,4 +7,4 @@ loop-lanes-preserved c = record {
 }
 
 pub returns : goal.returns
-returns c = c.loop-lanes.invariant.same _ _ (c.in_ok-turn.ensures.same _ _ c.finish.ensures.come)
+returns c = c.loop-lanes.invariant.same _ _ (c.in_ok-turn.ensures.same _ _ c.finish-pass.ensures.come)

@@ -6,6 +6,7 @@ pub mod Collected
 pub mod CutClaims
 pub mod Cutting
 pub mod EachView
+pub mod Finding
 pub mod FirstWords
 pub mod Fresh
 pub mod HandKept

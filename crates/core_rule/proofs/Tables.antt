@@ -12,7 +12,7 @@ use Rattle.word_layout.proofs.Words.{word_of-below, word_of-injective}
 use Rattle.core_rule.specs.View.{View, first_view, spent_view}
 use Rattle.core_rule.specs.Memory.{Memory, memory, put, starts_with}
 use Rattle.core_rule.specs.World.{first_world}
-use Rattle.core_rule.specs.Ways.{Way, loads, meets, Looks, stores, raises_to, exchanges, swaps, effect, told, written, seen_after}
+use Rattle.core_rule.specs.Ways.{Way, loads, meets, looks_for, Looks, stores, raises_to, exchanges, swaps, effect, told, written, seen_after}
 use Rattle.core_rule.specs.Offers.{HasOfferedBoth, IsSettled}
 use Rattle.core_rule.specs.Searching.{Ends}
 use Rattle.core_rule.specs.Kinds.{Kind, name, way, next, after, splitting_after, turned, changed, Allowed}
@@ -54,6 +54,7 @@ pub memory-written : (z : Size) (ws : List ℕ) (w : Way) (n : Name) → length 
     → memory z (set ws (word_of z n) (effect w (get_or ws (word_of z n) 0))) ≡ written w n (memory z ws)
 memory-written z ws loads n sized named = ap (memory z) (set-get_or ws (word_of z n) 0)
 memory-written z ws meets n sized named = ap (memory z) (set-get_or ws (word_of z n) 0)
+memory-written z ws (looks_for a) n sized named = ap (memory z) (set-get_or ws (word_of z n) 0)
 memory-written z ws (stores x) n sized named = memory-set z ws n x sized named
 memory-written z ws (raises_to x) n sized named = rw (memory-found z ws n x sized named) (memory-set z ws n _ sized named)
 memory-written z ws (exchanges a b) n sized named = rw (memory-found z ws n a sized named) (memory-set z ws n _ sized named)
@@ -62,6 +63,7 @@ memory-written z ws (swaps x) n sized named = memory-set z ws n x sized named
 told_again : (w : Way) (n : ℕ) → told w (told w n) ≡ told w n
 told_again loads n = refl
 told_again meets n = refl
+told_again (looks_for a) n = refl
 told_again (stores x) n = refl
 told_again (raises_to x) n = refl
 told_again (exchanges a b) n = refl
@@ -191,6 +193,8 @@ asks_look kept table layout key seen seat_table id me k loads word view_is invar
     asks kept table layout key seen seat_table id me k loads word view_is invariant same allowed named bare at is
 asks_look kept table layout key seen seat_table id me k meets word view_is invariant same allowed named bare at is looks =
     asks kept table layout key seen seat_table id me k meets word view_is invariant same allowed named bare at is
+asks_look kept table layout key seen seat_table id me k (looks_for a) word view_is invariant same allowed named bare at is looks =
+    asks kept table layout key seen seat_table id me k (looks_for a) word view_is invariant same allowed named bare at is
 asks_look kept table layout key seen seat_table id me k (stores x) word view_is invariant same allowed named bare at is looks = absurd looks
 asks_look kept table layout key seen seat_table id me k (raises_to x) word view_is invariant same allowed named bare at is looks = absurd looks
 asks_look kept table layout key seen seat_table id me k (exchanges a b) word view_is invariant same allowed named bare at is looks = absurd looks

@@ -8,7 +8,7 @@ use Rattle.core_rule.specs.View.{View, Clock, sharing, shared, resting, no_raise
 use Rattle.core_rule.specs.Searching.{reserved_by_both}
 use Rattle.core_rule.specs.Offers.{made_of, made_within, MayOffer, IsSettled}
 use Rattle.plain_data.specs.State.{State}
-use Rattle.core_rule.specs.Kinds.{Kind, take, after}
+use Rattle.core_rule.specs.Kinds.{Kind, take, look_at, after}
 use Rattle.core_rule.specs.Learnt.{Learnt}
 
 -- a table: which one it is, and its size
@@ -132,8 +132,15 @@ pub record IsJoined (before other after' : Seated) : Type 0 where
   pub seat : IsSameSeat before after'
   pub view : after'.view ≡ joined_view before.view other.view
 
--- one exchange on the status of a place was made, which won where this number, the status found, is that of a free place
-pub record Takes (kept : State → Type 0) (place : ℕ) (before : Seated) (won : Bool) (after' : Seated) : Type 0 where
+-- a step on the status of a place was made, and found it free where this number, the status found, is that of a free place
+pub record FindsPlace (kept : State → Type 0) (kind : Kind) (before : Seated) (free : Bool) (after' : Seated) : Type 0 where
   pub found : ℕ
-  pub won_is : IsTrue won ↔ (found ≡ 0)
-  pub step : Steps kept (take place) before found after'
+  pub free_is : IsTrue free ↔ (found ≡ 0)
+  pub step : Steps kept kind before found after'
+
+-- by an exchange, which takes it where it is free; by a load
+abbrev pub Takes : (State → Type 0) → (place : ℕ) → Seated → Bool → Seated → Type 0
+Takes kept place before won after' = FindsPlace kept (take place) before won after'
+
+abbrev pub LooksAt : (State → Type 0) → (place : ℕ) → Seated → Bool → Seated → Type 0
+LooksAt kept place before free after' = FindsPlace kept (look_at place) before free after'

@@ -13,7 +13,7 @@ use Rattle.core_rule.specs.View.{View, resting, writing, Scan, no_scan, Splittin
 use Rattle.core_rule.specs.Views.{Has, Among, AllIn, IsAlone}
 use Rattle.core_rule.specs.Memory.{Memory}
 use Rattle.core_rule.specs.World.{World, free, held, marked, linked, at_number, behind, up_to, from_behind, cut_from, all_but_first}
-use Rattle.core_rule.specs.Ways.{Way, loads, meets, stores, raises_to, exchanges, swaps, told, written, seen_after}
+use Rattle.core_rule.specs.Ways.{Way, loads, meets, looks_for, stores, raises_to, exchanges, swaps, told, written, seen_after}
 use Rattle.core_rule.specs.Offers.{made_of, offered_write, offered_read, MayOffer, HasOffered, IsSettled}
 use Rattle.core_rule.specs.Searching.{limit_of, IsPassed, IsLate, stamp_seen, ends, AsksStatus, moved, Rests, Ends, read_place, read_cells, more_read, IsLoading, write_of, FitsPlace, IsNotLinked, Begins, IsFinal, reads_with, finished_with, IsWhole, IsNotRead, IsWholeFill, shown_at, OthersPassed, counted_more, counted_one, counted_cut}
 use Rattle.core_rule.specs.Deciding.{stamp_in, commit_of, snapshot_of, AreReads, IsFitting, IsUndecided}
@@ -45,6 +45,8 @@ pub data Kind : Type 0 where
   raise_min_read : Kind
   -- take a free place, or meet it taken
   take : (place : ℕ) → Kind
+  -- look at a place: meet it not free, or free
+  look_at : (place : ℕ) → Kind
   -- fill a held place: its write stamp; its read stamp with 0 and its next cell, where the fill in work is; or meet that cell,
   -- where it may show this word already
   fill_stamp : (place stamp : ℕ) → Kind
@@ -119,6 +121,7 @@ name load_min_read v = min_read
 name raise_min_write v = min_write
 name raise_min_read v = min_read
 name (take place) v = status place
+name (look_at place) v = status place
 name (fill_stamp place stamp) v = wts place
 name fill_reset v = rts (filled_place v.places.fills)
 name (fill_cell word) v = cell (filled_place v.places.fills) (filled_cells v.places.fills)
@@ -166,6 +169,7 @@ way retire_read v = stores end_of_stamps
 way raise_min_write v = raises_to v.raises.writes.least
 way raise_min_read v = raises_to v.raises.reads.least
 way (take place) v = exchanges 0 1
+way (look_at place) v = looks_for 0
 way (fill_stamp place stamp) v = stores stamp
 way fill_reset v = stores 0
 way (fill_cell word) v = stores word
@@ -404,6 +408,7 @@ Can kept load_min_write v = v.published.read < end_of_stamps
 Can kept raise_min_write v = v.raises.writes.next ≡ v.size.seats
 Can kept raise_min_read v = (v.raises.reads.next ≡ v.size.seats) × (v.published.read < end_of_stamps)
 Can kept (take place) v = place < places v.size
+Can kept (look_at place) v = place < places v.size
 Can kept (fill_stamp place stamp) v = Has place v.places.held
 Can kept fill_reset v = IsFilling v.places.fills
 Can kept (fill_cell word) v = IsFilling v.places.fills × (filled_cells v.places.fills < cells_of_value) × (word < 18446744073709551616)

@@ -15,7 +15,7 @@ use Rattle.core_rule.specs.Snapshots.{AreAlike, AreLeft}
 use Rattle.core_rule.specs.Reckoning.{Reckons}
 use Rattle.core_rule.specs.Spares.{KnowsFree}
 use Rattle.core_rule.specs.Left.{IsLeft, LeavesCells}
-use Rattle.core_rule.specs.Kinds.{Kind, publish_stamp, hear, scan_writes, scan_reads, load_min_write, load_min_read, raise_min_write, raise_min_read, take, load_head, load_next, load_stamp, load_status, load_cell, link_head, link_next, load_read_stamp, decide_by_check, decide_bare, finish, take_lock, load_floor, seek_head, seek_stamp, seek_next, cut, follow, front_head, front_status, after}
+use Rattle.core_rule.specs.Kinds.{Kind, publish_stamp, hear, scan_writes, scan_reads, load_min_write, load_min_read, raise_min_write, raise_min_read, take, look_at, load_head, load_next, load_stamp, load_status, load_cell, link_head, link_next, load_read_stamp, decide_by_check, decide_bare, finish, take_lock, load_floor, seek_head, seek_stamp, seek_next, cut, follow, front_head, front_status, after}
 
 -- a number that a stamp at the place that is searched for is not under
 abbrev pub least_of : Aim → ℕ
@@ -69,6 +69,7 @@ Learnt kept raise_min_read v n =
 -- free is found so
 Learnt kept (take place) v n =
     (n ≡ 0 → AllOf (λ p. p ≢ place) v.places.held) × (v.seen.since ≤ length v.seen.lost) × Reckons (after (take place) v n) × (KnowsFree v place → n ≡ 0)
+Learnt kept (look_at place) v n = (v.seen.since ≤ length v.seen.lost) × Reckons (after (look_at place) v n) × (KnowsFree v place → n ≡ 0)
 Learnt kept (load_head aim r) v n = IsLink (places v.size) n
 Learnt kept (load_next s look) v n = IsLink (places v.size) n
 Learnt kept (load_stamp s) v n = (least_of s.aim ≤ n) × (n < s.under)

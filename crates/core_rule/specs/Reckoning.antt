@@ -6,7 +6,7 @@ use Rattle.core_rule.specs.View.{View, Load, Seen, Bound, no_item}
 use Rattle.core_rule.specs.Views.{Among, OthersTaken}
 use Rattle.core_rule.specs.Searching.{Rests, known_of}
 
--- the exchanges that the seat lost after it had given a place back last
+-- the exchanges that the seat lost, or loads in their stead, after it had given a place back last
 abbrev pub recent : Seen → List Load
 recent s = drop s.since s.lost
 

@@ -191,8 +191,8 @@ pub record Load : Type 0 where
   pub word : Name
   pub number : ℕ
 
--- what the seat's loads and raises found, and the exchanges that it lost; and how many of these it had lost when it last gave a
--- place back
+-- what the seat's loads and raises found, and the exchanges that it lost, with the loads of a place that showed it not free among these; and
+-- how many of these it had lost when it last gave a place back
 pub record Seen : Type 0 where
   pub loads : List Load
   pub lost : List Load

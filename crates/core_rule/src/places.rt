@@ -3,9 +3,9 @@ ghost use Rattle.std.specs.Prelude.{◌≡◌, ◌<◌, ◌↔◌, IsTrue};
 ghost use Rattle.word_layout.specs.Size.{places};
 ghost use Rattle.word_layout.specs.Name.{cell, word_of};
 ghost use Rattle.core_rule.specs.Views.{Has};
-ghost use Rattle.core_rule.specs.Hands.{IsReady, Takes, Steps};
+ghost use Rattle.core_rule.specs.Hands.{IsReady, Takes, LooksAt, Steps};
 ghost use Rattle.core_rule.specs.Holding.{filled_place, filled_cells, IsFilling};
-ghost use Rattle.core_rule.specs.Kinds.{take, fill_stamp, fill_reset, fill_cell, meet_cell, give};
+ghost use Rattle.core_rule.specs.Kinds.{take, look_at, fill_stamp, fill_reset, fill_cell, meet_cell, give};
 ghost use Rattle.word_layout.specs.Limits.{cells_of_value};
 
 use crate::hand::Hand;
@@ -33,6 +33,17 @@ impl<J: Keeps> Core<J> {
             hand.last_pool = Some(place);
         }
         taken
+    }
+
+    /// Looks at a place, and answers whether it is free. Where it is not, that counts as an exchange that was lost.
+    pub fn look_at(&self, hand: &mut Hand<J>, place: u32) -> bool
+        requires ready { IsReady self.now hand.old }
+        requires place { place < places self.now.size }
+        ensures { LooksAt J.kept place hand.old result hand.new }
+    {
+        let word = self.layout.status(place);
+        let found = self.load::<Brand, _>(&mut hand.seat, word, &place);
+        found == FREE
     }
 
     /// Stores the write stamp of a version in a held place. What was filled there before counts no more.

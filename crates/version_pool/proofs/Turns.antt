@@ -10,7 +10,7 @@ use Rattle.core_rule.specs.Views.{Has}
 use Rattle.core_rule.specs.Holding.{is_usable}
 use Rattle.core_rule.specs.Kinds.{take, after}
 use Rattle.plain_data.specs.State.{State}
-use Rattle.core_rule.specs.Hands.{Seated, Takes}
+use Rattle.core_rule.specs.Hands.{Seated, Takes, LooksAt}
 use Rattle.core_rule.specs.Reckoning.{Reckons}
 use Rattle.version_pool.specs.Takes.{first_in_turn, usable_from, usable_in_turn, IsLostOn, AreLostOn, after_losing, after_taking, TakesFree, TakesFirst, FindsNone, WasMet}
 
@@ -103,7 +103,7 @@ FindsNone-one {kept} place before won after' t is = record {
   view = t.step.view ∙ after-lost before.view place t.found not_free;
 } where
   not_free : t.found ≢ 0
-  not_free = λ e. let w = t.won_is.1 e in let f = is in search rules
+  not_free = λ e. let w = t.free_is.1 e in let f = is in search rules
 
 pub TakesFree-one : {kept : State → Type 0} (place : ℕ) (before : Seated) (won : Bool) (after' : Seated) → Takes kept place before won after' → won ≡ true → TakesFree place before.view after'.view
 TakesFree-one {kept} place before won after' t is = record {
@@ -111,11 +111,14 @@ TakesFree-one {kept} place before won after' t is = record {
   not_held = t.step.learnt.0 free;
 } where
   free : t.found ≡ 0
-  free = t.won_is.0 (search rules)
+  free = t.free_is.0 (search rules)
 
--- what the exchange tells of the number of places, whether it was won or lost
+-- what an exchange tells of the number of places, whether it was won or lost, and a load
 pub takes_since : {kept : State → Type 0} (place : ℕ) (before : Seated) (won : Bool) (after' : Seated) → Takes kept place before won after' → before.view.seen.since ≤ length before.view.seen.lost
 takes_since {kept} place before won after' t = t.step.learnt.1
+
+pub looks_counted : {kept : State → Type 0} (place : ℕ) (before : Seated) (free : Bool) (after' : Seated) → LooksAt kept place before free after' → Reckons after'.view
+looks_counted {kept} place before free after' t = subst Reckons (sym t.step.view) t.step.learnt.1
 
 pub takes_counted : {kept : State → Type 0} (place : ℕ) (before : Seated) (won : Bool) (after' : Seated) → Takes kept place before won after' → Reckons after'.view
 takes_counted {kept} place before won after' t = subst Reckons (sym t.step.view) t.step.learnt.2

@@ -21,7 +21,7 @@ use Rattle.core_rule.specs.Claims.{AimClaims, SearchClaims}
 use Rattle.core_rule.specs.Collecting.{Locking, Frees}
 use Rattle.core_rule.specs.Ways.{told}
 use Rattle.core_rule.specs.Rule.{write_words, read_words, status_words, head_words, lock_words}
-use Rattle.core_rule.specs.Kinds.{Kind, publish_stamp, hear, scan_writes, scan_reads, load_min_write, load_min_read, raise_min_write, raise_min_read, name, way, take, load_head, load_next, load_stamp, load_status, load_cell, link_head, link_next, load_read_stamp, decide_by_check, decide_bare, finish, take_lock, load_floor, seek_head, seek_stamp, seek_next, cut, follow, front_head, front_status, after, turned, changed}
+use Rattle.core_rule.specs.Kinds.{Kind, publish_stamp, hear, scan_writes, scan_reads, load_min_write, load_min_read, raise_min_write, raise_min_read, name, way, take, look_at, load_head, load_next, load_stamp, load_status, load_cell, link_head, link_next, load_read_stamp, decide_by_check, decide_bare, finish, take_lock, load_floor, seek_head, seek_stamp, seek_next, cut, follow, front_head, front_status, after, turned, changed}
 use Rattle.core_rule.specs.Learnt.{Learnt, IsOvertaken, IsOfAnother, least_of, IsLink}
 use Rattle.core_rule.specs.Parts.Closed.{OffersNot, ClosedAt}
 use Rattle.core_rule.specs.Parts.Splitting.{Makes}
@@ -277,6 +277,11 @@ module _ (kept : State → Type 0) (z : Size) (g : World) (m : Memory) (vs : Lis
     (s.rule.met id v s.at s.allowed.is_open).within,
     let w = after (take p) v (m (status p)) in
         reckons kept z (turned (take p) v (m (status p)) g) (changed (take p) v m) (set vs id w) (rule_kept kept z g m vs id v (take p) s) id w (set_here vs id w (at_below vs v id s.at)) s.allowed.is_open,
+    λ knows. spare_free kept z g m vs s.rule id v s.at s.allowed.is_open p knows,
+  )
+  learnt (look_at p) s = (
+    (s.rule.met id v s.at s.allowed.is_open).within,
+    let w = after (look_at p) v (m (status p)) in reckons kept z g m (set vs id w) (rule_kept kept z g m vs id v (look_at p) s) id w (set_here vs id w (at_below vs v id s.at)) s.allowed.is_open,
     λ knows. spare_free kept z g m vs s.rule id v s.at s.allowed.is_open p knows,
   )
   learnt (load_head aim r) s =

@@ -9,7 +9,7 @@ use Rattle.core_rule.specs.Memory.{Memory}
 use Rattle.core_rule.specs.World.{World, Owner, free, held, marked, linked, at_number, from_behind, is_in, cut_by, first_world}
 use Rattle.core_rule.specs.View.{View, Load, Splitting, Seen, first_view}
 use Rattle.core_rule.specs.Views.{Among, OthersTaken}
-use Rattle.core_rule.specs.Kinds.{Kind, offer_write_word, offer_read_word, take, give, mark, link_head, link_next, take_lock, cut, free_place, name, after, turned}
+use Rattle.core_rule.specs.Kinds.{Kind, offer_write_word, offer_read_word, take, look_at, give, mark, link_head, link_next, take_lock, cut, free_place, name, after, turned}
 use Rattle.core_rule.specs.Hands.{split_left, split_right, joined_view}
 use Rattle.core_rule.specs.Reckoning.{recent, IsMet}
 use Rattle.core_rule.specs.Parts.Places.{Shows}
@@ -84,6 +84,15 @@ module _ (kept : State → Type 0) (z : Size) (g : World) (m : Memory) (vs : Lis
   taken_not p s inside true e = held_not v.number
   taken_not p s inside false e = shows_not (g.owner p) (m (status p)) (s.rule.places.shows p inside) (ne_from_test (m (status p)) 0 e)
 
+  -- a load that shows a place not free
+  looked : (p : ℕ) → Step kept z g m vs id v (look_at p) → p < places z → (b : Bool) → eqb (m (status p)) 0 ≡ b
+      → IsTaken z g.owner v.number v.splitting v.clock.taken_in record v.seen { lost = v.seen.lost ++ cond b [] (record { word = status p; number = m (status p) } ∷ []) }
+  looked p s inside true e =
+      subst (λ (ls : List Load). IsTaken z g.owner v.number v.splitting v.clock.taken_in record v.seen { lost = ls }) (sym (append-nil v.seen.lost)) (let h = knew s in record { within = h.within; taken = h.taken })
+  looked p s inside false e =
+      one_lost z g.owner g.owner v.number v.splitting v.clock.taken_in v.seen (λ q ne. ne) (knew s) record { word = status p; number = m (status p) }
+      (λ q lt same. subst (λ (k : ℕ). g.owner k ≢ free) (status_one p q same) (shows_not (g.owner p) (m (status p)) (s.rule.places.shows p inside) (ne_from_test (m (status p)) 0 e))) false
+
   linked_keeps : (r p : ℕ) (b : Bool) (q : ℕ) → g.owner q ≢ free → cond b (at_number g.owner p (linked r)) g.owner q ≢ free
   linked_keeps r p true q ne = one_keeps p (linked r) (λ old. linked_not r) q ne
   linked_keeps r p false q ne = ne
@@ -100,6 +109,7 @@ module _ (kept : State → Type 0) (z : Size) (g : World) (m : Memory) (vs : Lis
       framed _ s _ _ (one_lost z g.owner (at_number g.owner p (cond b (held v.number) (g.owner p))) v.number v.splitting v.clock.taken_in v.seen (one_keeps p (cond b (held v.number) (g.owner p)) (taken_keeps p b)) (knew s)
       record { word = status p; number = m (status p) }
       (λ q lt e. at_cases g.owner p (cond b (held v.number) (g.owner p)) q (λ x. x ≢ free) (λ same. taken_not p s inside b refl) (λ ne. absurd (ne (status_one p q e)))) b)
+  met_kept (look_at p) s = framed _ s _ _ (looked p s (rw (← (s.rule.seats.each id v s.at s.allowed.is_open).size) s.allowed.can) (eqb (m (status p)) 0) refl)
   met_kept (give p) s = framed _ s _ _ (anew z _ v.number v.splitting v.clock.taken_in v.seen)
   met_kept (free_place r c to p) s = framed _ s _ _ (anew z _ v.number v.splitting v.clock.taken_in v.seen)
   met_kept (mark r f) s = framed _ s _ _ (same_seen z g.owner _ v.number v.splitting v.clock.taken_in v.seen (one_keeps f.place (marked v.number) (λ old. marked_not v.number)) (knew s))

@@ -1,12 +1,12 @@
 -- What becomes of a pass and the seats that have retired where they come together.
-use Rattle.std.specs.Prelude.{◌≡◌, ℕ, ◌+◌, ◌-◌, max, List, [], ◌∷◌, ◌++◌, map}
+use Rattle.std.specs.Prelude.{◌≡◌, ℕ, ◌+◌, ◌-◌, max, true, List, [], ◌∷◌, ◌++◌, map}
 use Rattle.std.specs.List.{range_with_len}
 use Rattle.std.specs.List.Sorted.{IsPermutation}
 use Rattle.plain_data.specs.declared.entry.Entry.{Entry}
 use Rattle.word_layout.specs.Size.{Size}
 use Rattle.txn_engine.specs.Pass.{EngineView, PassView}
 use Rattle.txn_engine.specs.Retired.{RetiredView}
-use Rattle.seat_post.specs.Seats.{Bounds, Placed}
+use Rattle.seat_post.specs.Seats.{Bounds, Placed, all_taken}
 use Rattle.seat_post.specs.Sharing.{no_bounds}
 use Rattle.spare_numbers.specs.Spare.{with_all}
 
@@ -19,6 +19,10 @@ AreOfEngine engine (r ∷ rs) = (r.engine ≡ engine) × AreOfEngine engine rs
 -- every seat but the first, once
 abbrev pub AreOthers : Size → List RetiredView → Type 0
 AreOthers size rs = IsPermutation (map (λ r. r.seat) rs) (range_with_len 1 (size.seats - 1))
+
+-- each seat of the engine is this one or was taken in
+abbrev pub IsLast : PassView → Type 0
+IsLast p = all_taken p.shared.size.seats p.seat p.others.taken_in ≡ true
 
 -- the logs one after another; the sum of the refusals; the greatest of the clocks and of the minima met; and the spare numbers, each
 -- once
@@ -54,6 +58,10 @@ bounds_joined bounds (r ∷ rs) = no_bounds
 abbrev pub placed_of : List Placed → List RetiredView → List Placed
 placed_of placed [] = placed
 placed_of placed (r ∷ rs) = []
+
+-- what was given out is spare again
+abbrev pub with_numbers_back : PassView → PassView
+with_numbers_back p = record p { spare = p.given ++ p.spare; given = [] }
 
 -- the pass with one seat taken in, but for its snapshot
 abbrev pub joined : PassView → RetiredView → PassView

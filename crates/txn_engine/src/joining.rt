@@ -1,7 +1,7 @@
-//! Coming together: a pass takes in the seats that have retired, and is alone.
+//! Coming together: a pass takes over what seats leave that have retired, and is alone once it has all of them.
 ghost use Rattle.std.specs.Prelude.{◌≡◌, ◌≤◌, ◌+◌, ◌++◌, [], true};
 ghost use Rattle.stamp_base.specs.Limits.{greatest_clock};
-ghost use Rattle.txn_engine.specs.Joining.{AreOfEngine, AreOthers, refusals_of, joined, come_together};
+ghost use Rattle.txn_engine.specs.Joining.{AreOfEngine, AreOthers, IsLast, refusals_of, joined, come_together, with_numbers_back};
 ghost use Rattle.txn_engine.specs.Pass.{IsIdle, IsAlone, with_snapshot, engine_of};
 
 use crate::alone::Alone;
@@ -11,13 +11,15 @@ use crate::retired::Retired;
 use core_rule::Keeps;
 
 impl<J: Keeps> Pass<J> {
-    // Takes in a seat that has retired, and gives the count of its refusals.
-    fn join(&mut self, engine: &Engine<J>, other: Retired<J>) -> u64
+    /// Takes over what a seat of the engine leaves that has retired, and gives the count of its refusals, which the pass does not count
+    /// itself. Its log is behind that of the pass, and the clock and the minimum met are the greater ones; what was given out is spare
+    /// again, with the numbers of the other, each once. What the pass knows of lists is forgotten. It keeps its boost and its queue, and
+    /// works on as before. No memory is asked for.
+    pub fn take_over(&mut self, engine: &Engine<J>, other: Retired<J>) -> u64
         requires engine { engine_of self.old ≡ engine.now }
         requires other_engine { other.engine ≡ engine.now }
         requires idle { IsIdle self.old }
-        requires none_given { self.old.given ≡ [] }
-        ensures joined { self.new ≡ with_snapshot (joined self.old other) self.new.snapshot }
+        ensures joined { self.new ≡ with_snapshot (joined (with_numbers_back self.old) other) self.new.snapshot }
         ensures refusals { result ≡ other.refusals }
         ensures few { result ≤ other.clock }
         ensures in_range { self.new.clock ≤ greatest_clock }
@@ -27,10 +29,18 @@ impl<J: Keeps> Pass<J> {
             numbers,
             refusals,
         } = other;
+        self.numbers.take_back();
         self.numbers.add_all(&numbers);
         self.post.join(&engine.core, hand);
         self.post.clock();
         refusals
+    }
+
+    /// Changes nothing: it tells contracts that no other seat is open, where each of them is taken in.
+    pub fn tell_alone(&self)
+        ensures { IsLast self.now → IsAlone self.now }
+    {
+        self.post.tell_made();
     }
 
     // What was given out is spare again, and nothing is left of boost and queue.
@@ -68,7 +78,7 @@ impl<J: Keeps> Engine<J> {
         let mut earlier = 0;
         pass.clear_all();
         while !remaining.is_empty() {
-            earlier += pass.join(self, remaining.remove(0));
+            earlier += pass.take_over(self, remaining.remove(0));
         }
         pass.post.tell_made();
         Alone {

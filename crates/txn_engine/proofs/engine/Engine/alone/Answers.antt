@@ -1,10 +1,10 @@
 use Rattle.std.proofs.Common.{◌≡◌, ◌<◌, ◌≤◌, ◌+◌, ◌-◌, ◌*◌, ℕ, [], ◌∷◌, List, length, ap, ◌∙◌, sym, subst, arith, eqb-true}
 use Rattle.std.proofs.lemmas.List.{nil_from_length}
 use Rattle.core_rule.specs.Offers.{made_within}
-use Rattle.txn_engine.specs.Joining.{AreOfEngine, AreOthers, refusals_of, come_together}
-use Rattle.txn_engine.specs.Pass.{PassView, EngineView, engine_of}
+use Rattle.txn_engine.specs.Joining.{AreOfEngine, AreOthers, refusals_of, joined, come_together}
+use Rattle.txn_engine.specs.Pass.{PassView, EngineView, engine_of, with_snapshot}
 use Rattle.txn_engine.specs.Retired.{RetiredView}
-use Rattle.txn_engine.proofs.Joined.{without_snapshot, count_others, earlier_more, earlier_most, first_out, rests_joined, together_more, alone_together}
+use Rattle.txn_engine.proofs.Joined.{without_snapshot, count_others, earlier_more, earlier_most, first_out, none_back, rests_joined, together_more, alone_together}
 use Rattle.txn_engine.proofs.engine.Engine.alone.Goals as goal
 
 pub overflow_add-earlier : goal.overflow_add-earlier
@@ -14,26 +14,27 @@ overflow_add-earlier g c =
     let k = length c.args.others.items - length c.loop-pass.remaining.items in
     let most = earlier_most k c.loop-pass.earlier c.loop-pass.pass.clock 63 i.earlier (omega arith) in
     let own = i.in_range in
-    let result = c.join-earlier.ensures.few in
-    let joined = ap (λ (p : PassView). p.clock) c.join-earlier.ensures.joined in
-    let clock = c.join-earlier.ensures.in_range in
+    let result = c.take_over-earlier.ensures.few in
+    let joined = ap (λ (p : PassView). p.clock) c.take_over-earlier.ensures.joined in
+    let clock = c.take_over-earlier.ensures.in_range in
     omega arith
 
 pub loop-pass-preserved : goal.loop-pass-preserved
 loop-pass-preserved g c =
     let i = c.loop-pass.invariant in
     let p = c.loop-pass.pass in
-    let q = c.join-earlier.new.self in
+    let q = c.take_over-earlier.new.self in
     let r = c.remove.result in
     let rest = c.loop-pass.remaining.items in
     let rs = c.remove.new.self.items in
-    let e = c.join-earlier.ensures in
+    let e = c.take_over-earlier.ensures in
     let left = c.remove.ensures.len in
     let ok = c.loop-pass.remaining.ok in
     let some : 0 < length rest = omega arith in
     let first : rest ≡ r ∷ rs = first_out rest rs r c.remove.ensures.items c.remove.ensures.value some in
     let shorter = ap length first in
     let none = ap (λ (x : PassView). x.given) i.rests in
+    let joined_is : q ≡ with_snapshot (joined p r) q.snapshot = e.joined ∙ ap (λ (x : PassView). with_snapshot (joined x r) q.snapshot) (none_back p i.rests) in
     let sum = i.sum in
     let more : refusals_of rest ≡ r.refusals + refusals_of rs = ap refusals_of first in
     let refusals = e.refusals in
@@ -42,13 +43,13 @@ loop-pass-preserved g c =
     let one : k + 1 ≡ length c.args.others.items - length rs = omega arith in
     let clock = ap (λ (x : PassView). x.clock) e.joined in
     record {
-      together = together_more p q r rest rs _ none e.joined first i.together;
-      rests = rests_joined p q r i.rests e.joined;
+      together = together_more p q r rest rs _ none joined_is first i.together;
+      rests = rests_joined p q r i.rests joined_is;
       engine = ap engine_of e.joined ∙ i.engine;
       of_engine = (subst (λ (xs : List RetiredView). AreOfEngine c.args.self.now xs) first i.of_engine).1;
       sum = omega arith;
       fewer = omega arith;
-      earlier = subst (λ (n : ℕ). c.loop-pass.earlier + c.join-earlier.result ≤ n * q.clock) one (subst (λ (n : ℕ). c.loop-pass.earlier + c.join-earlier.result ≤ (k + 1) * n) (sym clock) (earlier_more k c.loop-pass.earlier p.clock r.clock c.join-earlier.result i.earlier e.few));
+      earlier = subst (λ (n : ℕ). c.loop-pass.earlier + c.take_over-earlier.result ≤ n * q.clock) one (subst (λ (n : ℕ). c.loop-pass.earlier + c.take_over-earlier.result ≤ (k + 1) * n) (sym clock) (earlier_more k c.loop-pass.earlier p.clock r.clock c.take_over-earlier.result i.earlier e.few));
       in_range = e.in_range;
     }
 

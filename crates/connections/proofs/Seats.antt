@@ -1,13 +1,16 @@
 -- What a connection keeps, from one of its states to another.
 use Rattle.std.specs.Prelude.{MatchOption}
-use Rattle.std.proofs.Common.{◌≡◌, Option, None, Some, refl, sym, subst, ◌∙◌}
+use Rattle.std.proofs.Common.{◌≡◌, ℕ, List, Option, None, Some, refl, sym, ap, subst, ◌∙◌}
+use Rattle.plain_data.specs.declared.entry.Entry.{Entry}
+use Rattle.histories.specs.History.{Lawful}
 use Rattle.number_queue.specs.Passes.{AreSameLimits, NumberPassView}
+use Rattle.txn_engine.specs.Joining.{IsLast}
 use Rattle.txn_engine.specs.Pass.{EngineView, PassView, IsIdleOf}
 use Rattle.txn_engine.specs.Retired.{RetiredView, retired}
 use Rattle.connections.specs.declared.opened.Opened.{Opened}
 use Rattle.connections.specs.declared.opened.Opened.TheVariants.{Nothing, Transaction, Spoiled, Snapshot, Closed}
-use Rattle.connections.specs.Closing.{Closes, EndsOpened, Retires}
-use Rattle.connections.specs.Connection.{AreNumbersOf, ConnectionView, HoldsTables, IsConnection, IsAt, IsOpenOf, at_end}
+use Rattle.connections.specs.Closing.{Closes, EndsOpened, Retires, TellsLawful}
+use Rattle.connections.specs.Connection.{AreNumbersOf, ConnectionView, HoldsTables, IsConnection, IsAt, IsOpenOf, StandsForRows, at_end}
 use Rattle.connections.specs.Handing.{GivesAll, with_spare}
 
 -- it has a pass, where this is so of it
@@ -49,14 +52,31 @@ idle_spare e p q is idle = subst (IsIdleOf e) (sym is) (idle.0, idle.1)
 pub open_spare : (e : EngineView) (p q : PassView) → q ≡ with_spare p q.spare → IsOpenOf e p → IsOpenOf e q
 open_spare e p q is opened = subst (IsOpenOf e) (sym is) (record { of = opened.of; open_there = opened.open_there; lawful = opened.lawful })
 
--- it is closed: its pass has ended what was open, given its numbers and retired
-pub closes_at : (e : EngineView) (o : Opened) (n m : NumberPassView) (r : Option RetiredView) (pass pass' : Option PassView) (left : RetiredView) (p ended last : PassView) (before : ConnectionView)
-    → record { engine = e; numbers = n; opened = o; pass = pass; retired = r } ≡ before → pass ≡ Some p → EndsOpened o p ended → GivesAll ended last n m → pass' ≡ None → left ≡ retired last
+-- what was told of the log is so of what the seat leaves
+left_lawful : (e : EngineView) (ended told last : PassView) (n m : NumberPassView) → IsIdleOf e ended → TellsLawful ended told → GivesAll told last n m → IsLast ended → Lawful StandsForRows e.size.records last.log
+left_lawful e ended told last n m idle tells gives is =
+    let log : last.log ≡ ended.log = ap (λ (p : PassView). p.log) gives.gives.only ∙ ap (λ (p : PassView). p.log) tells.after in
+    subst (λ (r : ℕ). Lawful StandsForRows r last.log) (ap (λ (x : EngineView). x.size.records) idle.0)
+    (subst (λ (es : List Entry). Lawful StandsForRows ended.shared.size.records es) (sym log) (tells.lawful is))
+
+-- it is closed: its pass has ended what was open, was told of its log, has given its numbers and retired
+pub closes_at : (e : EngineView) (o : Opened) (n m : NumberPassView) (r : Option RetiredView) (pass pass' : Option PassView) (left : RetiredView) (p ended told last : PassView) (before : ConnectionView)
+    → record { engine = e; numbers = n; opened = o; pass = pass; retired = r } ≡ before → pass ≡ Some p → EndsOpened o p ended → IsIdleOf e ended → (IsLast p → IsLast ended) → TellsLawful ended told → GivesAll told last n m → pass' ≡ None → left ≡ retired last
     → Closes before (record { engine = e; numbers = m; opened = Closed; pass = pass'; retired = Some left })
-closes_at e o n m r pass pass' left p ended last before seen is ends gives gone told =
+closes_at e o n m r pass pass' left p ended told last before seen is ends idle still tells gives gone left_is =
     let was : ConnectionView = record { engine = e; numbers = n; opened = o; pass = pass; retired = r } in
     let now : ConnectionView = at_end e m (retired last) in
-    let closes : Closes was now = subst (λ (x : Option PassView). MatchOption x ((o ≡ Closed) × (now ≡ was)) (Retires was now)) (sym is) (ended, last, ends, gives, refl) in
+    let retires : Retires was now p = record {
+      ended = ended;
+      told = told;
+      last = last;
+      ends = ends;
+      tells = tells;
+      gives = gives;
+      is = refl;
+      lawful = λ is_last. left_lawful e ended told last n m idle tells gives (still is_last);
+    } in
+    let closes : Closes was now = subst (λ (x : Option PassView). MatchOption x ((o ≡ Closed) × (now ≡ was)) (Retires was now)) (sym is) retires in
     subst (λ (x : Option PassView). Closes before (record { engine = e; numbers = m; opened = Closed; pass = x; retired = Some left })) (sym gone)
-    (subst (λ (x : RetiredView). Closes before (record { engine = e; numbers = m; opened = Closed; pass = None; retired = Some x })) (sym told)
+    (subst (λ (x : RetiredView). Closes before (record { engine = e; numbers = m; opened = Closed; pass = None; retired = Some x })) (sym left_is)
     (subst (λ (c : ConnectionView). Closes c now) seen closes))

@@ -1,5 +1,5 @@
 -- What calls answer, as numbers, and what they write beside.
-use Rattle.std.specs.Prelude.{◌≡◌, ◌↔◌, OnErr, IfOk, ℕ, ℤ, pos, List, length, Bool, true, false, Option, None, Some, Result, Ok, Err}
+use Rattle.std.specs.Prelude.{◌≡◌, ℕ, ℤ, pos, List, length, Bool, true, false, Option, None, Some, Result, Ok, Err}
 use Rattle.rapid_gc.specs.declared.collecting.Collected.{Collected}
 use Rattle.validate_core.specs.Named.{stamp_named}
 use Rattle.validate_core.specs.declared.conflict.Conflict.{Conflict as Met}
@@ -8,8 +8,7 @@ use Rattle.connections.specs.declared.fault.CallFault.{CallFault}
 use Rattle.connections.specs.declared.fault.CallFault.TheVariants.{Conflict, PlacesOut, RecordsOut, NoMemory, ClockOut, Range, Misused}
 use Rattle.connections.specs.declared.opened.Opened.{Opened}
 use Rattle.connections.specs.declared.opened.Opened.TheVariants as opened
-use Rattle.connections.specs.Calls.{is_there}
-use Rattle.connections.specs.Connection.{ConnectionView}
+use Rattle.connections.specs.Calls.{Tells, is_there}
 use Rattle.txn_engine.specs.Pass.{PassView}
 use Rattle.connections.specs.EachCall.{Call}
 use Rattle.cicada_c.specs.declared.resting.CicadaCounts.{CicadaCounts}
@@ -97,14 +96,11 @@ counted_option before (Err fault) = before
 
 -- what is told of a connection: how many of its transactions committed, and how many were refused; how many numbers of records it has left, and
 -- how many versions are queued
-pub record Counts (before after' : ConnectionView) (answer : Result CicadaCounts CallFault) : Type 0 where
-  pub kept : after' ≡ before
-  pub misused : (answer ≡ Err Misused) ↔ (is_there before.opened ≡ false)
-  pub only : OnErr answer (answer ≡ Err Misused)
-  pub commits : IfOk answer (λ counts. (p : PassView) × (before.pass ≡ Some p) × (counts.commits ≡ p.commits))
-  pub refusals : IfOk answer (λ counts. (p : PassView) × (before.pass ≡ Some p) × (counts.refusals ≡ p.refusals))
-  pub records : IfOk answer (λ counts. (p : PassView) × (before.pass ≡ Some p) × (counts.records ≡ length p.spare))
-  pub queued : IfOk answer (λ counts. (p : PassView) × (before.pass ≡ Some p) × (counts.queued ≡ length p.queue))
+abbrev pub counts_of : PassView → CicadaCounts
+counts_of p = record { commits = p.commits; refusals = p.refusals; records = length p.spare; queued = length p.queue }
+
+abbrev pub Counts : Call CicadaCounts
+Counts before after' answer = (after' ≡ before) × Tells (is_there before.opened) counts_of before answer
 
 -- ---- an export
 

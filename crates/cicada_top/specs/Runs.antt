@@ -44,10 +44,8 @@ pub record GoesWith (mode : Mode) (finish : Finish) (before after : Streams) : T
   pub read_cause : finish.status ≡ ReadFault → HasRisen before.read_faults after.read_faults
   pub write_cause : finish.status ≡ WriteFault → HasRisen before.write_faults after.write_faults
   pub never_falls : before.write_faults ≤ after.write_faults
-  -- The seat that is alone at the end is there exactly where blocks were run and all was written. The log of all transactions is a lawful
-  -- history, and over a source that tells its bytes it is that of the input: an entry for each block of the order, and at each of them
-  -- the tables of the replay.
-  pub end : IsSome finish.end ↔ ((finish.status ≡ Done) × RunsBlocks mode)
+  -- Of a seat that is alone at the end, the log of all transactions is a lawful history, and over a source that tells its bytes it is that of
+  -- the input: an entry for each block of the order, and at each of them the tables of the replay.
   pub lawful : IfSome finish.end (λ end. IsLawfulEnd end.pass)
   pub history : (bytes : List ℕ) → HoldsFor mode before.left bytes
       → IfSome finish.end (λ end. (input : Input) → IsInputFor mode bytes input → IsHistoryOf input finish.order.items end.pass)
@@ -65,6 +63,8 @@ pub record GoesWith (mode : Mode) (finish : Finish) (before after : Streams) : T
 pub record RunsAs (mode : Mode) (finish : Finish) (before after : Streams) : Type 0 where
   -- the table of statuses; at `Done`, where blocks are run, it is the report theorem
   pub ends : EndsAs finish.status mode finish.order.items finish.fault before.left after.left before.taken after.taken
+  -- the seat that is alone at the end is there exactly where blocks were run and all was written
+  pub end : IsSome finish.end ↔ ((finish.status ≡ Done) × RunsBlocks mode)
   pub beside : GoesWith mode finish before after
 
 -- What comes of a run that words ask for: where they are refused, that is said; where they are accepted, what the source holds decides.

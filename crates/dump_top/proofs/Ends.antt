@@ -27,12 +27,28 @@ use Rattle.program_io.specs.Received.{ReadsAtMostFor}
 use Rattle.cicada_top.specs.Runs.{BelongsTogether, GoesWith, IsDecided, RunsAs, Streams}
 use Rattle.snap_dump.specs.declared.dump.Dump.{Dump}
 use Rattle.snap_dump.specs.Dumps.{seen_in}
-use Rattle.dump_top.specs.Endings.{AreStampsOf, DeliversDumps, DumpsAs, EndsWithDumps, IsDueHere, IsReportWithDumps, WritesDumps, WritesPart, status_at, stopped}
+use Rattle.dump_top.specs.Endings.{AreStampsOf, BeginsDumps, DeliversDumps, DumpsAs, EndsWithDumps, IsDueHere, IsReportWithDumps, WritesDumps, WritesPart, status_at, stopped}
 use Rattle.dump_top.specs.Parts.{IsWrittenInPart}
 use Rattle.dump_top.specs.Texts.{dumps_text, readings_text}
 use Rattle.dump_top.specs.Words.{AsksFor, Text}
 use Rattle.cicada_top.proofs.DueLaws.{reads-nothing}
 use Rattle.dump_top.proofs.Readings.{append_known-append, shown, stamps_of}
+
+-- ---- what is there, and what is not
+
+module _ {X : Type 0} (o : Option X) (none : o ≡ None) where
+  not_there : IsSome o → ⊥
+  not_there some = absurd (let no : false ≡ true = ap is_some (sym none) ∙ some in cc)
+
+  if_there : (P : X → Type 0) → IfSome o P
+  if_there P = subst (λ (x : Option X). IfSome x P) (sym none) tt
+
+  if_not : (P : Type 0) → P → IfNone o P
+  if_not P p = subst (λ (x : Option X). IfNone x P) (sym none) p
+
+pub none_of : {X : Type 0} (o : Option X) → (IsSome o → ⊥) → o ≡ None
+none_of None not = refl
+none_of (Some x) not = absurd (not refl)
 
 module _ (words : List Text) (dumps : ℕ) (asks : AsksFor words dumps) where
   -- ---- where the run wrote no whole report
@@ -43,10 +59,11 @@ module _ (words : List Text) (dumps : ℕ) (asks : AsksFor words dumps) where
   asked : AsksFor words (length some_stamps)
   asked = subst (AsksFor words) (sym (length-map-range_with_len (λ (n : ℕ). n) 0 dumps)) asks
 
-  -- a part of a text that is due of a run is a part of one that is due with dumps
-  pub due_here : (bytes : List ℕ) (order : List Placed) (sent rest : List ℕ) → IsDue Run bytes order (sent ++ rest) → (rest' : List ℕ) × IsDueHere words bytes order sent rest' × (0 < length rest → 0 < length rest')
-  due_here bytes order sent rest is = by is.status is.is_due where
-    by : (status : Status) → IsDueAt status Run bytes is.made_of is.fault (sent ++ rest) → (rest' : List ℕ) × IsDueHere words bytes order sent rest' × (0 < length rest → 0 < length rest')
+  -- a part of a text that is due of a run is a part of one that is due with dumps, of which none was begun
+  pub due_here : (at : Status) (bytes : List ℕ) (order : List Placed) (end : Option AloneView) (sent rest : List ℕ) → end ≡ None → ((n : ℕ) → n ≡ length sent + length rest → BeginsDumps at n (length sent) → ⊥)
+      → IsDue Run bytes order (sent ++ rest) → (rest' : List ℕ) × IsDueHere words at bytes order end sent rest' × (0 < length rest → 0 < length rest')
+  due_here at bytes order end sent rest no_end short is = by is.status is.is_due where
+    by : (status : Status) → IsDueAt status Run bytes is.made_of is.fault (sent ++ rest) → (rest' : List ℕ) × IsDueHere words at bytes order end sent rest' × (0 < length rest → 0 < length rest')
     by Done due =
         let of = due.0 in
         let more : List ℕ = dumps_text of.input order some_stamps in
@@ -62,43 +79,46 @@ module _ (words : List Text) (dumps : ℕ) (asks : AsksFor words dumps) where
               asked = asked;
               said = sym (append_assoc sent rest more) ∙ ap (λ text. text ++ more) is_report;
             };
-            stamps = λ longer. absurd (omega (arith, longer, ap (λ (text : List ℕ). length text) is_report, length-append sent rest));
+            begun = λ begins. absurd (short _ (sym (ap (λ (text : List ℕ). length text) is_report) ∙ length-append sent rest) begins);
+            reported = λ some. absurd (not_there end no_end some);
+            stamps = if_there end no_end _;
           }),
           λ some. omega (arith, length-append rest more, some),
         )
     by Usage due = absurd due
-    by Input due = (rest, inr (record { status = Input; fault = is.fault; is_due = subst (λ (o : List Placed). IsDueAt Input Run bytes o is.fault (sent ++ rest)) (sym is.kept) due; refuses = λ e. cc }), λ some. some)
-    by TooLong due = (rest, inr (record { status = TooLong; fault = is.fault; is_due = subst (λ (o : List Placed). IsDueAt TooLong Run bytes o is.fault (sent ++ rest)) (sym is.kept) due; refuses = λ e. cc }), λ some. some)
+    by Input due = (rest, inr (record { status = Input; fault = is.fault; is_due = subst (λ (o : List Placed). IsDueAt Input Run bytes o is.fault (sent ++ rest)) (sym is.kept) due; refuses = λ e. cc; no_end = no_end }), λ some. some)
+    by TooLong due = (rest, inr (record { status = TooLong; fault = is.fault; is_due = subst (λ (o : List Placed). IsDueAt TooLong Run bytes o is.fault (sent ++ rest)) (sym is.kept) due; refuses = λ e. cc; no_end = no_end }), λ some. some)
     by ReadFault due = absurd due
     by WriteFault due = absurd due
     by NoMemory due = absurd due
     by Differs due = absurd due.0
 
-  module _ (order : List Placed) (fault : Option InputFault) (end : Option AloneView) (left left' before after : Option (List ℕ)) where
-    short_here : (status : Status) (is : Answers status Run order fault left left' before after) → StopsShort Run is.bytes order before after × (fault ≡ None)
-        → (sent : List ℕ) × (rest : List ℕ) × WritesPart words order left left' before after sent rest × (0 < length rest) × (fault ≡ None)
-    short_here status is stops =
-        let due = due_here is.bytes order stops.0.sent stops.0.rest stops.0.part.is_due in
+  module _ (order : List Placed) (fault : Option InputFault) (end : Option AloneView) (no_end : end ≡ None) (left left' before after : Option (List ℕ)) where
+    short_here : (is : Answers WriteFault Run order fault left left' before after) → StopsShort Run is.bytes order before after × (fault ≡ None)
+        → (sent : List ℕ) × (rest : List ℕ) × WritesPart words WriteFault order end left left' before after sent rest × (0 < length rest) × (fault ≡ None)
+    short_here is stops =
+        let some = stops.0.unfinished in
+        let due = due_here WriteFault is.bytes order end stops.0.sent stops.0.rest no_end (λ n all begins. omega (arith, all, begins, some)) stops.0.part.is_due in
         (stops.0.sent, due.0, record { bytes = is.bytes; received = is.received; is_due = due.1; written = stops.0.part.written }, due.2 stops.0.unfinished, stops.1)
 
-    begun_here : (status : Status) (is : Answers status Run order fault left left' before after) → StopsBegun Run is.bytes order before after × (fault ≡ None)
-        → (sent : List ℕ) × (rest : List ℕ) × WritesPart words order left left' before after sent rest × (0 < length sent) × (fault ≡ None)
-    begun_here status is stops =
-        let due = due_here is.bytes order stops.0.sent stops.0.rest stops.0.part.is_due in
+    begun_here : (is : Answers NoMemory Run order fault left left' before after) → StopsBegun Run is.bytes order before after × (fault ≡ None)
+        → (sent : List ℕ) × (rest : List ℕ) × WritesPart words NoMemory order end left left' before after sent rest × (0 < length sent) × (fault ≡ None)
+    begun_here is stops =
+        let due = due_here NoMemory is.bytes order end stops.0.sent stops.0.rest no_end (λ n all begins. omega (arith, all, begins)) stops.0.part.is_due in
         (stops.0.sent, due.0, record { bytes = is.bytes; received = is.received; is_due = due.1; written = stops.0.part.written }, stops.0.begun, stops.1)
 
     pub ends_as_run : (status : Status) → status ≢ Done → EndsAs status Run order fault left left' before after → EndsWithDumps status words order fault end left left' before after
     ends_as_run Done other ends = absurd (other refl)
-    ends_as_run Usage other ends = ends
-    ends_as_run Input other ends = ends
-    ends_as_run TooLong other ends = ends
-    ends_as_run ReadFault other ends = ends
-    ends_as_run WriteFault other ends = short_here WriteFault ends ends.writes
+    ends_as_run Usage other ends = (ends, no_end)
+    ends_as_run Input other ends = (ends, no_end)
+    ends_as_run TooLong other ends = (ends, no_end)
+    ends_as_run ReadFault other ends = (ends, no_end)
+    ends_as_run WriteFault other ends = short_here ends ends.writes
     ends_as_run NoMemory other (inl answers) = elim answers.writes [
-      | inl begun ↦ inl (begun_here NoMemory answers begun)
-      | inr nothing ↦ inr nothing
+      | inl begun ↦ inl (begun_here answers begun)
+      | inr nothing ↦ inr (nothing, no_end)
     ]
-    ends_as_run NoMemory other (inr nothing) = inr nothing
+    ends_as_run NoMemory other (inr nothing) = inr (nothing, no_end)
     ends_as_run Differs other ends = absurd ends.0.writes.is_due.0
 
 -- ---- faults, one part behind the other
@@ -140,6 +160,16 @@ module _ (words : List Text) (finish : Finish) (made : List Dump) (before mid : 
     beside = one.snapshots.beside;
   }
 
+  -- the seat of the run is there, and the stamps are of its history
+  is_there : IsSome finish.end
+  is_there = subst IsSome (sym is_end) refl
+
+  stamps_there : IfSome finish.end (λ e. AreStampsOf one.input finish.order.items e.pass (stamps_of made))
+  stamps_there = subst (λ (o : Option AloneView). IfSome o (λ e. AreStampsOf one.input finish.order.items e.pass (stamps_of made))) (sym is_end) stamps_of_run
+
+  reported_as : one.due ≡ report one.input finish.order.items
+  reported_as = one.answers.reported ∙ ap (λ (i : InputValue). report i finish.order.items) same_input
+
   abbrev is_report : (due : List ℕ) → due ≡ one.due ++ dumped → IsReportWithDumps words one.bytes finish.order.items due
   is_report due is = record {
     short = one.answers.short;
@@ -148,7 +178,7 @@ module _ (words : List Text) (finish : Finish) (made : List Dump) (before mid : 
     ordered = subst (λ (i : InputValue). IsOrder i finish.order.items) same_input one.answers.ordered;
     stamps = stamps_of made;
     asked = subst (AsksFor words) (length-map made _ ∙ sym (length-map made _)) asks;
-    said = is ∙ ap (λ text. text ++ dumped) (one.answers.reported ∙ ap (λ (i : InputValue). report i finish.order.items) same_input);
+    said = is ∙ ap (λ text. text ++ dumped) reported_as;
   }
 
   -- the text of a run has some bytes
@@ -165,25 +195,28 @@ module _ (words : List Text) (finish : Finish) (made : List Dump) (before mid : 
       at_end = at_end;
       due = one.due ++ dumped;
       is_due = is_report (one.due ++ dumped) refl;
-      stamps = subst (λ (o : Option AloneView). IfSome o (λ e. AreStampsOf one.input finish.order.items e.pass (stamps_of made))) (sym is_end) stamps_of_run;
+      there = is_there;
+      stamps = stamps_there;
       written = written ∙ ap (append_known mid.taken) text_is ∙ ap (λ o. append_known o dumped) one.written ∙ sym (append_known-append before.taken one.due dumped);
     }
 
-    writes_part : (part : IsWrittenInPart (readings_text finish.tables (seen_in made)) mid.taken after) → WritesPart words finish.order.items before.left mid.left before.taken after (one.due ++ part.sent) part.rest
-    writes_part part = record {
+    writes_part : (status : Status) (part : IsWrittenInPart (readings_text finish.tables (seen_in made)) mid.taken after) → WritesPart words status finish.order.items finish.end before.left mid.left before.taken after (one.due ++ part.sent) part.rest
+    writes_part status part = record {
       bytes = one.bytes;
       received = one.received;
       is_due = inl (record {
         whole = is_report ((one.due ++ part.sent) ++ part.rest) (append_assoc one.due part.sent part.rest ∙ ap (λ text. one.due ++ text) (sym part.text_is ∙ text_is));
-        stamps = λ longer. (end.pass, stamps_of_run);
+        begun = λ begins. is_there;
+        reported = λ some. (let all = ap (λ (text : List ℕ). length text) reported_as in let sum = length-append one.due part.sent in omega (arith, all, sum));
+        stamps = stamps_there;
       });
       written = part.written ∙ ap (λ o. append_known o part.sent) one.written ∙ sym (append_known-append before.taken one.due part.sent);
     }
 
-    ends_stopped : (why : SinkFault) → IsWrittenInPart (readings_text finish.tables (seen_in made)) mid.taken after
+    ends_stopped : (why : SinkFault) → finish.fault ≡ None → IsWrittenInPart (readings_text finish.tables (seen_in made)) mid.taken after
         → EndsWithDumps (stopped why finish).status words (stopped why finish).order.items (stopped why finish).fault (stopped why finish).end before.left mid.left before.taken after
-    ends_stopped Failed part = (one.due ++ part.sent, part.rest, writes_part part, part.unfinished, refl)
-    ends_stopped NoRoom part = inl (one.due ++ part.sent, part.rest, writes_part part, omega (arith, length-append one.due part.sent, report_some), refl)
+    ends_stopped Failed faultless part = (one.due ++ part.sent, part.rest, writes_part WriteFault part, part.unfinished, faultless)
+    ends_stopped NoRoom faultless part = inl (one.due ++ part.sent, part.rest, writes_part NoMemory part, omega (arith, length-append one.due part.sent, report_some), faultless)
 
 -- ---- the dumps of a run that is done
 
@@ -202,22 +235,17 @@ beside_stopped why finish before mid after beside same later failed = record {
   read_cause = λ is. absurd (no_read why is);
   write_cause = λ is. risen_later before.write_faults mid.write_faults after.write_faults beside.never_falls (failed is);
   never_falls = (let so_far = beside.never_falls in omega (arith, so_far, later));
-  end = (λ some. absurd (let no : false ≡ true = some in cc), λ is. absurd (not_done why is.0));
-  lawful = tt;
-  history = λ bytes holds. tt;
-  tables = λ bytes holds. tt;
-  no_tables = refl;
-  told = (λ some. absurd (let no : false ≡ true = some in cc), λ is. absurd is.1);
-  judged = λ bytes holds. tt;
+  lawful = beside.lawful;
+  history = beside.history;
+  tables = beside.tables;
+  no_tables = beside.no_tables;
+  told = (λ some. absurd (beside.told.0 some).1, λ is. absurd is.1);
+  judged = beside.judged;
   reads = subst (λ (left : Option (List ℕ)). ReadsAtMostFor Run before.left left) (sym same) beside.reads;
 } where
   no_read : (why : SinkFault) → status_at why ≡ ReadFault → ⊥
   no_read Failed is = cc
   no_read NoRoom is = cc
-
-  not_done : (why : SinkFault) → status_at why ≡ Done → ⊥
-  not_done Failed is = cc
-  not_done NoRoom is = cc
 
 -- where all of them were written
 beside_whole : (finish : Finish) (before mid after : Streams) → GoesWith Run finish before mid → finish.status ≡ Done → after.left ≡ mid.left → after.read_faults ≡ mid.read_faults → mid.write_faults ≤ after.write_faults → GoesWith Run finish before after
@@ -225,7 +253,6 @@ beside_whole finish before mid after beside done same reads later = record {
   read_cause = λ is. absurd (let both : Done ≡ ReadFault = sym done ∙ is in cc);
   write_cause = λ is. absurd (let both : Done ≡ WriteFault = sym done ∙ is in cc);
   never_falls = (let so_far = beside.never_falls in omega (arith, so_far, later));
-  end = beside.end;
   lawful = beside.lawful;
   history = beside.history;
   tables = beside.tables;
@@ -239,7 +266,7 @@ module _ (words : List Text) (finish result : Finish) (made : List Dump) (before
     (same : after.left ≡ mid.left) (reads : after.read_faults ≡ mid.read_faults) (later : mid.write_faults ≤ after.write_faults) (failed : result.status ≡ WriteFault → HasRisen mid.write_faults after.write_faults)
     (asks : AsksFor words (length (seen_in made))) (together : IfSome finish.end (λ e. BelongsTogether Run finish e.pass before mid (seen_in made))) where
   there : (end : AloneView) × (finish.end ≡ Some end)
-  there = some_at finish.end (ran.beside.end.1 (done, tt))
+  there = some_at finish.end (ran.end.1 (done, tt))
 
   lawful : IsLawfulEnd there.0.pass
   lawful = subst (λ (o : Option AloneView). IfSome o (λ e. IsLawfulEnd e.pass)) there.1 ran.beside.lawful
@@ -258,8 +285,8 @@ module _ (words : List Text) (finish result : Finish) (made : List Dump) (before
     beside = beside_whole finish before mid after ran.beside done same reads later;
   })
   dumps_as (inr stop) = subst (λ (r : Finish). DumpsAs words r before after) (sym stop.is) (record {
-    ends = subst (λ (left : Option (List ℕ)). EndsWithDumps (stopped stop.why finish).status words finish.order.items None None before.left left before.taken after.taken) (sym same)
-        (ends_stopped words finish made before mid asks there.0 there.1 lawful one after.taken stop.why stop.part);
+    ends = subst (λ (left : Option (List ℕ)). EndsWithDumps (stopped stop.why finish).status words finish.order.items finish.fault finish.end before.left left before.taken after.taken) (sym same)
+        (ends_stopped words finish made before mid asks there.0 there.1 lawful one after.taken stop.why whole.0.writes.is_due.1 stop.part);
     beside = beside_stopped stop.why finish before mid after ran.beside same later (λ is. failed (ap (λ (r : Finish). r.status) stop.is ∙ is));
   })
 
@@ -282,28 +309,17 @@ still_decided finish result text before mid after decided same reads later ended
 
 -- ---- where nothing was begun
 
-module _ {X : Type 0} (o : Option X) (none : o ≡ None) where
-  not_there : IsSome o → ⊥
-  not_there some = absurd (let no : false ≡ true = ap is_some (sym none) ∙ some in cc)
-
-  if_there : (P : X → Type 0) → IfSome o P
-  if_there P = subst (λ (x : Option X). IfSome x P) (sym none) tt
-
-  if_not : (P : Type 0) → P → IfNone o P
-  if_not P p = subst (λ (x : Option X). IfNone x P) (sym none) p
-
 pub dumps_not_begun : (words : List Text) (finish : Finish) (at : Streams) → (finish.status ≡ Usage) ⊎ (finish.status ≡ NoMemory) → finish.order.items ≡ [] → finish.fault ≡ None → finish.end ≡ None → finish.tables ≡ [] → finish.verdict ≡ None
     → DumpsAs words finish at at
 dumps_not_begun words finish at which none_ordered faultless no_end no_tables no_verdict = record {
   ends = elim which as (λ _. EndsWithDumps finish.status words finish.order.items finish.fault finish.end at.left at.left at.taken at.taken) [
-    | inl usage ↦ subst (λ (s : Status). EndsWithDumps s words finish.order.items finish.fault finish.end at.left at.left at.taken at.taken) (sym usage) nothing
-    | inr memory ↦ subst (λ (s : Status). EndsWithDumps s words finish.order.items finish.fault finish.end at.left at.left at.taken at.taken) (sym memory) (inr nothing)
+    | inl usage ↦ subst (λ (s : Status). EndsWithDumps s words finish.order.items finish.fault finish.end at.left at.left at.taken at.taken) (sym usage) (nothing, no_end)
+    | inr memory ↦ subst (λ (s : Status). EndsWithDumps s words finish.order.items finish.fault finish.end at.left at.left at.taken at.taken) (sym memory) (inr (nothing, no_end))
   ];
   beside = record {
     read_cause = λ is. absurd (other ReadFault is (λ e. cc) (λ e. cc));
     write_cause = λ is. absurd (other WriteFault is (λ e. cc) (λ e. cc));
     never_falls = omega arith;
-    end = (λ some. absurd (not_there finish.end no_end some), λ is. absurd (other Done is.0 (λ e. cc) (λ e. cc)));
     lawful = if_there finish.end no_end _;
     history = λ bytes holds. if_there finish.end no_end _;
     tables = λ bytes holds. if_there finish.end no_end _;

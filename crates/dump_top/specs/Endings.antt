@@ -49,50 +49,61 @@ pub record AreStampsOf (input : InputValue) (order : List Placed) (end : PassVie
   pub snapshots : AreSnapshotsOf input order end readings
   pub beside : AreBelowLater order readings
 
--- the bytes are refused, and the text says so
-pub record IsRefusal (bytes : List ℕ) (order : List Placed) (due : List ℕ) : Type 0 where
+-- the bytes are refused, and the text says so; nothing was run
+pub record IsRefusal (bytes : List ℕ) (order : List Placed) (end : Option AloneView) (due : List ℕ) : Type 0 where
   pub status : Status
   pub fault : Option InputFault
   pub is_due : IsDueAt status Run bytes order fault due
   pub refuses : status ≢ Done
+  pub no_end : end ≡ None
 
--- of the report with the dumps `sent` was written; where that is more than the report, the stamps of the dumps are those of a run
-pub record IsReportInPart (words : List Text) (bytes : List ℕ) (order : List Placed) (sent rest : List ℕ) : Type 0 where
+-- so many bytes of a text were written that the dumps behind its report were begun; a run that wants for memory may have written all of the
+-- report
+abbrev pub BeginsDumps : Status → (report_length sent_length : ℕ) → Type 0
+BeginsDumps WriteFault report_length sent_length = report_length ≤ sent_length
+BeginsDumps _ report_length sent_length = report_length < sent_length
+
+-- Of the report with the dumps `sent` was written. The seat that the run left is there where the dumps were begun, and only behind the whole
+-- report; then the stamps are those of that run.
+pub record IsReportInPart (words : List Text) (status : Status) (bytes : List ℕ) (order : List Placed) (end : Option AloneView) (sent rest : List ℕ) : Type 0 where
   pub whole : IsReportWithDumps words bytes order (sent ++ rest)
-  pub stamps : length (report whole.input order) < length sent → (end : PassView) × AreStampsOf whole.input order end whole.stamps
+  pub begun : BeginsDumps status (length (report whole.input order)) (length sent) → IsSome end
+  pub reported : IsSome end → length (report whole.input order) ≤ length sent
+  pub stamps : IfSome end (λ e. AreStampsOf whole.input order e.pass whole.stamps)
 
-abbrev pub IsDueHere : List Text → List ℕ → List Placed → (sent rest : List ℕ) → Type 0
-IsDueHere words bytes order sent rest = IsReportInPart words bytes order sent rest ⊎ IsRefusal bytes order (sent ++ rest)
+abbrev pub IsDueHere : List Text → Status → List ℕ → List Placed → Option AloneView → (sent rest : List ℕ) → Type 0
+IsDueHere words status bytes order end sent rest = IsReportInPart words status bytes order end sent rest ⊎ IsRefusal bytes order end (sent ++ rest)
 
--- bytes were received, and the report and the dumps of them were written whole; the stamps are those of the run that left this seat
+-- bytes were received, and the report and the dumps of them were written whole; the stamps are those of the run, which left this seat
 pub record WritesDumps (words : List Text) (order : List Placed) (end : Option AloneView) (left left' before after : Option (List ℕ)) : Type 0 where
   pub bytes : List ℕ
   pub received : Receives most_input left left' bytes
   pub at_end : IsAtEnd left'
   pub due : List ℕ
   pub is_due : IsReportWithDumps words bytes order due
+  pub there : IsSome end
   pub stamps : IfSome end (λ e. AreStampsOf is_due.input order e.pass is_due.stamps)
   pub written : after ≡ append_known before due
 
 -- bytes were received, and of the text due for them `sent` was written, and `rest` was not
-pub record WritesPart (words : List Text) (order : List Placed) (left left' before after : Option (List ℕ)) (sent rest : List ℕ) : Type 0 where
+pub record WritesPart (words : List Text) (status : Status) (order : List Placed) (end : Option AloneView) (left left' before after : Option (List ℕ)) (sent rest : List ℕ) : Type 0 where
   pub bytes : List ℕ
   pub received : Receives most_input left left' bytes
-  pub is_due : IsDueHere words bytes order sent rest
+  pub is_due : IsDueHere words status bytes order end sent rest
   pub written : after ≡ append_known before sent
 
--- THE TABLE: at a refusal and at a fault of the source a run with dumps ends as a run does
+-- THE TABLE: at a refusal and at a fault of the source a run with dumps ends as a run does, and leaves no seat
 abbrev pub EndsWithDumps : Status → List Text → List Placed → Option InputFault → Option AloneView → (left left' before after : Option (List ℕ)) → Type 0
 EndsWithDumps Done words order fault end left left' before after = WritesDumps words order end left left' before after × (fault ≡ None)
-EndsWithDumps Usage words order fault end left left' before after = WritesNothing order fault before after
-EndsWithDumps Input words order fault end left left' before after = EndsAs Input Run order fault left left' before after
-EndsWithDumps TooLong words order fault end left left' before after = EndsAs TooLong Run order fault left left' before after
-EndsWithDumps ReadFault words order fault end left left' before after = EndsAs ReadFault Run order fault left left' before after
+EndsWithDumps Usage words order fault end left left' before after = WritesNothing order fault before after × (end ≡ None)
+EndsWithDumps Input words order fault end left left' before after = EndsAs Input Run order fault left left' before after × (end ≡ None)
+EndsWithDumps TooLong words order fault end left left' before after = EndsAs TooLong Run order fault left left' before after × (end ≡ None)
+EndsWithDumps ReadFault words order fault end left left' before after = EndsAs ReadFault Run order fault left left' before after × (end ≡ None)
 EndsWithDumps WriteFault words order fault end left left' before after =
-    (sent : List ℕ) × (rest : List ℕ) × WritesPart words order left left' before after sent rest × (0 < length rest) × (fault ≡ None)
+    (sent : List ℕ) × (rest : List ℕ) × WritesPart words WriteFault order end left left' before after sent rest × (0 < length rest) × (fault ≡ None)
 EndsWithDumps NoMemory words order fault end left left' before after =
-    ((sent : List ℕ) × (rest : List ℕ) × WritesPart words order left left' before after sent rest × (0 < length sent) × (fault ≡ None))
-    ⊎ WritesNothing order fault before after
+    ((sent : List ℕ) × (rest : List ℕ) × WritesPart words NoMemory order end left left' before after sent rest × (0 < length sent) × (fault ≡ None))
+    ⊎ (WritesNothing order fault before after × (end ≡ None))
 EndsWithDumps Differs words order fault end left left' before after = ⊥
 
 -- ---- the whole contract
@@ -118,9 +129,9 @@ abbrev pub status_at : SinkFault → Status
 status_at Failed = WriteFault
 status_at NoRoom = NoMemory
 
--- a run that was done and whose dumps the sink stopped: of what it answered the order stays
+-- a run that was done and whose dumps the sink stopped: all that it answered stays but the status
 abbrev pub stopped : SinkFault → Finish → Finish
-stopped why finish = record finish { status = status_at why; tables = []; fault = None; usage = None; end = None; verdict = None }
+stopped why finish = record finish { status = status_at why }
 
 -- the dumps of a run that is done were written in part
 pub record StopsInDumps (before after' : Finish) (text : List ℕ) (taken taken' : Option (List ℕ)) : Type 0 where

@@ -4,12 +4,11 @@ ghost use Rattle.std.specs.Prelude.{◌≡◌, ◌<◌, ◌≤◌, ◌^◌, List
 ghost use Rattle.outside_io.specs.Faults.{HasRisen, count_end};
 ghost use Rattle.replay_model.specs.Input.{IsColumn};
 ghost use Rattle.snap_dump.specs.Dumps.{seen_in};
-ghost use Rattle.cicada_top.specs.declared.finish.Finish.{Finish as FinishValue};
 ghost use Rattle.program_io.specs.declared.mode.Mode.TheVariants.{Run};
 ghost use Rattle.program_io.specs.Words.{AreAccepted, mode_of};
 ghost use Rattle.cicada_top.specs.Runs.{IsDecided, streams};
 ghost use Rattle.dump_top.specs.Words.{AreRefusedHere, AsksFor};
-ghost use Rattle.dump_top.specs.Endings.{DeliversDumps, DumpsAs, DumpsBy, stopped};
+ghost use Rattle.dump_top.specs.Endings.{DeliversDumps, DumpsAs, DumpsBy, status_at};
 ghost use Rattle.dump_top.specs.Texts.{readings_text};
 
 use crate::words::{behind_first, read_dump_words};
@@ -17,7 +16,6 @@ use crate::writing::write_dumps;
 use cicada_top::{Finish, Status, run_with};
 use outside_io::{Clock, Gate, Sink, SinkFault, Source};
 use program_io::Refusal;
-use replay_model::{Names, Placed};
 use snap_dump::{Dump, Dumping};
 use std::alloc::Global;
 use std::sync::Wait;
@@ -97,7 +95,7 @@ fn run_asked<R: Threads + Wait + Sync, S: Source, K: Sink, C: Clock, G: Gate>(
     deliver_dumps(alloc, finish, dumping.dumps(), sink)
 }
 
-/// Writes dumps behind the report of a run that is done, and says how that ended.
+/// Writes dumps behind the report of a run that is done, and says how that ended: where the sink stops, all but the status stays.
 fn deliver_dumps<K: Sink>(alloc: Global, finish: Finish, dumps: &[Dump], sink: &mut K) -> Finish
     requires done { finish.status ≡ Status.Done }
     requires columns { All (λ table. IsColumn table.1) finish.tables }
@@ -109,25 +107,19 @@ fn deliver_dumps<K: Sink>(alloc: Global, finish: Finish, dumps: &[Dump], sink: &
 {
     match write_dumps(alloc, sink, &finish.tables, dumps) {
         Ok(()) => finish,
-        Err(fault) => stopped_in_dumps(alloc, finish.order, fault),
+        Err(fault) => Finish {
+            status: status_at(fault),
+            ..finish
+        },
     }
 }
 
-/// The ending where a sink stopped within the dumps: the order stays.
-fn stopped_in_dumps(alloc: Global, order: Vec<Placed>, fault: SinkFault) -> Finish
-    ensures { (finish : FinishValue) → finish.order ≡ order → result ≡ stopped fault finish }
+/// The status where a sink stops.
+fn status_at(fault: SinkFault) -> Status
+    ensures { result ≡ status_at fault }
 {
-    let status = match fault {
+    match fault {
         SinkFault::Failed => Status::WriteFault,
         SinkFault::NoMemory => Status::NoMemory,
-    };
-    Finish {
-        status,
-        order,
-        tables: Names::new(alloc),
-        fault: None,
-        usage: None,
-        end: None,
-        verdict: None,
     }
 }

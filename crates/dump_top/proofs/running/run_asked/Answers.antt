@@ -8,7 +8,7 @@ use Rattle.snap_dump.specs.declared.dump.Dump.{Dump}
 use Rattle.snap_dump.specs.Dumps.{seen_in}
 use Rattle.dump_top.specs.Texts.{readings_text}
 use Rattle.dump_top.specs.Words.{AsksFor}
-use Rattle.dump_top.proofs.Ends.{dumps_as, dumps_not_begun, ends_as_run, some_of, still_decided}
+use Rattle.dump_top.proofs.Ends.{dumps_as, dumps_not_begun, ends_as_run, none_of, some_of, still_decided}
 use Rattle.dump_top.proofs.running.run_asked.Goals as goal
 
 pub returns-in_default-clause-runs : goal.returns-in_default-clause-runs
@@ -25,7 +25,7 @@ returns-then-ne-clause-runs g c given asks =
     let ran : RunsAs Run finish before mid = subst (λ (m : Mode). RunsAs m finish before mid) c.requires.runs c.run_with-finish.ensures.answers.runs.asked in
     let other : finish.status ≢ Done = search rules in
     record {
-      ends = ends_as_run given c.args.dumps asks finish.order.items finish.fault finish.end before.left mid.left before.taken mid.taken finish.status other ran.ends;
+      ends = ends_as_run given c.args.dumps asks finish.order.items finish.fault finish.end (none_of finish.end (λ some. other (ran.end.0 some).0)) before.left mid.left before.taken mid.taken finish.status other ran.ends;
       beside = ran.beside;
     }
 
@@ -40,7 +40,7 @@ returns-clause-runs g c given asks =
     let done : finish.status ≡ Done = search rules in
     let are : c.run_with-finish.new.lanes.made.items ≡ made = sym c.dumps.ensures in
     let count : length (seen_in c.run_with-finish.new.lanes.made.items) ≡ c.in-Ok.dumping.dumps =
-    some_of finish.end (length (seen_in c.run_with-finish.new.lanes.made.items) ≡ c.in-Ok.dumping.dumps) (ran.beside.end.1 (done, tt)) c.run_with-finish.ensures.sees.count in
+    some_of finish.end (length (seen_in c.run_with-finish.new.lanes.made.items) ≡ c.in-Ok.dumping.dumps) (ran.end.1 (done, tt)) c.run_with-finish.ensures.sees.count in
     let number : c.args.dumps ≡ length (seen_in made) = sym (ap (λ (ds : List Dump). length (seen_in ds)) (sym are) ∙ count ∙ c.in-Ok.ensures.dumps) in
     let together : IfSome finish.end (λ e. BelongsTogether Run finish e.pass before mid (seen_in made)) =
     subst (λ (y : Mode × List Dump). IfSome finish.end (λ e. BelongsTogether y.0 finish e.pass before mid (seen_in y.1))) (λ i. (c.requires.runs i, are i)) c.run_with-finish.ensures.sees.together in

@@ -19,6 +19,8 @@ mod nodes;
 #[cfg(test)]
 mod outcomes;
 #[cfg(test)]
+mod plain;
+#[cfg(test)]
 mod reads;
 #[cfg(test)]
 mod script;

@@ -16,8 +16,8 @@ use txn_engine::{Engine, Pass, Seat};
 
 impl Connection {
     /// Ends whatever is open, without a trace of a transaction, and the seat: the others of the engine do not wait for it any more, and
-    /// may take its numbers of records. Each later call answers `Misused`; to close it again changes nothing. Where no other seat of the
-    /// engine is left, all that was committed is one lawful history: as if one transaction had run after another.
+    /// may take its numbers of records. Each later call answers `Misused`; to close it again changes nothing. Where the seat has taken in all
+    /// others, as that of an engine of one seat has, its log is one lawful history: as if one transaction had run after another.
     pub fn close(&mut self)
         ensures { Closes self.old self.new }
     {

@@ -1,11 +1,9 @@
 -- What the seat that is alone holds once it has collected.
-use Rattle.std.proofs.Common.{◌≡◌, ◌⊎◌, ℕ, ◌+◌, ◌<◌, ◌≤◌, true, List, [], ◌∷◌, ◌++◌, Option, length, sym, ap, subst, ◌∙◌, arith, inl}
+use Rattle.std.proofs.Common.{◌≡◌, ◌⊎◌, ℕ, ◌+◌, ◌<◌, ◌≤◌, true, List, [], ◌∷◌, ◌++◌, length, sym, ap, subst, ◌∙◌, arith, inl}
 use Rattle.plain_data.specs.declared.entry.Entry.{Entry}
 use Rattle.plain_data.specs.State.{Agrees}
-use Rattle.record_store.specs.Meaning.{after_undo}
 use Rattle.replay_model.specs.TableMap.{TableMap}
 use Rattle.stored_tables.specs.Places.{Places}
-use Rattle.seat_post.specs.declared.phase.Phase.TheVariants.{Open}
 use Rattle.histories.specs.History.{Lawful}
 use Rattle.history_replay.specs.Results.{StandsForSome}
 use Rattle.replay_model.specs.declared.command.Command.{Command}
@@ -17,7 +15,7 @@ use Rattle.seat_post.specs.Leaves.{AreLeft, IsPresent}
 use Rattle.txn_engine.specs.Leaves.{HoldsAbsent}
 use Rattle.seat_post.specs.Lists.{IsRoomyAt}
 use Rattle.txn_engine.specs.Lists.{IsRoomy, IsRoomyOnceCollected, IsFull}
-use Rattle.txn_engine.specs.Pass.{EngineView, PassView, frame, IsIdle, IsAlone, begun, meaning_of_pass, engine_of, desk_of, observing, removing, with_met}
+use Rattle.txn_engine.specs.Pass.{EngineView, PassView, frame, IsIdle, IsAlone, begun, engine_of, desk_of, observing, removing, with_met}
 use Rattle.seat_post.specs.Logs.{IsAbove}
 use Rattle.seat_post.specs.Seats.{Bounds}
 use Rattle.spare_numbers.specs.Spare.{is_on}
@@ -26,7 +24,6 @@ use Rattle.lane_runner.specs.Adds.{Adds}
 use Rattle.lane_runner.specs.Blocks.{Commits}
 use Rattle.lane_runner.specs.Holding.{Holds, LeavesAt, HasPlaces}
 use Rattle.lane_runner.proofs.Adding.{Adds-no_entry, Adds-trans}
-use Rattle.lane_runner.proofs.Begun.{undone_reads}
 use Rattle.lane_runner.proofs.Within.{left_agrees}
 
 -- the seat that is alone keeps nothing in its queue
@@ -97,13 +94,6 @@ places_left q engine same many roomy few full =
     omega arith
 
 -- ---- what it reads
-
--- what is said of reads whose writes were dropped holds of them before
-pub left_undone : (q r : PassView) → q.phase ≡ Open → frame r ≡ frame q → meaning_of_pass r ≡ after_undo (meaning_of_pass q) → AreLeft r.log r.stamp r.reads → AreLeft q.log q.stamp q.reads
-left_undone q r opened rest undone left =
-    let at_log : AreLeft q.log r.stamp r.reads = subst (λ (log : List Entry). AreLeft log r.stamp r.reads) (ap (λ (f : PassView). f.log) rest) left in
-    let at_stamp : AreLeft q.log q.stamp r.reads = subst (λ (n : ℕ). AreLeft q.log n r.reads) (ap (λ (f : PassView). f.stamp) rest) at_log in
-    subst (λ (reads : List (ℕ × Option (List ℕ))). AreLeft q.log q.stamp reads) (undone_reads q r opened rest undone) at_stamp
 
 -- what a transaction has read agrees with the state that the log left
 pub agrees_open : (p q : PassView) (clock : ℕ) (tables : TableMap) (Such : Places → Type 0) → frame q ≡ frame (begun p clock) → Lawful (StandsForSome stands) p.shared.size.records p.log → IsAbove p.log q.stamp → AreLeft q.log q.stamp q.reads

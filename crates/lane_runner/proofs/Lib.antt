@@ -18,6 +18,7 @@ mod Loaded
 mod Settled
 mod Clocks
 mod Ran
+mod AloneTxn
 mod Again
 pub mod Attempted
 mod NextBlock

@@ -96,8 +96,8 @@ pub record GoesOn (records seat : ℕ) (entries : List Entry) (before after' : S
   pub seats : AreOfSeat seat more
 
 -- From one pass and one session to another: these entries were added, no more stamps were drawn than the tries between them may draw and so many
--- beside, and the pass was refused as often as the session. Where there was room for all draws that were left and for those beside, there is
--- room for those that are left.
+-- beside, and the pass was refused at least as often as the session. Where there was room for all draws that were left and for those beside,
+-- there is room for those that are left.
 pub record LeadsOn (beside : ℕ) (p q : PassView) (before after' : SessionView) : Type 0 where
   pub entries : List Entry
   pub adds : Adds p q entries

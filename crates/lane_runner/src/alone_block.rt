@@ -16,15 +16,15 @@ ghost use Rattle.lane_runner.specs.Finishing.{MayFinish};
 ghost use Rattle.lane_runner.specs.Holding.{Holds, Awaits, Enters, HasPlaces, HasRecords, LeavesAfter, CommitsAt, IsBehind, KeepsShared};
 ghost use Rattle.lane_runner.specs.Room.{HasRoom, clock_after};
 
+use crate::alone_txn::end_alone;
 use crate::walks::untorn;
 use histories::next_state_is_overlay;
-use record_store::{RecordStore, Walk};
 use replay_model::{Block, Commands, NoMemory, Outcome, Placed};
 use std::alloc::Global;
 use stored_tables::{
     RowsLawful, exec_snap, exec_txn, fits_more, fits_records, keeps_tables, record_left, run_adds,
 };
-use txn_engine::{Alone, AloneFault, BeginFault, Engine, Seat};
+use txn_engine::{Alone, BeginFault, Engine, Seat};
 
 /// Tells that the log is lawful, and collects.
 pub(crate) fn close(engine: &Engine<RowsLawful>, alone: &mut Alone<RowsLawful>)
@@ -75,29 +75,9 @@ fn commit_commands(
         Err(BeginFault::ClockOut) => unreachable!(),
         Err(BeginFault::NoMemory) => return Err(NoMemory),
     };
-    let outcome = match exec_txn(alloc, &mut txn, commands) {
-        Ok(outcome) => outcome,
-        Err(Walk::Torn(_)) => {
-            // The reads commit, so they are what the log leaves.
-            txn.undo();
-            let _ = txn.commit();
-            unreachable!()
-        }
-        Err(Walk::Store(AloneFault::RecordsOut)) => {
-            // The reads commit, so they are what the log leaves.
-            txn.undo();
-            let _ = txn.commit();
-            unreachable!()
-        }
-        Err(_) => {
-            txn.abort();
-            return Err(NoMemory);
-        }
-    };
-    let Ok(committed) = txn.commit() else {
-        unreachable!();
-    };
-    Ok((committed.stamp.number(), outcome))
+    let told = exec_txn(alloc, &mut txn, commands);
+    txn.leave();
+    end_alone(engine, alone, told)
 }
 
 /// Runs commands as one transaction, and gives its stamp.

@@ -9,14 +9,14 @@ ghost use Rattle.lane_runner.specs.Loading.{Loads, HasLoaded, PutsRow, DeclaresI
 ghost use Rattle.lane_runner.specs.Room.{HasRoom, clock_after};
 
 use crate::alone_block::{close, run_commands};
+use crate::alone_txn::end_alone;
 use histories::{next_state_is_overlay, write_before_is_lawful};
-use record_store::{RecordStore, Walk};
 use replay_model::{Columns, Command, Input, NoMemory, Sequence};
 use std::alloc::Global;
 use stored_tables::{
     RowsLawful, declare_index, empty_stands, fits_more, fits_records, keeps_tables, rows_pack,
 };
-use txn_engine::{Alone, AloneFault, BeginFault, Engine, Seat};
+use txn_engine::{Alone, BeginFault, Engine, Seat};
 
 /// Puts a row, as a transaction of its own.
 fn put_row(
@@ -100,29 +100,13 @@ fn commit_index(
         Err(BeginFault::ClockOut) => unreachable!(),
         Err(BeginFault::NoMemory) => return Err(NoMemory),
     };
-    match declare_index(alloc, &mut txn, table, column) {
-        Ok(true) => {}
-        Ok(false) => {
-            // The reads commit, so they are what the log leaves.
-            txn.undo();
-            let _ = txn.commit();
-            unreachable!()
-        }
-        Err(Walk::Torn(_)) => {
-            // The reads commit, so they are what the log leaves.
-            txn.undo();
-            let _ = txn.commit();
-            unreachable!()
-        }
-        Err(Walk::Store(AloneFault::RecordsOut)) => unreachable!(),
-        Err(_) => {
-            txn.abort();
-            return Err(NoMemory);
-        }
-    }
-    let Ok(_committed) = txn.commit() else {
+    let told = declare_index(alloc, &mut txn, table, column);
+    txn.leave();
+    let (_stamp, declared) = end_alone(engine, alone, told)?;
+    // What it has read is what the log left, and there the table has no row and no index.
+    if !declared {
         unreachable!();
-    };
+    }
     Ok(())
 }
 

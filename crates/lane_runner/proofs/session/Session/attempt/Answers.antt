@@ -3,7 +3,7 @@ use Rattle.std.specs.Prelude.{IfSome}
 use Rattle.replay_model.specs.declared.input.Block.{Block}
 use Rattle.txn_engine.specs.Pass.{EngineView}
 use Rattle.lane_runner.specs.Blocks.{IsDone}
-use Rattle.lane_runner.specs.Session.{SessionView, GivesOutcome, IsRefusedAgain}
+use Rattle.lane_runner.specs.Session.{SessionView, GivesOutcome}
 use Rattle.lane_runner.proofs.Attempted.{leads_none, leads_again, tries_again, leads_outcome, tries_outcome, room_for_try}
 use Rattle.lane_runner.proofs.Granted.{some_is, ample_next}
 use Rattle.lane_runner.proofs.Run.{adds_done}

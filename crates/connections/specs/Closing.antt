@@ -29,7 +29,7 @@ pub record TellsLawful (before after' : PassView) : Type 0 where
   pub not_back : before.met ≤ after'.met
   pub lawful : IsLast before → Lawful StandsForRows before.shared.size.records before.log
 
--- Then its numbers are given, and the seat retires. What it leaves is a lawful history, where no other seat of the engine was left.
+-- Then its numbers are given, and the seat retires. What it leaves is a lawful history where each other seat of the engine was taken in.
 pub record Retires (before after' : ConnectionView) (p : PassView) : Type 0 where
   pub ended : PassView
   pub told : PassView
